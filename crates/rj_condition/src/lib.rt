@@ -1,0 +1,11 @@
+//! Join clauses of SQL-92: their syntax tree, the names bound to two tables, the truth of a condition at two
+//! rows, and its split into keys and remainder.
+#![tactic(auto)]
+
+mod tree;
+mod truth;
+mod word;
+
+pub use tree::{Clause, ColumnName, Comparison, Condition, JoinKind, Literal, Name, Operand};
+pub use truth::Truth;
+pub use word::Word;

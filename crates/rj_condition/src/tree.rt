@@ -1,0 +1,106 @@
+// The syntax tree of a join clause, before its names are resolved.
+
+use crate::truth::Truth;
+use crate::word::Word;
+use sqlite_items::{Boxed, Items};
+
+/// Which unmatched rows a join adds, extended with nulls: none, those of the left table, of the right, of both
+/// (SQL-92, 7.5).
+#[derive(Clone, Copy, Debug, PartialEq, Eq)]
+pub enum JoinKind {
+    Inner,
+    Left,
+    Right,
+    Full,
+}
+
+/// A name: a regular identifier, which ignores ASCII case, or a delimited one, which is exact (SQL-92, 5.4).
+#[derive(Debug, Drop)]
+pub struct Name {
+    /// The name as it is written, without the quotes of a delimited one.
+    pub text: Word,
+    pub delimited: bool,
+}
+
+/// A column reference, perhaps qualified by the name of its table, `L` or `R` (SQL-92, 6.4).
+#[derive(Debug, Drop)]
+pub struct ColumnName {
+    pub qualifier: Option<Name>,
+    pub name: Name,
+}
+
+/// A constant of the clause (SQL-92, 5.3).
+#[derive(Debug, Drop)]
+pub enum Literal {
+    Integer(i64),
+    Text(Word),
+}
+
+/// What a predicate compares: a column or a literal.
+#[derive(Debug, Drop)]
+pub enum Operand {
+    Column(ColumnName),
+    Literal(Literal),
+}
+
+/// An operator of a comparison (SQL-92, 8.2).
+#[derive(Clone, Copy, Debug, PartialEq, Eq)]
+pub enum Comparison {
+    Equal,
+    NotEqual,
+    Less,
+    Greater,
+    LessOrEqual,
+    GreaterOrEqual,
+}
+
+/// A search condition (SQL-92, 8.12). A run of ANDs is one list, and so is a run of ORs, so a tree is no deeper
+/// than its parentheses and NOTs.
+#[derive(Drop)]
+pub enum Condition {
+    /// A comparison of two operands (SQL-92, 8.2).
+    Compare {
+        left: Operand,
+        operator: Comparison,
+        right: Operand,
+    },
+    /// `operand [NOT] BETWEEN low AND high` (SQL-92, 8.3).
+    Between {
+        operand: Operand,
+        low: Operand,
+        high: Operand,
+        negated: bool,
+    },
+    /// `operand [NOT] IN (members)` (SQL-92, 8.4).
+    In {
+        operand: Operand,
+        members: Items<Operand>,
+        negated: bool,
+    },
+    /// `operand IS [NOT] NULL` (SQL-92, 8.6).
+    IsNull {
+        operand: Operand,
+        negated: bool,
+    },
+    /// `condition IS [NOT] truth` (SQL-92, 8.12).
+    Is {
+        condition: Boxed<Condition>,
+        truth: Truth,
+        negated: bool,
+    },
+    /// NOT.
+    Not(Boxed<Condition>),
+    /// Conditions joined by AND.
+    All(Items<Condition>),
+    /// Conditions joined by OR.
+    Any(Items<Condition>),
+}
+
+/// A join clause (SQL-92, 7.5).
+#[derive(Drop)]
+pub enum Clause {
+    Cross,
+    Natural(JoinKind),
+    On(JoinKind, Condition),
+    Using(JoinKind, Items<Name>),
+}
