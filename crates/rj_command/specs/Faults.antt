@@ -1,0 +1,39 @@
+-- The exit statuses.
+use Rattle.std.specs.Prelude.{ℕ}
+use Rattle.clap.specs.Values.{kind_of}
+use Rattle.clap.specs.declared.error.kind.ErrorKind.{ErrorKind}
+use Rattle.clap.specs.declared.error.kind.ErrorKind.TheVariants.{DisplayHelp, DisplayVersion}
+use Rattle.rj_command.specs.declared.fault.Fault.{Fault}
+use Rattle.rj_command.specs.declared.fault.Fault.TheVariants as fault
+
+-- help and the version are what was asked for
+abbrev pub refused_status : ErrorKind → ℕ
+refused_status DisplayHelp = 0
+refused_status DisplayVersion = 0
+refused_status _ = 2
+
+-- 0 done, 2 command line, 3 input, 4 clause, 5 memory, 6 device
+abbrev pub status_of : Fault → ℕ
+status_of (fault.CommandLine e) = refused_status (kind_of e)
+status_of fault.NotText = 2
+status_of (fault.BadTypeList side) = 2
+status_of (fault.NoHeader side) = 3
+status_of (fault.BadName side column) = 3
+status_of (fault.RepeatedName side column) = 3
+status_of (fault.TypeCount side) = 3
+status_of (fault.RaggedRow side row) = 3
+status_of (fault.BadInteger side row column) = 3
+status_of (fault.BadText side row column) = 3
+status_of (fault.TooManyRows side) = 3
+status_of (fault.TooManyColumns side) = 3
+status_of fault.BadNull = 3
+status_of (fault.Syntax byte) = 4
+status_of fault.TooDeep = 4
+status_of fault.UnknownColumn = 4
+status_of fault.AmbiguousColumn = 4
+status_of fault.TypeMismatch = 4
+status_of fault.RepeatedUsing = 4
+status_of fault.ClauseTooLong = 4
+status_of fault.Memory = 5
+status_of (fault.ReadDevice side) = 6
+status_of fault.WriteDevice = 6

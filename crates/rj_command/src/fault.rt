@@ -1,0 +1,130 @@
+// Why a run gave no output.
+
+ghost use Rattle.std.specs.Prelude.{◌≡◌};
+ghost use Rattle.rj_command.specs.Faults.{status_of};
+
+use std::fmt;
+use thiserror::Error;
+
+/// Which of the two tables.
+#[derive(Clone, Copy, Debug, PartialEq, Eq)]
+pub enum Side {
+    Left,
+    Right,
+}
+
+impl fmt::Display for Side {
+    fn fmt<W: fmt::Write>(&self, f: &mut fmt::Formatter<W>) -> fmt::Result {
+        match self {
+            Side::Left => f.write_str("left"),
+            Side::Right => f.write_str("right"),
+        }
+    }
+}
+
+/// Why a run gave no output. Its text is the line that the program prints, without its line end. Rows and columns count from 1, the
+/// first row being the record after the header; bytes of a clause count from 0.
+#[derive(Debug, Drop, Error)]
+pub enum Fault {
+    /// `clap` refused the words of the command line, or they ask for help. The text is that of `clap`.
+    #[error("{0}")]
+    CommandLine(clap::Error),
+    /// A word of the command line isn't text.
+    #[error("radixjoin: an argument is not text")]
+    NotText,
+    /// A type list has another form than `int,text,..`.
+    #[error("radixjoin: bad type list {0}")]
+    BadTypeList(Side),
+    /// A file has no record at all.
+    #[error("radixjoin: E1 NoHeader {0}")]
+    NoHeader(Side),
+    /// A header name has no byte, more than 128 bytes, or isn't UTF-8.
+    #[error("radixjoin: E2 BadName {0} column {1}")]
+    BadName(Side, u64),
+    /// A header name stands twice, where ASCII case is ignored; the column is the later one.
+    #[error("radixjoin: E3 RepeatedName {0} column {1}")]
+    RepeatedName(Side, u64),
+    /// The types and the header differ in number.
+    #[error("radixjoin: E4 TypeCount {0}")]
+    TypeCount(Side),
+    /// A row has another length than the header.
+    #[error("radixjoin: E5 RaggedRow {0} row {1}")]
+    RaggedRow(Side, u64),
+    /// A cell of an int column isn't an integer of 64 bits.
+    #[error("radixjoin: E6 BadInteger {0} row {1} column {2}")]
+    BadInteger(Side, u64, u64),
+    /// A cell of a text column isn't UTF-8.
+    #[error("radixjoin: E7 BadText {0} row {1} column {2}")]
+    BadText(Side, u64, u64),
+    /// A table has more than 2^31 - 1 rows.
+    #[error("radixjoin: E8 TooManyRows {0}")]
+    TooManyRows(Side),
+    /// A table has more than 256 columns.
+    #[error("radixjoin: E9 TooManyColumns {0}")]
+    TooManyColumns(Side),
+    /// The null text isn't lawful.
+    #[error("radixjoin: E10 BadNull")]
+    BadNull,
+    /// The clause can't be read past this byte.
+    #[error("radixjoin: E11 Syntax byte {0}")]
+    Syntax(u64),
+    /// The clause nests more than 64 levels.
+    #[error("radixjoin: E12 TooDeep")]
+    TooDeep,
+    /// A name or qualifier of the clause is no column's.
+    #[error("radixjoin: E13 UnknownColumn")]
+    UnknownColumn,
+    /// An unqualified name of the clause is a column of both tables.
+    #[error("radixjoin: E14 AmbiguousColumn")]
+    AmbiguousColumn,
+    /// The clause compares an int with a text.
+    #[error("radixjoin: E15 TypeMismatch")]
+    TypeMismatch,
+    /// A column stands twice in USING.
+    #[error("radixjoin: E16 RepeatedUsing")]
+    RepeatedUsing,
+    /// The clause has more than 65,536 bytes.
+    #[error("radixjoin: E17 ClauseTooLong")]
+    ClauseTooLong,
+    /// A growth was refused.
+    #[error("radixjoin: E18 Memory")]
+    Memory,
+    /// A file can't be opened or read.
+    #[error("radixjoin: E19 ReadDevice {0}")]
+    ReadDevice(Side),
+    /// The writer failed.
+    #[error("radixjoin: E20 WriteDevice")]
+    WriteDevice,
+}
+
+impl Fault {
+    /// The exit status of a program that ends by this fault: 0 for help, 2 for the command line, 3 for input, 4 for the clause, 5 for
+    /// memory, 6 for a device. It takes no memory.
+    pub fn status(&self) -> u8
+        ensures { result ≡ status_of self.now }
+    {
+        match self {
+            Fault::CommandLine(error) => { if error.use_stderr() { 2 } else { 0 } }
+            Fault::NotText | Fault::BadTypeList(_) => 2,
+            Fault::NoHeader(_)
+            | Fault::BadName(_, _)
+            | Fault::RepeatedName(_, _)
+            | Fault::TypeCount(_)
+            | Fault::RaggedRow(_, _)
+            | Fault::BadInteger(_, _, _)
+            | Fault::BadText(_, _, _)
+            | Fault::TooManyRows(_)
+            | Fault::TooManyColumns(_)
+            | Fault::BadNull => 3,
+            Fault::Syntax(_)
+            | Fault::TooDeep
+            | Fault::UnknownColumn
+            | Fault::AmbiguousColumn
+            | Fault::TypeMismatch
+            | Fault::RepeatedUsing
+            | Fault::ClauseTooLong => 4,
+            Fault::Memory => 5,
+            Fault::ReadDevice(_) | Fault::WriteDevice => 6,
+        }
+    }
+}

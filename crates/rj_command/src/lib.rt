@@ -1,0 +1,12 @@
+//! The command line of a join, its faults and its statuses, and the run from the bytes of two tables to the bytes of their joined table.
+#![tactic(auto)]
+
+mod fault;
+mod line;
+mod request;
+mod stats;
+
+pub use fault::{Fault, Side};
+pub use line::{Line, read_line};
+pub use request::Request;
+pub use stats::Stats;
