@@ -1,0 +1,109 @@
+"""Times radixjoin beside a plain single-threaded Rust join, and checks that both write the same rows.
+
+usage: run.py [--scale F] [--runs N] [NAME ..]
+
+Makes the workloads under bench/data (once), builds both programs, runs each several times in turn, and prints a table
+of the least wall time, CPU time and peak memory of each, and their ratios. It judges nothing: it ends with status 0
+unless the rows differ or a program can't be run."""
+import argparse
+import hashlib
+import os
+import pathlib
+import subprocess
+import sys
+import time
+
+import workloads
+
+BENCH = pathlib.Path(__file__).resolve().parent
+ROOT = BENCH.parent
+DATA = BENCH / "data"
+
+
+class Measured:
+    """One run: seconds of wall time and of CPU time, peak memory in bytes, and a digest of what was written."""
+
+    def __init__(self, wall, cpu, memory, digest):
+        self.wall = wall
+        self.cpu = cpu
+        self.memory = memory
+        self.digest = digest
+
+
+def measure(words):
+    """Runs a program with its output into a file, which it then reads for the digest."""
+    out = DATA / "out.csv"
+    with open(out, "wb") as file:
+        start = time.monotonic()
+        child = subprocess.Popen([str(word) for word in words], stdout=file)
+        _, status, usage = os.wait4(child.pid, 0)
+        wall = time.monotonic() - start
+    if status != 0:
+        sys.exit(f"run.py: {words[0]} ended with status {os.waitstatus_to_exitcode(status)}")
+    with open(out, "rb") as file:
+        digest = hashlib.file_digest(file, "sha256").hexdigest()
+    out.unlink()
+    return Measured(wall, usage.ru_utime + usage.ru_stime, usage.ru_maxrss * 1024, digest)
+
+
+def least(runs):
+    """The least of each figure of several runs of one program."""
+    return Measured(min(run.wall for run in runs), min(run.cpu for run in runs), min(run.memory for run in runs), runs[0].digest)
+
+
+def build():
+    """Builds both programs; returns their files."""
+    plain = DATA / "plain_join"
+    subprocess.run(["rustc", "--edition", "2021", "-O", "-o", plain, BENCH / "plain_join.rs"], check=True)
+    subprocess.run([ROOT / "tools" / "run-program", "radixjoin", "--help"], check=True, stdout=subprocess.DEVNULL)
+    return ROOT / "crates" / "radixjoin" / "out" / "radixjoin", plain
+
+
+def compare(workload, proved, plain, runs, options):
+    """Runs one workload on both programs, in turn."""
+    left, right = workload.file(DATA, "left"), workload.file(DATA, "right")
+    types = f"{workload.keys},text"
+    files = ["--left", left, "--left-types", types, "--right", right, "--right-types", types]
+    proved_words = [proved, *files, "--join", workload.clause(), *options]
+    plain_words = [plain, left, right, workload.keys, workload.kind]
+    found = [(measure(proved_words), measure(plain_words)) for _ in range(runs)]
+    ours, theirs = least([run for run, _ in found]), least([run for _, run in found])
+    size = left.stat().st_size + right.stat().st_size
+    print(
+        f"| {workload.name} | {size / 1e6:.0f} MB | {ours.wall:.2f} s | {theirs.wall:.2f} s | {ours.wall / theirs.wall:.2f} "
+        f"| {ours.cpu:.2f} s | {theirs.cpu:.2f} s | {ours.cpu / theirs.cpu:.2f} "
+        f"| {ours.memory / 1e6:.0f} MB | {theirs.memory / 1e6:.0f} MB | {ours.memory / size:.1f} |",
+        flush=True,
+    )
+    return {run.digest for pair in found for run in pair} == {ours.digest}
+
+
+def main():
+    words = argparse.ArgumentParser(description=__doc__, formatter_class=argparse.RawDescriptionHelpFormatter)
+    words.add_argument("names", nargs="*")
+    words.add_argument("--scale", type=float, default=1.0)
+    words.add_argument("--runs", type=int, default=3)
+    words.add_argument("--option", action="append", default=[], help="one more word for radixjoin, as --option=--bits1=6")
+    given = words.parse_args()
+    DATA.mkdir(exist_ok=True)
+    proved, plain = build()
+    print("| workload | input | radixjoin wall | plain wall | ratio | radixjoin CPU | plain CPU | ratio | radixjoin peak | plain peak | peak by input |")
+    print("|---|---|---|---|---|---|---|---|---|---|---|")
+    differing = []
+    for workload in workloads.WORKLOADS:
+        if given.names and workload.name not in given.names:
+            continue
+        made = DATA / f"{workload.name}.{given.scale}.made"
+        if not made.exists():
+            workloads.make(workload, DATA, given.scale)
+            for old in DATA.glob(f"{workload.name}.*.made"):
+                old.unlink()
+            made.touch()
+        if not compare(workload, proved, plain, given.runs, given.option):
+            differing.append(workload.name)
+    if differing:
+        sys.exit(f"run.py: the rows differ: {', '.join(differing)}")
+
+
+if __name__ == "__main__":
+    main()

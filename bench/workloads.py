@@ -1,0 +1,105 @@
+"""Makes the workloads of the benchmark: pairs of CSV files of two columns, the key `k` first.
+
+usage: workloads.py FOLDER [--scale F] [NAME ..]"""
+import argparse
+import bisect
+import itertools
+import pathlib
+import random
+
+LEFT_ROWS = 4_000_000
+RIGHT_ROWS = 1_000_000
+SMALL_ROWS = 10_000
+# The words that fill the second column are drawn from this many, so that a file is made quickly.
+WORDS = 50_000
+
+
+class Workload:
+    """Two files, how many rows they have, and what is asked of them."""
+
+    def __init__(self, name, keys, kind, left, right, draw):
+        self.name = name
+        self.keys = keys
+        self.kind = kind
+        self.left = left
+        self.right = right
+        self.draw = draw
+
+    def clause(self):
+        return "FULL JOIN USING (k)" if self.kind == "full" else "JOIN USING (k)"
+
+    def file(self, folder, side):
+        return pathlib.Path(folder) / f"{self.name}.{side}.csv"
+
+
+def uniform(source, rows, keys):
+    """Each row's key is any of the keys."""
+    return (int(source.random() * keys) for _ in range(rows))
+
+
+def zipf(exponent):
+    """Keys by Zipf's law: the key of rank r comes in proportion to 1 / r ** exponent."""
+
+    def draw(source, rows, keys):
+        names = list(range(keys))
+        source.shuffle(names)
+        sums = list(itertools.accumulate((rank + 1) ** -exponent for rank in range(keys)))
+        return (names[min(bisect.bisect(sums, source.random() * sums[-1]), keys - 1)] for _ in range(rows))
+
+    return draw
+
+
+def half(source, rows, keys):
+    """Half of the rows have a key that the other table has."""
+    return (int(source.random() * keys * 2) for _ in range(rows))
+
+
+WORKLOADS = [
+    Workload("foreign_key", "int", "inner", LEFT_ROWS, RIGHT_ROWS, uniform),
+    Workload("zipf_1.00", "int", "inner", LEFT_ROWS, RIGHT_ROWS, zipf(1.0)),
+    Workload("zipf_1.25", "int", "inner", LEFT_ROWS, RIGHT_ROWS, zipf(1.25)),
+    Workload("text_key", "text", "inner", LEFT_ROWS, RIGHT_ROWS, uniform),
+    Workload("full_half", "int", "full", LEFT_ROWS, RIGHT_ROWS, half),
+    Workload("small", "int", "inner", SMALL_ROWS, SMALL_ROWS, uniform),
+]
+
+
+def spelled(workload, key):
+    """A key as it stands in the file; a text key has 16 bytes."""
+    return str(key) if workload.keys == "int" else f"{key * 0x9E3779B97F4A7C15 % 2**64:016x}"
+
+
+def write(path, header, keys, source):
+    words = [f"{source.getrandbits(64):016x}" for _ in range(WORDS)]
+    with open(path, "w", newline="", buffering=1 << 20) as file:
+        file.write(header)
+        for key in keys:
+            file.write(f"{key},{words[int(source.random() * WORDS)]}\n")
+
+
+def make(workload, folder, scale):
+    """Writes both files of a workload: the right table has each key once, in any order."""
+    left, right = max(1, int(workload.left * scale)), max(1, int(workload.right * scale))
+    source = random.Random(f"radixjoin benchmark {workload.name}")
+    numbers = list(range(right))
+    source.shuffle(numbers)
+    drawn = workload.draw(source, left, right)
+    write(workload.file(folder, "left"), "k,a\n", (spelled(workload, key) for key in drawn), source)
+    write(workload.file(folder, "right"), "k,b\n", (spelled(workload, key) for key in numbers), source)
+
+
+def main():
+    words = argparse.ArgumentParser(description=__doc__)
+    words.add_argument("folder", type=pathlib.Path)
+    words.add_argument("names", nargs="*")
+    words.add_argument("--scale", type=float, default=1.0)
+    given = words.parse_args()
+    given.folder.mkdir(parents=True, exist_ok=True)
+    for workload in WORKLOADS:
+        if not given.names or workload.name in given.names:
+            make(workload, given.folder, given.scale)
+            print(workload.name)
+
+
+if __name__ == "__main__":
+    main()

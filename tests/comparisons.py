@@ -1,0 +1,116 @@
+"""Compares radixjoin's rows and their order with a plain nested loop, and with sqlite3 where it is installed."""
+import csv
+import io
+import pathlib
+import random
+import shutil
+import subprocess
+
+import harness
+import reference
+
+CASES = 300
+
+
+def run_join(left, right, join, folder, options=()):
+    """Runs radixjoin on two tables."""
+    (folder / "left.csv").write_bytes(left.csv())
+    (folder / "right.csv").write_bytes(right.csv())
+    words = ["--left", "left.csv", "--left-types", ",".join(left.types), "--right", "right.csv", "--right-types", ",".join(right.types)]
+    return harness.run([harness.program("radixjoin"), *words, "--join", join.clause, *options], folder)
+
+
+def rows_of(text):
+    """The records of CSV text, with nulls for empty fields."""
+    return [[cell if cell != "" else None for cell in row] for row in csv.reader(io.StringIO(text, newline=""))]
+
+
+def as_text(rows):
+    return [[None if cell is None else str(cell) for cell in row] for row in rows]
+
+
+def quoted(cell):
+    if cell is None:
+        return "NULL"
+    return str(cell) if isinstance(cell, int) else "'" + cell.replace("'", "''") + "'"
+
+
+def sqlite_script(left, right, join):
+    """The same join for sqlite3: each table with its row numbers, the result in the order of radixjoin's rows."""
+    lines = [".mode csv", ".headers off"]
+    for side, table in (("L", left), ("R", right)):
+        types = [f"{name} {'INTEGER' if kind == 'int' else 'TEXT'}" for name, kind in zip(table.names, table.types)]
+        lines.append(f"CREATE TABLE {side} ({', '.join(types)}, row_{side} INTEGER);")
+        for at, row in enumerate(table.rows):
+            lines.append(f"INSERT INTO {side} VALUES ({', '.join(quoted(cell) for cell in row)}, {at});")
+    cells = join.row([f"L.{name}" for name in left.names], [f"R.{name}" for name in right.names])
+    for i, j in join.partners or []:
+        cells[cells.index(f"L.{left.names[i]}")] = f"COALESCE(L.{left.names[i]}, R.{right.names[j]})"
+    lines.append(f"CREATE INDEX R_by_key ON R ({right.names[0]});")
+    clause = join.clause.replace("IS UNKNOWN", "IS NULL").replace("IS NOT UNKNOWN", "IS NOT NULL").replace(" JOIN", " JOIN R", 1)
+    lone = "CASE WHEN row_L IS NULL THEN 2 WHEN row_R IS NULL THEN 1 ELSE 0 END"
+    lines.append(f"SELECT {', '.join(cells)} FROM L {clause} ORDER BY {lone}, row_L, row_R;")
+    return "\n".join(lines) + "\n"
+
+
+def sqlite_rows(left, right, join):
+    """What sqlite3 answers."""
+    ran = subprocess.run(["sqlite3", "-batch", ":memory:"], input=sqlite_script(left, right, join).encode(), capture_output=True, check=True)
+    if ran.stderr:
+        raise RuntimeError(ran.stderr.decode())
+    return rows_of(ran.stdout.decode())
+
+
+def faults_of(left, right, join, with_sqlite, with_reference=True):
+    """Runs a join everywhere, and says what differs."""
+    with harness.folder() as name:
+        ran = run_join(left, right, join, pathlib.Path(name))
+    if ran.status != 0 or ran.stderr:
+        return [f"{join.clause}: status {ran.status}: {ran.stderr!r}"]
+    header, *rows = rows_of(ran.stdout.decode())
+    faults = []
+    if header != join.header(left, right):
+        faults.append(f"{join.clause}: the header is {header}")
+    if with_reference and rows != as_text(reference.joined(left, right, join)):
+        faults.append(f"{join.clause}: not the rows of the plain nested loop, over {left.csv()!r} and {right.csv()!r}")
+    if with_sqlite and rows != sqlite_rows(left, right, join):
+        faults.append(f"{join.clause}: not the rows of sqlite3, over {left.csv()!r} and {right.csv()!r}")
+    return [harness.shorten(fault) for fault in faults]
+
+
+def random_tables(tally, with_sqlite):
+    """Random small tables with nulls, by every kind of clause."""
+    source = random.Random("radixjoin: random small tables")
+    for n in range(CASES):
+        left = reference.random_table(source, ["a", "t", "b"], ["int", "text", "int"], 8)
+        right = reference.random_table(source, ["b", "c", "t"], ["int", "int", "text"], 8)
+        join = reference.random_join(source, left, right)
+        tally.check(f"random join {n}: {join.clause}", faults_of(left, right, join, with_sqlite))
+
+
+def large_tables(tally, with_sqlite):
+    """Two files of 10,000 rows with quoted fields and nulls."""
+    source = random.Random("radixjoin: 10,000 rows")
+    texts = ["plain", "with, comma", 'with "quotes"', "with\nline feed", "été", None]
+    tables = []
+    for names in (["k", "a", "n"], ["k", "b", "m"]):
+        rows = []
+        for at in range(10_000):
+            key = None if source.random() < 0.05 else source.randrange(12_000)
+            rows.append([key, source.choice(texts), None if source.random() < 0.1 else at])
+        tables.append(reference.Table(names, ["int", "text", "int"], rows))
+    left, right = tables
+    for kind in ("INNER", "FULL"):
+        join = reference.Join(f"{kind} JOIN USING (k)", kind, partners=[(0, 0)])
+        tally.check(f"10,000 rows a side: {join.clause}", faults_of(left, right, join, with_sqlite, with_reference=False))
+
+
+def run_all(tally):
+    """All comparisons; those with sqlite3 only where it is installed."""
+    if not harness.program("radixjoin").exists():
+        return
+    with_sqlite = shutil.which("sqlite3") is not None
+    if not with_sqlite:
+        print("sqlite3 is not installed: compared with the plain nested loop alone")
+    random_tables(tally, with_sqlite)
+    large_tables(tally, with_sqlite)

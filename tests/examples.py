@@ -1,0 +1,60 @@
+"""Runs the worked examples of examples.toml and arrivals.toml over the built programs."""
+import pathlib
+import re
+import tomllib
+
+import harness
+
+
+def spelled(text):
+    """A text of the table of examples, with its pieces repeated and its names written out."""
+    if isinstance(text, list):
+        text = "".join(piece if isinstance(piece, str) else piece[0] * piece[1] for piece in text)
+    return re.sub(r"\{columns (\d+)\}", lambda found: ",".join(f"c{i + 1}" for i in range(int(found[1]))), text)
+
+
+def bytes_of(file):
+    """The bytes of a file of the table."""
+    return bytes.fromhex(file["bytes"]) if "bytes" in file else spelled(file["text"]).encode()
+
+
+def words_of(case, files, folder):
+    """The words that a case runs its program with; writes its files into the folder."""
+    if "words" in case:
+        return [spelled(word) for word in case["words"]]
+    words = []
+    for side in ("left", "right"):
+        if side in case:
+            file = files[case[side]]
+            (folder / f"{side}.csv").write_bytes(bytes_of(file))
+            words += [f"--{side}", f"{side}.csv", f"--{side}-types", spelled(file["types"])]
+    return [*words, "--join", spelled(case["join"]), *case.get("options", [])]
+
+
+def faults_of(case, files):
+    """Runs one case, and says what isn't as wanted."""
+    with harness.folder() as name:
+        folder = pathlib.Path(name)
+        words = [harness.program(case.get("program", "radixjoin")), *words_of(case, files, folder)]
+        ran = harness.run(words, folder, spelled(case.get("stdin", "")).encode(), case.get("output", "read"))
+    faults = []
+    wanted = {"status": case.get("status", 0)}
+    for stream in ("stdout", "stderr"):
+        wanted[stream] = spelled(case.get(stream, "")).encode()
+        if f"{stream}_holds" in case:
+            wanted[stream] = None
+            if case[f"{stream}_holds"].encode() not in getattr(ran, stream):
+                faults.append(f"{stream} doesn't hold {case[f'{stream}_holds']!r}: {harness.shorten(getattr(ran, stream))}")
+    return faults + harness.differences(ran, **wanted)
+
+
+def run_all(tally):
+    """Runs every case of both tables whose program is built."""
+    for table in ("examples.toml", "arrivals.toml"):
+        path = harness.ROOT / "tests" / table
+        if not path.exists():
+            continue
+        with open(path, "rb") as text:
+            found = tomllib.load(text)
+        for case in found["case"]:
+            tally.check(f"{table}: {case['name']}", faults_of(case, found.get("file", {})))

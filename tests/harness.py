@@ -1,0 +1,74 @@
+"""What the tests over the built programs share: running a program, and counting what passed."""
+import pathlib
+import subprocess
+import tempfile
+
+ROOT = pathlib.Path(__file__).resolve().parent.parent
+SECONDS = 120
+
+
+def program(name):
+    """The built program of this name."""
+    return ROOT / "crates" / name / "out" / name
+
+
+class Tally:
+    """Counts what passed and what failed, and tells each failure."""
+
+    def __init__(self):
+        self.passed = 0
+        self.failed = 0
+
+    def check(self, name, faults):
+        """Counts one test, which passed where it has no faults."""
+        if faults:
+            self.failed += 1
+            print(f"FAILED {name}")
+            for fault in faults:
+                print(f"    {fault}")
+        else:
+            self.passed += 1
+
+
+class Ran:
+    """How a run of a program ended."""
+
+    def __init__(self, status, stdout, stderr):
+        self.status = status
+        self.stdout = stdout
+        self.stderr = stderr
+
+
+def run(words, folder, stdin=b"", output="read", environment=None):
+    """Runs a program; `output` is `read`, or `full` or `closed` for a standard output that takes nothing."""
+    how = {"cwd": folder, "input": stdin, "stderr": subprocess.PIPE, "timeout": SECONDS, "env": environment}
+    words = [str(word) for word in words]
+    if output == "closed":
+        words = ["sh", "-c", 'exec "$@" >&-', "sh", *words]
+        ran = subprocess.run(words, stdout=subprocess.DEVNULL, **how)
+    elif output == "full":
+        with open("/dev/full", "wb") as full:
+            ran = subprocess.run(words, stdout=full, **how)
+    else:
+        ran = subprocess.run(words, stdout=subprocess.PIPE, **how)
+    return Ran(ran.returncode, ran.stdout or b"", ran.stderr)
+
+
+def differences(ran, stdout=b"", stderr=b"", status=0):
+    """What of a run isn't as wanted; None for what may be anything."""
+    faults = []
+    for name, got, wanted in [("status", ran.status, status), ("standard output", ran.stdout, stdout), ("standard error", ran.stderr, stderr)]:
+        if wanted is not None and got != wanted:
+            faults.append(f"{name}: {shorten(got)}, and not {shorten(wanted)}")
+    return faults
+
+
+def shorten(value):
+    """A value as text, cut where it is long."""
+    text = repr(value)
+    return text if len(text) <= 300 else f"{text[:200]} .. {text[-80:]}"
+
+
+def folder():
+    """A new folder for a test's files, gone with it."""
+    return tempfile.TemporaryDirectory(prefix="radixjoin-test-")

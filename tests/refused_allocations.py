@@ -1,0 +1,79 @@
+"""Refuses each allocation of the built program in turn, by a small library that is preloaded.
+
+Each run ends as if nothing had been refused, or with `E18 Memory`, status 5 and nothing on standard output."""
+import os
+import pathlib
+import subprocess
+
+import harness
+
+# Past this many a run without a refusal is not to be expected any more.
+MOST = 20_000
+
+BASIC = {
+    "left.csv": b"id,name\n1,ann\n2,bob\n3,cy\n",
+    "right.csv": b"id,city\n4,rome\n2,oslo\n5,lima\n",
+}
+BASIC_WORDS = ["--left", "left.csv", "--left-types", "int,text", "--right", "right.csv", "--right-types", "int,text", "--join", "JOIN USING (id)"]
+NULLS = {"left.csv": b"id,a\n1,x\n,y\n", "right.csv": b"id,b\n,p\n1,q\n3,r\n"}
+NULLS_WORDS = [*BASIC_WORDS[:-1], "FULL JOIN USING (id)"]
+
+# Name, program, its files, its words, its standard input, what it prints.
+RUNS = [
+    ("basic_inner", "radixjoin", BASIC, BASIC_WORDS, b"", b"id,name,city\n2,bob,oslo\n"),
+    ("full_null_keys", "radixjoin", NULLS, NULLS_WORDS, b"", b"id,a,b\n1,x,q\n,y,\n,,p\n3,,r\n"),
+    (
+        "arrivals_basic",
+        "arrivals",
+        {},
+        ["--partition", "0", "--senders", "1", "--block", "4"],
+        b"0 0 1 rows 5 7\n0 0 0 rows 1 2 3 4\n0 0 2 close\n",
+        b"held\naccepted 2\naccepted 1\nsender 0 complete rows 1 2 3 4 5 7\ncomplete\n",
+    ),
+]
+
+
+def library(folder):
+    """Compiles the library that refuses."""
+    made = folder / "refuse.so"
+    source = harness.ROOT / "tests" / "refuse.c"
+    subprocess.run(["gcc", "-O2", "-shared", "-fPIC", "-o", made, source, "-ldl"], check=True)
+    return made
+
+
+def faults_of(ran, name, stdout):
+    """What isn't as wanted of a run in which something was refused."""
+    if ran.status == 0:
+        return harness.differences(ran, stdout)
+    stderr = f"{name}: E18 Memory\n".encode()
+    # Where the line itself can't be told for want of memory, nothing else is told in its place.
+    return harness.differences(ran, None if name == "arrivals" else b"", stderr, 5)
+
+
+def sweep(tally, refuse, kind, run):
+    """Refuses the first, the second, .. until a run meets no refusal."""
+    label, name, files, words, stdin, stdout = run
+    for n in range(1, MOST):
+        with harness.folder() as at:
+            folder = pathlib.Path(at)
+            for file, content in files.items():
+                (folder / file).write_bytes(content)
+            report = folder / "report"
+            environment = {**os.environ, "LD_PRELOAD": str(refuse), kind: str(n), "REFUSE_REPORT": str(report)}
+            ran = harness.run([harness.program(name), *words], folder, stdin, environment=environment)
+            if not report.exists():
+                tally.check(f"{label}: no refusal", harness.differences(ran, stdout))
+                return n - 1
+        tally.check(f"{label}: {kind}={n}", faults_of(ran, name, stdout))
+    tally.check(f"{label}: {kind}", [f"{MOST} refusals, and no end"])
+    return MOST
+
+
+def run_all(tally):
+    """Sweeps each run whose program is built."""
+    with harness.folder() as at:
+        refuse = library(pathlib.Path(at))
+        for run in RUNS:
+            if harness.program(run[1]).exists():
+                count = sweep(tally, refuse, "REFUSE_ALLOCATION", run)
+                print(f"{run[0]}: {count} allocations refused in turn")
