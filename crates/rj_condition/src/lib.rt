@@ -2,10 +2,12 @@
 //! rows, and its split into keys and remainder.
 #![tactic(auto)]
 
+mod bound;
 mod tree;
 mod truth;
 mod word;
 
+pub use bound::{BoundCondition, BoundJoin, BoundOperand, Rule};
 pub use tree::{Clause, ColumnName, Comparison, Condition, JoinKind, Literal, Name, Operand};
 pub use truth::Truth;
 pub use word::Word;

@@ -1,0 +1,62 @@
+-- Whether a bound join fits the types of two tables: each column is there, and what is compared is of one type.
+use Rattle.std.specs.Prelude.{ℕ, ◌==◌, Bool, true, false, ◌&&◌, List, length, Option, None, Some, slice_get}
+use Rattle.std.specs.List.{list_all}
+use Rattle.rj_columns.specs.declared.cell.ColumnType.{ColumnType}
+use Rattle.rj_columns.specs.declared.cell.ColumnType.TheVariants as kind
+use Rattle.rj_condition.specs.Joins.{pairs_of}
+use Rattle.rj_condition.specs.declared.tree.Literal.{Literal}
+use Rattle.rj_condition.specs.declared.tree.Literal.TheVariants as literal
+use Rattle.rj_condition.specs.declared.bound.BoundOperand.{BoundOperand}
+use Rattle.rj_condition.specs.declared.bound.BoundOperand.TheVariants as operand
+use Rattle.rj_condition.specs.declared.bound.BoundCondition.{BoundCondition}
+use Rattle.rj_condition.specs.declared.bound.BoundCondition.TheFolds.{fold-BoundCondition}
+use Rattle.rj_condition.specs.declared.bound.BoundCondition.TheOpen.{BoundCondition-F}
+use Rattle.rj_condition.specs.declared.bound.Rule.{Rule}
+use Rattle.rj_condition.specs.declared.bound.Rule.TheVariants as rule
+use Rattle.rj_condition.specs.declared.bound.BoundJoin.{BoundJoin}
+
+abbrev pub literal_type : Literal → ColumnType
+literal_type (literal.Integer n) = kind.Int
+literal_type (literal.Text text) = kind.Text
+
+-- the type of an operand over these types of columns; None where there is no such column
+abbrev pub type_of : List ColumnType → List ColumnType → BoundOperand → Option ColumnType
+type_of left right (operand.Left col) = slice_get left col
+type_of left right (operand.Right col) = slice_get right col
+type_of left right (operand.Literal x) = Some (literal_type x)
+
+-- an int with a text is refused
+abbrev pub are_one_type : Option ColumnType → Option ColumnType → Bool
+are_one_type (Some kind.Int) (Some kind.Int) = true
+are_one_type (Some kind.Text) (Some kind.Text) = true
+are_one_type a b = false
+
+abbrev pub has_type : Option ColumnType → Bool
+has_type (Some t) = true
+has_type None = false
+
+-- the comparisons of BETWEEN and IN are those of their meaning; IS NULL takes any type
+abbrev pub fits_at : List ColumnType → List ColumnType → BoundCondition-F Bool → Bool
+fits_at left right (BoundCondition-F.Compare a op b) = are_one_type (type_of left right a) (type_of left right b)
+fits_at left right (BoundCondition-F.Between x a b negated) = are_one_type (type_of left right x) (type_of left right a) && are_one_type (type_of left right x) (type_of left right b)
+fits_at left right (BoundCondition-F.In x members negated) = has_type (type_of left right x) && list_all (λ m. are_one_type (type_of left right x) (type_of left right m)) members
+fits_at left right (BoundCondition-F.IsNull x negated) = has_type (type_of left right x)
+fits_at left right (BoundCondition-F.Is b truth negated) = b
+fits_at left right (BoundCondition-F.Not b) = b
+fits_at left right (BoundCondition-F.All bs) = list_all (λ b. b) bs
+fits_at left right (BoundCondition-F.Any bs) = list_all (λ b. b) bs
+
+abbrev pub condition_fits : List ColumnType → List ColumnType → BoundCondition → Bool
+condition_fits left right c = fold-BoundCondition Bool (fits_at left right) c
+
+abbrev pub pair_fits : List ColumnType → List ColumnType → ℕ × ℕ → Bool
+pair_fits left right p = are_one_type (slice_get left p.0) (slice_get right p.1)
+
+abbrev pub rule_fits : List ColumnType → List ColumnType → Rule → Bool
+rule_fits left right rule.AllPairs = true
+rule_fits left right rule.EqualPartners = true
+rule_fits left right (rule.Condition c) = condition_fits left right c
+
+-- a partner for each left column at most, of its type; and the condition fits
+abbrev pub fits : BoundJoin → List ColumnType → List ColumnType → Bool
+fits join left right = (length join.partners == length left) && list_all (pair_fits left right) (pairs_of join.partners) && rule_fits left right join.rule
