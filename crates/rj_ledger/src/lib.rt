@@ -1,14 +1,25 @@
 //! Parcels, how the rows of one sender for one partition are cut into them, and the ledger that delivers each sender's
 //! parcels once and in number order, whatever the order in which they arrive.
+//!
+//! A *sender* is the number of one stripe of one table. Its rows for a partition are cut by [`cut`] into numbered blocks
+//! and a close: its *plan*. A [`Ledger`] belongs to one partition. It answers each parcel that is offered to it by nine
+//! rules, keeps what it accepted or held, and shows for each sender the rows that were delivered so far. [`replay`] offers
+//! a whole list. The functions of `laws` do nothing: their contracts are the facts that callers conclude from.
 #![tactic(auto)]
 
 mod cutting;
 mod intake;
+mod laws;
 mod ledger;
 mod parcel;
 
 pub use cutting::cut;
-pub use ledger::{
-    Ledger, accepted_counts, all_plans_suffice, cut_is_planned, offer_keeps, offers_deliver, replay,
+pub use laws::{
+    accepted_counts, all_plans_suffice, closed_refuses, cut_is_planned, offer_keeps, offers_answer,
+    offers_deliver, offers_keep_exactly,
 };
+pub use ledger::{Ledger, replay};
 pub use parcel::{Answer, Block, Body, Parcel, Reason};
+
+#[cfg(test)]
+mod tests;

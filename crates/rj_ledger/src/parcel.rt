@@ -4,7 +4,7 @@ ghost use Rattle.std.specs.Prelude.{◌≡◌, ℕ, List, length};
 
 use std::marker::Model;
 
-/// The rows of a parcel.
+/// The row numbers that a parcel carries, in the order of their sender. Contracts see it as their list.
 #[derive(Drop)]
 pub struct Block {
     rows: Vec<u32>,
@@ -19,66 +19,78 @@ impl Model for Block {
 }
 
 impl Block {
-    /// A block of these rows.
+    /// A block of these rows. It takes no memory.
     pub fn new(rows: Vec<u32>) -> Self
         ensures { result ≡ rows.items }
     {
-        Block { rows }
+        Self { rows }
     }
 
-    /// The rows.
+    /// The rows, in order.
     pub fn rows(&self) -> &[u32]
         ensures { result.now ≡ self.now }
     {
         self.rows.as_slice()
     }
 
-    /// The rows, given back.
+    /// The rows, given back. It takes no memory.
     pub fn into_rows(self) -> Vec<u32>
         ensures { result.items ≡ self }
     {
-        self.rows
+        let Block { rows } = self;
+        rows
     }
 }
 
 /// What a parcel carries.
 #[derive(Drop)]
 pub enum Body {
-    /// Rows of its sender, in their order.
+    /// Rows of its sender, in their order. A ledger takes a block of at least one row, and of no more than its block size.
     Rows(Block),
-    /// The end of what its sender sends.
+    /// The end of what its sender sends for the partition.
     Close,
 }
 
-/// One parcel of one sender for one partition: `sender` numbers the stripe that it was cut from, `number` its place in that
-/// sender's plan for the partition, counted from 0.
+/// One parcel of one sender for one partition. What comes from outside may carry any numbers: a ledger tests them all.
 #[derive(Drop)]
 pub struct Parcel {
+    /// The number of the stripe whose rows it carries.
     pub sender: u32,
+    /// The partition that it is for.
     pub partition: u32,
+    /// Its place in its sender's plan for the partition, counted from 0.
     pub number: u64,
+    /// What it carries.
     pub body: Body,
 }
 
-/// Why a parcel was refused.
+/// Why a parcel was refused. The reasons are tested in this order, and the first that fits is told.
 #[derive(Clone, Copy, Debug, Drop, PartialEq, Eq)]
 pub enum Reason {
+    /// It is for another partition than the ledger's.
     WrongPartition,
+    /// Its sender isn't below the ledger's number of senders.
     UnknownSender,
+    /// It is a block of no rows, or of more than the ledger's block size.
     BadLength,
+    /// Its sender's close was delivered.
     AfterClose,
+    /// A parcel of its sender with its number was delivered or is held.
     Repeat,
+    /// A close of its sender with a smaller number is held.
     BeyondClose,
+    /// It is a close, and a parcel of its sender with a larger number is held.
     EarlyClose,
 }
 
 /// The answer to an offered parcel.
 #[derive(Clone, Copy, Debug, Drop, PartialEq, Eq)]
 pub enum Answer {
-    /// This many parcels were delivered by the offer.
+    /// This many parcels were delivered by the offer: the offered one, whose number was the next one, and the held ones
+    /// that follow it without a gap, a close counted too.
     Accepted(u64),
-    /// Kept until the gap before it is filled.
+    /// Kept until the gap before its number is filled.
     Held,
-    /// Changed nothing.
+    /// The ledger is as it was.
     Refused(Reason),
 }
