@@ -1,0 +1,105 @@
+-- What the contracts of an exchange say.
+use Rattle.std.specs.Prelude.{◌≡◌, ℕ, zero, suc, ◌<◌, ◌≤◌, ◌+◌, ◌*◌, ◌%◌, List, [], ◌∷◌, ◌++◌, map, length, slice_index_or, Option, Vec, vec_capacity}
+use Rattle.std.proofs.Common.{Global}
+use Rattle.crossbeam_queue.specs.Passes.{view, IsPassOf}
+use Rattle.crossbeam_queue.specs.declared.array_queue.Doing.{Doing}
+use Rattle.crossbeam_queue.specs.declared.array_queue.Slotted.{Slotted}
+use Rattle.crossbeam_queue.specs.declared.array_queue.Turns.{Turns}
+use Rattle.rj_ledger.specs.declared.parcel.Parcel.{Parcel}
+use Rattle.rj_exchange.specs.declared.posted.Posted.{Posted}
+use Rattle.rj_exchange.specs.declared.queue.Where.{Where}
+use Rattle.rj_exchange.specs.declared.queue.Trace.{Trace}
+use Rattle.rj_exchange.specs.declared.queue.InOrder.{InOrder}
+use Rattle.rj_exchange.specs.declared.boxes.Stub.{Stub}
+use Rattle.rj_exchange.specs.declared.boxes.Exchange.{Exchange}
+use Rattle.rj_exchange.specs.declared.boxes.Outbox.{Outbox}
+use Rattle.rj_exchange.specs.declared.boxes.Inbox.{Inbox}
+use Rattle.rj_exchange.specs.Passing.{sender, taker, of}
+
+abbrev pub Queue : Type 0
+Queue = Slotted (Option Posted) (Doing Posted Trace) (Turns InOrder) Global
+
+abbrev pub where_at : Exchange → ℕ → ℕ → Where
+where_at e p k = record { partition = p; lane = k; lanes = e.lanes; outboxes = e.outboxes }
+
+-- the queues lie by partition, then lane
+abbrev pub queue_of : Exchange → Parcel → ℕ
+queue_of e x = x.partition * e.lanes + x.number % e.lanes
+
+abbrev pub sent_of : Stub → List Parcel
+sent_of s = (view s.pass).sent
+
+abbrev pub taken_of : Stub → List Posted
+taken_of s = (view s.pass).taken
+
+abbrev pub sents : Outbox → List (List Parcel)
+sents o = map sent_of o.stubs.items
+
+abbrev pub takens : Inbox → List (List Posted)
+takens i = map taken_of i.ends.items
+
+-- a token of outbox k at this queue
+abbrev pub IsStubOf : Where → ℕ → Queue → Stub → Type 0
+IsStubOf place k l s = IsPassOf l s.pass × (view s.pass ≡ sender place k (view s.pass).sent)
+
+abbrev pub IsEndOf : Where → ℕ → Queue → Stub → Type 0
+IsEndOf place made l s = IsPassOf l s.pass × (view s.pass ≡ taker place made (view s.pass).taken [])
+
+pub record IsOutboxOf (e : Exchange) (o : Outbox) : Type 0 where
+  pub many : length o.stubs.items ≡ e.partitions * e.lanes
+  pub below : o.number < e.outboxes
+  pub tokens : (p k : ℕ) (l : Queue) (s : Stub) → p < e.partitions → k < e.lanes → IsStubOf (where_at e p k) o.number (slice_index_or e.queues.items (p * e.lanes + k) l) (slice_index_or o.stubs.items (p * e.lanes + k) s)
+
+pub record IsInboxOf (e : Exchange) (i : Inbox) : Type 0 where
+  pub many : length i.ends.items ≡ e.lanes
+  pub below : i.partition < e.partitions
+  pub tokens : (k : ℕ) (l : Queue) (s : Stub) → k < e.lanes → IsEndOf (where_at e i.partition k) e.outboxes (slice_index_or e.queues.items (i.partition * e.lanes + k) l) (slice_index_or i.ends.items k s)
+
+-- what is left of a list after its first n
+abbrev pub IsLater : ℕ → List Stub → List Stub → Type 0
+IsLater n old new = (length new + n ≡ length old) × ((i : ℕ) (d : Stub) → slice_index_or new i d ≡ slice_index_or old (n + i) d)
+
+-- an inbox's token, which knows n outboxes that have ended
+abbrev pub IsTaker : ℕ → Queue → Stub → Type 0
+IsTaker n l s = IsPassOf l s.pass × (view s.pass ≡ taker (view s.pass).place (view s.pass).made (view s.pass).taken (view s.pass).known) × (length (view s.pass).known ≡ n)
+
+-- it knows of one outbox more
+abbrev pub IsGrown : Queue → Stub → Stub → Stub → Type 0
+IsGrown l old stub new = IsPassOf l new.pass × (view new.pass ≡ taker (view old.pass).place (view old.pass).made (view old.pass).taken ((view old.pass).known ++ sent_of stub ∷ []))
+
+-- the tokens of a partition's queues from all outboxes, by outbox, then lane
+abbrev pub AreStubsOf : Exchange → ℕ → List Stub → Type 0
+AreStubsOf e p ss = (length ss ≡ e.outboxes * e.lanes)
+    × ((o k : ℕ) (l : Queue) (s : Stub) → o < e.outboxes → k < e.lanes → IsStubOf (where_at e p k) o (slice_index_or e.queues.items (p * e.lanes + k) l) (slice_index_or ss (o * e.lanes + k) s))
+
+-- what the first o outboxes sent to lane k
+abbrev pub known_of : ℕ → List Stub → ℕ → ℕ → List (List Parcel)
+known_of lanes ss k zero = []
+known_of lanes ss k (suc o) = known_of lanes ss k o ++ slice_index_or (map sent_of ss) (o * lanes + k) [] ∷ []
+
+-- for each outbox, the parcels of the list are those that it sent to lane k; there are no others
+abbrev pub IsAllSent : ℕ → List Stub → ℕ → List Posted → Type 0
+IsAllSent lanes ss k xs = (o : ℕ) → of o xs ≡ slice_index_or (map sent_of ss) (o * lanes + k) []
+
+abbrev pub PostedVec : Type 0
+PostedVec = Vec Posted Global
+
+abbrev pub IsRoom : ℕ → PostedVec → Type 0
+IsRoom cap v = (v.items ≡ []) × (cap ≤ vec_capacity v)
+
+-- an inbox's token, which knows what some outboxes sent
+abbrev pub Knows : Queue → Stub → List (List Parcel) → Stub → Type 0
+Knows l old known new = IsPassOf l new.pass × (view new.pass ≡ taker (view old.pass).place (view old.pass).made (view old.pass).taken known)
+
+abbrev pub place_of : ℕ → ℕ → ℕ → ℕ → Where
+place_of p k lanes outboxes = record { partition = p; lane = k; lanes = lanes; outboxes = outboxes }
+
+-- an outbox gains a token of this queue
+abbrev pub AddsStub : Where → ℕ → Queue → Outbox → Outbox → Type 0
+AddsStub place i l old new = (new.number ≡ old.number) × ((s : Stub) × (new.stubs.items ≡ old.stubs.items ++ s ∷ []) × IsPassOf l s.pass × (view s.pass ≡ sender place i []))
+
+-- each outbox and each inbox is of the exchange, and nothing was posted or taken
+abbrev pub IsOpened : Exchange → List Outbox → List Inbox → ℕ → ℕ → Type 0
+IsOpened e os is outboxes partitions = (e.outboxes ≡ outboxes) × (e.partitions ≡ partitions) × (length os ≡ outboxes) × (length is ≡ partitions)
+    × ((i : ℕ) (o : Outbox) → i < outboxes → IsOutboxOf e (slice_index_or os i o) × ((slice_index_or os i o).number ≡ i) × ((p k : ℕ) (s : Stub) → p < partitions → k < e.lanes → sent_of (slice_index_or (slice_index_or os i o).stubs.items (p * e.lanes + k) s) ≡ []))
+    × ((p : ℕ) (n : Inbox) → p < partitions → IsInboxOf e (slice_index_or is p n) × ((slice_index_or is p n).partition ≡ p) × ((k : ℕ) (s : Stub) → k < e.lanes → taken_of (slice_index_or (slice_index_or is p n).ends.items k s) ≡ []))

@@ -1,0 +1,105 @@
+//! The calls of an exchange.
+ghost use Rattle.std.specs.Prelude.{◌≡◌, ◌<◌, ◌*◌, ◌+◌, ◌%◌, ◌∷◌, ◌++◌, [], ℕ, length, slice_set, slice_index_or, MatchOption, MatchResult};
+ghost use Rattle.crossbeam_queue.specs.Passes.{view, ruled_capacity};
+ghost use Rattle.crossbeam_queue.specs.Fifo.{Held};
+ghost use Rattle.rj_exchange.specs.Passing.{Belongs, HeldAt, Left, sender, taker, posted_by};
+ghost use Rattle.rj_exchange.specs.Boxes.{sent_of, taken_of, sents, takens, where_at, queue_of, IsStubOf, IsEndOf, IsOutboxOf, IsInboxOf};
+
+use super::{Exchange, Full, Inbox, Outbox, Stub};
+use crate::queue::{ParcelQueue, put, take};
+use crate::posted::Posted;
+use rj_ledger::Parcel;
+use std::sync::Wait;
+
+impl Exchange {
+    /// How many partitions there are, 1 to 1,024.
+    pub fn partitions(&self) -> u32
+        ensures { result ≡ self.now.partitions }
+    {
+        self.partitions
+    }
+
+    /// How many lanes each partition has, 1 to 4.
+    pub fn lanes(&self) -> u32
+        ensures { result ≡ self.now.lanes }
+    {
+        self.lanes
+    }
+
+    pub(super) fn index(&self, partition: u32, lane: u32) -> usize
+        requires { (partition < self.now.partitions) × (lane < self.now.lanes) }
+        ensures { (result ≡ partition * self.now.lanes + lane) × (result < length self.now.queues.items) }
+    {
+        partition as usize * self.lanes as usize + lane as usize
+    }
+}
+
+fn post_at<R: Wait>(rt: &R, queue: &ParcelQueue, stub: &mut Stub, posted: Posted) -> Result<(), Posted>
+    requires { let v = view stub.old.pass in IsStubOf v.place posted.outbox queue.now stub.old × Belongs v.place posted }
+    ensures stub { IsStubOf (view stub.old.pass).place posted.outbox queue.now stub.new }
+    ensures told { MatchResult result (λ _. sent_of stub.new ≡ sent_of stub.old ++ posted.parcel ∷ []) (λ x. (x ≡ posted) × (sent_of stub.new ≡ sent_of stub.old) × Held (ruled_capacity queue.now) (HeldAt (view stub.old.pass).place posted.outbox (sent_of stub.old))) }
+{
+    put(rt, queue, &mut stub.pass, posted)
+}
+
+fn take_at<R: Wait>(rt: &R, queue: &ParcelQueue, end: &mut Stub) -> Option<Posted>
+    requires { let v = view end.old.pass in IsEndOf v.place v.made queue.now end.old }
+    ensures end { let v = view end.old.pass in IsEndOf v.place v.made queue.now end.new }
+    ensures told { let v = view end.old.pass in MatchOption result ((taken_of end.new ≡ taken_of end.old) × Held 0 (Left v)) (λ x. (taken_of end.new ≡ taken_of end.old ++ x ∷ []) × Belongs v.place x) }
+{
+    take(rt, queue, &mut end.pass)
+}
+
+impl Outbox {
+    /// Posts a parcel at the back of the queue of its partition and of lane `number mod lanes`, in one step. `Full` gives the
+    /// parcel back, with nothing posted, and comes only where the queue was full at a moment of the call. Takes no memory.
+    pub fn post<R: Wait>(&mut self, rt: &R, exchange: &Exchange, parcel: Parcel) -> Result<(), Full>
+        requires { IsOutboxOf exchange.now self.old × (parcel.partition < exchange.now.partitions) }
+        ensures same { IsOutboxOf exchange.now self.new × (self.new.number ≡ self.old.number) }
+        ensures sent { let q = queue_of exchange.now parcel in let was = slice_index_or (sents self.old) q [] in MatchResult result (λ _. sents self.new ≡ slice_set (sents self.old) q (was ++ parcel ∷ [])) (λ f. (f.0 ≡ parcel) × (sents self.new ≡ sents self.old) × Held exchange.now.capacity (HeldAt (where_at exchange.now parcel.partition (parcel.number % exchange.now.lanes)) self.old.number was)) }
+    {
+        let lane = (parcel.number % u64::from(exchange.lanes)) as u32;
+        let at = exchange.index(parcel.partition, lane);
+        let posted = Posted {
+            outbox: self.number,
+            parcel,
+        };
+        match post_at(rt, &exchange.queues[at], &mut self.stubs[at], posted) {
+            Ok(()) => Ok(()),
+            Err(posted) => {
+                let Posted { outbox: _, parcel } = posted;
+                Err(Full(parcel))
+            }
+        }
+    }
+
+    /// One stub for each queue, by partition and then lane: the token of all that this outbox posted there. Takes no memory.
+    pub fn end(self) -> Vec<Stub>
+        ensures { result ≡ self.stubs }
+    {
+        let Outbox { number: _, stubs } = self;
+        stubs
+    }
+}
+
+impl Inbox {
+    /// The partition that it takes for.
+    pub fn partition(&self) -> u32
+        ensures { result ≡ self.now.partition }
+    {
+        self.partition
+    }
+
+    /// Takes the oldest parcel of one lane, in one step. `None` comes only where the queue was empty at a moment of the call.
+    /// Takes no memory.
+    pub fn take<R: Wait>(&mut self, rt: &R, exchange: &Exchange, lane: u32) -> Option<Parcel>
+        requires { IsInboxOf exchange.now self.old × (lane < exchange.now.lanes) }
+        ensures same { IsInboxOf exchange.now self.new × (self.new.partition ≡ self.old.partition) }
+        ensures taken { let was = slice_index_or (takens self.old) lane [] in MatchOption result (takens self.new ≡ takens self.old) (λ x. (o : ℕ) × (takens self.new ≡ slice_set (takens self.old) lane (was ++ posted_by o x ∷ [])) × Belongs (where_at exchange.now self.old.partition lane) (posted_by o x)) }
+    {
+        let at = exchange.index(self.partition, lane);
+        let posted = take_at(rt, &exchange.queues[at], &mut self.ends[lane as usize])?;
+        let Posted { outbox: _, parcel } = posted;
+        Some(parcel)
+    }
+}

@@ -1,0 +1,22 @@
+//! The exchange between threads: ruled queues for parcels, tickets, a halt word, and stripes that are drawn and put back.
+//!
+//! Everything here is shared by `&`. What a thread knows lies in a token of its own: an [`Outbox`], an [`Inbox`], a [`Seat`],
+//! a [`HaltSeat`] or a [`StripeSeat`]. Each step of a call is one step on one queue or one atomic word, and a rule over that
+//! queue or word and all tokens stands between any two steps, whatever the schedule of the threads. Where all tokens are
+//! handed in, `finish` tells what the rule says of them together.
+//!
+//! Every call asks boxes, stubs and seats that were opened with the value that they are used with.
+#![tactic(auto)]
+
+mod boxes;
+mod halt;
+mod posted;
+mod queue;
+mod stripes;
+mod tickets;
+
+pub use boxes::{Exchange, Finished, Full, Inbox, Outbox, Stub};
+pub use halt::{Halt, HaltSeat};
+pub use posted::Posted;
+pub use stripes::{StripeSeat, Stripes};
+pub use tickets::{Seat, Tickets};

@@ -1,0 +1,123 @@
+//! One queue of parcels, under the rule that what was taken, and then what it holds, interleaves what each outbox posted.
+use crate::posted::Posted;
+use rj_ledger::Parcel;
+use crossbeam_queue::protocol::{Join, Lesson, Outcome, Protocol, Split};
+use crossbeam_queue::{Pass, RuledArrayQueue};
+use std::collections::LinkedList;
+use std::marker::{Brand, PhantomData};
+
+mod moves;
+
+pub(crate) use moves::{deal, drain, fix, give_back, put, take};
+
+/// Which queue it is.
+pub struct Where {
+    pub partition: u32,
+    pub lane: u32,
+    pub lanes: u32,
+    pub outboxes: u32,
+}
+
+/// What a pass knows. No value of it is made.
+/// One that sends has an outbox's number, and what this outbox sent. The one that takes knows how many senders were made,
+/// what it took, and of the first senders, which have ended, what they sent in all.
+pub struct Trace {
+    pub place: Where,
+    pub placed: bool,
+    pub sends: bool,
+    pub outbox: u32,
+    pub sent: LinkedList<Parcel>,
+    pub takes: bool,
+    pub made: u32,
+    pub taken: LinkedList<Posted>,
+    pub known: LinkedList<LinkedList<Parcel>>,
+}
+
+/// Names the place that a queue is given as it is made.
+pub trait Place {
+    ghost use Rattle.rj_exchange.specs.declared.queue.Where.{Where};
+
+    ghost place: { Where };
+}
+
+impl Place for Brand {
+    ghost use Rattle.rj_exchange.specs.Passing.{nowhere};
+
+    ghost place = { nowhere };
+}
+
+pub struct InOrder;
+
+impl Protocol<Posted, Trace> for InOrder {
+    ghost use Rattle.rj_exchange.specs.Passing.{Passing, blank};
+
+    ghost holds = { Passing };
+
+    ghost first = { blank };
+}
+
+struct Fix<B> {
+    marker: PhantomData<B>,
+}
+
+impl<B: Place> Split<Trace> for Fix<B> {
+    ghost use Rattle.rj_exchange.specs.Passing.{taker, nobody};
+    ghost use Rattle.std.specs.Prelude.{[]};
+
+    ghost left = { λ v. taker B.place 0 [] [] };
+
+    ghost right = { λ v. nobody };
+}
+
+struct Deal;
+
+impl Split<Trace> for Deal {
+    ghost use Rattle.rj_exchange.specs.Passing.{taker, sender};
+    ghost use Rattle.std.specs.Prelude.{[], ◌+◌};
+
+    ghost left = { λ v. taker v.place (v.made + 1) v.taken v.known };
+
+    ghost right = { λ v. sender v.place v.made [] };
+}
+
+struct Return;
+
+impl Join<Trace> for Return {
+    ghost use Rattle.rj_exchange.specs.Passing.{taker, nobody};
+    ghost use Rattle.std.specs.Prelude.{[], ◌∷◌, ◌++◌};
+
+    ghost both = { λ v w. taker v.place v.made v.taken (v.known ++ w.sent ∷ []) };
+
+    ghost spent = { nobody };
+}
+
+struct Posts;
+
+impl Outcome<Posted, Trace> for Posts {
+    ghost use Rattle.rj_exchange.specs.Passing.{sender};
+    ghost use Rattle.std.specs.Prelude.{[], ◌∷◌, ◌++◌, ◌≡◌};
+
+    ghost then = { λ v x w. w ≡ sender v.place v.outbox (v.sent ++ x.parcel ∷ []) };
+}
+
+impl Lesson<Posted, Trace> for Posts {
+    ghost use Rattle.rj_exchange.specs.Passing.{HeldAt};
+
+    ghost fact = { λ v items. HeldAt v.place v.outbox v.sent items };
+}
+
+struct Takes;
+
+impl Outcome<Posted, Trace> for Takes {
+    ghost use Rattle.rj_exchange.specs.Passing.{Took};
+
+    ghost then = { Took };
+}
+
+impl Lesson<Posted, Trace> for Takes {
+    ghost use Rattle.rj_exchange.specs.Passing.{Left};
+
+    ghost fact = { Left };
+}
+
+pub type ParcelQueue = RuledArrayQueue<Posted, Trace, InOrder>;

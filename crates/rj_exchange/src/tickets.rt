@@ -1,0 +1,78 @@
+//! Tickets: numbers that threads draw, each once, by one `fetch_add` on one atomic word.
+ghost use Rattle.std.specs.Prelude.{◌≡◌, ◌≤◌, [], if◌then◌else◌};
+
+use atomic_table::{Join, Play, Seat as TableSeat, Split, Table, TableRule};
+use std::alloc::Global;
+use std::collections::LinkedList;
+
+mod calls;
+
+/// What the rule is told when the tickets are opened.
+#[derive(Clone, Copy)]
+pub struct Plan {
+    pub limit: u64,
+    pub seats: u32,
+}
+
+/// What a seat knows: the limit, its part of the right to know the whole, the numbers that it drew, and how many of its steps drew nothing. No value of it is made.
+pub struct Draw {
+    pub limit: u64,
+    pub parts: u64,
+    pub drawn: LinkedList<u64>,
+    pub nones: u64,
+}
+
+pub struct EachNumberOnce;
+
+impl TableRule<(), Draw, Plan> for EachNumberOnce {
+    ghost use Rattle.rj_exchange.specs.Drawing.{Drawing, opening_view};
+
+    ghost holds = { Drawing };
+
+    ghost first = { opening_view };
+}
+
+struct Draws;
+
+impl Play<(), Draw> for Draws {
+    ghost use Rattle.rj_exchange.specs.Drawing.{drew};
+
+    ghost then = { drew };
+}
+
+struct Cut;
+
+impl Split<Draw> for Cut {
+    ghost use Rattle.rj_exchange.specs.Drawing.{kept, cut_off};
+
+    ghost left = { kept };
+
+    ghost right = { cut_off };
+}
+
+impl Join<Draw> for Cut {
+    ghost use Rattle.rj_exchange.specs.Drawing.{joined, nobody};
+
+    ghost both = { joined };
+
+    ghost spent = { nobody };
+}
+
+/// The numbers below a limit, 0 first, each to be drawn once.
+#[derive(Drop)]
+pub struct Tickets {
+    table: Table<(), Draw, Plan, EachNumberOnce, Global>,
+    limit: u64,
+    ghost one_word: { (table.shared.table_id.words ≡ 1) × (table.shared.table_id.slots ≡ 0) },
+    ghost limited: { (table.shared.key.limit ≡ limit) × (limit ≤ 4294967296) },
+    ghost few: { (1 ≤ table.shared.key.seats) × (table.shared.key.seats ≤ 256) },
+}
+
+/// A right to draw from the [`Tickets`] that it was opened with. Once it was answered `None` it is spent.
+#[derive(Drop)]
+pub struct Seat {
+    seat: TableSeat<(), Draw>,
+    spent: bool,
+    ghost whole: { (seat.me.1 ≡ []) × (seat.me.0.parts ≡ 1) },
+    ghost tells: { seat.me.0.nones ≡ (if spent then 1 else 0) },
+}
