@@ -85,8 +85,8 @@ takes pass v may placed x items views h at = let w : Trace = taker v.place v.mad
       (refl, subst (λ p. Belongs p x) (sym (mine.there placed)) (All-head (Belongs h.place) x items h.belong), (items, λ all. whole h.reader h.owner h.place h.got (x ∷ items) pass v mine all)),
     )
 
-pub learns_left : (pass : ℕ) (v : Trace) → v.takes ≡ true → Learns Passing pass v (Left v)
-learns_left pass v may items views h at all = whole h.reader h.owner h.place h.got items pass v (h.takers pass v at may) all
+pub learns_left : (pass : ℕ) (v : Trace) → v.takes ≡ true → v.placed ≡ true → Learns Passing pass v (Left v)
+learns_left pass v may placed items views h at = let f = h.takers pass v at may in (subst (λ p. All (Belongs p) items) (sym (f.there placed)) h.belong, λ all. whole h.reader h.owner h.place h.got items pass v f all)
 
 pub learns_held : (pass : ℕ) (v : Trace) → v.sends ≡ true → Learns Passing pass v (HeldAt v.place v.outbox v.sent)
 learns_held pass v may items views h at = let f = h.senders pass v at may in (subst (λ p. All (Belongs p) items) (sym f.there) h.belong, (h.got, sym f.sent))

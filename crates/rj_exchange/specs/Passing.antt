@@ -65,9 +65,9 @@ pub record Passing (items : List Posted) (views : List Trace) : Type 0 where
 abbrev pub HeldAt : Where → ℕ → List Parcel → List Posted → Type 0
 HeldAt p k sent items = All (Belongs p) items × ((got : List Posted) × (of k (got ++ items) ≡ sent))
 
--- what the taker learns of what is left, of those outboxes that have ended
+-- what the taker learns of what is left: it belongs there, and where each outbox has ended, what was taken with it is what they sent
 abbrev pub Left : Trace → List Posted → Type 0
-Left v items = (length v.known ≡ v.made) → Interleaves v.known (v.taken ++ items)
+Left v items = All (Belongs v.place) items × ((length v.known ≡ v.made) → Interleaves v.known (v.taken ++ items))
 
 -- what a pop tells the taker
 abbrev pub Took : Trace → Posted → Trace → Type 0

@@ -1,8 +1,8 @@
 //! One queue of parcels, under the rule that what was taken, and then what it holds, interleaves what each outbox posted.
 use crate::posted::Posted;
-use rj_ledger::Parcel;
 use crossbeam_queue::protocol::{Join, Lesson, Outcome, Protocol, Split};
 use crossbeam_queue::{Pass, RuledArrayQueue};
+use rj_ledger::Parcel;
 use std::collections::LinkedList;
 use std::marker::{Brand, PhantomData};
 

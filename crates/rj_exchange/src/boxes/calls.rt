@@ -1,13 +1,13 @@
 //! The calls of an exchange.
-ghost use Rattle.std.specs.Prelude.{◌≡◌, ◌<◌, ◌*◌, ◌+◌, ◌%◌, ◌∷◌, ◌++◌, [], ℕ, length, slice_set, slice_index_or, MatchOption, MatchResult};
+ghost use Rattle.std.specs.Prelude.{◌≡◌, ◌<◌, ◌*◌, ◌+◌, ◌%◌, ◌∷◌, ◌++◌, [], ℕ, length, All, slice_set, slice_index_or, MatchOption, MatchResult};
 ghost use Rattle.crossbeam_queue.specs.Passes.{view, ruled_capacity};
 ghost use Rattle.crossbeam_queue.specs.Fifo.{Held};
 ghost use Rattle.rj_exchange.specs.Passing.{Belongs, HeldAt, Left, sender, taker, posted_by};
 ghost use Rattle.rj_exchange.specs.Boxes.{sent_of, taken_of, sents, takens, where_at, queue_of, IsStubOf, IsEndOf, IsOutboxOf, IsInboxOf};
 
 use super::{Exchange, Full, Inbox, Outbox, Stub};
-use crate::queue::{ParcelQueue, put, take};
 use crate::posted::Posted;
+use crate::queue::{ParcelQueue, put, take};
 use rj_ledger::Parcel;
 use std::sync::Wait;
 
@@ -34,7 +34,12 @@ impl Exchange {
     }
 }
 
-fn post_at<R: Wait>(rt: &R, queue: &ParcelQueue, stub: &mut Stub, posted: Posted) -> Result<(), Posted>
+fn post_at<R: Wait>(
+    rt: &R,
+    queue: &ParcelQueue,
+    stub: &mut Stub,
+    posted: Posted,
+) -> Result<(), Posted>
     requires { let v = view stub.old.pass in IsStubOf v.place posted.outbox queue.now stub.old × Belongs v.place posted }
     ensures stub { IsStubOf (view stub.old.pass).place posted.outbox queue.now stub.new }
     ensures told { MatchResult result (λ _. sent_of stub.new ≡ sent_of stub.old ++ posted.parcel ∷ []) (λ x. (x ≡ posted) × (sent_of stub.new ≡ sent_of stub.old) × Held (ruled_capacity queue.now) (HeldAt (view stub.old.pass).place posted.outbox (sent_of stub.old))) }
@@ -95,7 +100,7 @@ impl Inbox {
     pub fn take<R: Wait>(&mut self, rt: &R, exchange: &Exchange, lane: u32) -> Option<Parcel>
         requires { IsInboxOf exchange.now self.old × (lane < exchange.now.lanes) }
         ensures same { IsInboxOf exchange.now self.new × (self.new.partition ≡ self.old.partition) }
-        ensures taken { let was = slice_index_or (takens self.old) lane [] in MatchOption result (takens self.new ≡ takens self.old) (λ x. (o : ℕ) × (takens self.new ≡ slice_set (takens self.old) lane (was ++ posted_by o x ∷ [])) × Belongs (where_at exchange.now self.old.partition lane) (posted_by o x)) }
+        ensures taken { let was = slice_index_or (takens self.old) lane [] in MatchOption result ((takens self.new ≡ takens self.old) × Held 0 (All (Belongs (where_at exchange.now self.old.partition lane)))) (λ x. (o : ℕ) × (takens self.new ≡ slice_set (takens self.old) lane (was ++ posted_by o x ∷ [])) × Belongs (where_at exchange.now self.old.partition lane) (posted_by o x)) }
     {
         let at = exchange.index(self.partition, lane);
         let posted = take_at(rt, &exchange.queues[at], &mut self.ends[lane as usize])?;

@@ -8,8 +8,8 @@ ghost use Rattle.rj_exchange.specs.declared.posted.Posted.{Posted};
 ghost use Rattle.rj_exchange.specs.Boxes.{Queue, sent_of, taken_of, takens, where_at, IsStubOf, IsInboxOf, IsLater, IsTaker, IsGrown, AreStubsOf, known_of, Knows, IsAllSent, IsRoom, PostedVec};
 
 use super::{Exchange, Finished, Inbox, Stub};
-use crate::queue::{ParcelQueue, drain, give_back};
 use crate::posted::Posted;
+use crate::queue::{ParcelQueue, drain, give_back};
 use std::alloc::{AllocError, Global};
 use std::sync::Wait;
 use std::vec::IntoIter;

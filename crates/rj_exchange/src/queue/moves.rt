@@ -6,8 +6,8 @@ ghost use Rattle.rj_exchange.specs.Passing.{blank, taker, sender, Belongs, HeldA
 
 use super::{Deal, Fix, ParcelQueue, Place, Posts, Return, Takes, Trace};
 use crate::posted::Posted;
-use rj_ledger::Parcel;
 use crossbeam_queue::Pass;
+use rj_ledger::Parcel;
 use std::sync::Wait;
 
 // The queue is told its place.
@@ -42,7 +42,11 @@ pub(crate) fn put<R: Wait>(
     queue.push_as::<Posts, R>(rt, pass, posted)
 }
 
-pub(crate) fn take<R: Wait>(rt: &R, queue: &ParcelQueue, pass: &mut Pass<Posted, Trace>) -> Option<Posted>
+pub(crate) fn take<R: Wait>(
+    rt: &R,
+    queue: &ParcelQueue,
+    pass: &mut Pass<Posted, Trace>,
+) -> Option<Posted>
     requires pass { IsPassOf queue.now pass.old }
     requires view { let v = view pass.old in v ≡ taker v.place v.made v.taken v.known }
     ensures pass { IsSamePass pass.old pass.new }
@@ -52,7 +56,11 @@ pub(crate) fn take<R: Wait>(rt: &R, queue: &ParcelQueue, pass: &mut Pass<Posted,
 }
 
 // An outbox that has ended: the next one of which the taker does not know yet.
-pub(crate) fn give_back(queue: &ParcelQueue, pass: &mut Pass<Posted, Trace>, stub: Pass<Posted, Trace>)
+pub(crate) fn give_back(
+    queue: &ParcelQueue,
+    pass: &mut Pass<Posted, Trace>,
+    stub: Pass<Posted, Trace>,
+)
     requires pass { IsPassOf queue.now pass.old × IsPassOf queue.now stub }
     requires view { let v = view pass.old in let w = view stub in (v ≡ taker v.place v.made v.taken v.known) × (w ≡ sender w.place w.outbox w.sent) × (w.outbox ≡ length v.known) }
     ensures pass { IsSamePass pass.old pass.new }
