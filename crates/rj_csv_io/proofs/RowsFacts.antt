@@ -1,0 +1,79 @@
+-- The rows of records, one more at a time.
+use Rattle.std.proofs.Common.{◌≡◌, ◌<◌, ◌≤◌, ◌+◌, ◌-◌, ◌^◌, ℕ, List, [], ◌∷◌, ◌++◌, length, true, false, Bool, Some, None, Ok, Err, refl, ap, ◌∙◌, arith, subst, zero, suc}
+use Rattle.std.specs.Prelude.{if◌then◌else◌, slice_index_or}
+use Rattle.std.specs.Str.{bytes_eq, is_utf8}
+use Rattle.std.specs.Str.Parse.{signed_digits_value}
+use Rattle.std.proofs.lemmas.Bool.{le-leb, lt-leb, eq-eqb, ne_eqb}
+use Rattle.rj_columns.specs.declared.cell.ColumnType.{ColumnType}
+use Rattle.rj_columns.specs.declared.cell.ColumnType.TheVariants as kind
+use Rattle.rj_columns.specs.Contents.{Content, nothing, whole, word, FitsType}
+use Rattle.rj_columns.specs.Tables.{FitsAt, BuilderValue}
+use Rattle.rj_csv_io.specs.declared.refused.ReadRefused.{ReadRefused}
+use Rattle.rj_csv_io.specs.declared.refused.ReadRefused.TheVariants as refused
+use Rattle.rj_csv_io.specs.Typed.{read_cell, typed_cell, read_cells, is_int_text}
+use Rattle.rj_csv_io.specs.Rows.{read_row, read_rows}
+
+-- a field's reading has its column's type
+typed-fits : (k : ColumnType) (f : List ℕ) (x : Content) → typed_cell k f ≡ Some x → FitsType k x
+typed-fits kind.Int f x e = go (is_int_text f) e
+  where
+    go : (b : Bool) → (if b then Some (whole (signed_digits_value 10 f)) else None) ≡ Some x → FitsType kind.Int x
+    go true e = let q : whole (signed_digits_value 10 f) ≡ x = cc in let P : Content → Type 0 = FitsType kind.Int in subst P q tt
+    go false e = absurd (cc)
+typed-fits kind.Text f x e = go (is_utf8 f) e
+  where
+    go : (b : Bool) → (if b then Some (word f) else None) ≡ Some x → FitsType kind.Text x
+    go true e = let q : word f ≡ x = cc in let P : Content → Type 0 = FitsType kind.Text in subst P q tt
+    go false e = absurd (cc)
+
+nothing-fits : (k : ColumnType) → FitsType k nothing
+nothing-fits kind.Int = tt
+nothing-fits kind.Text = tt
+
+pub cell-fits : (null : List ℕ) (k : ColumnType) (f : List ℕ) (x : Content) → read_cell null k f ≡ Some x → FitsType k x
+cell-fits null k f x e = go (bytes_eq f null) e
+  where
+    go : (b : Bool) → (if b then Some nothing else typed_cell k f) ≡ Some x → FitsType k x
+    go true e = let q : nothing ≡ x = cc in let P : Content → Type 0 = FitsType k in subst P q (nothing-fits k)
+    go false e = typed-fits k f x e
+
+pub FitsAt-from : (types : List ColumnType) (i : ℕ) (d : ColumnType) (x : Content) → i < length types → FitsType (slice_index_or types i d) x → FitsAt types i x
+unfolding FitsAt
+FitsAt-from [] i d x h f = absurd (omega arith)
+FitsAt-from (t ∷ types) zero d x h f = f
+FitsAt-from (t ∷ types) (suc i) d x h f = FitsAt-from types i d x (omega arith) f
+
+-- one more record
+pub rows-step : (null : List ℕ) (types : List ColumnType) (done : List (List Content)) (n : ℕ) (f : List (List ℕ)) (rest : List (List (List ℕ))) (cells : List Content)
+    → length done ≡ n → read_row null types n f ≡ Ok cells → read_rows null types done (f ∷ rest) ≡ read_rows null types (done ++ cells ∷ []) rest
+unfolding read_rows
+rows-step null types done n f rest cells size e = rw (size, e) refl
+
+pub rows-fault : (null : List ℕ) (types : List ColumnType) (done : List (List Content)) (n : ℕ) (f : List (List ℕ)) (rest : List (List (List ℕ))) (x : ReadRefused)
+    → length done ≡ n → read_row null types n f ≡ Err x → read_rows null types done (f ∷ rest) ≡ Err x
+unfolding read_rows
+rows-fault null types done n f rest x size e = rw (size, e) refl
+
+pub rows-end : (null : List ℕ) (types : List ColumnType) (done : List (List Content)) → read_rows null types done [] ≡ Ok done
+unfolding read_rows
+rows-end null types done = refl
+
+-- what the reading of a record tests in turn
+pub row-too_many : (null : List ℕ) (types : List ColumnType) (n : ℕ) (f : List (List ℕ)) → 2 ^ 31 - 1 ≤ n → read_row null types n f ≡ Err refused.TooManyRows
+row-too_many null types n f h = rw (le-leb (2 ^ 31 - 1) n h) refl
+
+pub row-ragged : (null : List ℕ) (types : List ColumnType) (n : ℕ) (f : List (List ℕ)) → n < 2 ^ 31 - 1 → (length f ≡ length types → ⊥) → read_row null types n f ≡ Err (refused.RaggedRow (n + 1))
+row-ragged null types n f h ne = rw (lt-leb (2 ^ 31 - 1) n h, ne_eqb (length f) (length types) ne) refl
+
+pub row-cells : (null : List ℕ) (types : List ColumnType) (n : ℕ) (f : List (List ℕ)) → n < 2 ^ 31 - 1 → length f ≡ length types → read_row null types n f ≡ read_cells null (n + 1) [] types f
+row-cells null types n f h same = rw (lt-leb (2 ^ 31 - 1) n h, eq-eqb (length f) (length types) same) refl
+
+-- the builder after one more cell, and after the end of a row
+pub grows-same : (start now next : BuilderValue) (row : List Content) → now ≡ record start { row = now.row } → next ≡ record now { row = row } → next ≡ record start { row = next.row }
+grows-same start now next row e h = let t : now.table ≡ start.table = ap (λ (v : BuilderValue). v.table) e in rw (h, t) refl
+
+pub ended : (start full next : BuilderValue) → full ≡ record start { row = full.row } → next ≡ record { table = record full.table { rows = full.table.rows ++ full.row ∷ [] }; row = [] }
+    → (next.table.rows ≡ start.table.rows ++ full.row ∷ []) × (next ≡ record { table = record start.table { rows = next.table.rows }; row = [] })
+ended start full next e h =
+    let t : full.table ≡ start.table = ap (λ (v : BuilderValue). v.table) e in
+    (ap (λ (v : BuilderValue). v.table.rows) h ∙ rw t refl, rw (h, t) refl)

@@ -1,0 +1,26 @@
+-- The cells of a block of rows, column by column.
+use Rattle.std.specs.Prelude.{ℕ, zero, suc, ◌+◌, ◌-◌, ◌≡◌, ◌≤◌, List, [], ◌∷◌, ◌++◌, map, length}
+use Rattle.rj_columns.specs.Contents.{Content, content_of}
+use Rattle.rj_columns.specs.Tables.{cell_in}
+use Rattle.rj_csv_io.specs.declared.block.Block.{Block}
+
+-- the cells of one column from a row on
+unfoldable pub part_of : List (List Content) → ℕ → ℕ → ℕ → List Content
+part_of rows col from zero = []
+part_of rows col from (suc n) = part_of rows col from n ++ cell_in rows (from + n) col ∷ []
+
+-- the parts of the first columns, one after the other
+unfoldable pub block_of : List (List Content) → ℕ → ℕ → ℕ → List Content
+block_of rows from n zero = []
+block_of rows from n (suc width) = block_of rows from n width ++ part_of rows width from n
+
+-- a block holds the cells of some of the rows
+pub record Holds (rows : List (List Content)) (width : ℕ) (b : Block) : Type 0 where
+  pub order : b.from ≤ b.to
+  pub inside : b.to ≤ length rows
+  pub cells : map content_of b.cells.items ≡ block_of rows b.from (b.to - b.from) width
+
+-- where a column's part begins
+unfoldable pub offset : ℕ → ℕ → ℕ
+offset n zero = 0
+offset n (suc col) = offset n col + n

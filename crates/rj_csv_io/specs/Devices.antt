@@ -1,0 +1,11 @@
+-- What clauses read of a writer or a reader of std whose failures are counted.
+use Rattle.std.specs.Prelude.{ℕ}
+use Rattle.rj_csv_io.specs.declared.output.Counted.{Counted}
+
+-- the writer
+abbrev pub writer_of : {W : Type 0} → Counted W → W
+writer_of c = c.writer
+
+-- how often it failed
+abbrev pub write_failures_of : {W : Type 0} → Counted W → ℕ
+write_failures_of c = c.failures

@@ -1,0 +1,8 @@
+pub mod Typed
+pub mod Rows
+pub mod Left
+pub mod Tables
+pub mod Shown
+pub mod Written
+pub mod Blocks
+pub mod Devices

@@ -1,0 +1,20 @@
+-- Text: the CSV text of a header and of rows (RFC 4180, section 2, as csv's writer writes a record).
+use Rattle.std.specs.Prelude.{ℕ, List, [], ◌∷◌, ◌++◌, map}
+use Rattle.std.specs.Fmt.{signed_decimal}
+use Rattle.csv.specs.Writing.{default_writer, row_text}
+use Rattle.rj_columns.specs.Contents.{Content, nothing, whole, word}
+
+-- the text of a cell: null is the null text, and a number has neither `+` nor leading zeros
+abbrev pub shown : List ℕ → Content → List ℕ
+shown null nothing = null
+shown null (whole n) = signed_decimal n
+shown null (word s) = s
+
+-- the texts of records, one after the other
+unfoldable pub rows_text : List (List (List ℕ)) → List ℕ
+rows_text [] = []
+rows_text (r ∷ rows) = row_text default_writer r ++ rows_text rows
+
+-- the text of a header and of the rows under it
+abbrev pub table_text : List ℕ → List (List ℕ) → List (List Content) → List ℕ
+table_text null header rows = rows_text (header ∷ map (map (shown null)) rows)

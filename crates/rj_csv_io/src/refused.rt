@@ -1,0 +1,27 @@
+/// Why no table was read. Rows and columns count from 1, and row 1 is the record after the header.
+#[derive(Clone, Copy, Debug, PartialEq, Eq)]
+pub enum ReadRefused {
+    /// There is no record at all.
+    NoHeader,
+    /// The name of this column is no text of 1 to 128 bytes of UTF-8.
+    BadName(u64),
+    /// The name of this column stands further left already, ASCII case ignored.
+    RepeatedName(u64),
+    /// The header has more or fewer names than there are types.
+    TypeCount,
+    /// This row has more or fewer fields than the header.
+    RaggedRow(u64),
+    /// The cell at this row and column is no integer, or one past 64 bits with a sign.
+    BadInteger(u64, u64),
+    /// The cell at this row and column is no UTF-8.
+    BadText(u64, u64),
+    /// There are more than 2^31 - 1 rows.
+    TooManyRows,
+    /// The header has more than 256 names.
+    TooManyColumns,
+    /// The null text is longer than 16 bytes, or has a byte that isn't printable ASCII, a digit, a comma, a
+    /// double quote or a space.
+    BadNull,
+    /// A growth was refused.
+    Memory,
+}

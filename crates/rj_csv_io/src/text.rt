@@ -1,0 +1,70 @@
+// The text of records, made by csv's writer in memory.
+
+ghost use Rattle.std.specs.Prelude.{◌≡◌, ◌<◌, ◌+◌, ◌++◌, ◌∷◌, ◌^◌, ◌-◌, List, ℕ, [], length, OnOk, IfOk};
+ghost use Rattle.csv.specs.Writing.{default_writer, row_text};
+ghost use Rattle.rj_columns.specs.Contents.{content_of};
+ghost use Rattle.rj_csv_io.specs.Shown.{shown};
+ghost use Rattle.rj_csv_io.specs.Written.{HasWritten};
+
+use csv::{Writer, WriterBuilder};
+use itoa::Buffer;
+use rj_columns::Cell;
+use std::alloc::{AllocError, Global};
+
+/// A writer that has written nothing.
+pub(crate) fn open_text(alloc: Global) -> Writer<Vec<u8>>
+    ensures { HasWritten result [] [] }
+{
+    WriterBuilder::new().from_writer(Vec::new(alloc))
+}
+
+/// Writes one more field of a record.
+pub(crate) fn write_field(writer: &mut Writer<Vec<u8>>, field: &[u8]) -> Result<(), AllocError>
+    ensures { (text : List ℕ) → (fields : List (List ℕ)) → length fields < 2 ^ 64 - 1 → HasWritten writer.old text fields
+        → OnOk result (HasWritten writer.new text (fields ++ field.now ∷ [])) }
+{
+    if writer.write_field(field).is_err() {
+        return Err(AllocError);
+    }
+    Ok(())
+}
+
+/// Writes a cell's text as one more field of a record.
+pub(crate) fn write_cell(
+    writer: &mut Writer<Vec<u8>>,
+    cell: Cell<'_>,
+    null: &str,
+) -> Result<(), AllocError>
+    ensures { (text : List ℕ) → (fields : List (List ℕ)) → length fields < 2 ^ 64 - 1 → HasWritten writer.old text fields
+        → OnOk result (HasWritten writer.new text (fields ++ shown null.now (content_of cell.entry) ∷ [])) }
+{
+    match cell {
+        Cell::Null => write_field(writer, null.as_bytes()),
+        Cell::Text(text) => write_field(writer, text.as_bytes()),
+        Cell::Int(n) => {
+            let mut digits = Buffer::new();
+            write_field(writer, digits.format(n).as_bytes())
+        }
+    }
+}
+
+/// Ends a record.
+pub(crate) fn end_record(writer: &mut Writer<Vec<u8>>) -> Result<(), AllocError>
+    ensures { (text : List ℕ) → (fields : List (List ℕ)) → HasWritten writer.old text fields
+        → OnOk result (HasWritten writer.new (text ++ row_text default_writer fields) []) }
+{
+    if writer.end_record().is_err() {
+        return Err(AllocError);
+    }
+    Ok(())
+}
+
+/// The text that was written.
+pub(crate) fn close_text(writer: Writer<Vec<u8>>) -> Result<Vec<u8>, AllocError>
+    ensures { (text : List ℕ) → HasWritten writer text [] → IfOk result (λ v. v.items ≡ text) }
+{
+    match writer.into_inner() {
+        Ok(text) => Ok(text),
+        Err(_) => Err(AllocError),
+    }
+}
