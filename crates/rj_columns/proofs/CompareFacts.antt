@@ -1,5 +1,5 @@
 -- Equal cells, and the order of equal cells.
-use Rattle.std.proofs.Common.{◌≡◌, ℤ, ℕ, List, Bool, true, false, None, Some, refl, sym, ap, ◌∙◌}
+use Rattle.std.proofs.Common.{◌≡◌, ℤ, ℕ, List, Bool, true, Some, refl, sym, ap, ◌∙◌}
 use Rattle.std.specs.Prelude.{◌↔◌}
 use Rattle.std.specs.Str.{bytes_eq}
 use Rattle.std.specs.Ordering.{int_cmp, int_eq, nat_cmp, is_eq}
