@@ -1,0 +1,134 @@
+ghost use Rattle.std.specs.Prelude.{◌≡◌, length, IfOk};
+
+use super::{BuildRefused, Cell, ColumnType, RowSource, Table, TableBuilder, compare};
+use std::alloc::{AllocError, Global};
+use std::cmp::Ordering;
+use std::test::Fail;
+
+const INT: ColumnType = ColumnType::Int;
+
+const TEXT: ColumnType = ColumnType::Text;
+
+// Why no table is begun, if so.
+fn fault(alloc: Global, names: &[&[u8]], types: &[ColumnType]) -> Option<BuildRefused> {
+    match TableBuilder::new(alloc, names, types) {
+        Ok(_) => None,
+        Err(e) => Some(e),
+    }
+}
+
+#[test]
+fn names_ignore_ascii_case(rt: HostRuntime) {
+    let alike = [b"id".as_slice(), b"x".as_slice(), b"ID".as_slice()];
+    assert!(rt;
+        fault(rt.alloc(), alike.as_slice(), [INT, INT, INT].as_slice())
+            == Some(BuildRefused::RepeatedName(3))
+    );
+    let apart = ["\u{e4}".as_bytes(), "\u{c4}".as_bytes()];
+    assert!(rt; fault(rt.alloc(), apart.as_slice(), [INT, INT].as_slice()).is_none());
+}
+
+#[test]
+fn lengths_of_names(rt: HostRuntime) {
+    let longest = [b'a'; 128];
+    let longer = [b'a'; 129];
+    let one = [INT];
+    assert!(rt; fault(rt.alloc(), [longest.as_slice()].as_slice(), one.as_slice()).is_none());
+    assert!(rt;
+        fault(rt.alloc(), [longer.as_slice()].as_slice(), one.as_slice())
+            == Some(BuildRefused::BadName(1))
+    );
+    assert!(rt;
+        fault(rt.alloc(), [b"".as_slice()].as_slice(), one.as_slice())
+            == Some(BuildRefused::BadName(1))
+    );
+    assert!(rt;
+        fault(rt.alloc(), [b"\xff".as_slice()].as_slice(), one.as_slice())
+            == Some(BuildRefused::BadName(1))
+    );
+}
+
+#[test]
+fn numbers_of_columns(rt: HostRuntime) -> Result<(), Fail> {
+    let alloc = rt.alloc();
+    let mut letters = Vec::new(alloc);
+    for first in b'a'..=b'p' {
+        for second in b'a'..=b'p' {
+            letters.push([first, second])?;
+        }
+    }
+    let mut names = Vec::new(alloc);
+    let mut types = Vec::new(alloc);
+    for name in &letters {
+        names.push(name.as_slice())?;
+        types.push(INT)?;
+    }
+    assert!(rt; names.len() == 256);
+    assert!(rt; fault(alloc, names.as_slice(), types.as_slice()).is_none());
+    assert!(rt; fault(alloc, names.as_slice(), [INT].as_slice()) == Some(BuildRefused::TypeCount));
+    names.push(b"aa".as_slice())?;
+    assert!(rt;
+        fault(alloc, names.as_slice(), types.as_slice()) == Some(BuildRefused::TooManyColumns)
+    );
+    Ok(())
+}
+
+// A row with a number and a text, a row of nulls, and a cell of a row that is not ended.
+#[tactic(auto, unfolding(crate::specs::Tables::FitsTypes, crate::specs::Tables::FitsAt))]
+fn sample(alloc: Global) -> Result<Table, Fail>
+    ensures size { IfOk result (λ t. (length t.types ≡ 2) × (length t.rows ≡ 2)) }
+{
+    let names = [b"id".as_slice(), b"Word".as_slice()];
+    let types = [INT, TEXT];
+    let mut builder = TableBuilder::new(alloc, names.as_slice(), types.as_slice())?;
+    builder.reserve(2);
+    builder.push_row([Cell::Int(-7), Cell::Text("\u{e4},")].as_slice())?;
+    builder.push_cell(Cell::Null)?;
+    builder.push_cell(Cell::Null)?;
+    builder.end_row();
+    builder.push_cell(Cell::Int(5))?;
+    Ok(builder.finish())
+}
+
+#[test]
+fn cells_as_pushed(rt: HostRuntime) -> Result<(), Fail> {
+    let table = sample(rt.alloc())?;
+    assert!(rt; table.rows() == 2 && table.columns() == 2);
+    assert_eq!(rt; table.name(0), "id");
+    assert_eq!(rt; table.name(1), "Word");
+    assert!(rt; table.column_type(0) == INT && table.column_type(1) == TEXT);
+    assert!(rt; table.cell(0, 0) == Cell::Int(-7));
+    assert!(rt; table.cell(0, 1) == Cell::Text("\u{e4},"));
+    assert!(rt; table.cell(1, 0) == Cell::Null && table.cell(1, 1) == Cell::Null);
+    Ok(())
+}
+
+// How many cells are null.
+fn count_nulls<S: RowSource>(source: &S) -> u64 {
+    let mut nulls = 0;
+    for row in 0..source.rows() {
+        for col in 0..source.columns() {
+            if source.cell(row, col) == Cell::Null && nulls < 9 {
+                nulls += 1;
+            }
+        }
+    }
+    nulls
+}
+
+#[test]
+fn a_table_is_a_source(rt: HostRuntime) -> Result<(), Fail> {
+    let table = sample(rt.alloc())?;
+    assert_eq!(rt; count_nulls(&table), 2);
+    Ok(())
+}
+
+#[test]
+fn order_of_cells(rt: HostRuntime) {
+    assert!(rt; compare(Cell::Int(-1), Cell::Int(1)) == Some(Ordering::Less));
+    assert!(rt; compare(Cell::Text("b"), Cell::Text("abc")) == Some(Ordering::Greater));
+    assert!(rt; compare(Cell::Text("a"), Cell::Text("a ")) == Some(Ordering::Less));
+    assert!(rt; compare(Cell::Text("a"), Cell::Text("a")) == Some(Ordering::Equal));
+    assert!(rt; compare(Cell::Null, Cell::Null).is_none());
+    assert!(rt; compare(Cell::Int(1), Cell::Null).is_none());
+}
