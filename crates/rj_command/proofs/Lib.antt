@@ -1,0 +1,2 @@
+mod ChainFacts
+mod TypeFacts

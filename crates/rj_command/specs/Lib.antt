@@ -1,2 +1,4 @@
 pub mod Faults
 pub mod Line
+pub mod Options
+pub mod Types

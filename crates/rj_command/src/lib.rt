@@ -3,8 +3,10 @@
 
 mod fault;
 mod line;
+mod options;
 mod request;
 mod stats;
+mod types;
 
 pub use fault::{Fault, Side};
 pub use line::{Line, read_line};

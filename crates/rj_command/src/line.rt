@@ -1,16 +1,16 @@
 // Reading the words of the command line.
 
-ghost use Rattle.std.specs.Prelude.{◌≡◌, IfOk, IfErr, Some, codes, map, unwrap_or, [], true, false};
-ghost use Rattle.clap.specs.Words.{takes, app_of, rule_of};
-ghost use Rattle.clap.specs.Values.{kind_of};
-ghost use Rattle.rj_command.specs.Line.{line_app, option_rule, word_of};
+ghost use Rattle.std.specs.Prelude.{◌≡◌, ◌⊎◌, IfOk, IfErr, Some, is_some, map, true};
+ghost use Rattle.clap.specs.Words.{first_value, found_of, kind_of};
+ghost use Rattle.rj_command.specs.Line.{IsLineFault, IsLineOf, IsParseOf, is_true};
 
-use super::fault::Fault;
+use super::fault::{Fault, Side};
+use super::options::line_command;
 use super::request::Request;
+use super::types::read_types;
 use clap::error::ErrorKind;
-use clap::{Arg, ArgAction, Command, Error};
-use rj_columns::ColumnType;
-use std::alloc::{AllocError, Global};
+use clap::{ArgMatches, Error};
+use std::alloc::Global;
 
 /// What the words of the command line say.
 #[derive(Debug, Drop)]
@@ -21,48 +21,73 @@ pub struct Line<'a> {
     pub right: &'a str,
     /// What is asked of the two tables.
     pub request: Request<'a>,
+    /// Whether the statistics are asked for.
+    pub stats: bool,
 }
 
-fn value_option<'a>(alloc: Global, name: &'a str, required: bool) -> Arg<'a>
-    ensures local { result.global ≡ false }
-    ensures rule { rule_of result ≡ option_rule name.entry.now required }
+// The fault of an error of `clap`'s.
+fn fault_of_error(error: Error) -> Fault
+    ensures memory { kind_of error ≡ ErrorKind.OutOfMemory → result ≡ Fault.Memory }
+    ensures told { (result ≡ Fault.Memory) ⊎ (result ≡ Fault.CommandLine error) }
 {
-    Arg::new(alloc, name)
-        .long(name)
-        .action(ArgAction::Set)
-        .required(required)
+    if error.kind() == ErrorKind::OutOfMemory {
+        Fault::Memory
+    } else {
+        Fault::CommandLine(error)
+    }
 }
 
-fn line_command<'a>(alloc: Global) -> Result<Command<'a>, AllocError>
-    ensures { IfOk result (λ c. app_of c ≡ line_app) }
+// The matches of the words.
+fn parse_words<'a>(alloc: Global, words: &'a [&'a str]) -> Result<ArgMatches<'a>, Fault>
+    ensures ok { IfOk result (IsParseOf (map (λ w. w.now) words.entry.now)) }
+    ensures fault { IfErr result (IsLineFault (map (λ w. w.now) words.entry.now)) }
 {
-    Command::new(alloc, "radixjoin")
-        .no_binary_name(true)
-        .arg(value_option(alloc, "left", true))?
-        .arg(value_option(alloc, "right", true))?
-        .arg(value_option(alloc, "left-types", true))?
-        .arg(value_option(alloc, "right-types", true))?
-        .arg(value_option(alloc, "join", true))?
-        .arg(value_option(alloc, "null", false))
-}
-
-/// Reads the words after the program's name.
-pub fn read_line<'a>(alloc: Global, words: &'a [&'a str]) -> Result<Line<'a>, Fault> {
     let Ok(command) = line_command(alloc) else {
         return Err(Fault::Memory);
     };
-    let matches = match command.try_get_matches_from(words) {
-        Ok(matches) => matches,
-        Err(error) => return Err(Fault::CommandLine(error)),
-    };
+    match command.try_get_matches_from(words) {
+        Ok(matches) => Ok(matches),
+        Err(error) => Err(fault_of_error(error)),
+    }
+}
+
+// The value of an option that must be given.
+fn given<'a>(matches: &ArgMatches<'a>, name: &str) -> &'a str
+    requires { is_some (first_value (found_of matches.now) name.now) ≡ true }
+    ensures { first_value (found_of matches.now) name.now ≡ Some result.now }
+{
+    matches.get_str(name).unwrap()
+}
+
+// Whether a flag is given.
+fn is_given(matches: &ArgMatches<'_>, name: &str) -> bool
+    ensures { result ≡ is_true (first_value (found_of matches.now) name.now) }
+{
+    match matches.get_str(name) {
+        Some(text) => text == "true",
+        None => false,
+    }
+}
+
+/// Reads the words after the program's name. A line that `clap` refuses, or that asks for help, is
+/// `Fault::CommandLine`; a bad type list is told after that, the left one before the right one.
+/// `Fault::Memory` comes only where a growth was refused.
+pub fn read_line<'a>(alloc: Global, words: &'a [&'a str]) -> Result<Line<'a>, Fault>
+    ensures line { IfOk result (IsLineOf (map (λ w. w.now) words.entry.now)) }
+    ensures fault { IfErr result (IsLineFault (map (λ w. w.now) words.entry.now)) }
+{
+    let matches = parse_words(alloc, words)?;
+    let left_types = read_types(alloc, given(&matches, "left-types"), Side::Left)?;
+    let right_types = read_types(alloc, given(&matches, "right-types"), Side::Right)?;
     Ok(Line {
-        left: matches.get_str("left").unwrap_or(""),
-        right: matches.get_str("right").unwrap_or(""),
+        left: given(&matches, "left"),
+        right: given(&matches, "right"),
         request: Request {
-            left_types: Vec::new(alloc),
-            right_types: Vec::new(alloc),
+            left_types,
+            right_types,
             null: matches.get_str("null").unwrap_or(""),
-            clause: matches.get_str("join").unwrap_or(""),
+            clause: given(&matches, "join"),
         },
+        stats: is_given(&matches, "stats"),
     })
 }

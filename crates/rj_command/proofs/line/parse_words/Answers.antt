@@ -1,0 +1,48 @@
+use Rattle.std.proofs.Common.{◌≡◌, ◌∙◌, ◌⊎◌, ap, refl, sym, subst, inl, inr, true, codes, lit<, List, ℕ, Bor, map}
+use Rattle.clap.specs.Words.{App, IsAmong, Text, fault_of, first_of, found_of, kind_of, is_simple, is_simple_and_free, matches_of}
+use Rattle.clap.proofs.OnLiterals.{clap_on_literals}
+use Rattle.clap.proofs.WalkLemmas.{first_value-rows}
+use Rattle.rj_command.specs.Line.{IsLineFault}
+use Rattle.rj_command.specs.declared.fault.Fault.TheVariants as fault
+use Rattle.rj_command.specs.Options.{line_app, option_rules}
+use Rattle.rj_command.proofs.ChainFacts.{wanted_given}
+use Rattle.rj_command.proofs.line.parse_words.Goals as goal
+
+simple : is_simple line_app ≡ true
+unfolding clap_on_literals
+simple = refl
+
+free : is_simple_and_free line_app ≡ true
+unfolding clap_on_literals
+free = refl
+
+pub returns-in-Ok-try_get_matches_from-clause-ok : goal.returns-in-Ok-try_get_matches_from-clause-ok
+returns-in-Ok-try_get_matches_from-clause-ok c =
+    let command = c.in-Ok.ensures in
+    let words : List Text = map (λ (w : Bor Text). w.now) c.args.words.now in
+    let m = c.in-Ok-try_get_matches_from.matches in
+    let got = c.in-Ok-try_get_matches_from.ensures in
+    let rows = (got.matches (ap is_simple command.app ∙ simple)).0 ∙ ap (λ (a : App). matches_of a words) command.app in
+    let given = wanted_given command.start c.in-Ok.command option_rules m command.bare command.chain refl refl in
+    record {
+      accepted = ap (λ (a : App). fault_of a words) (sym command.app) ∙ got.kinds (ap is_simple_and_free command.app ∙ free);
+      values = λ name. first_value-rows (found_of m) name ∙ ap (first_of name) rows;
+      left = given 0 (lit< tt) refl got.parsed;
+      right = given 1 (lit< tt) refl got.parsed;
+      left_types = given 2 (lit< tt) refl got.parsed;
+      right_types = given 3 (lit< tt) refl got.parsed;
+      join = given 4 (lit< tt) refl got.parsed;
+    }
+
+pub returns-in-Err-clause-fault : goal.returns-in-Err-clause-fault
+returns-in-Err-clause-fault c =
+    let command = c.in-Ok.ensures in
+    let words : List Text = map (λ (w : Bor Text). w.now) c.args.words.now in
+    let memory : c.fault_of_error.result ≡ fault.Memory → IsLineFault words c.fault_of_error.result = λ is. subst (IsLineFault words) (sym is) tt in
+    elim (c.in-Err.ensures.kinds (ap is_simple_and_free command.app ∙ free)) [
+      | inl refused ↦ memory (c.fault_of_error.ensures.memory refused)
+      | inr among ↦ elim c.fault_of_error.ensures.told [
+        | inl is ↦ memory is
+        | inr is ↦ subst (IsLineFault words) (sym is) (subst (λ (a : App). IsAmong (kind_of c.in-Err.error) (fault_of a words)) command.app among)
+      ]
+    ]

@@ -1,0 +1,26 @@
+use Rattle.std.proofs.Common.{◌≡◌, ◌∙◌, ap, refl, sym, [], ℕ, List, Option, Some, None, unwrap_or, codes, option_map, Bor}
+use Rattle.clap.specs.Words.{Text}
+use Rattle.rj_command.specs.Line.{is_true}
+use Rattle.rj_command.proofs.line.read_line.Goals as goal
+
+-- the value of an option, or the empty text
+value-or : (v : Option Text) (o : Option (Bor Text)) (u d : Bor Text) → option_map (λ s. s.now) o ≡ v → u ≡ unwrap_or o d → d.now ≡ [] → u.now ≡ unwrap_or v []
+value-or v o u d is got empty = ap (λ (s : Bor Text). s.now) got ∙ (shown o ∙ ap (λ x. unwrap_or x []) is)
+  where
+    shown : (o : Option (Bor Text)) → (unwrap_or o d).now ≡ unwrap_or (option_map (λ s. s.now) o) []
+    shown None = empty
+    shown (Some x) = refl
+
+pub returns-clause-line : goal.returns-clause-line
+returns-clause-line c =
+    let parse = c.in_ok-matches.ensures.ok in
+    record {
+      accepted = parse.accepted;
+      left = sym (parse.values (codes "left")) ∙ c.given-3.ensures;
+      right = sym (parse.values (codes "right")) ∙ c.given-4.ensures;
+      left_types = (c.given.result.now, sym (parse.values (codes "left-types")) ∙ c.given.ensures, c.in_ok-left_types.ensures.types);
+      right_types = (c.given-2.result.now, sym (parse.values (codes "right-types")) ∙ c.given-2.ensures, c.in_ok-right_types.ensures.types);
+      join = sym (parse.values (codes "join")) ∙ c.given-5.ensures;
+      null = value-or _ c.get_str.result c.unwrap_or.result _ (c.get_str.ensures ∙ parse.values (codes "null")) c.unwrap_or.ensures refl;
+      stats = c.is_given.ensures ∙ ap is_true (parse.values (codes "stats"));
+    }

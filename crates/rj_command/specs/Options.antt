@@ -1,0 +1,60 @@
+-- The options of the command line, as `clap` has them.
+use Rattle.std.specs.Prelude.{◌≡◌, true, false, List, [], ◌∷◌, Some, codes, map}
+use Rattle.clap.specs.Words.{App, Rule, Text, AddsArg, app_of, args_of, groups_of, new_app, new_rule, rule_of, with_rule}
+use Rattle.clap.specs.Built.{AddsInTurn}
+use Rattle.clap.specs.Simple.{on_top}
+use Rattle.clap.specs.declared.builder.ArgAction.TheVariants.{Set, SetTrue}
+use Rattle.clap.specs.declared.builder.arg.Arg.{Arg}
+use Rattle.clap.specs.declared.builder.command.Command.{Command}
+use Rattle.clap.specs.declared.builder.command.Command.TheViews.{out-Command}
+use Rattle.rj_command.specs.declared.options.LineOption.{LineOption}
+use Rattle.rj_command.specs.declared.options.Takes.{Takes}
+use Rattle.rj_command.specs.declared.options.Takes.TheVariants as takes
+
+-- a long option with one value, or with none
+abbrev pub rule_for : Text → Takes → Rule
+rule_for name takes.Required = record (new_rule name) { long = Some name; action = Some Set; required = true }
+rule_for name takes.Text = record (new_rule name) { long = Some name; action = Some Set }
+rule_for name takes.Nothing = record (new_rule name) { long = Some name; action = Some SetTrue }
+
+abbrev pub rule_of_option : LineOption → Rule
+rule_of_option o = rule_for o.name.now o.takes
+
+-- the options, in order
+abbrev pub option_rules : List Rule
+option_rules =
+    rule_for (codes "left") takes.Required
+    ∷ rule_for (codes "right") takes.Required
+    ∷ rule_for (codes "left-types") takes.Required
+    ∷ rule_for (codes "right-types") takes.Required
+    ∷ rule_for (codes "join") takes.Required
+    ∷ rule_for (codes "null") takes.Text
+    ∷ rule_for (codes "stats") takes.Nothing
+    ∷ []
+
+-- a command with these rules more
+abbrev pub with_rules : App → List Rule → App
+with_rules app [] = app
+with_rules app (r ∷ rules) = with_rules (with_rule app r) rules
+
+-- the program's command line, whose words begin after its name
+abbrev pub line_app : App
+line_app = with_rules (on_top (λ s. record s { no_binary_name = true }) (new_app (codes "radixjoin"))) option_rules
+
+-- a command with the arguments of these rules more, each added in turn
+abbrev pub IsChain : Command → List Rule → Command → Type 0
+IsChain start rules command = (arguments : List Arg) × AddsInTurn AddsArg start arguments command × (map rule_of arguments ≡ rules)
+
+-- a command with no argument yet, and nothing that lifts what is required
+pub record IsBare (c : Command) : Type 0 where
+  pub args : args_of c ≡ []
+  pub groups : groups_of c ≡ []
+  pub globals : (out-Command c).has_globals ≡ false
+  pub negates : (out-Command c).subcommand_negates_reqs ≡ false
+
+-- a bare command with the program's options in turn
+pub record IsLineCommand (c : Command) : Type 0 where
+  pub start : Command
+  pub bare : IsBare start
+  pub chain : IsChain start option_rules c
+  pub app : app_of c ≡ line_app

@@ -1,0 +1,105 @@
+// The options of the command line.
+
+ghost use Rattle.std.specs.Prelude.{◌≡◌, IfOk, map};
+ghost use Rattle.clap.specs.Words.{rule_of};
+ghost use Rattle.rj_command.specs.Options.{IsChain, IsLineCommand, rule_of_option};
+
+use clap::{Arg, ArgAction, Command};
+use std::alloc::{AllocError, Global};
+
+// What an option takes.
+#[derive(Clone, Copy)]
+pub(crate) enum Takes {
+    // A text, and the option must be given.
+    Required,
+    // A text.
+    Text,
+    // Nothing: the option is given or not.
+    Nothing,
+}
+
+// An option of the command line.
+#[derive(Clone, Copy)]
+pub(crate) struct LineOption {
+    name: &'static str,
+    takes: Takes,
+    help: &'static str,
+}
+
+const OPTIONS: [LineOption; 7] = [
+    LineOption {
+        name: "left",
+        takes: Takes::Required,
+        help: "File of the left table, as CSV",
+    },
+    LineOption {
+        name: "right",
+        takes: Takes::Required,
+        help: "File of the right table, as CSV",
+    },
+    LineOption {
+        name: "left-types",
+        takes: Takes::Required,
+        help: "Types of the left columns, as int,text",
+    },
+    LineOption {
+        name: "right-types",
+        takes: Takes::Required,
+        help: "Types of the right columns, as int,text",
+    },
+    LineOption {
+        name: "join",
+        takes: Takes::Required,
+        help: "Clause of the join, as LEFT JOIN USING (id)",
+    },
+    LineOption {
+        name: "null",
+        takes: Takes::Text,
+        help: "Text that stands for null [default: none]",
+    },
+    LineOption {
+        name: "stats",
+        takes: Takes::Nothing,
+        help: "Print how many rows were written of each kind",
+    },
+];
+
+// The argument of an option, as `clap` has it.
+fn argument<'a>(alloc: Global, option: &LineOption) -> Arg<'a>
+    ensures { rule_of result ≡ rule_of_option option.now }
+{
+    let argument = Arg::new(alloc, option.name)
+        .long(option.name)
+        .help(option.help);
+    match option.takes {
+        Takes::Required => argument.action(ArgAction::Set).required(true),
+        Takes::Text => argument.action(ArgAction::Set),
+        Takes::Nothing => argument.action(ArgAction::SetTrue),
+    }
+}
+
+// The command with these options more, in order.
+fn with_options<'a>(
+    alloc: Global,
+    command: Command<'a>,
+    options: &[LineOption],
+) -> Result<Command<'a>, AllocError>
+    ensures { IfOk result (λ c. IsChain command.entry (map rule_of_option options.now) c) }
+{
+    let mut command = command;
+    for option in options {
+        command = command.arg(argument(alloc, option))?;
+    }
+    Ok(command)
+}
+
+// The command line of the program, whose words begin after its name.
+pub(crate) fn line_command<'a>(alloc: Global) -> Result<Command<'a>, AllocError>
+    ensures { IfOk result IsLineCommand }
+{
+    with_options(
+        alloc,
+        Command::new(alloc, "radixjoin").no_binary_name(true),
+        &OPTIONS,
+    )
+}
