@@ -1,0 +1,6 @@
+pub mod Pairs
+pub mod Marked
+pub mod Members
+pub mod Same
+pub mod Rising
+pub mod Parts

@@ -1,0 +1,10 @@
+//! The joined table of SQL-92 (7.5) over two tables: its rows by their numbers, its header and its cells.
+#![tactic(auto)]
+
+mod gathering;
+mod joined;
+mod marks;
+
+pub use gathering::gather;
+pub use joined::{Joined, JoinedRow, Rows};
+pub use marks::unmatched;
