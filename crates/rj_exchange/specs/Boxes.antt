@@ -55,6 +55,13 @@ pub record IsInboxOf (e : Exchange) (i : Inbox) : Type 0 where
   pub below : i.partition < e.partitions
   pub tokens : (k : ℕ) (l : Queue) (s : Stub) → k < e.lanes → IsEndOf (where_at e i.partition k) e.outboxes (slice_index_or e.queues.items (i.partition * e.lanes + k) l) (slice_index_or i.ends.items k s)
 
+-- outbox number n, and the inbox of partition p
+abbrev pub IsOutboxAt : Exchange → ℕ → Outbox → Type 0
+IsOutboxAt e n o = IsOutboxOf e o × (o.number ≡ n)
+
+abbrev pub IsInboxAt : Exchange → ℕ → Inbox → Type 0
+IsInboxAt e p i = IsInboxOf e i × (i.partition ≡ p)
+
 -- what is left of a list after its first n
 abbrev pub IsLater : ℕ → List Stub → List Stub → Type 0
 IsLater n old new = (length new + n ≡ length old) × ((i : ℕ) (d : Stub) → slice_index_or new i d ≡ slice_index_or old (n + i) d)
@@ -68,9 +75,14 @@ abbrev pub IsGrown : Queue → Stub → Stub → Stub → Type 0
 IsGrown l old stub new = IsPassOf l new.pass × (view new.pass ≡ taker (view old.pass).place (view old.pass).made (view old.pass).taken ((view old.pass).known ++ sent_of stub ∷ []))
 
 -- the tokens of a partition's queues from all outboxes, by outbox, then lane
-abbrev pub AreStubsOf : Exchange → ℕ → List Stub → Type 0
-AreStubsOf e p ss = (length ss ≡ e.outboxes * e.lanes)
-    × ((o k : ℕ) (l : Queue) (s : Stub) → o < e.outboxes → k < e.lanes → IsStubOf (where_at e p k) o (slice_index_or e.queues.items (p * e.lanes + k) l) (slice_index_or ss (o * e.lanes + k) s))
+pub record AreStubsOf (e : Exchange) (p : ℕ) (ss : List Stub) : Type 0 where
+  pub many : length ss ≡ e.outboxes * e.lanes
+  pub stubs : (o k : ℕ) (l : Queue) (s : Stub) → o < e.outboxes → k < e.lanes → IsStubOf (where_at e p k) o (slice_index_or e.queues.items (p * e.lanes + k) l) (slice_index_or ss (o * e.lanes + k) s)
+
+-- the stubs of outbox o at a partition's queues, lane by lane
+pub record AreStubsFrom (e : Exchange) (p o : ℕ) (ss : List Stub) : Type 0 where
+  pub many : length ss ≡ e.lanes
+  pub stubs : (k : ℕ) (l : Queue) (s : Stub) → k < e.lanes → IsStubOf (where_at e p k) o (slice_index_or e.queues.items (p * e.lanes + k) l) (slice_index_or ss k s)
 
 -- what the first o outboxes sent to lane k
 abbrev pub known_of : ℕ → List Stub → ℕ → ℕ → List (List Parcel)

@@ -79,7 +79,8 @@ impl Exchange {
         capacity: usize,
     ) -> Result<(Exchange, Vec<Outbox>, Vec<Inbox>), AllocError>
         requires { (outboxes ≤ 64) × (partitions ≤ 1024) × (1 ≤ lanes) × (lanes ≤ 4) × (1 ≤ capacity) × (capacity ≤ 4096) }
-        ensures { IfOk result (λ r. IsOpened r.0 r.1.items r.2.items outboxes partitions) }
+        ensures opened { IfOk result (λ r. IsOpened r.0 r.1.items r.2.items outboxes partitions) }
+        ensures sizes { IfOk result (λ r. (r.0.lanes ≡ lanes) × (r.0.capacity ≡ capacity)) }
     {
         let mut boxes = Vec::new(alloc);
         for number in 0..outboxes {

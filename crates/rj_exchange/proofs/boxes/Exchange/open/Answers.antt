@@ -33,8 +33,8 @@ loop-partition-preserved c = let v = c.loop-lane.invariant in let lanes : ℕ = 
       inboxes = subst (AreInboxes lanes outboxes (p + 1) c.loop-lane.queues.items) (sym e) (inboxes_grow lanes outboxes p c.loop-lane.queues.items c.loop-partition.inboxes.items record { partition = p; ends = c.loop-lane.ends } v.inboxes refl ends);
     }
 
-pub returns : goal.returns
-returns c = let v = c.loop-partition.invariant in let lanes : ℕ = c.args.lanes in let outboxes : ℕ = c.args.outboxes in let partitions : ℕ = c.args.partitions in let b = v.boxes in let n = v.inboxes in
+pub returns-clause-opened : goal.returns-clause-opened
+returns-clause-opened c = let v = c.loop-partition.invariant in let lanes : ℕ = c.args.lanes in let outboxes : ℕ = c.args.outboxes in let partitions : ℕ = c.args.partitions in let b = v.boxes in let n = v.inboxes in
     let all : c.loop-partition.partition ≡ partitions = (let x = c.loop-partition-test.false in let y = c.loop-partition.auto.partition-end in omega arith) in
     let many : length c.loop-partition.queues.items ≡ partitions * lanes = v.count ∙ ap (λ (m : ℕ). m * lanes) all in (
       refl,

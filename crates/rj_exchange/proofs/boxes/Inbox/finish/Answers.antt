@@ -24,6 +24,6 @@ returns g c = let r = c.requires.0 in let h = c.give_back_all.ensures in let x =
       let l : Queue = pick x.queues.items 0 (let n = h.0 in let z = x.sized in let y = x.limits in let p = r.below in let m = row_fits c.args.self.partition x.partitions x.lanes 0 p y.0 in omega arith) in
       let old : Stub = get_or c.args.self.ends.items k s in
       let f = (h.1 k l s s lt).1 in let before = sym (was taken_of c.args.self.ends.items k old [] inside (any_default c.args.self.ends.items k s old inside)) in
-      all_sent x.lanes x.outboxes c.args.stubs.items k (get_or (map taken_of c.args.self.ends.items) k [] ++ (get_or c.drain_all.new.rest.items k v).items) c.requires.1.0
+      all_sent x.lanes x.outboxes c.args.stubs.items k (get_or (map taken_of c.args.self.ends.items) k [] ++ (get_or c.drain_all.new.rest.items k v).items) c.requires.1.many
       (subst (λ (z : List (List Parcel) × List Posted). Interleaves z.0 (z.1 ++ (get_or c.drain_all.new.rest.items k v).items)) (λ i. ((f i).known, (ap (λ (u : Trace). u.taken) f ∙ before) i)) (d.1 k s v lt)),
 )
