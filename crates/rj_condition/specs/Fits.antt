@@ -1,6 +1,7 @@
 -- Whether a bound join fits the types of two tables: each column is there, and what is compared is of one type.
-use Rattle.std.specs.Prelude.{ℕ, ◌==◌, Bool, true, false, ◌&&◌, List, length, Option, None, Some, slice_get}
+use Rattle.std.specs.Prelude.{ℕ, ◌==◌, Bool, true, false, ◌&&◌, List, map, length, Option, None, Some, slice_get}
 use Rattle.std.specs.List.{list_all}
+use Rattle.rj_columns.specs.Contents.{Content, FitsType}
 use Rattle.rj_columns.specs.declared.cell.ColumnType.{ColumnType}
 use Rattle.rj_columns.specs.declared.cell.ColumnType.TheVariants as kind
 use Rattle.rj_condition.specs.Joins.{pairs_of}
@@ -35,6 +36,11 @@ abbrev pub has_type : Option ColumnType → Bool
 has_type (Some t) = true
 has_type None = false
 
+-- null, or of this type
+abbrev pub FitsKind : Option ColumnType → Content → Type 0
+FitsKind None x = ⊥
+FitsKind (Some t) x = FitsType t x
+
 -- the comparisons of BETWEEN and IN are those of their meaning; IS NULL takes any type
 abbrev pub fits_at : List ColumnType → List ColumnType → BoundCondition-F Bool → Bool
 fits_at left right (BoundCondition-F.Compare a op b) = are_one_type (type_of left right a) (type_of left right b)
@@ -49,14 +55,21 @@ fits_at left right (BoundCondition-F.Any bs) = list_all (λ b. b) bs
 abbrev pub condition_fits : List ColumnType → List ColumnType → BoundCondition → Bool
 condition_fits left right c = fold-BoundCondition Bool (fits_at left right) c
 
+abbrev pub all_fit : List ColumnType → List ColumnType → List BoundCondition → Bool
+all_fit left right cs = list_all (λ b. b) (map (condition_fits left right) cs)
+
 abbrev pub pair_fits : List ColumnType → List ColumnType → ℕ × ℕ → Bool
 pair_fits left right p = are_one_type (slice_get left p.0) (slice_get right p.1)
+
+-- each join column and its partner are there and of one type
+abbrev pub pairs_fit : List ColumnType → List ColumnType → List (Option ℕ) → Bool
+pairs_fit left right partners = list_all (pair_fits left right) (pairs_of partners)
 
 abbrev pub rule_fits : List ColumnType → List ColumnType → Rule → Bool
 rule_fits left right rule.AllPairs = true
 rule_fits left right rule.EqualPartners = true
 rule_fits left right (rule.Condition c) = condition_fits left right c
 
--- a partner for each left column at most, of its type; and the condition fits
+-- one entry for each left column, partners that fit, and a condition that fits
 abbrev pub fits : BoundJoin → List ColumnType → List ColumnType → Bool
-fits join left right = (length join.partners == length left) && list_all (pair_fits left right) (pairs_of join.partners) && rule_fits left right join.rule
+fits join left right = (length join.partners == length left) && pairs_fit left right join.partners && rule_fits left right join.rule

@@ -2,3 +2,8 @@ pub mod Truths
 pub mod Means
 pub mod Joins
 pub mod Fits
+pub mod Names
+pub mod Resolved
+pub mod Partners
+pub mod Bound
+pub mod Splits

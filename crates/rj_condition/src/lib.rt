@@ -2,12 +2,21 @@
 //! rows, and its split into keys and remainder.
 #![tactic(auto)]
 
+mod binding;
 mod bound;
+mod deciding;
+mod names;
+mod partners;
+mod refused;
+mod resolving;
 mod tree;
 mod truth;
+mod typing;
 mod word;
 
+pub use binding::bind;
 pub use bound::{BoundCondition, BoundJoin, BoundOperand, Rule};
+pub use refused::BindRefused;
 pub use tree::{Clause, ColumnName, Comparison, Condition, JoinKind, Literal, Name, Operand};
 pub use truth::Truth;
 pub use word::Word;

@@ -1,0 +1,35 @@
+-- One more name, one more operand, one more condition.
+use Rattle.std.proofs.Common.{◌≡◌, ℕ, ◌+◌, ◌<◌, suc, List, [], ◌∷◌, ◌++◌, Bool, true, false, map, length, get_or, drop, refl, sym, ap, ◌∙◌, add-one, drop-cons, append_assoc, Some, Result, Ok, Err}
+use Rattle.std.specs.Prelude.{slice_get}
+use Rattle.std.specs.List.{position_from}
+use Rattle.std.proofs.lemmas.Option.{get_or_from_slice_get, slice_get_within}
+use Rattle.rj_condition.specs.declared.refused.BindRefused.{BindRefused}
+use Rattle.rj_condition.specs.Resolved.{onto, all_ok}
+
+-- what stands at a place, and what follows it
+pub drop_get : {A : Type 0} (xs : List A) (i : ℕ) (x : A) → slice_get xs i ≡ Some x → drop i xs ≡ x ∷ drop (i + 1) xs
+drop_get xs i x h = rw add-one (drop-cons xs i x (slice_get_within xs i x h) ∙ ap (λ z. z ∷ drop (suc i) xs) (get_or_from_slice_get xs i x x h))
+
+pub place_found : (t : List ℕ → Bool) (xs : List (List ℕ)) (i : ℕ) (x : List ℕ) → slice_get xs i ≡ Some x → t x ≡ true → position_from t i (drop i xs) ≡ Some i
+place_found t xs i x h e = rw (drop_get xs i x h, e) refl
+
+pub place_next : (t : List ℕ → Bool) (xs : List (List ℕ)) (i : ℕ) (x : List ℕ) → slice_get xs i ≡ Some x → t x ≡ false → position_from t i (drop i xs) ≡ position_from t (i + 1) (drop (i + 1) xs)
+place_next t xs i x h e = rw (drop_get xs i x h, e) refl
+
+pub drop_at : {A : Type 0} (xs : List A) (i : ℕ) (x : A) → i < length xs → x ≡ get_or xs i x → drop i xs ≡ x ∷ drop (i + 1) xs
+drop_at xs i x lt is = rw add-one (drop-cons xs i x lt ∙ ap (λ z. z ∷ drop (suc i) xs) (sym is))
+
+onto_onto : {B : Type 0} (xs ys : List B) (r : Result (List B) BindRefused) → onto xs (onto ys r) ≡ onto (xs ++ ys) r
+onto_onto xs ys (Ok zs) = ap Ok (sym (append_assoc xs ys zs))
+onto_onto xs ys (Err e) = refl
+
+pub each_next : {A B : Type 0} (m : A → Result B BindRefused) (xs : List A) (i : ℕ) (x : A) (done : List B) (y : B) (all : Result (List B) BindRefused) →
+    i < length xs → x ≡ get_or xs i x → m x ≡ Ok y → onto done (all_ok (map m (drop i xs))) ≡ all → onto (done ++ y ∷ []) (all_ok (map m (drop (i + 1) xs))) ≡ all
+each_next m xs i x done y all lt is e h =
+    let rest = all_ok (map m (drop (i + 1) xs)) in
+    sym (onto_onto done (y ∷ []) rest) ∙ sym (ap (λ z. onto done (all_ok (z ∷ map m (drop (i + 1) xs)))) e) ∙ sym (ap (λ z. onto done (all_ok (map m z))) (drop_at xs i x lt is)) ∙ h
+
+pub each_fault : {A B : Type 0} (m : A → Result B BindRefused) (xs : List A) (i : ℕ) (x : A) (done : List B) (f : BindRefused) (all : Result (List B) BindRefused) →
+    i < length xs → x ≡ get_or xs i x → m x ≡ Err f → onto done (all_ok (map m (drop i xs))) ≡ all → all ≡ Err f
+each_fault m xs i x done f all lt is e h =
+    sym h ∙ ap (λ z. onto done (all_ok (map m z))) (drop_at xs i x lt is) ∙ ap (λ z. onto done (all_ok (z ∷ map m (drop (i + 1) xs)))) e

@@ -1,0 +1,156 @@
+// Conditions with their names resolved.
+
+ghost use Rattle.std.specs.Prelude.{◌≡◌, ◌≢◌, IfOk, IfErr, Ok, Err, map};
+ghost use Rattle.rj_condition.specs.Names.{resolved_operand};
+ghost use Rattle.rj_condition.specs.Resolved.{resolved, all_ok};
+
+use crate::bound::{BoundCondition, BoundOperand};
+use crate::names::resolve_operand;
+use crate::refused::BindRefused;
+use crate::tree::{Condition, Operand};
+use rj_columns::Table;
+use sqlite_items::{Boxed, Items};
+use std::alloc::Global;
+
+fn boxed(alloc: Global, inner: BoundCondition) -> Result<Boxed<BoundCondition>, BindRefused>
+    ensures ok { IfOk result (λ b. b ≡ inner) }
+    ensures err { IfErr result (λ e. e ≡ BindRefused.Memory) }
+{
+    match Boxed::new(alloc, inner) {
+        Ok(inner) => Ok(inner),
+        Err(_) => Err(BindRefused::Memory),
+    }
+}
+
+// Each operand with its name resolved, in order.
+fn resolve_operands(
+    alloc: Global,
+    operands: &[Operand],
+    left: &Table,
+    right: &Table,
+) -> Result<Items<BoundOperand>, BindRefused>
+    ensures ok { IfOk result (λ xs. all_ok (map (resolved_operand left.now.names right.now.names) operands.now) ≡ Ok xs) }
+    ensures err { IfErr result (λ e. e ≢ BindRefused.Memory → all_ok (map (resolved_operand left.now.names right.now.names) operands.now) ≡ Err e) }
+{
+    let mut done = Items::new(alloc);
+    for operand in operands {
+        let bound = resolve_operand(alloc, operand, left, right)?;
+        match done.push(bound) {
+            Ok(()) => {}
+            Err(_) => return Err(BindRefused::Memory),
+        }
+    }
+    Ok(done)
+}
+
+// The condition with its names resolved, or the first fault in the order of the text.
+#[cycle(resolving)]
+pub(crate) fn resolve(
+    alloc: Global,
+    condition: &Condition,
+    left: &Table,
+    right: &Table,
+) -> Result<BoundCondition, BindRefused>
+    ensures ok { IfOk result (λ b. resolved left.now.names right.now.names condition.now ≡ Ok b) }
+    ensures err { IfErr result (λ e. e ≢ BindRefused.Memory → resolved left.now.names right.now.names condition.now ≡ Err e) }
+{
+    match condition {
+        Condition::Compare {
+            left: a,
+            operator,
+            right: b,
+        } => {
+            let x = resolve_operand(alloc, a, left, right)?;
+            let y = resolve_operand(alloc, b, left, right)?;
+            Ok(BoundCondition::Compare {
+                left: x,
+                operator: *operator,
+                right: y,
+            })
+        }
+        Condition::Between {
+            operand,
+            low,
+            high,
+            negated,
+        } => {
+            let operand = resolve_operand(alloc, operand, left, right)?;
+            let low = resolve_operand(alloc, low, left, right)?;
+            let high = resolve_operand(alloc, high, left, right)?;
+            Ok(BoundCondition::Between {
+                operand,
+                low,
+                high,
+                negated: *negated,
+            })
+        }
+        Condition::In {
+            operand,
+            members,
+            negated,
+        } => {
+            let operand = resolve_operand(alloc, operand, left, right)?;
+            let members = resolve_operands(alloc, members.as_slice(), left, right)?;
+            Ok(BoundCondition::In {
+                operand,
+                members,
+                negated: *negated,
+            })
+        }
+        Condition::IsNull { operand, negated } => {
+            let operand = resolve_operand(alloc, operand, left, right)?;
+            Ok(BoundCondition::IsNull {
+                operand,
+                negated: *negated,
+            })
+        }
+        Condition::Is {
+            condition: inner,
+            truth,
+            negated,
+        } => {
+            let bound = resolve(alloc, inner.get(), left, right)?;
+            let condition = boxed(alloc, bound)?;
+            Ok(BoundCondition::Is {
+                condition,
+                truth: *truth,
+                negated: *negated,
+            })
+        }
+        Condition::Not(inner) => {
+            let bound = resolve(alloc, inner.get(), left, right)?;
+            let inner = boxed(alloc, bound)?;
+            Ok(BoundCondition::Not(inner))
+        }
+        Condition::All(conditions) => {
+            let all = resolve_each(alloc, conditions.as_slice(), left, right)?;
+            Ok(BoundCondition::All(all))
+        }
+        Condition::Any(conditions) => {
+            let all = resolve_each(alloc, conditions.as_slice(), left, right)?;
+            Ok(BoundCondition::Any(all))
+        }
+    }
+}
+
+// Each condition with its names resolved, in order.
+#[cycle(resolving)]
+fn resolve_each(
+    alloc: Global,
+    conditions: &[Condition],
+    left: &Table,
+    right: &Table,
+) -> Result<Items<BoundCondition>, BindRefused>
+    ensures ok { IfOk result (λ bs. all_ok (map (resolved left.now.names right.now.names) conditions.now) ≡ Ok bs) }
+    ensures err { IfErr result (λ e. e ≢ BindRefused.Memory → all_ok (map (resolved left.now.names right.now.names) conditions.now) ≡ Err e) }
+{
+    let mut done = Items::new(alloc);
+    for condition in conditions {
+        let bound = resolve(alloc, condition, left, right)?;
+        match done.push(bound) {
+            Ok(()) => {}
+            Err(_) => return Err(BindRefused::Memory),
+        }
+    }
+    Ok(done)
+}
