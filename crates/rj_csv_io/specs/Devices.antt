@@ -1,5 +1,6 @@
 -- What clauses read of a writer or a reader of std whose failures are counted.
 use Rattle.std.specs.Prelude.{ℕ}
+use Rattle.rj_csv_io.specs.declared.input.CountedReader.{CountedReader}
 use Rattle.rj_csv_io.specs.declared.output.Counted.{Counted}
 
 -- the writer
@@ -9,3 +10,11 @@ writer_of c = c.writer
 -- how often it failed
 abbrev pub write_failures_of : {W : Type 0} → Counted W → ℕ
 write_failures_of c = c.failures
+
+-- the reader
+abbrev pub reader_of : {R : Type 0} → CountedReader R → R
+reader_of c = c.reader
+
+-- how often it failed
+abbrev pub read_failures_of : {R : Type 0} → CountedReader R → ℕ
+read_failures_of c = c.failures

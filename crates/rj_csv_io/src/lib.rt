@@ -5,6 +5,7 @@
 
 mod block;
 mod fields;
+mod input;
 mod output;
 mod read;
 mod refused;
@@ -12,6 +13,7 @@ mod table;
 mod text;
 mod write;
 
+pub use input::{CountedReader, Input, read_all};
 pub use output::{Counted, Failed, Output};
 pub use refused::ReadRefused;
 pub use table::{is_lawful_null, read_table};

@@ -1,4 +1,4 @@
-/// Why no table was read. Rows and columns count from 1, and row 1 is the record after the header.
+/// Why no table was read, or no bytes for one. Rows and columns count from 1, and row 1 is the record after the header.
 #[derive(Clone, Copy, Debug, PartialEq, Eq)]
 pub enum ReadRefused {
     /// There is no record at all.
@@ -22,6 +22,8 @@ pub enum ReadRefused {
     /// The null text is longer than 16 bytes, or has a byte that isn't printable ASCII, a digit, a comma, a
     /// double quote or a space.
     BadNull,
+    /// The device that the bytes come from failed.
+    ReadDevice,
     /// A growth was refused.
     Memory,
 }

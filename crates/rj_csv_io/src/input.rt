@@ -1,0 +1,147 @@
+// Devices that give bytes.
+
+ghost use Rattle.std.specs.Prelude.{◌≡◌, ◌≢◌, ◌<◌, ◌≤◌, ◌+◌, ◌-◌, ◌^◌, ℕ, List, Option, None, Some, Ok, Err, true, false, take, length, vec_len, IfOk, IfErr, IfSome, OnOk, OnErr};
+ghost use Rattle.std.specs.Io.KnownBytes.{Consumes, IsAtEnd};
+ghost use Rattle.rj_csv_io.specs.Devices.{reader_of, read_failures_of};
+
+use super::output::Failed;
+use super::refused::ReadRefused;
+use std::alloc::Global;
+use std::io::{ErrorKind, Read};
+
+/// A device that gives bytes and counts its failures.
+pub trait Input {
+    // The bytes that it gives from here on, where it tells them.
+    ghost tells: { Self → Option (List ℕ) } = { λ _. None };
+
+    // How often it failed.
+    ghost count: { Self → ℕ };
+
+    /// Fills the buffer from its start with the next bytes, and says how many they are. They are none
+    /// only where the buffer is empty or the device at its end. `Failed` adds one to the count of
+    /// failures.
+    fn get(&mut self, buffer: &mut [u8]) -> Result<usize, Failed>
+        requires { count self.old < 2 ^ 64 - 1 }
+        ensures bound { IfOk result (λ k. k ≤ length buffer.new) }
+        ensures bytes { IfOk result (λ k. Consumes (tells self.old) (tells self.new) (take k buffer.new)) }
+        ensures end { IfOk result (λ k. k ≡ 0 → 0 < length buffer.new → IsAtEnd (tells self.new)) }
+        ensures kept { OnOk result (count self.new ≡ count self.old) }
+        ensures failed { OnErr result (count self.new ≡ count self.old + 1) };
+
+    /// How often it failed so far.
+    fn failures(&self) -> u64
+        ensures { result ≡ count self.now };
+}
+
+/// A reader of std with the count of its failures. It tells the bytes that the reader tells, and
+/// reads again where a signal broke a read off.
+#[derive(Drop)]
+pub struct CountedReader<R: Read> {
+    reader: R,
+    failures: u64,
+}
+
+impl<R: Read> CountedReader<R> {
+    /// The reader, with no failure so far.
+    pub fn new(reader: R) -> CountedReader<R>
+        ensures reader { reader_of result ≡ reader }
+        ensures failures { read_failures_of result ≡ 0 }
+    {
+        CountedReader {
+            reader,
+            failures: 0,
+        }
+    }
+}
+
+// The next bytes of a reader, by as many reads as signals break off.
+fn read_some<R: Read>(reader: &mut R, buffer: &mut [u8]) -> Option<usize>
+    ensures bound { IfSome result (λ k. k ≤ length buffer.new) }
+    ensures bytes { IfSome result (λ k. Consumes (R.remaining reader.old) (R.remaining reader.new) (take k buffer.new)) }
+    ensures end { IfSome result (λ k. k ≡ 0 → 0 < length buffer.new → IsAtEnd (R.remaining reader.new)) }
+{
+    for _turn in 0..u64::MAX {
+        match reader.read(buffer) {
+            Ok(k) => return Some(k),
+            Err(e) => {
+                if e.kind() != ErrorKind::Interrupted {
+                    return None;
+                }
+            }
+        }
+    }
+    None
+}
+
+impl<R: Read> Input for CountedReader<R> {
+    ghost tells = { λ c. R.remaining c.reader };
+
+    ghost count = { λ c. c.failures };
+
+    fn get(&mut self, buffer: &mut [u8]) -> Result<usize, Failed> {
+        match read_some(&mut self.reader, buffer) {
+            Some(k) => Ok(k),
+            None => {
+                self.failures += 1;
+                Err(Failed)
+            }
+        }
+    }
+
+    fn failures(&self) -> u64 {
+        self.failures
+    }
+}
+
+// How many bytes are asked of a device at once.
+const PIECE: usize = 65536;
+
+// Adds the next piece of a device's bytes, and says whether there was one.
+fn read_piece<I: Input>(
+    input: &mut I,
+    piece: &mut Vec<u8>,
+    bytes: &mut Vec<u8>,
+) -> Result<bool, ReadRefused>
+    requires failures { I.count input.old < 2 ^ 64 - 1 }
+    requires room { 0 < vec_len piece.old }
+    ensures piece { vec_len piece.new ≡ vec_len piece.old }
+    ensures bytes { OnOk result ((start : Option (List ℕ)) → Consumes start (I.tells input.old) bytes.old.items → Consumes start (I.tells input.new) bytes.new.items) }
+    ensures more { result ≡ Ok true → vec_len bytes.old < vec_len bytes.new }
+    ensures end { result ≡ Ok false → IsAtEnd (I.tells input.new) }
+    ensures device { result ≡ Err ReadRefused.ReadDevice → I.count input.new ≡ I.count input.old + 1 }
+    ensures kept { result ≢ Err ReadRefused.ReadDevice → I.count input.new ≡ I.count input.old }
+    ensures fault { IfErr result (λ e. e ≢ ReadRefused.Memory → e ≡ ReadRefused.ReadDevice) }
+{
+    match input.get(piece.as_mut_slice()) {
+        Ok(0) => Ok(false),
+        Ok(k) => match bytes.extend_from_slice(&piece.as_slice()[..k]) {
+            Ok(()) => Ok(true),
+            Err(_) => Err(ReadRefused::Memory),
+        },
+        Err(Failed) => Err(ReadRefused::ReadDevice),
+    }
+}
+
+/// All bytes of a device, to its end. `ReadDevice` is answered where the device failed, `Memory` where
+/// a growth was refused; nothing is known then of how much was read.
+pub fn read_all<I: Input>(alloc: Global, input: &mut I) -> Result<Vec<u8>, ReadRefused>
+    requires { I.count input.old < 2 ^ 64 - 1 }
+    ensures bytes { IfOk result (λ v. IfSome (I.tells input.old) (λ xs. v.items ≡ xs)) }
+    ensures end { OnOk result (IsAtEnd (I.tells input.new)) }
+    ensures device { result ≡ Err ReadRefused.ReadDevice → I.count input.new ≡ I.count input.old + 1 }
+    ensures kept { result ≢ Err ReadRefused.ReadDevice → I.count input.new ≡ I.count input.old }
+    ensures fault { IfErr result (λ e. e ≢ ReadRefused.Memory → e ≡ ReadRefused.ReadDevice) }
+{
+    let Ok(mut piece) = vec![in alloc; 0u8; PIECE] else {
+        return Err(ReadRefused::Memory);
+    };
+    let mut bytes = Vec::new(alloc);
+    for _turn in 0..u64::MAX {
+        match read_piece(input, &mut piece, &mut bytes) {
+            Ok(true) => {}
+            Ok(false) => return Ok(bytes),
+            Err(e) => return Err(e),
+        }
+    }
+    unreachable!()
+}
