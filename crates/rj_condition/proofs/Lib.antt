@@ -6,3 +6,9 @@ pub mod UsingFacts
 pub mod TruthFacts
 pub mod MeansFacts
 pub mod FitFacts
+pub mod Runs
+pub mod Words
+pub mod Quotes
+pub mod Integers
+pub mod TokenLaws
+pub mod Lexemes

@@ -7,3 +7,6 @@ pub mod Resolved
 pub mod Partners
 pub mod Bound
 pub mod Splits
+pub mod Tokens
+pub mod Lexing
+pub mod Scanning

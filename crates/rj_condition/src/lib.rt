@@ -5,10 +5,12 @@
 mod binding;
 mod bound;
 mod deciding;
+mod lexer;
 mod names;
 mod partners;
 mod refused;
 mod resolving;
+mod token;
 mod tree;
 mod truth;
 mod typing;

@@ -1,0 +1,159 @@
+-- What the lexer finds is a token, and each token is found.
+use Rattle.std.proofs.Common.{◌≡◌, ◌≢◌, ◌⊎◌, inl, inr, ℕ, ℤ, zero, suc, ◌+◌, ◌<◌, ◌≤◌, List, [], ◌∷◌, ◌++◌, Bool, true, false, cond, take, drop, length, length-append, Option, Some, None, refl, sym, ap, ◌∙◌, subst, arith, append_assoc}
+use Rattle.std.specs.Prelude.{◌==◌, ◌||◌, nat_lt, FitsSigned}
+use Rattle.std.specs.Int.{w64}
+use Rattle.std.specs.Char.{is_ascii_alphabetic, is_ascii_digit}
+use Rattle.std.specs.List.{prefix_len, list_all}
+use Rattle.std.specs.Str.{all_ascii_digits}
+use Rattle.std.specs.Str.Parse.{IsNumeral, AllDigits, without_leading_sign, signed_digits_value}
+use Rattle.std.proofs.lemmas.Bool.Decides.{nat_tests}
+use Rattle.std.proofs.lemmas.List.{take-append-drop}
+use Rattle.std.proofs.Math.Seq.{drop-append_seam}
+use Rattle.rj_condition.specs.declared.tree.Name.{Name}
+use Rattle.rj_condition.specs.declared.token.Sign.{Sign}
+use Rattle.rj_condition.specs.declared.token.Sign.TheVariants as sign
+use Rattle.rj_condition.specs.declared.token.Token.{Token}
+use Rattle.rj_condition.specs.declared.token.Token.TheVariants as token
+use Rattle.rj_condition.specs.Tokens.{is_blank, is_name_byte, begins, doubled, in_quotes, sign_text, IsIdentifier, IsNamed, IsSpelled, EndsSign, Ends, IsToken}
+use Rattle.rj_condition.specs.Scanning.{quoted, text_at, delimited_at, word_at, named, number_len, is_sign_of_number, is_integer, judged, integer_at, as_integer, less_at, greater_at, mark_of, as_mark, sign_at, as_sign, begins_number, token_at}
+use Rattle.rj_condition.proofs.Runs.{either, both_true, run_is}
+use Rattle.rj_condition.proofs.Words.{word_token, keyword_word, name_word}
+use Rattle.rj_condition.proofs.Quotes.{some_same, quoted_sound, quoted_complete}
+use Rattle.rj_condition.proofs.Integers.{integer-Decides, digits-Decides}
+
+-- which way a choice went
+pub chosen : {A : Type 0} (b : Bool) (x y : Option A) (p : A) → cond b x y ≡ Some p → ((b ≡ true) × (x ≡ Some p)) ⊎ ((b ≡ false) × (y ≡ Some p))
+chosen true x y p e = inl (refl, e)
+chosen false x y p e = inr (refl, e)
+
+pub is_byte : (b c : ℕ) → (b == c) ≡ true → b ≡ c
+is_byte b c e = grind (arith, nat_tests)
+
+-- signs
+abbrev IsSignAt : List ℕ → Sign × List ℕ → Type 0
+IsSignAt bs p = (bs ≡ sign_text p.0 ++ p.1) × EndsSign p.0 p.1
+
+both_false : (b c : ℕ) → (b == 62) ≡ false → (b == 61) ≡ false → (b == 61 || b == 62) ≡ false
+both_false b c e f = grind (arith, nat_tests)
+
+less_sound : (bs : List ℕ) → IsSignAt (60 ∷ bs) (less_at bs)
+unfolding less_at
+less_sound [] = (refl, refl)
+less_sound (b ∷ bs) = elim (either (b == 62)) [
+  | inl h ↦ subst (IsSignAt (60 ∷ b ∷ bs)) (sym (ap (λ c. cond c (sign.NotEqual, bs) (cond (b == 61) (sign.LessOrEqual, bs) (sign.Less, b ∷ bs))) h)) (ap (λ z. 60 ∷ z ∷ bs) (is_byte b 62 h), tt)
+  | inr h ↦ elim (either (b == 61)) [
+    | inl k ↦ subst (IsSignAt (60 ∷ b ∷ bs))
+        (sym (ap (λ c. cond c (sign.NotEqual, bs) (cond (b == 61) (sign.LessOrEqual, bs) (sign.Less, b ∷ bs))) h ∙ ap (λ c. cond c (sign.LessOrEqual, bs) (sign.Less, b ∷ bs)) k)) (ap (λ z. 60 ∷ z ∷ bs) (is_byte b 61 k), tt)
+    | inr k ↦ subst (IsSignAt (60 ∷ b ∷ bs))
+        (sym (ap (λ c. cond c (sign.NotEqual, bs) (cond (b == 61) (sign.LessOrEqual, bs) (sign.Less, b ∷ bs))) h ∙ ap (λ c. cond c (sign.LessOrEqual, bs) (sign.Less, b ∷ bs)) k)) (refl, both_false b b h k)
+  ]
+]
+
+greater_sound : (bs : List ℕ) → IsSignAt (62 ∷ bs) (greater_at bs)
+unfolding greater_at
+greater_sound [] = (refl, refl)
+greater_sound (b ∷ bs) = elim (either (b == 61)) [
+  | inl h ↦ subst (IsSignAt (62 ∷ b ∷ bs)) (sym (ap (λ c. cond c (sign.GreaterOrEqual, bs) (sign.Greater, b ∷ bs)) h)) (ap (λ z. 62 ∷ z ∷ bs) (is_byte b 61 h), tt)
+  | inr h ↦ subst (IsSignAt (62 ∷ b ∷ bs)) (sym (ap (λ c. cond c (sign.GreaterOrEqual, bs) (sign.Greater, b ∷ bs)) h)) (refl, h)
+]
+
+mark_sound : (b : ℕ) (bs : List ℕ) (s : Sign) → mark_of b ≡ Some s → IsSignAt (b ∷ bs) (s, bs)
+unfolding mark_of
+mark_sound b bs s e = elim (chosen (b == 61) _ _ s e) [
+  | inl h ↦ at b bs sign.Equal s 61 refl tt h.0 (some_same _ _ h.1)
+  | inr h ↦ elim (chosen (b == 40) _ _ s h.1) [
+    | inl h ↦ at b bs sign.Open s 40 refl tt h.0 (some_same _ _ h.1)
+    | inr h ↦ elim (chosen (b == 41) _ _ s h.1) [
+      | inl h ↦ at b bs sign.Close s 41 refl tt h.0 (some_same _ _ h.1)
+      | inr h ↦ elim (chosen (b == 44) _ _ s h.1) [
+        | inl h ↦ at b bs sign.Comma s 44 refl tt h.0 (some_same _ _ h.1)
+        | inr h ↦ elim (chosen (b == 46) _ _ s h.1) [
+          | inl h ↦ at b bs sign.Point s 46 refl tt h.0 (some_same _ _ h.1)
+          | inr h ↦ let e = h.1 in cc
+        ]
+      ]
+    ]
+  ]
+]
+  where
+    at : (b : ℕ) (bs : List ℕ) (r s : Sign) (c : ℕ) → sign_text r ≡ c ∷ [] → EndsSign r bs → (b == c) ≡ true → r ≡ s → IsSignAt (b ∷ bs) (s, bs)
+    at b bs r s c spelled ends same is =
+        subst (λ (z : Sign). IsSignAt (b ∷ bs) (z, bs)) is (ap (λ z. z ∷ bs) (is_byte b c same) ∙ ap (λ z. z ++ bs) (sym spelled), ends)
+
+as_mark_some : (o : Option Sign) (bs : List ℕ) (p : Sign × List ℕ) → as_mark o bs ≡ Some p → (s : Sign) × (o ≡ Some s) × ((s, bs) ≡ p)
+as_mark_some (Some s) bs p e = (s, refl, some_same _ _ e)
+as_mark_some None bs p e = cc
+
+sign_sound : (bytes : List ℕ) (p : Sign × List ℕ) → sign_at bytes ≡ Some p → IsSignAt bytes p
+unfolding sign_at
+sign_sound [] p e = cc
+sign_sound (b ∷ bs) p e = elim (chosen (b == 60) _ _ p e) [
+  | inl h ↦ subst (IsSignAt (b ∷ bs)) (some_same _ _ h.1) (subst (λ (z : ℕ). IsSignAt (z ∷ bs) (less_at bs)) (sym (is_byte b 60 h.0)) (less_sound bs))
+  | inr h ↦ elim (chosen (b == 62) _ _ p h.1) [
+    | inl h ↦ subst (IsSignAt (b ∷ bs)) (some_same _ _ h.1) (subst (λ (z : ℕ). IsSignAt (z ∷ bs) (greater_at bs)) (sym (is_byte b 62 h.0)) (greater_sound bs))
+    | inr h ↦ let m = as_mark_some (mark_of b) bs p h.1 in subst (IsSignAt (b ∷ bs)) m.2 (mark_sound b bs m.0 m.1)
+  ]
+]
+
+-- one token of each kind
+abbrev TokenAt : List ℕ → Token × List ℕ → Type 0
+TokenAt bytes p = IsToken bytes p.0 p.1
+
+as_sign_token : (bytes : List ℕ) (o : Option (Sign × List ℕ)) (p : Token × List ℕ) → sign_at bytes ≡ o → as_sign o ≡ Some p → TokenAt bytes p
+as_sign_token bytes None p e f = cc
+as_sign_token bytes (Some s) p e f = let k = sign_sound bytes s e in subst (TokenAt bytes) (some_same _ _ f) (sign_text s.0, k.0, refl, k.1)
+
+literal_token : (bs : List ℕ) (o : Option (List ℕ × List ℕ)) (p : Token × List ℕ) → quoted 39 bs ≡ o → text_at o ≡ Some p → TokenAt (39 ∷ bs) p
+literal_token bs None p q e = cc
+literal_token bs (Some r) p q e =
+    let s = quoted_sound 39 bs r q in
+    subst (TokenAt (39 ∷ bs)) (some_same _ _ e) (in_quotes 39 r.0, ap (λ z. 39 ∷ z) (s.0 ∙ sym (append_assoc (doubled 39 r.0) (39 ∷ []) r.1)), refl, s.1)
+
+not_empty : (t : List ℕ) → nat_lt 0 (length t) ≡ true → t ≢ []
+not_empty [] e f = cc
+not_empty (b ∷ t) e f = cc
+
+delimited_token : (bs : List ℕ) (o : Option (List ℕ × List ℕ)) (p : Token × List ℕ) → quoted 34 bs ≡ o → delimited_at o ≡ Some p → TokenAt (34 ∷ bs) p
+delimited_token bs None p q e = cc
+delimited_token bs (Some r) p q e = elim (chosen (nat_lt 0 (length r.0)) _ _ p e) [
+  | inl h ↦
+      let s = quoted_sound 34 bs r q in
+      subst (TokenAt (34 ∷ bs)) (some_same _ _ h.1) (in_quotes 34 r.0, ap (λ z. 34 ∷ z) (s.0 ∙ sym (append_assoc (doubled 34 r.0) (34 ∷ []) r.1)), (refl, not_empty r.0 h.0), s.1)
+  | inr h ↦ let e = h.1 in cc
+]
+
+integer_token : (bytes : List ℕ) (o : Option (ℤ × List ℕ)) (p : Token × List ℕ) → integer_at bytes ≡ o → as_integer o ≡ Some p → TokenAt bytes p
+unfolding integer_at
+integer_token bytes None p q e = cc
+integer_token bytes (Some r) p q e =
+    let w = take (number_len bytes) bytes in
+    let rest = drop (number_len bytes) bytes in
+    let a = not_first (begins is_name_byte rest) _ r q in
+    elim (chosen (is_integer w) _ _ r a.1) [
+      | inl h ↦
+          let d = (integer-Decides w).0 h.0 in
+          subst (TokenAt bytes) (ap (λ (z : ℤ × List ℕ). (token.Integer z.0, z.1)) (some_same _ _ h.1) ∙ some_same _ _ e)
+          (w, sym (take-append-drop (number_len bytes) bytes), (d.0, d.1, refl), a.0)
+      | inr h ↦ let e = h.1 in cc
+    ]
+  where
+    not_first : {A : Type 0} (b : Bool) (y : Option A) (p : A) → cond b None y ≡ Some p → (b ≡ false) × (y ≡ Some p)
+    not_first true y p e = cc
+    not_first false y p e = (refl, e)
+
+pub token_sound : (bytes : List ℕ) (p : Token × List ℕ) → token_at bytes ≡ Some p → TokenAt bytes p
+unfolding token_at
+token_sound [] p e = cc
+token_sound (b ∷ bs) p e = elim (chosen (is_ascii_alphabetic b) _ _ p e) [
+  | inl h ↦ subst (TokenAt (b ∷ bs)) (some_same _ _ h.1) (word_token b bs h.0)
+  | inr h ↦ elim (chosen (b == 39) _ _ p h.1) [
+    | inl h ↦ subst (λ z. TokenAt (z ∷ bs) p) (sym (is_byte b 39 h.0)) (literal_token bs (quoted 39 bs) p refl h.1)
+    | inr h ↦ elim (chosen (b == 34) _ _ p h.1) [
+      | inl h ↦ subst (λ z. TokenAt (z ∷ bs) p) (sym (is_byte b 34 h.0)) (delimited_token bs (quoted 34 bs) p refl h.1)
+      | inr h ↦ elim (chosen (begins_number b) _ _ p h.1) [
+        | inl h ↦ integer_token (b ∷ bs) (integer_at (b ∷ bs)) p refl h.1
+        | inr h ↦ as_sign_token (b ∷ bs) (sign_at (b ∷ bs)) p refl h.1
+      ]
+    ]
+  ]
+]

@@ -1,0 +1,15 @@
+use Rattle.std.proofs.Common.{List, ◌++◌, length, ◌≤◌}
+use Rattle.std.specs.Prelude.{IsUtf8}
+use Rattle.rj_condition.specs.declared.token.Token.{Token}
+use Rattle.rj_condition.specs.Lexing.{Lexes}
+use Rattle.rj_condition.proofs.lexer.lex.Given as goal
+
+abbrev pub invariant-loop-first : goal.invariant-loop-first
+invariant-loop-first l = record {
+  text : IsUtf8 l.rest;
+  within : length l.rest ≤ length l.text;
+  done : (ts : List Token) → Lexes l.rest ts → Lexes l.text (l.tokens ++ ts);
+}
+
+abbrev pub decreases-loop-first : goal.decreases-loop-first
+decreases-loop-first l = length l.rest
