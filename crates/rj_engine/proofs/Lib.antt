@@ -5,3 +5,5 @@ pub mod Meeting
 pub mod Same
 pub mod Rising
 pub mod Parts
+pub mod Sources
+pub mod Grown

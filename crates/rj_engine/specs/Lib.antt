@@ -1,3 +1,5 @@
 pub mod Join
 pub mod Marks
 pub mod Results
+pub mod Origins
+pub mod Cells

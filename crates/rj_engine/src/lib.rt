@@ -4,7 +4,10 @@
 mod gathering;
 mod joined;
 mod marks;
+mod origin;
+mod view;
 
 pub use gathering::gather;
 pub use joined::{Joined, JoinedRow, Rows};
 pub use marks::unmatched;
+pub use view::{View, header};
