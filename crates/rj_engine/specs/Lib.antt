@@ -3,3 +3,4 @@ pub mod Marks
 pub mod Results
 pub mod Origins
 pub mod Cells
+pub mod Limits

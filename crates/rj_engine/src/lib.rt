@@ -5,9 +5,11 @@ mod gathering;
 mod joined;
 mod marks;
 mod origin;
+mod settings;
 mod view;
 
 pub use gathering::gather;
 pub use joined::{Joined, JoinedRow, Rows};
 pub use marks::unmatched;
+pub use settings::Settings;
 pub use view::{View, header};
