@@ -2,7 +2,7 @@
 ghost use Rattle.std.specs.Prelude.{◌≡◌, ◌<◌, ◌≤◌, ◌*◌, ◌+◌, ◌∷◌, ◌++◌, [], ℕ, length, All, IfOk, MatchResult, slice_index_or};
 ghost use Rattle.std.specs.Vec.Iter.{into_iter_items};
 ghost use Rattle.crossbeam_queue.specs.Passes.{view, IsPassOf, ruled_capacity};
-ghost use Rattle.rj_exchange.specs.Passing.{Interleaves, sender, taker};
+ghost use Rattle.rj_exchange.specs.Passing.{Belongs, Interleaves, sender, taker};
 ghost use Rattle.rj_exchange.specs.declared.boxes.Stub.{Stub};
 ghost use Rattle.rj_exchange.specs.declared.posted.Posted.{Posted};
 ghost use Rattle.rj_exchange.specs.Boxes.{Queue, sent_of, taken_of, takens, where_at, IsStubOf, IsInboxOf, IsLater, IsTaker, IsGrown, AreStubsOf, known_of, Knows, IsAllSent, IsRoom, PostedVec};
@@ -73,7 +73,8 @@ fn give_back_all(exchange: &Exchange, partition: u32, ends: &mut Vec<Stub>, stub
 fn drain_at<R: Wait>(rt: &R, queue: &ParcelQueue, end: &mut Stub, room: &mut Vec<Posted>)
     requires end { IsTaker (view end.old.pass).made queue.now end.old }
     requires room { IsRoom (ruled_capacity queue.now) room.old }
-    ensures { Interleaves (view end.old.pass).known ((view end.old.pass).taken ++ room.new.items) }
+    ensures all { Interleaves (view end.old.pass).known ((view end.old.pass).taken ++ room.new.items) }
+    ensures placed { All (Belongs (view end.old.pass).place) room.new.items }
 {
     drain(rt, queue, &mut end.pass, room);
 }
@@ -88,7 +89,8 @@ fn drain_all<R: Wait>(
     requires place { partition < exchange.now.partitions }
     requires ends { (length ends.old.items ≡ exchange.now.lanes) × ((k : ℕ) (l : Queue) (s : Stub) → k < exchange.now.lanes → IsTaker (view (slice_index_or ends.old.items k s).pass).made (slice_index_or exchange.now.queues.items (partition * exchange.now.lanes + k) l) (slice_index_or ends.old.items k s)) }
     requires rooms { (length rest.old.items ≡ exchange.now.lanes) × All (IsRoom exchange.now.capacity) rest.old.items }
-    ensures { (length rest.new.items ≡ exchange.now.lanes) × ((k : ℕ) (s : Stub) (v : PostedVec) → k < exchange.now.lanes → Interleaves (view (slice_index_or ends.old.items k s).pass).known (taken_of (slice_index_or ends.old.items k s) ++ (slice_index_or rest.new.items k v).items)) }
+    ensures all { (length rest.new.items ≡ exchange.now.lanes) × ((k : ℕ) (s : Stub) (v : PostedVec) → k < exchange.now.lanes → Interleaves (view (slice_index_or ends.old.items k s).pass).known (taken_of (slice_index_or ends.old.items k s) ++ (slice_index_or rest.new.items k v).items)) }
+    ensures placed { (k : ℕ) (s : Stub) (v : PostedVec) → k < exchange.now.lanes → All (Belongs (view (slice_index_or ends.old.items k s).pass).place) (slice_index_or rest.new.items k v).items }
 {
     for lane in 0..exchange.lanes {
         let at = exchange.index(partition, lane);
@@ -114,7 +116,8 @@ impl Inbox {
         stubs: Vec<Stub>,
     ) -> Result<Finished, (Inbox, Vec<Stub>)>
         requires { IsInboxOf exchange.now self × AreStubsOf exchange.now self.partition stubs.items }
-        ensures { MatchResult result (λ f. (length f.rest.items ≡ exchange.now.lanes) × ((k : ℕ) (v : PostedVec) → k < exchange.now.lanes → IsAllSent exchange.now.lanes stubs.items k (slice_index_or (takens self) k [] ++ (slice_index_or f.rest.items k v).items))) (λ b. (b.0 ≡ self) × (b.1 ≡ stubs)) }
+        ensures all { MatchResult result (λ f. (length f.rest.items ≡ exchange.now.lanes) × ((k : ℕ) (v : PostedVec) → k < exchange.now.lanes → IsAllSent exchange.now.lanes stubs.items k (slice_index_or (takens self) k [] ++ (slice_index_or f.rest.items k v).items))) (λ b. (b.0 ≡ self) × (b.1 ≡ stubs)) }
+        ensures placed { IfOk result (λ f. (k : ℕ) (v : PostedVec) → k < exchange.now.lanes → All (Belongs (where_at exchange.now self.partition k)) (slice_index_or f.rest.items k v).items) }
     {
         let Ok(mut rest) = rooms(alloc, exchange.lanes, exchange.capacity) else {
             return Err((self, stubs));

@@ -1,5 +1,5 @@
 //! The moves on one queue.
-ghost use Rattle.std.specs.Prelude.{◌≡◌, ◌<◌, ◌∷◌, ◌++◌, [], length, vec_capacity, ◌+◌, ◌≤◌, IfOk, MatchOption, MatchResult};
+ghost use Rattle.std.specs.Prelude.{◌≡◌, ◌<◌, ◌∷◌, ◌++◌, [], length, vec_capacity, ◌+◌, ◌≤◌, All, IfOk, MatchOption, MatchResult};
 ghost use Rattle.crossbeam_queue.specs.Passes.{view, IsPassOf, IsSamePass, ruled_capacity};
 ghost use Rattle.crossbeam_queue.specs.Fifo.{Held};
 ghost use Rattle.rj_exchange.specs.Passing.{blank, taker, sender, Belongs, HeldAt, Left, Took, Interleaves};
@@ -81,6 +81,7 @@ pub(crate) fn drain<R: Wait>(
     requires room { (rest.old.items ≡ []) × (ruled_capacity queue.now ≤ vec_capacity rest.old) }
     ensures pass { IsSamePass pass.old pass.new }
     ensures all { let v = view pass.old in Interleaves v.known (v.taken ++ rest.new.items) }
+    ensures placed { All (Belongs (view pass.old).place) rest.new.items }
 {
     queue.len_as::<Takes, R>(rt, pass);
     for _ in rt.forever() {

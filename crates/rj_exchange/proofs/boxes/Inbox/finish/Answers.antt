@@ -1,10 +1,11 @@
-use Rattle.std.proofs.Common.{rules, ◌≡◌, ℕ, ◌<◌, ◌≤◌, ◌*◌, ◌+◌, [], ◌++◌, List, length, get_or, map, sym, ap, ◌∙◌, subst, refl, arith}
+use Rattle.std.proofs.Common.{rules, ◌≡◌, ℕ, ◌<◌, ◌≤◌, ◌*◌, ◌+◌, [], ◌++◌, List, length, get_or, map, sym, ap, ◌∙◌, subst, refl, arith, All}
 use Rattle.crossbeam_queue.specs.Passes.{view}
 use Rattle.rj_exchange.specs.declared.boxes.Stub.{Stub}
 use Rattle.rj_exchange.specs.declared.queue.Trace.{Trace}
+use Rattle.rj_exchange.specs.declared.queue.Where.{Where}
 use Rattle.rj_ledger.specs.declared.parcel.Parcel.{Parcel}
 use Rattle.rj_exchange.specs.declared.posted.Posted.{Posted}
-use Rattle.rj_exchange.specs.Passing.{Interleaves}
+use Rattle.rj_exchange.specs.Passing.{Belongs, Interleaves}
 use Rattle.rj_exchange.specs.Boxes.{Queue, PostedVec, taken_of, IsTaker, known_of}
 use Rattle.rj_exchange.proofs.Stubs.{knows_taker, all_sent, was, any_default, pick, row_fits}
 use Rattle.rj_exchange.proofs.boxes.Inbox.finish.Goals as goal
@@ -17,8 +18,8 @@ drain_all-requires-clause-ends g c = let r = c.requires.0 in let h = c.give_back
       let made = ap (λ (v : Trace). v.made) f.1 ∙ ap (λ (v : Trace). v.made) (r.tokens k l s lt).1 in subst (λ (n : ℕ). IsTaker n q new) (sym made) t,
 )
 
-pub returns : goal.returns
-returns g c = let r = c.requires.0 in let h = c.give_back_all.ensures in let x = c.args.exchange.now in let d = c.drain_all.ensures in (
+pub returns-clause-all : goal.returns-clause-all
+returns-clause-all g c = let r = c.requires.0 in let h = c.give_back_all.ensures in let x = c.args.exchange.now in let d = c.drain_all.ensures.all in (
   d.0,
   λ k v lt. let many = r.many in let inside : k < length c.args.self.ends.items = omega arith in let s : Stub = pick c.args.self.ends.items k inside in
       let l : Queue = pick x.queues.items 0 (let n = h.0 in let z = x.sized in let y = x.limits in let p = r.below in let m = row_fits c.args.self.partition x.partitions x.lanes 0 p y.0 in omega arith) in
@@ -27,3 +28,11 @@ returns g c = let r = c.requires.0 in let h = c.give_back_all.ensures in let x =
       all_sent x.lanes x.outboxes c.args.stubs.items k (get_or (map taken_of c.args.self.ends.items) k [] ++ (get_or c.drain_all.new.rest.items k v).items) c.requires.1.many
       (subst (λ (z : List (List Parcel) × List Posted). Interleaves z.0 (z.1 ++ (get_or c.drain_all.new.rest.items k v).items)) (λ i. ((f i).known, (ap (λ (u : Trace). u.taken) f ∙ before) i)) (d.1 k s v lt)),
 )
+
+pub returns-clause-placed : goal.returns-clause-placed
+returns-clause-placed g c = λ k v lt.
+    let r = c.requires.0 in let h = c.give_back_all.ensures in let many = r.many in let inside : k < length c.args.self.ends.items = omega arith in let s : Stub = pick c.args.self.ends.items k inside in
+    let x = c.args.exchange.now in
+    let l : Queue = pick x.queues.items 0 (let z = x.sized in let y = x.limits in let p = r.below in let m = row_fits c.args.self.partition x.partitions x.lanes 0 p y.0 in omega arith) in
+    let there = ap (λ (u : Trace). u.place) (h.1 k l s s lt).1 ∙ ap (λ (u : Trace). u.place) (r.tokens k l s lt).1 in
+    subst (λ (w : Where). All (Belongs w) (get_or c.drain_all.new.rest.items k v).items) there (c.drain_all.ensures.placed k s v lt)

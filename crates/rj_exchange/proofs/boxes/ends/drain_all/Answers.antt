@@ -1,9 +1,9 @@
-use Rattle.std.proofs.Common.{rules, ◌≡◌, ℕ, zero, suc, ◌<◌, ◌≤◌, ◌*◌, ◌+◌, ◌++◌, List, length, get_or, set, sym, ap, ◌∙◌, subst, refl, arith, length-set, get_or-set_same, get_or-set_other}
+use Rattle.std.proofs.Common.{rules, ◌≡◌, ℕ, zero, suc, ◌<◌, ◌≤◌, ◌*◌, ◌+◌, ◌++◌, List, length, get_or, set, sym, ap, ◌∙◌, subst, refl, arith, All, length-set, get_or-set_same, get_or-set_other}
 use mathlib.Core.Logic.{dite}
 use native.Mathlib.Decide.{ℕ_discrete}
 use Rattle.crossbeam_queue.specs.Passes.{view, ruled_capacity}
 use Rattle.rj_exchange.specs.declared.boxes.Stub.{Stub}
-use Rattle.rj_exchange.specs.Passing.{Interleaves}
+use Rattle.rj_exchange.specs.Passing.{Belongs, Interleaves}
 use Rattle.rj_exchange.specs.Boxes.{Queue, PostedVec, taken_of, IsTaker, IsRoom}
 use Rattle.rj_exchange.proofs.Stubs.{any_default}
 use Rattle.rj_exchange.proofs.boxes.ends.drain_all.Goals as goal
@@ -31,8 +31,17 @@ loop-lane-preserved g c = let v = c.loop-lane.invariant in let k : ℕ = c.loop-
           (λ is.
           let a = mine ∙ any_default c.args.ends.now.items k old s (omega arith) ∙ ap (λ (m : ℕ). get_or c.args.ends.now.items m s) (sym is) in
           let b = sym (ap (λ (m : ℕ). get_or (set rest k full) m w) is ∙ get_or-set_same rest k full w (omega arith)) in
-          subst (λ (z : Stub × PostedVec). Interleaves (view z.0.pass).known (taken_of z.0 ++ z.1.items)) (λ i. (a i, b i)) c.drain_at.ensures)
+          subst (λ (z : Stub × PostedVec). Interleaves (view z.0.pass).known (taken_of z.0 ++ z.1.items)) (λ i. (a i, b i)) c.drain_at.ensures.all)
           (λ ne. subst (λ (z : PostedVec). Interleaves (view (get_or c.args.ends.now.items j s).pass).known (taken_of (get_or c.args.ends.now.items j s) ++ z.items)) (sym (get_or-set_other rest k j full w ne)) (v.done j s w (omega arith)));
+      placed = λ j s w below. dite (ℕ_discrete j k)
+          (λ is.
+          let a = mine ∙ any_default c.args.ends.now.items k old s (omega arith) ∙ ap (λ (m : ℕ). get_or c.args.ends.now.items m s) (sym is) in
+          let b = sym (ap (λ (m : ℕ). get_or (set rest k full) m w) is ∙ get_or-set_same rest k full w (omega arith)) in
+          subst (λ (z : Stub × PostedVec). All (Belongs (view z.0.pass).place) z.1.items) (λ i. (a i, b i)) c.drain_at.ensures.placed)
+          (λ ne. subst (λ (z : PostedVec). All (Belongs (view (get_or c.args.ends.now.items j s).pass).place) z.items) (sym (get_or-set_other rest k j full w ne)) (v.placed j s w (omega arith)));
       yet = λ j s le. get_or-set_other ends k j new s (λ is. omega arith) ∙ v.yet j s (omega arith);
       empty = λ j w le. get_or-set_other rest k j full w (λ is. omega arith) ∙ v.empty j w (omega arith);
     }
+
+pub returns-clause-placed : goal.returns-clause-placed
+returns-clause-placed g c = λ k s v lt. c.loop-lane.invariant.placed k s v (let a = c.loop-lane-test.false in omega arith)
