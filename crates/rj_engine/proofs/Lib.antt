@@ -2,6 +2,7 @@ pub mod Pairs
 pub mod Marked
 pub mod Members
 pub mod Meeting
+pub mod Grouped
 pub mod Same
 pub mod Rising
 pub mod Parts
