@@ -12,3 +12,7 @@ pub mod Quotes
 pub mod Integers
 pub mod TokenLaws
 pub mod Lexemes
+pub mod FlatFacts
+pub mod SplitFacts
+pub mod PartnerFacts
+pub mod SplitFits

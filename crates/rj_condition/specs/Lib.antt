@@ -10,3 +10,4 @@ pub mod Splits
 pub mod Tokens
 pub mod Lexing
 pub mod Scanning
+pub mod Parts

@@ -5,11 +5,14 @@
 mod binding;
 mod bound;
 mod deciding;
+mod joining;
 mod lexer;
 mod names;
 mod partners;
+mod parts;
 mod refused;
 mod resolving;
+mod splitting;
 mod token;
 mod tree;
 mod truth;
@@ -18,7 +21,9 @@ mod word;
 
 pub use binding::bind;
 pub use bound::{BoundCondition, BoundJoin, BoundOperand, Rule};
+pub use parts::{Remainder, Split};
 pub use refused::BindRefused;
+pub use splitting::split;
 pub use tree::{Clause, ColumnName, Comparison, Condition, JoinKind, Literal, Name, Operand};
 pub use truth::Truth;
 pub use word::Word;
