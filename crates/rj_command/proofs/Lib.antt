@@ -1,2 +1,6 @@
 mod ChainFacts
 mod TypeFacts
+pub mod NumeralFacts
+pub mod ReadingFacts
+pub mod ReportFacts
+pub mod SplitFacts

@@ -5,10 +5,12 @@ mod fault;
 mod line;
 mod options;
 mod request;
+mod script;
 mod stats;
 mod types;
 
 pub use fault::{Fault, Side};
 pub use line::{Line, read_line};
 pub use request::Request;
+pub use script::arrivals;
 pub use stats::Stats;
