@@ -12,8 +12,8 @@ mod calls;
 mod ends;
 mod open;
 
-/// The token of all that an outbox posted to one queue, or that an inbox took of it. It has no bytes that matter: what it
-/// stands for is in the proofs alone.
+/// The token of all that an outbox posted to one queue, or that an inbox took of it. It has no bytes: what it stands
+/// for is in the proofs alone.
 #[derive(Drop)]
 pub struct Stub {
     pass: Pass<Posted, Trace>,

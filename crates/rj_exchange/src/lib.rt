@@ -13,6 +13,8 @@ mod halt;
 mod posted;
 mod queue;
 mod stripes;
+#[cfg(test)]
+mod tests;
 mod tickets;
 
 pub use boxes::{Exchange, Finished, Full, Inbox, Outbox, Stub};
