@@ -5,11 +5,13 @@ mod gathering;
 mod joined;
 mod marks;
 mod origin;
+mod plain;
 mod settings;
 mod view;
 
 pub use gathering::gather;
 pub use joined::{Joined, JoinedRow, Rows};
 pub use marks::unmatched;
+pub use plain::nested_loop;
 pub use settings::Settings;
 pub use view::{View, header};
