@@ -16,3 +16,9 @@ pub mod FlatFacts
 pub mod SplitFacts
 pub mod PartnerFacts
 pub mod SplitFits
+pub mod Turns
+pub mod Behind
+pub mod Sound
+pub mod Complete
+pub mod Whole
+pub mod Answer

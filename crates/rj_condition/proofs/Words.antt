@@ -32,7 +32,7 @@ lower_spelling : Keyword → List ℕ
 lower_spelling k = str_to_ascii_lowercase (spelling_of k)
 
 -- no two keywords are spelled alike
-spelled_once : (k : Keyword) → find (λ j. bytes_eq (str_to_ascii_lowercase (spelling_of k)) (str_to_ascii_lowercase (spelling_of j))) all_keywords ≡ Some k
+pub spelled_once : (k : Keyword) → find (λ j. bytes_eq (str_to_ascii_lowercase (spelling_of k)) (str_to_ascii_lowercase (spelling_of j))) all_keywords ≡ Some k
 spelled_once keyword.And = refl
 spelled_once keyword.Between = refl
 spelled_once keyword.Cross = refl

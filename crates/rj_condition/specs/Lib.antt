@@ -11,3 +11,7 @@ pub mod Tokens
 pub mod Lexing
 pub mod Scanning
 pub mod Parts
+pub mod Grammar
+pub mod Reading
+pub mod Nesting
+pub mod Clauses

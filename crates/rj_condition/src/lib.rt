@@ -1,18 +1,25 @@
-//! Join clauses of SQL-92: their syntax tree, the names bound to two tables, the truth of a condition at two
-//! rows, and its split into keys and remainder.
+//! Join clauses of SQL-92: their syntax tree, parsed from a text, the names bound to two tables, the truth of a
+//! condition at two rows, and its split into keys and remainder.
 #![tactic(auto)]
 
 mod binding;
 mod bound;
+mod clauses;
+mod conditions;
 mod deciding;
+mod fault;
 mod joining;
 mod lexer;
 mod names;
+mod nesting;
+mod parsing;
 mod partners;
 mod parts;
+mod predicates;
 mod refused;
 mod resolving;
 mod splitting;
+mod steps;
 mod token;
 mod tree;
 mod truth;
@@ -21,6 +28,8 @@ mod word;
 
 pub use binding::bind;
 pub use bound::{BoundCondition, BoundJoin, BoundOperand, Rule};
+pub use fault::ParseRefused;
+pub use parsing::{one_clause, parse};
 pub use parts::{Remainder, Split};
 pub use refused::BindRefused;
 pub use splitting::split;

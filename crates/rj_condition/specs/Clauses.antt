@@ -1,0 +1,49 @@
+-- Clause: the syntax tree of a text, or its fault. A text over 65,536 bytes is too long; that is told first, then that it
+-- is nested too deep, and then that it is no clause.
+use Rattle.std.specs.Prelude.{◌≡◌, ◌≢◌, ◌<◌, ◌≤◌, ℕ, true, false, List, length, Result, Ok, Err, MatchResult}
+use Rattle.rj_condition.specs.declared.token.Token.{Token}
+use Rattle.rj_condition.specs.declared.tree.Clause.{Clause}
+use Rattle.rj_condition.specs.declared.fault.ParseRefused.{ParseRefused}
+use Rattle.rj_condition.specs.declared.fault.ParseRefused.TheVariants as refused
+use Rattle.rj_condition.specs.Lexing.{Lexes}
+use Rattle.rj_condition.specs.Nesting.{is_deep}
+use Rattle.rj_condition.specs.Grammar.{Derives}
+
+abbrev pub IsTooLong : List ℕ → Type 0
+IsTooLong text = 65536 < length text
+
+abbrev pub IsTooDeep : List ℕ → Type 0
+IsTooDeep text = (ts : List Token) × (length text ≤ 65536) × Lexes text ts × (is_deep ts ≡ true)
+
+-- the text's tokens are those of the clause
+abbrev pub HasClause : List ℕ → Clause → Type 0
+HasClause text c = (ts : List Token) × (length text ≤ 65536) × Lexes text ts × (is_deep ts ≡ false) × Derives ts c
+
+-- the text's tokens are those of no clause
+abbrev pub HasNoClause : List ℕ → Type 0
+HasNoClause text = (ts : List Token) × (length text ≤ 65536) × Lexes text ts × (is_deep ts ≡ false) × ((c : Clause) → Derives ts c → ⊥)
+
+-- The fault is the text's own, or memory ran out.
+abbrev pub IsFault : List ℕ → ParseRefused → Type 0
+IsFault text refused.TooLong = IsTooLong text
+IsFault text refused.TooDeep = IsTooDeep text
+IsFault text (refused.Syntax byte) = HasNoClause text
+IsFault text refused.Memory = Unit {0}
+
+-- The answer of a parser is the clause or the fault of the text, unless memory ran out.
+abbrev pub Parses : List ℕ → Result Clause ParseRefused → Type 0
+Parses text (Ok c) = HasClause text c
+Parses text (Err e) = IsFault text e
+
+-- it is this clause, or an error of which more is known
+abbrev pub IsAnswer : Result Clause ParseRefused → Clause → Type 0
+IsAnswer (Ok c) d = c ≡ d
+IsAnswer (Err e) d = e ≡ refused.Memory
+
+-- it is an error: memory ran out, or the error meets the test
+abbrev pub Refuses : Result Clause ParseRefused → (ParseRefused → Type 0) → Type 0
+Refuses r P = MatchResult r (λ c. ⊥) (λ e. e ≢ refused.Memory → P e)
+
+abbrev pub IsSyntax : ParseRefused → Type 0
+IsSyntax (refused.Syntax byte) = Unit {0}
+IsSyntax _ = ⊥

@@ -1,0 +1,106 @@
+// Join clauses (SQL-92, 7.5).
+
+ghost use Rattle.std.specs.Prelude.{◌≡◌, [], ◌∷◌};
+ghost use Rattle.rj_condition.specs.Reading.{Gives, GivesWhole};
+ghost use Rattle.rj_condition.specs.Reading as reading;
+
+use crate::conditions::condition;
+use crate::fault::Fault;
+use crate::steps::{after, expect, expect_sign, names, optional, whole};
+use crate::token::{Keyword, Sign, Token};
+use crate::tree::{Clause, JoinKind};
+use std::alloc::Global;
+
+// The type of a join: no type means INNER.
+#[tactic(auto, unfolding(crate::specs::Reading::kind_at))]
+fn kind(tokens: &[Token]) -> (JoinKind, &[Token])
+    ensures { (result.0, result.1.now) ≡ reading.kind_at tokens.now }
+{
+    if let Some(rest) = after(tokens, Keyword::Inner) {
+        return (JoinKind::Inner, rest);
+    }
+    if let Some(rest) = after(tokens, Keyword::Left) {
+        return (JoinKind::Left, optional(rest, Keyword::Outer).1);
+    }
+    if let Some(rest) = after(tokens, Keyword::Right) {
+        return (JoinKind::Right, optional(rest, Keyword::Outer).1);
+    }
+    match after(tokens, Keyword::Full) {
+        Some(rest) => (JoinKind::Full, optional(rest, Keyword::Outer).1),
+        None => (JoinKind::Inner, tokens),
+    }
+}
+
+#[tactic(auto, unfolding(crate::specs::Reading::join_at))]
+fn join(tokens: &[Token]) -> Result<(JoinKind, &[Token]), Fault>
+    ensures { Gives result (reading.join_at tokens.now) }
+{
+    let (kind, rest) = kind(tokens);
+    let rest = expect(rest, Keyword::Join)?;
+    Ok((kind, rest))
+}
+
+// Behind CROSS.
+#[tactic(auto, unfolding(crate::specs::Reading::cross_at))]
+fn cross(tokens: &[Token]) -> Result<Clause, Fault>
+    ensures { GivesWhole result (reading.cross_at tokens.now) }
+{
+    let rest = expect(tokens, Keyword::Join)?;
+    whole(Clause::Cross, rest)
+}
+
+// Behind NATURAL.
+#[tactic(auto, unfolding(crate::specs::Reading::natural_at))]
+fn natural(tokens: &[Token]) -> Result<Clause, Fault>
+    ensures { GivesWhole result (reading.natural_at tokens.now) }
+{
+    let (kind, rest) = join(tokens)?;
+    whole(Clause::Natural(kind), rest)
+}
+
+// Behind ON.
+#[tactic(auto, unfolding(crate::specs::Reading::on_at))]
+fn on(alloc: Global, kind: JoinKind, tokens: &[Token]) -> Result<Clause, Fault>
+    ensures { GivesWhole result (reading.on_at kind tokens.now) }
+{
+    let (condition, rest) = condition(alloc, tokens.len(), tokens)?;
+    whole(Clause::On(kind, condition), rest)
+}
+
+// USING and its names.
+#[tactic(auto, unfolding(crate::specs::Reading::using_at))]
+fn using(alloc: Global, kind: JoinKind, tokens: &[Token]) -> Result<Clause, Fault>
+    ensures { GivesWhole result (reading.using_at kind tokens.now) }
+{
+    let rest = expect(tokens, Keyword::Using)?;
+    let rest = expect_sign(rest, Sign::Open)?;
+    let (names, rest) = names(alloc, rest)?;
+    let rest = expect_sign(rest, Sign::Close)?;
+    whole(Clause::Using(kind, names), rest)
+}
+
+// A join with ON or USING.
+#[tactic(auto, unfolding(crate::specs::Reading::qualified_at))]
+fn qualified(alloc: Global, tokens: &[Token]) -> Result<Clause, Fault>
+    ensures { GivesWhole result (reading.qualified_at tokens.now) }
+{
+    let (kind, rest) = join(tokens)?;
+    match after(rest, Keyword::On) {
+        Some(rest) => on(alloc, kind, rest),
+        None => using(alloc, kind, rest),
+    }
+}
+
+/// The clause that the tokens are.
+#[tactic(auto, unfolding(crate::specs::Reading::clause_at))]
+pub fn clause(alloc: Global, tokens: &[Token]) -> Result<Clause, Fault>
+    ensures { GivesWhole result (reading.clause_at tokens.now) }
+{
+    if let Some(rest) = after(tokens, Keyword::Cross) {
+        return cross(rest);
+    }
+    match after(tokens, Keyword::Natural) {
+        Some(rest) => natural(rest),
+        None => qualified(alloc, tokens),
+    }
+}

@@ -1,0 +1,72 @@
+// A clause text and its syntax tree.
+
+ghost use Rattle.std.specs.Prelude.{◌≡◌, ◌∷◌, [], ◌≤◌, length, List, ℕ};
+ghost use Rattle.rj_condition.specs.declared.tree.Clause.{Clause};
+ghost use Rattle.rj_condition.specs.declared.fault.ParseRefused.TheVariants as refused;
+ghost use Rattle.rj_condition.specs.Clauses.{IsTooLong, IsTooDeep, HasClause, HasNoClause, Parses, IsAnswer, Refuses, IsSyntax};
+
+use crate::clauses::clause;
+use crate::fault::{Fault, ParseRefused};
+use crate::lexer::lex;
+use crate::nesting::too_deep;
+use crate::tree::Clause;
+use std::alloc::Global;
+
+const LONGEST: usize = 65_536;
+
+/// The syntax tree of a join clause (SQL-92, 7.5).
+///
+/// # Errors
+///
+/// In this order: `TooLong` where the text is over 65,536 bytes, `TooDeep` where its parentheses and NOTs are nested over
+/// 64 deep, `Syntax` where it is no clause, with the byte of the first token that goes on with no clause. `Memory` where
+/// a growth was refused. The text stays as it is.
+#[tactic(auto, using(crate::proofs::Answer::only, crate::proofs::Answer::long, crate::proofs::Answer::deep, crate::proofs::Answer::none))]
+pub fn parse(alloc: Global, text: &str) -> Result<Clause, ParseRefused>
+    // It is the clause of the text, or its fault.
+    ensures answer { Parses text.now result }
+    // A text has one clause at most, and where it has one, that is given, unless memory runs out.
+    ensures only { (c : Clause) → HasClause text.now c → IsAnswer result c }
+    // A fault of the text is told, unless memory runs out.
+    ensures too_long { IsTooLong text.now → Refuses result (λ e. e ≡ refused.TooLong) }
+    ensures too_deep { IsTooDeep text.now → Refuses result (λ e. e ≡ refused.TooDeep) }
+    ensures no_clause { HasNoClause text.now → Refuses result IsSyntax }
+{
+    read(alloc, text)
+}
+
+fn read(alloc: Global, text: &str) -> Result<Clause, ParseRefused>
+    ensures { Parses text.now result }
+{
+    if text.len() > LONGEST {
+        return Err(ParseRefused::TooLong);
+    }
+    let lexed = lex(alloc, text)?;
+    if too_deep(alloc, lexed.tokens.as_slice())? {
+        return Err(ParseRefused::TooDeep);
+    }
+    match clause(alloc, lexed.tokens.as_slice()) {
+        Ok(clause) => Ok(clause),
+        Err(Fault::Memory) => Err(ParseRefused::Memory),
+        Err(Fault::Syntax(left)) => Err(ParseRefused::Syntax(
+            fault_byte(&lexed.starts, left, text.len()) as u64,
+        )),
+    }
+}
+
+// Where the token starts of which so many are left, or the end of the text.
+fn fault_byte(starts: &[u32], left: usize, text_len: usize) -> usize {
+    match starts
+        .len()
+        .checked_sub(left)
+        .and_then(|at| starts.get(at).copied())
+    {
+        Some(start) => start as usize,
+        None => text_len,
+    }
+}
+
+/// No text has two clauses.
+pub fn one_clause()
+    ensures { (text : List ℕ) (c d : Clause) → HasClause text c → HasClause text d → c ≡ d }
+{}

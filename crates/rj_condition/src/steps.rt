@@ -1,0 +1,135 @@
+// Steps of the reader: the next token, where it is the one wanted.
+
+ghost use Rattle.std.specs.Prelude.{◌≡◌, [], ◌∷◌, IfOk, IsTrue, ◌↔◌, List};
+ghost use Rattle.rj_condition.specs.Reading.{Gives, GivesRest, GivesWhole, rest_view};
+ghost use Rattle.rj_condition.specs.Reading as reading;
+
+use crate::fault::Fault;
+use crate::token::{Keyword, Sign, Token};
+use crate::tree::{Clause, Name};
+use crate::word::Word;
+use sqlite_items::Items;
+use std::alloc::{AllocError, Global};
+
+fn same_keyword(found: Keyword, wanted: Keyword) -> bool
+    ensures { IsTrue result ↔ (found ≡ wanted) }
+{
+    found == wanted
+}
+
+fn same_sign(found: Sign, wanted: Sign) -> bool
+    ensures { IsTrue result ↔ (found ≡ wanted) }
+{
+    found == wanted
+}
+
+// The tokens behind the keyword, if it comes next.
+#[tactic(auto, unfolding(crate::specs::Reading::after))]
+pub fn after(tokens: &[Token], keyword: Keyword) -> Option<&[Token]>
+    ensures { rest_view result ≡ reading.after keyword tokens.now }
+{
+    match tokens {
+        [Token::Keyword(found), rest @ ..] => {
+            if same_keyword(*found, keyword) {
+                Some(rest)
+            } else {
+                None
+            }
+        }
+        _ => None,
+    }
+}
+
+// The tokens behind the sign, if it comes next.
+#[tactic(auto, unfolding(crate::specs::Reading::behind))]
+pub fn behind(tokens: &[Token], sign: Sign) -> Option<&[Token]>
+    ensures { rest_view result ≡ reading.behind sign tokens.now }
+{
+    match tokens {
+        [Token::Sign(found), rest @ ..] => {
+            if same_sign(*found, sign) {
+                Some(rest)
+            } else {
+                None
+            }
+        }
+        _ => None,
+    }
+}
+
+// The tokens behind the keyword, which has to come next.
+pub fn expect(tokens: &[Token], keyword: Keyword) -> Result<&[Token], Fault>
+    ensures { GivesRest result (reading.after keyword tokens.now) }
+{
+    match after(tokens, keyword) {
+        Some(rest) => Ok(rest),
+        None => Err(Fault::Syntax(tokens.len())),
+    }
+}
+
+// The tokens behind the sign, which has to come next.
+pub fn expect_sign(tokens: &[Token], sign: Sign) -> Result<&[Token], Fault>
+    ensures { GivesRest result (reading.behind sign tokens.now) }
+{
+    match behind(tokens, sign) {
+        Some(rest) => Ok(rest),
+        None => Err(Fault::Syntax(tokens.len())),
+    }
+}
+
+// Whether the keyword comes next, and the tokens behind it.
+pub fn optional(tokens: &[Token], keyword: Keyword) -> (bool, &[Token])
+    ensures { (result.0, result.1.now) ≡ reading.opt keyword tokens.now }
+{
+    match after(tokens, keyword) {
+        Some(rest) => (true, rest),
+        None => (false, tokens),
+    }
+}
+
+// The clause, where no tokens are left behind it.
+pub fn whole(clause: Clause, rest: &[Token]) -> Result<Clause, Fault>
+    ensures { GivesWhole result (reading.ended clause rest.now) }
+{
+    match rest {
+        [] => Ok(clause),
+        _ => Err(Fault::Syntax(rest.len())),
+    }
+}
+
+fn copied(alloc: Global, name: &Name) -> Result<Name, AllocError>
+    ensures { IfOk result (λ n. n ≡ name.now) }
+{
+    Ok(Name {
+        text: Word::new(alloc, name.text.as_str())?,
+        delimited: name.delimited,
+    })
+}
+
+#[tactic(auto, unfolding(crate::specs::Reading::name_at))]
+pub fn name(alloc: Global, tokens: &[Token]) -> Result<(Name, &[Token]), Fault>
+    ensures { Gives result (reading.name_at tokens.now) }
+{
+    match tokens {
+        [Token::Name(name), rest @ ..] => Ok((copied(alloc, name)?, rest)),
+        _ => Err(Fault::Syntax(tokens.len())),
+    }
+}
+
+// Names with commas between.
+#[tactic(auto, using(crate::proofs::Turns::separated_more, crate::proofs::Turns::separated_end), unfolding(crate::specs::Reading::names_at, crate::specs::Reading::separated))]
+pub fn names(alloc: Global, tokens: &[Token]) -> Result<(Items<Name>, &[Token]), Fault>
+    ensures { Gives result (reading.names_at tokens.now) }
+{
+    let mut found = Items::new(alloc);
+    let mut rest = tokens;
+    for turn in 0..tokens.len() {
+        let (one, behind_one) = name(alloc, rest)?;
+        found.push(one)?;
+        match behind(behind_one, Sign::Comma) {
+            Some(more) => rest = more,
+            None => return Ok((found, behind_one)),
+        }
+    }
+    Err(Fault::Syntax(rest.len()))
+}
