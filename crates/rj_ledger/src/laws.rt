@@ -1,18 +1,29 @@
 // Laws: each of these functions does nothing, and its contract is a fact about every ledger, list of parcels or plan.
 
-ghost use Rattle.std.specs.Prelude.{List, slice_get, [], ◌≡◌, ◌<◌, ◌+◌, ℕ, true, Some};
+ghost use Rattle.std.specs.Prelude.{List, slice_get, [], ◌≡◌, ◌<◌, ◌+◌, ℕ, true, Some, length};
 ghost use Rattle.rj_ledger.specs.declared.parcel.Parcel.{Parcel};
 ghost use Rattle.rj_ledger.specs.declared.parcel.Answer.TheVariants.{Accepted};
 ghost use Rattle.rj_ledger.specs.Cutting.{plan};
 ghost use Rattle.rj_ledger.specs.Ledgers.{LedgerValue, opened, standing, answer_to, after_offer, answers, after_all};
 ghost use Rattle.rj_ledger.specs.Reading.{IsRefused};
 ghost use Rattle.rj_ledger.specs.Kept.{keep, kept, Keeps};
+ghost use Rattle.rj_ledger.specs.KeptRules.{next_in, kept_answers};
 ghost use Rattle.rj_ledger.specs.Lawful.{AreLawful, IsPlanned, HasAll, AreAmong, planned_answers};
 ghost use Rattle.rj_ledger.specs.Delivery.{Delivers, AreExactly};
 
 /// An offer keeps a ledger in agreement with the kept parcels, whatever they are.
 pub fn offer_keeps()
     ensures { (ks : List Parcel) (v : LedgerValue) (x : Parcel) → Keeps ks v → Keeps (keep (answer_to v x) x ks) (after_offer v x) }
+{}
+
+/// The answers to any list are those of the nine rules read over the kept parcels alone.
+pub fn replay_rules()
+    ensures { (q n block : ℕ) (xs : List Parcel) → answers (opened q n block) xs ≡ kept_answers q n block [] xs }
+{}
+
+/// A ledger that agrees with the kept parcels has as a sender's next number the least that no kept parcel of it has.
+pub fn next_is_least()
+    ensures { (ks : List Parcel) (v : LedgerValue) → Keeps ks v → (s : ℕ) → s < length v.senders → (standing v s).next ≡ next_in ks s }
 {}
 
 /// An accepted parcel moves its sender's next number on by the count in the answer.

@@ -1,0 +1,181 @@
+//! The program `arrivals`: replays a script of arrivals at one partition, read from standard input to its end, and prints what
+//! the partition's ledger answers to each line and what it delivered of each sender. Faults go to standard error.
+#![tactic(auto)]
+
+use clap::{Arg, ArgAction, Command, Error, value_parser};
+use rj_command::{Fault, arrivals};
+use rj_csv_io::{Counted, CountedReader, ReadRefused, read_all};
+use std::alloc::{AllocError, Global};
+use std::env::{self, Env};
+use std::io;
+use std::process::ExitCode;
+
+// Why nothing, or not all, was printed. The text is the line that is printed, without its line end.
+#[derive(Debug, Drop, thiserror::Error)]
+enum Failure {
+    // `clap` refused the words, or they ask for help.
+    #[error("{0}")]
+    CommandLine(Error),
+    #[error("arrivals: an argument is not text")]
+    NotText,
+    #[error("arrivals: E18 Memory")]
+    Memory,
+    #[error("arrivals: E19 ReadDevice")]
+    ReadDevice,
+    #[error("arrivals: E20 WriteDevice")]
+    WriteDevice,
+}
+
+impl Failure {
+    // The exit status: 0 help, 2 command line, 5 memory, 6 device.
+    fn status(&self) -> u8 {
+        match self {
+            Failure::CommandLine(error) => { if error.use_stderr() { 2 } else { 0 } }
+            Failure::NotText => 2,
+            Failure::Memory => 5,
+            Failure::ReadDevice | Failure::WriteDevice => 6,
+        }
+    }
+}
+
+// What the words of the command line say.
+#[derive(Clone, Copy)]
+struct Line {
+    partition: u32,
+    senders: u32,
+    block: u32,
+    gaps: bool,
+}
+
+// A required option whose number lies in the range.
+fn number_option<'a>(
+    alloc: Global,
+    name: &'a str,
+    least: i64,
+    most: i64,
+    help: &'a str,
+) -> Arg<'a> {
+    Arg::new(alloc, name)
+        .long(name)
+        .action(ArgAction::Set)
+        .required(true)
+        .value_parser(value_parser!(u32).range(least..=most))
+        .help(help)
+}
+
+fn line_command<'a>(alloc: Global) -> Result<Command<'a>, AllocError> {
+    let gaps = Arg::new(alloc, "gaps")
+        .long("gaps")
+        .action(ArgAction::SetTrue)
+        .help("Print the gap before the held parcels of each sender");
+    Command::new(alloc, "arrivals")
+        .no_binary_name(true)
+        .arg(number_option(alloc, "partition", 0, 1_023, "Number of the partition"))?
+        .arg(number_option(alloc, "senders", 1, 128, "How many senders it has"))?
+        .arg(number_option(alloc, "block", 1, 65_536, "Most rows of a block"))?
+        .arg(gaps)
+}
+
+// Reads the words after the program's name.
+fn read_line(alloc: Global, words: &[&str]) -> Result<Line, Error> {
+    let command = line_command(alloc)?;
+    let matches = command.try_get_matches_from(words)?;
+    Ok(Line {
+        partition: matches.get_one("partition").unwrap_or(0),
+        senders: matches.get_one("senders").unwrap_or(1),
+        block: matches.get_one("block").unwrap_or(1),
+        gaps: matches.get_flag("gaps"),
+    })
+}
+
+// The words after the program's name.
+fn read_words<R: Env + AllocGlobal>(rt: &R) -> Result<Vec<String>, Failure> {
+    match env::args(rt) {
+        Ok(words) => match words.skip(1).collect(rt.alloc()) {
+            Ok(words) => Ok(words),
+            Err(_) => Err(Failure::Memory),
+        },
+        Err(error) if error.kind() == io::ErrorKind::OutOfMemory => Err(Failure::Memory),
+        Err(_) => Err(Failure::NotText),
+    }
+}
+
+// The words as texts.
+fn texts_of<'a>(alloc: Global, words: &'a [String]) -> Result<Vec<&'a str>, Failure> {
+    match words.iter().map(|word| word.as_str()).collect(alloc) {
+        Ok(texts) => Ok(texts),
+        Err(_) => Err(Failure::Memory),
+    }
+}
+
+fn parse_words(alloc: Global, words: &[String]) -> Result<Line, Failure> {
+    let texts = texts_of(alloc, words)?;
+    match read_line(alloc, texts.as_slice()) {
+        Ok(line) => Ok(line),
+        Err(error) if error.kind() == clap::error::ErrorKind::OutOfMemory => Err(Failure::Memory),
+        Err(error) => Err(Failure::CommandLine(error)),
+    }
+}
+
+// The bytes of standard input, to its end.
+fn read_script<R: Input + AllocGlobal>(rt: &R) -> Result<Vec<u8>, Failure> {
+    let mut reader = CountedReader::new(rt.reader());
+    match read_all(rt.alloc(), &mut reader) {
+        Ok(script) => Ok(script),
+        Err(ReadRefused::Memory) => Err(Failure::Memory),
+        Err(_) => Err(Failure::ReadDevice),
+    }
+}
+
+// Reads the command line and the script, and prints; whether every line was readable.
+fn replay<R: Env + Input + AllocGlobal + Print>(rt: &R) -> Result<bool, Failure> {
+    let words = read_words(rt)?;
+    let line = parse_words(rt.alloc(), words.as_slice())?;
+    let script = read_script(rt)?;
+    let mut writer = Counted::new(io::writer(rt));
+    let Line {
+        partition,
+        senders,
+        block,
+        gaps,
+    } = line;
+    match arrivals(
+        rt.alloc(),
+        script.as_slice(),
+        partition,
+        senders,
+        block,
+        gaps,
+        &mut writer,
+    ) {
+        Ok(readable) => Ok(readable),
+        Err(Fault::Memory) => Err(Failure::Memory),
+        Err(_) => Err(Failure::WriteDevice),
+    }
+}
+
+// Prints the line of a failure, and gives the exit status.
+fn tell_line(rt: &impl Eprint, failure: &Failure) -> u8 {
+    let _ = eprintln!(rt; "{failure}");
+    failure.status()
+}
+
+// Prints a failure, or help on standard output, and gives the exit status.
+fn tell<R: Print + Eprint>(rt: &R, failure: &Failure) -> u8 {
+    if let Failure::CommandLine(error) = failure {
+        let printed = error.print(rt).is_ok();
+        if printed || error.use_stderr() {
+            return failure.status();
+        }
+        return tell_line(rt, &Failure::WriteDevice);
+    }
+    tell_line(rt, failure)
+}
+
+fn main(rt: HostRuntime) -> ExitCode {
+    match replay(&rt) {
+        Ok(true) => ExitCode::SUCCESS,
+        Ok(false) => ExitCode::from(3),
+        Err(failure) => ExitCode::from(tell(&rt, &failure)),
+    }
+}
