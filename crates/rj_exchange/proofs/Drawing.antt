@@ -1,5 +1,5 @@
 -- Each step on the ticket word keeps its rule.
-use Rattle.std.proofs.Common.{◌≡◌, ◌≢◌, ℕ, zero, suc, ◌+◌, ◌-◌, ◌%◌, ◌^◌, ◌<◌, ◌≤◌, min, List, [], ◌∷◌, ◌++◌, length, get_or, set, sym, refl, ap, ◌∙◌, subst, ⊎_elim, arith, length-set, length-append, get_or-set_same, lt_of_not-le}
+use Rattle.std.proofs.Common.{◌≡◌, ℕ, zero, suc, ◌+◌, ◌%◌, ◌<◌, ◌≤◌, min, List, [], ◌∷◌, ◌++◌, length, get_or, set, sym, refl, ap, ◌∙◌, subst, ⊎_elim, arith, length-set, length-append, get_or-set_same, lt_of_not-le}
 use mathlib.Core.Option.{none, some, some-injective, some-ne-none}
 use mathlib.Core.Logic.{dite}
 use native.Mathlib.Decide.{dec_le}
@@ -10,7 +10,7 @@ use Rattle.rj_exchange.specs.declared.tickets.Draw.{Draw}
 use Rattle.rj_exchange.specs.declared.tickets.Plan.{Plan}
 use Rattle.rj_exchange.specs.Totals.{total, total_below}
 use Rattle.rj_exchange.specs.Drawing.{draw, Fits, Drawing, opening_view, drew, kept, cut_off, joined, nobody}
-use Rattle.rj_exchange.proofs.Totals.{total-append, total-snoc, total-set, total-plus, total-one, total-same, total_le, one_le_total, total_none, sole, below_ones}
+use Rattle.rj_exchange.proofs.Totals.{total-append, total-snoc, total-set, total-plus, total-one, total-same, total_le, sole, below_ones}
 
 abbrev St : Type 0
 St = State (Unit {0}) Draw

@@ -1,13 +1,11 @@
 -- Lists of halt seats.
-use Rattle.std.proofs.Common.{◌≡◌, ℕ, zero, suc, ◌+◌, ◌<◌, ◌≤◌, Bool, true, false, List, [], ◌∷◌, ap, ◌∙◌, refl, cond, arith}
-use mathlib.Core.Option.{some, some-injective, some-ne-none}
+use Rattle.std.proofs.Common.{◌≡◌, ℕ, suc, ◌<◌, ◌≤◌, Bool, true, false, List, [], ◌∷◌, ap, ◌∙◌, refl, cond, arith}
 use mathlib.Core.Logic.{dite}
 use native.Mathlib.Decide.{dec_le}
-use lib.ListN.{get_elem?}
 use Rattle.atomic_table.specs.Seated.{TableId}
 use Rattle.rj_exchange.specs.declared.halt.HaltSeat.{HaltSeat}
 use Rattle.rj_exchange.specs.Totals.{total}
-use Rattle.rj_exchange.specs.Halt.{HasRaised, HasSeen, AnyRaised, AnySeen}
+use Rattle.rj_exchange.specs.Halt.{AnyRaised, AnySeen}
 use Rattle.rj_exchange.proofs.Totals.{one_le_total}
 
 abbrev pub IsHaltAt : TableId → HaltSeat → Type 0

@@ -1,5 +1,5 @@
 -- Each move keeps the rule of a queue.
-use Rattle.std.proofs.Common.{◌≡◌, ◌≢◌, ℕ, zero, suc, ◌+◌, ◌<◌, ◌≤◌, ◌⊎◌, inl, inr, Bool, true, false, true≢false, cond, eqb, List, [], ◌∷◌, ◌++◌, length, get_or, set, sym, refl, ap, ◌∙◌, subst, ⊎_elim, arith, append_assoc, length-append, length-set, lt_of_not-le, All}
+use Rattle.std.proofs.Common.{◌≡◌, ℕ, zero, suc, ◌+◌, ◌<◌, Bool, true, false, true≢false, cond, eqb, List, [], ◌∷◌, ◌++◌, length, set, sym, refl, ap, ◌∙◌, subst, ⊎_elim, arith, append_assoc, length-append, length-set, lt_of_not-le, All}
 use mathlib.Core.Option.{some, some-injective, some-ne-none}
 use mathlib.Core.Logic.{dite}
 use native.Mathlib.Decide.{ℕ_discrete, dec_le}
@@ -7,7 +7,6 @@ use lib.ListN.{get_elem?}
 use Rattle.std.proofs.lemmas.List.Elements.{All-push, All-head, All-tail, All-nil}
 use Rattle.crossbeam_queue.specs.Fifo.{Pushes, Pops, Forks, Merges, Learns}
 use Rattle.crossbeam_queue.proofs.Lists.{at_set}
-use Rattle.rj_ledger.specs.declared.parcel.Parcel.{Parcel}
 use Rattle.rj_exchange.specs.declared.posted.Posted.{Posted}
 use Rattle.rj_exchange.specs.declared.queue.Where.{Where}
 use Rattle.rj_exchange.specs.declared.queue.Trace.{Trace}

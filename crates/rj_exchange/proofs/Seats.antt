@@ -1,17 +1,15 @@
 -- Lists of seats.
-use Rattle.std.proofs.Common.{◌≡◌, ℕ, zero, suc, ◌+◌, ◌<◌, ◌≤◌, min, List, [], ◌∷◌, ◌++◌, map, length, get_or, sym, refl, ap, ◌∙◌, subst, cond, arith, All, Some}
+use Rattle.std.proofs.Common.{◌≡◌, ℕ, ◌+◌, ◌<◌, ◌≤◌, min, List, [], ◌∷◌, ◌++◌, map, length, get_or, sym, refl, ap, ◌∙◌, cond, arith}
 use mathlib.Core.Option.{some, some-injective, some-ne-none}
 use lib.ListN.{get_elem?}
-use Rattle.std.proofs.lemmas.List.Elements.{All-pop, All-weaker}
 use Rattle.atomic_table.specs.Seated.{TableId}
-use Rattle.atomic_table.specs.Table.{State, Final, Seen}
+use Rattle.atomic_table.specs.Table.{Final, Seen}
 use Rattle.rj_exchange.specs.declared.tickets.Seat.{Seat}
-use Rattle.rj_exchange.specs.declared.tickets.Tickets.{Tickets}
 use Rattle.rj_exchange.specs.declared.tickets.Plan.{Plan}
 use Rattle.rj_exchange.specs.declared.tickets.Draw.{Draw}
 use Rattle.rj_exchange.specs.Totals.{total, total_below}
 use Rattle.rj_exchange.specs.Drawing.{Drawing}
-use Rattle.rj_exchange.specs.Tickets.{drawn, IsSpent, IsSeatOf, EachOnce, AnySpent, times}
+use Rattle.rj_exchange.specs.Tickets.{drawn, EachOnce, AnySpent, times}
 use Rattle.rj_exchange.proofs.Totals.{total-snoc, one_le_total, below_over, below_under, here}
 use Rattle.rj_exchange.proofs.Drawing.{knows}
 

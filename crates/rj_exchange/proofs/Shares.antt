@@ -1,5 +1,5 @@
 -- Lists of stripe seats.
-use Rattle.std.proofs.Common.{◌≡◌, ℕ, ◌+◌, ◌<◌, ◌≤◌, List, [], ◌∷◌, map, length, refl, sym, ap, ◌∙◌, arith, lt_of_not-le}
+use Rattle.std.proofs.Common.{◌≡◌, ℕ, ◌+◌, ◌<◌, List, [], ◌∷◌, map, length, ap, arith, lt_of_not-le}
 use mathlib.Core.Logic.{dite}
 use native.Mathlib.Decide.{dec_le}
 use Rattle.crossbeam_queue.specs.Passes.{view, IsPassOf}
@@ -8,7 +8,7 @@ use Rattle.rj_exchange.specs.declared.stripes.Share.{Share}
 use Rattle.rj_exchange.specs.declared.stripes.StripeSeat.{StripeSeat}
 use Rattle.rj_exchange.specs.Totals.{total, total_below}
 use Rattle.rj_exchange.specs.Tickets.{times, EachOnce}
-use Rattle.rj_exchange.specs.Striping.{share, queued, opening, Accounts}
+use Rattle.rj_exchange.specs.Striping.{share, opening, Accounts}
 use Rattle.rj_exchange.specs.Stripes.{StripeQueue, held, drew_in_all, put_in_all}
 use Rattle.rj_exchange.proofs.Totals.{below_over, below_under, here, here_same}
 use Rattle.rj_exchange.proofs.Seats.{total-map}

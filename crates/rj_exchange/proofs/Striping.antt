@@ -1,5 +1,5 @@
 -- Each move keeps the rule of the stripe queue.
-use Rattle.std.proofs.Common.{◌≡◌, ◌≢◌, ℕ, zero, suc, ◌+◌, ◌-◌, ◌<◌, ◌≤◌, ◌⊎◌, cond, eqb, List, [], ◌∷◌, ◌++◌, length, set, sym, refl, ap, ◌∙◌, subst, ⊎_elim, arith, lt_of_not-le}
+use Rattle.std.proofs.Common.{◌≡◌, ◌≢◌, ℕ, zero, suc, ◌+◌, ◌<◌, ◌≤◌, List, [], ◌∷◌, ◌++◌, length, set, sym, refl, ap, ◌∙◌, subst, ⊎_elim, arith, lt_of_not-le}
 use mathlib.Core.Option.{some, some-injective, some-ne-none}
 use mathlib.Core.Logic.{dite}
 use native.Mathlib.Decide.{ℕ_discrete, dec_le}
@@ -10,9 +10,9 @@ use Rattle.rj_exchange.specs.declared.stripes.Stripe.{Stripe}
 use Rattle.rj_exchange.specs.declared.stripes.Share.{Share}
 use Rattle.rj_exchange.specs.Totals.{total, total_below}
 use Rattle.rj_exchange.specs.Tickets.{times}
-use Rattle.rj_exchange.specs.Striping.{share, stripe, below, opening, without, queued, FitsShare, Striping, blank, nobody, Accounts, Drew, Gave, kept, cut_off, joined, settled}
+use Rattle.rj_exchange.specs.Striping.{share, below, opening, without, queued, FitsShare, Striping, blank, nobody, Accounts, Drew, Gave, kept, cut_off, joined}
 use Rattle.rj_exchange.proofs.Of.{chosen, passed}
-use Rattle.rj_exchange.proofs.Totals.{total-append, total-snoc, total-set, total-same, total-one, one_le_total, total_none, sole, below_ones, below_over, below_under, here, here_same, here_other}
+use Rattle.rj_exchange.proofs.Totals.{total-append, total-snoc, total-set, total-one, one_le_total, sole, below_ones, below_over, below_under, here, here_same, here_other}
 
 -- two of them are no more than all
 two_le_total : {V : Type 0} (f : V → ℕ) (l : List V) (i j : ℕ) (v w : V) → get_elem? l i ≡ some v → get_elem? l j ≡ some w → j ≢ i → f v + f w ≤ total f l

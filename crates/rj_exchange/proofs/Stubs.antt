@@ -1,5 +1,5 @@
 -- Lists of tokens, of which one changes.
-use Rattle.std.proofs.Common.{◌≡◌, ◌≢◌, ℕ, zero, suc, ◌+◌, ◌*◌, ◌<◌, ◌≤◌, List, [], ◌∷◌, ◌++◌, map, length, get_or, set, sym, refl, ap, ◌∙◌, subst, arith, get_or-set_same, get_or-set_other, add-one, length-append, lt_of_not-le, mul-le-mul_right}
+use Rattle.std.proofs.Common.{◌≡◌, ℕ, zero, suc, ◌+◌, ◌*◌, ◌<◌, ◌≤◌, List, [], ◌∷◌, ◌++◌, map, length, get_or, set, sym, refl, ap, ◌∙◌, subst, arith, get_or-set_same, get_or-set_other, add-one, length-append, lt_of_not-le, mul-le-mul_right}
 use mathlib.Core.Logic.{dite}
 use native.Mathlib.Decide.{ℕ_discrete, dec_le}
 use lib.Seq.{map-set}
@@ -9,7 +9,7 @@ use Rattle.rj_exchange.specs.declared.queue.Trace.{Trace}
 use Rattle.rj_exchange.specs.declared.queue.Where.{Where}
 use Rattle.rj_ledger.specs.declared.parcel.Parcel.{Parcel}
 use Rattle.rj_exchange.specs.declared.posted.Posted.{Posted}
-use Rattle.rj_exchange.specs.Passing.{taker, sender, of, Interleaves}
+use Rattle.rj_exchange.specs.Passing.{taker, sender, Interleaves}
 use Rattle.rj_exchange.specs.Boxes.{Queue, sent_of, IsStubOf, IsTaker, IsGrown, Knows, known_of, IsAllSent}
 use Rattle.rj_exchange.proofs.Of.{past_end, before_end, at_end}
 

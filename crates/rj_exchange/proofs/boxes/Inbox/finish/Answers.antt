@@ -1,12 +1,11 @@
-use Rattle.std.proofs.Common.{rules, ◌≡◌, ℕ, ◌<◌, ◌≤◌, ◌*◌, ◌+◌, [], ◌++◌, List, length, get_or, map, sym, ap, ◌∙◌, subst, refl, arith, All}
-use Rattle.crossbeam_queue.specs.Passes.{view}
+use Rattle.std.proofs.Common.{ℕ, ◌<◌, ◌*◌, ◌+◌, [], ◌++◌, List, length, get_or, map, sym, ap, ◌∙◌, subst, arith, All}
 use Rattle.rj_exchange.specs.declared.boxes.Stub.{Stub}
 use Rattle.rj_exchange.specs.declared.queue.Trace.{Trace}
 use Rattle.rj_exchange.specs.declared.queue.Where.{Where}
 use Rattle.rj_ledger.specs.declared.parcel.Parcel.{Parcel}
 use Rattle.rj_exchange.specs.declared.posted.Posted.{Posted}
 use Rattle.rj_exchange.specs.Passing.{Belongs, Interleaves}
-use Rattle.rj_exchange.specs.Boxes.{Queue, PostedVec, taken_of, IsTaker, known_of}
+use Rattle.rj_exchange.specs.Boxes.{Queue, taken_of, IsTaker}
 use Rattle.rj_exchange.proofs.Stubs.{knows_taker, all_sent, was, any_default, pick, row_fits}
 use Rattle.rj_exchange.proofs.boxes.Inbox.finish.Goals as goal
 

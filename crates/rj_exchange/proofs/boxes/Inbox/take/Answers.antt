@@ -1,5 +1,4 @@
-use Rattle.std.proofs.Common.{rules, ◌≡◌, ℕ, ◌<◌, ◌*◌, ◌+◌, ◌%◌, List, [], ◌∷◌, ◌++◌, map, length, get_or, set, sym, ap, ◌∙◌, subst, refl, arith, length-set}
-use Rattle.std.proofs.Math.Seq.{map-set_same}
+use Rattle.std.proofs.Common.{◌≡◌, ℕ, ◌<◌, ◌*◌, ◌+◌, List, [], ◌∷◌, ◌++◌, map, length, get_or, set, sym, ap, ◌∙◌, subst, refl, arith, length-set}
 use Rattle.crossbeam_queue.specs.Passes.{view}
 use Rattle.rj_exchange.specs.declared.boxes.Stub.{Stub}
 use Rattle.rj_exchange.specs.declared.queue.Trace.{Trace}

@@ -1,4 +1,4 @@
-use Rattle.std.proofs.Common.{rules, ◌≡◌, ℕ, ◌<◌, ◌*◌, ◌+◌, ◌%◌, List, [], ◌∷◌, ◌++◌, map, length, get_or, set, sym, ap, ◌∙◌, subst, refl, arith, length-set}
+use Rattle.std.proofs.Common.{◌≡◌, ℕ, ◌<◌, ◌*◌, ◌+◌, ◌%◌, List, [], ◌∷◌, ◌++◌, map, length, get_or, set, sym, ap, ◌∙◌, subst, refl, arith, length-set}
 use Rattle.std.proofs.Math.Seq.{map-set_same}
 use Rattle.crossbeam_queue.specs.Passes.{view, ruled_capacity}
 use Rattle.crossbeam_queue.specs.Fifo.{Held}

@@ -1,4 +1,4 @@
-use Rattle.std.proofs.Common.{rules, ◌≡◌, ℕ, ◌<◌, ◌≤◌, ◌+◌, [], ◌∷◌, ◌++◌, List, length, get_or, set, sym, ap, ◌∙◌, subst, refl, arith, length-set, get_or-set_same, get_or-set_other}
+use Rattle.std.proofs.Common.{◌≡◌, ℕ, ◌<◌, ◌≤◌, ◌+◌, [], List, length, get_or, set, sym, ap, ◌∙◌, subst, arith, length-set, get_or-set_same, get_or-set_other}
 use mathlib.Core.Logic.{dite}
 use native.Mathlib.Decide.{ℕ_discrete}
 use Rattle.crossbeam_queue.specs.Passes.{view}
@@ -7,7 +7,7 @@ use Rattle.rj_exchange.specs.declared.boxes.Stub.{Stub}
 use Rattle.rj_exchange.specs.declared.queue.Trace.{Trace}
 use Rattle.rj_exchange.specs.declared.queue.Where.{Where}
 use Rattle.rj_exchange.specs.Passing.{taker, sender}
-use Rattle.rj_exchange.specs.Boxes.{Queue, place_of, AddsStub}
+use Rattle.rj_exchange.specs.Boxes.{place_of, AddsStub}
 use Rattle.rj_exchange.proofs.Stubs.{any_default, taker_self}
 use Rattle.rj_exchange.proofs.boxes.open.add_queue.Goals as goal
 

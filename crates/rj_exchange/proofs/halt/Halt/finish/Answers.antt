@@ -1,4 +1,4 @@
-use Rattle.std.proofs.Common.{rules, ◌≡◌, ℕ, ◌+◌, ◌<◌, ◌≤◌, [], ◌∷◌, length, length-append, sym, ap, ◌∙◌, subst, refl, arith, Some, true≢false}
+use Rattle.std.proofs.Common.{◌≡◌, ◌<◌, [], ◌∷◌, length, length-append, sym, ap, ◌∙◌, refl, arith, Some, true≢false}
 use Rattle.std.proofs.lemmas.List.Elements.{All-pop}
 use Rattle.rj_exchange.proofs.Halting.{merges, closes}
 use Rattle.rj_exchange.proofs.Seats.{popped, ends}

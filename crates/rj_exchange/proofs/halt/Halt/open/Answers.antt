@@ -1,8 +1,8 @@
-use Rattle.std.proofs.Common.{rules, ◌≡◌, ℕ, ◌+◌, ◌<◌, ◌≤◌, [], ◌∷◌, ◌++◌, length, length-append, sym, ap, ◌∙◌, subst, refl, arith, All}
-use Rattle.std.proofs.lemmas.List.Elements.{All-push, All-nil}
+use Rattle.std.proofs.Common.{length, length-append, sym, ap, ◌∙◌, subst, refl, arith, All}
+use Rattle.std.proofs.lemmas.List.Elements.{All-push}
 use Rattle.rj_exchange.specs.Halt.{IsNewHalt}
 use Rattle.rj_exchange.specs.Halting.{look}
-use Rattle.rj_exchange.proofs.Halting.{cuts, opens}
+use Rattle.rj_exchange.proofs.Halting.{cuts}
 use Rattle.rj_exchange.proofs.HaltSeats.{IsHaltAt}
 use Rattle.rj_exchange.proofs.halt.Halt.open.Goals as goal
 

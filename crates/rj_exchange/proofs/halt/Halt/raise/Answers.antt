@@ -1,4 +1,4 @@
-use Rattle.std.proofs.Common.{rules, ◌≡◌, ◌≤◌, Bool, true, false, cond, arith, subst, sym}
+use Rattle.std.proofs.Common.{rules, arith}
 use Rattle.rj_exchange.proofs.Halting.{raises}
 use Rattle.rj_exchange.proofs.HaltSeats.{most_one}
 use Rattle.rj_exchange.proofs.halt.Halt.raise.Goals as goal

@@ -1,4 +1,4 @@
-use Rattle.std.proofs.Common.{rules, ◌≡◌, arith}
+use Rattle.std.proofs.Common.{rules, arith}
 use Rattle.rj_exchange.proofs.Halting.{looks}
 use Rattle.rj_exchange.proofs.halt.Halt.raised.Goals as goal
 

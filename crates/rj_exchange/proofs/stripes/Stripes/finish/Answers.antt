@@ -1,4 +1,4 @@
-use Rattle.std.proofs.Common.{◌≡◌, ℕ, ◌+◌, ◌<◌, ◌≤◌, [], ◌∷◌, length, length-append, sym, ap, ◌∙◌, refl, arith, Some, true≢false}
+use Rattle.std.proofs.Common.{◌≡◌, [], ◌∷◌, length, length-append, sym, ap, ◌∙◌, refl, arith, Some, true≢false}
 use Rattle.std.proofs.lemmas.List.Elements.{All-pop}
 use Rattle.crossbeam_queue.specs.Passes.{view}
 use Rattle.rj_exchange.specs.declared.stripes.Share.{Share}
@@ -7,7 +7,7 @@ use Rattle.rj_exchange.specs.Stripes.{held, draws, puts, IsStripeSeatOf}
 use Rattle.rj_exchange.proofs.Totals.{total-append}
 use Rattle.rj_exchange.proofs.Striping.{accounts, merges}
 use Rattle.rj_exchange.proofs.Seats.{popped, ends}
-use Rattle.rj_exchange.proofs.Shares.{IsStripeDealt, HeldBy, all_held, not_all_held, counted}
+use Rattle.rj_exchange.proofs.Shares.{IsStripeDealt, all_held, not_all_held, counted}
 use Rattle.rj_exchange.proofs.stripes.Stripes.finish.Goals as goal
 
 pub loop-next-init : goal.loop-next-init

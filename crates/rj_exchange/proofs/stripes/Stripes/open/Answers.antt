@@ -1,4 +1,4 @@
-use Rattle.std.proofs.Common.{◌≡◌, ◌+◌, ◌<◌, ◌≤◌, length, ap, sym, ◌∙◌, arith}
+use Rattle.std.proofs.Common.{ap, sym, ◌∙◌, arith}
 use Rattle.rj_exchange.specs.declared.stripes.Share.{Share}
 use Rattle.rj_exchange.specs.Totals.{total}
 use Rattle.rj_exchange.proofs.Striping.{cuts, settles}

@@ -1,4 +1,4 @@
-use Rattle.std.proofs.Common.{◌≡◌, ◌<◌, ap, arith}
+use Rattle.std.proofs.Common.{arith}
 use Rattle.rj_exchange.proofs.Striping.{opens, deals}
 use Rattle.rj_exchange.proofs.stripes.calls.empty.Goals as goal
 

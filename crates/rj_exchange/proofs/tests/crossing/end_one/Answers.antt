@@ -1,4 +1,4 @@
-use Rattle.std.proofs.Common.{subst, sym, ap}
+use Rattle.std.proofs.Common.{subst, sym}
 use Rattle.rj_exchange.specs.Boxes.{AreStubsFrom}
 use Rattle.rj_exchange.proofs.Joining.{whole_part}
 use Rattle.rj_exchange.proofs.tests.crossing.end_one.Goals as goal

@@ -1,4 +1,4 @@
-use Rattle.std.proofs.Common.{rules, ◌≡◌, sym, ap, ◌∙◌, cond, arith}
+use Rattle.std.proofs.Common.{rules, sym, ap, ◌∙◌, cond, arith}
 use Rattle.rj_exchange.proofs.Drawing.{draws}
 use Rattle.rj_exchange.proofs.tickets.Tickets.claim.Goals as goal
 

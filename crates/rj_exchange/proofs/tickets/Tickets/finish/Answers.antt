@@ -1,7 +1,7 @@
-use Rattle.std.proofs.Common.{rules, ◌≡◌, ℕ, ◌+◌, ◌<◌, ◌≤◌, min, [], ◌∷◌, length, length-append, sym, ap, ◌∙◌, subst, refl, arith, Some}
+use Rattle.std.proofs.Common.{◌≡◌, min, [], ◌∷◌, length, length-append, ap, ◌∙◌, arith, Some}
 use Rattle.std.proofs.lemmas.List.Elements.{All-pop, All-weaker}
 use Rattle.rj_exchange.specs.Totals.{total, total_below}
-use Rattle.rj_exchange.specs.Tickets.{drawn, IsSeatOf, EachOnce, AnySpent}
+use Rattle.rj_exchange.specs.Tickets.{drawn, IsSeatOf}
 use Rattle.rj_exchange.proofs.Totals.{total-append}
 use Rattle.rj_exchange.proofs.Drawing.{merges}
 use Rattle.rj_exchange.proofs.Seats.{IsAt, nones, popped, each_once, closes, any_none, ends}

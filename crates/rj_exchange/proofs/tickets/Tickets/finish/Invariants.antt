@@ -1,4 +1,4 @@
-use Rattle.std.proofs.Common.{◌≡◌, ◌≤◌, ◌+◌, ℕ, [], length, All}
+use Rattle.std.proofs.Common.{◌≡◌, ◌+◌, ℕ, [], length, All}
 use Rattle.rj_exchange.specs.Totals.{total}
 use Rattle.rj_exchange.specs.Tickets.{drawn}
 use Rattle.rj_exchange.proofs.Seats.{IsAt, nones}

@@ -1,9 +1,9 @@
-use Rattle.std.proofs.Common.{rules, ◌≡◌, ℕ, ◌+◌, ◌<◌, ◌≤◌, [], ◌∷◌, ◌++◌, length, length-append, sym, ap, ◌∙◌, subst, refl, arith, All}
+use Rattle.std.proofs.Common.{◌≡◌, ℕ, length, length-append, sym, ap, ◌∙◌, subst, refl, arith, All}
 use Rattle.std.proofs.lemmas.List.Elements.{All-push}
 use Rattle.rj_exchange.specs.Tickets.{IsNew}
 use Rattle.rj_exchange.specs.declared.tickets.Plan.{Plan}
 use Rattle.rj_exchange.specs.Drawing.{draw}
-use Rattle.rj_exchange.proofs.Drawing.{cuts, opens}
+use Rattle.rj_exchange.proofs.Drawing.{cuts}
 use Rattle.rj_exchange.proofs.Seats.{IsDealt}
 use Rattle.rj_exchange.proofs.tickets.Tickets.open.Goals as goal
 
