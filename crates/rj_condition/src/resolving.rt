@@ -2,12 +2,13 @@
 
 ghost use Rattle.std.specs.Prelude.{◌≡◌, ◌≢◌, IfOk, IfErr, Ok, Err, map};
 ghost use Rattle.rj_condition.specs.Names.{resolved_operand};
-ghost use Rattle.rj_condition.specs.Resolved.{resolved, all_ok};
+ghost use Rattle.rj_condition.specs.Resolved.{resolved, resolved_at, all_ok};
+ghost use Rattle.rj_condition.specs.declared.tree.Condition.TheOpen.{Condition-F};
 
 use crate::bound::{BoundCondition, BoundOperand};
 use crate::names::resolve_operand;
 use crate::refused::BindRefused;
-use crate::tree::{Condition, Operand};
+use crate::tree::{Comparison, Condition, Operand};
 use rj_columns::Table;
 use sqlite_items::{Boxed, Items};
 use std::alloc::Global;
@@ -43,6 +44,72 @@ fn resolve_operands(
     Ok(done)
 }
 
+// A comparison with its names resolved.
+fn resolve_comparison(
+    alloc: Global,
+    a: &Operand,
+    operator: Comparison,
+    b: &Operand,
+    left: &Table,
+    right: &Table,
+) -> Result<BoundCondition, BindRefused>
+    ensures ok { IfOk result (λ c. resolved_at left.now.names right.now.names (Condition-F.Compare a.now operator b.now) ≡ Ok c) }
+    ensures err { IfErr result (λ e. e ≢ BindRefused.Memory → resolved_at left.now.names right.now.names (Condition-F.Compare a.now operator b.now) ≡ Err e) }
+{
+    let x = resolve_operand(alloc, a, left, right)?;
+    let y = resolve_operand(alloc, b, left, right)?;
+    Ok(BoundCondition::Compare {
+        left: x,
+        operator,
+        right: y,
+    })
+}
+
+// A BETWEEN with its names resolved.
+fn resolve_between(
+    alloc: Global,
+    operand: &Operand,
+    low: &Operand,
+    high: &Operand,
+    negated: bool,
+    left: &Table,
+    right: &Table,
+) -> Result<BoundCondition, BindRefused>
+    ensures ok { IfOk result (λ c. resolved_at left.now.names right.now.names (Condition-F.Between operand.now low.now high.now negated) ≡ Ok c) }
+    ensures err { IfErr result (λ e. e ≢ BindRefused.Memory → resolved_at left.now.names right.now.names (Condition-F.Between operand.now low.now high.now negated) ≡ Err e) }
+{
+    let operand = resolve_operand(alloc, operand, left, right)?;
+    let low = resolve_operand(alloc, low, left, right)?;
+    let high = resolve_operand(alloc, high, left, right)?;
+    Ok(BoundCondition::Between {
+        operand,
+        low,
+        high,
+        negated,
+    })
+}
+
+// An IN with its names resolved.
+fn resolve_in(
+    alloc: Global,
+    operand: &Operand,
+    members: &[Operand],
+    negated: bool,
+    left: &Table,
+    right: &Table,
+) -> Result<BoundCondition, BindRefused>
+    ensures ok { IfOk result (λ c. resolved_at left.now.names right.now.names (Condition-F.In operand.now members.now negated) ≡ Ok c) }
+    ensures err { IfErr result (λ e. e ≢ BindRefused.Memory → resolved_at left.now.names right.now.names (Condition-F.In operand.now members.now negated) ≡ Err e) }
+{
+    let operand = resolve_operand(alloc, operand, left, right)?;
+    let members = resolve_operands(alloc, members, left, right)?;
+    Ok(BoundCondition::In {
+        operand,
+        members,
+        negated,
+    })
+}
+
 // The condition with its names resolved, or the first fault in the order of the text.
 #[cycle(resolving)]
 pub(crate) fn resolve(
@@ -59,44 +126,18 @@ pub(crate) fn resolve(
             left: a,
             operator,
             right: b,
-        } => {
-            let x = resolve_operand(alloc, a, left, right)?;
-            let y = resolve_operand(alloc, b, left, right)?;
-            Ok(BoundCondition::Compare {
-                left: x,
-                operator: *operator,
-                right: y,
-            })
-        }
+        } => resolve_comparison(alloc, a, *operator, b, left, right),
         Condition::Between {
             operand,
             low,
             high,
             negated,
-        } => {
-            let operand = resolve_operand(alloc, operand, left, right)?;
-            let low = resolve_operand(alloc, low, left, right)?;
-            let high = resolve_operand(alloc, high, left, right)?;
-            Ok(BoundCondition::Between {
-                operand,
-                low,
-                high,
-                negated: *negated,
-            })
-        }
+        } => resolve_between(alloc, operand, low, high, *negated, left, right),
         Condition::In {
             operand,
             members,
             negated,
-        } => {
-            let operand = resolve_operand(alloc, operand, left, right)?;
-            let members = resolve_operands(alloc, members.as_slice(), left, right)?;
-            Ok(BoundCondition::In {
-                operand,
-                members,
-                negated: *negated,
-            })
-        }
+        } => resolve_in(alloc, operand, members.as_slice(), *negated, left, right),
         Condition::IsNull { operand, negated } => {
             let operand = resolve_operand(alloc, operand, left, right)?;
             Ok(BoundCondition::IsNull {
