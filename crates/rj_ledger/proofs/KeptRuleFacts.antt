@@ -1,7 +1,6 @@
 -- The rules over the kept parcels alone give the ledger's answers.
-use Rattle.std.proofs.Common.{◌≡◌, ℕ, zero, suc, ◌+◌, ◌-◌, ◌<◌, ◌≤◌, ◌==◌, Bool, true, false, cond, not, ◌||◌, ◌&&◌, List, [], ◌∷◌, length, nat_lt, nat_le, refl, ap, sym, ◌∙◌, arith, subst, inl, inr, ◌⊎◌, is_some, IsSome, Some, None, Option, eq-eqb, length-set, slice_set, replicate}
+use Rattle.std.proofs.Common.{◌≡◌, ℕ, zero, suc, ◌+◌, ◌-◌, ◌<◌, ◌≤◌, ◌==◌, Bool, true, false, cond, not, ◌||◌, ◌&&◌, List, [], ◌∷◌, length, nat_lt, nat_le, refl, ap, sym, ◌∙◌, arith, subst, inl, inr, ◌⊎◌, is_some, Some, None, Option, eq-eqb, length-set}
 use Rattle.std.proofs.lemmas.List.{length-replicate}
-use Rattle.std.specs.List.{list_any}
 use Rattle.std.proofs.lemmas.Bool.Decides.{nat_tests}
 use Rattle.rj_ledger.specs.declared.parcel.Body.{Body}
 use Rattle.rj_ledger.specs.declared.parcel.Parcel.{Parcel}
@@ -9,15 +8,14 @@ use Rattle.rj_ledger.specs.declared.parcel.Reason.{Reason}
 use Rattle.rj_ledger.specs.declared.parcel.Reason.TheVariants.{BadLength, AfterClose, Repeat, BeyondClose, EarlyClose, WrongPartition, UnknownSender}
 use Rattle.rj_ledger.specs.declared.parcel.Answer.{Answer}
 use Rattle.rj_ledger.specs.declared.parcel.Answer.TheVariants.{Accepted, Held, Refused}
-use Rattle.rj_ledger.specs.Standing.{Standing, is_close, following, Orderly, IsSound, nothing_yet}
+use Rattle.rj_ledger.specs.Standing.{Standing, is_close, Orderly, IsSound, nothing_yet}
 use Rattle.rj_ledger.specs.Rules.{is_bad_length, holds, holds_close_below, holds_above, refusal}
 use Rattle.rj_ledger.specs.Ledgers.{LedgerValue, standing, opened, answer_to, after_answer, after_offer, answers}
 use Rattle.rj_ledger.specs.Kept.{keep, body_in, held_at, is_close_at, close_below, Agrees, Keeps, AreKeptOnce}
-use Rattle.rj_ledger.specs.Lawful.{passing}
 use Rattle.rj_ledger.specs.KeptRules.{next_in, some_of, is_closed_in, is_kept_in, holds_close_before, holds_after, kept_answer, kept_answers}
 use Rattle.rj_ledger.proofs.KeptFacts.{number_apart, number_apart_above}
 use Rattle.rj_ledger.proofs.PlanFacts.{holds_is}
-use Rattle.rj_ledger.proofs.LawfulFacts.{Outcome, wrong, unknown, refused, next, later, outcome, passing_is}
+use Rattle.rj_ledger.proofs.LawfulFacts.{wrong, unknown, refused, next, later, outcome, passing_is}
 use Rattle.rj_ledger.proofs.LedgerFacts.{keeps_offer, keeps_opened}
 use Rattle.rj_ledger.proofs.EngineFacts.{accepted_counts, kept_once}
 

@@ -1,4 +1,4 @@
-use Rattle.std.proofs.Common.{◌≡◌, sym}
+use Rattle.std.proofs.Common.{sym}
 use Rattle.rj_ledger.specs.Ledgers.{standing}
 use Rattle.rj_ledger.proofs.KeptRuleFacts.{next_is}
 use Rattle.rj_ledger.proofs.laws.next_is_least.Goals as goal
