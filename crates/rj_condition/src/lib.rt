@@ -14,6 +14,8 @@ mod joining;
 mod lexer;
 mod names;
 mod nesting;
+#[cfg(test)]
+mod parse_tests;
 mod parsing;
 mod partners;
 mod parts;
