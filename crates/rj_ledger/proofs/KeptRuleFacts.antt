@@ -1,5 +1,5 @@
 -- The rules over the kept parcels alone give the ledger's answers.
-use Rattle.std.proofs.Common.{◌≡◌, ℕ, zero, suc, ◌+◌, ◌-◌, ◌<◌, ◌≤◌, ◌==◌, Bool, true, false, cond, not, ◌||◌, ◌&&◌, List, [], ◌∷◌, length, nat_lt, nat_le, refl, ap, sym, ◌∙◌, arith, subst, inl, inr, ◌⊎◌, is_some, Some, None, Option, eq-eqb, length-set}
+use Rattle.std.proofs.Common.{IsSome, ◌≡◌, ℕ, zero, suc, ◌+◌, ◌-◌, ◌<◌, ◌≤◌, ◌==◌, Bool, true, false, cond, not, ◌||◌, ◌&&◌, List, [], ◌∷◌, length, nat_lt, nat_le, refl, ap, sym, ◌∙◌, arith, subst, inl, inr, ◌⊎◌, is_some, Some, None, Option, eq-eqb, length-set}
 use Rattle.std.proofs.lemmas.List.{length-replicate}
 use Rattle.std.proofs.lemmas.Bool.Decides.{nat_tests}
 use Rattle.rj_ledger.specs.declared.parcel.Body.{Body}
@@ -11,9 +11,10 @@ use Rattle.rj_ledger.specs.declared.parcel.Answer.TheVariants.{Accepted, Held, R
 use Rattle.rj_ledger.specs.Standing.{Standing, is_close, Orderly, IsSound, nothing_yet}
 use Rattle.rj_ledger.specs.Rules.{is_bad_length, holds, holds_close_below, holds_above, refusal}
 use Rattle.rj_ledger.specs.Ledgers.{LedgerValue, standing, opened, answer_to, after_answer, after_offer, answers}
-use Rattle.rj_ledger.specs.Kept.{keep, body_in, held_at, is_close_at, close_below, Agrees, Keeps, AreKeptOnce}
-use Rattle.rj_ledger.specs.KeptRules.{next_in, some_of, is_closed_in, is_kept_in, holds_close_before, holds_after, kept_answer, kept_answers}
-use Rattle.rj_ledger.proofs.KeptFacts.{number_apart, number_apart_above}
+use Rattle.rj_ledger.specs.Kept.{rows_below, keep, body_in, held_at, is_close_at, close_below, Agrees, Keeps, AreKeptOnce}
+use Rattle.rj_ledger.specs.KeptRules.{IsGapIn, ShowsKept, next_in, some_of, is_closed_in, is_kept_in, holds_close_before, holds_after, kept_answer, kept_answers}
+use Rattle.rj_ledger.specs.Reading.{gap_before}
+use Rattle.rj_ledger.proofs.KeptFacts.{none_held_below, number_apart, number_apart_above}
 use Rattle.rj_ledger.proofs.PlanFacts.{holds_is}
 use Rattle.rj_ledger.proofs.LawfulFacts.{wrong, unknown, refused, next, later, outcome, passing_is}
 use Rattle.rj_ledger.proofs.LedgerFacts.{keeps_offer, keeps_opened}
@@ -405,3 +406,25 @@ all_rules q n block (x ∷ xs) ks v eq en eb k once =
 
 pub replay_rules : (q n block : ℕ) (xs : List Parcel) → answers (opened q n block) xs ≡ kept_answers q n block [] xs
 replay_rules q n block xs = all_rules q n block xs [] (opened q n block) refl (length-replicate n nothing_yet) refl (keeps_opened q n block) tt
+
+gap_in : (ks : List Parcel) (s k : ℕ) (es : List (ℕ × Body)) → next_in ks s ≡ k → Orderly (k + 1) es → ((m : ℕ) → k ≤ m → body_in ks s m ≡ held_at m es) → IsGapIn ks s (gap_before k es)
+gap_in ks s k [] h o held = λ m l. held m (omega arith)
+gap_in ks s k (e ∷ es) h o held =
+    let from : k + 1 ≤ e.0 = o.0 in
+    let first : body_in ks s e.0 ≡ Some e.1 = held e.0 (omega arith) ∙ ap (λ (t : Bool). cond t (Some e.1) (held_at e.0 es)) (eq-eqb e.0 e.0 refl) in
+    let there : IsSome (body_in ks s e.0) = ap is_some first in
+    let past : k < e.0 = omega arith in
+    let itself : e.0 ≤ e.0 = omega arith in
+    let others : (m : ℕ) → next_in ks s ≤ m → m < e.0 → body_in ks s m ≡ None = λ m l q. held m (omega arith) ∙ none_held_below (e ∷ es) e.0 m (itself, o.1, o.2) q in
+    (sym h, past, there, others)
+
+pub shows_kept : (ks : List Parcel) (v : LedgerValue) → Keeps ks v → AreKeptOnce v.partition (length v.senders) ks → (s : ℕ) → s < length v.senders → ShowsKept ks s (standing v s)
+shows_kept ks v k once s l =
+    let a : Agrees (body_in ks s) (standing v s) = (k s l).1 in
+    let same : next_in ks s ≡ (standing v s).next = next_is ks s (standing v s) a in
+    record {
+      next = sym same;
+      closed = closed_same v.partition (length v.senders) ks s (standing v s) once a;
+      rows = a.rows ∙ ap (rows_below (body_in ks s)) (sym same);
+      gap = gap_in ks s (standing v s).next (standing v s).held same (k s l).0.orderly a.held;
+    }

@@ -1,15 +1,16 @@
 -- The nine rules over the kept parcels alone, which are those that were answered `Accepted` or `Held`. A sender's next number
 -- is the least one that none of its kept parcels has; those below it are delivered, the others are held.
-use Rattle.std.specs.Prelude.{ℕ, ◌-◌, ◌==◌, ◌&&◌, Bool, cond, not, nat_lt, nat_le, List, [], ◌∷◌, length, is_some}
+use Rattle.std.specs.Prelude.{◌≡◌, ◌<◌, ◌≤◌, Option, Some, None, IsSome, ℕ, ◌-◌, ◌==◌, ◌&&◌, Bool, cond, not, nat_lt, nat_le, List, [], ◌∷◌, length, is_some}
 use Rattle.std.specs.List.{list_any}
 use Rattle.rj_ledger.specs.declared.parcel.Body.{Body}
 use Rattle.rj_ledger.specs.declared.parcel.Parcel.{Parcel}
 use Rattle.rj_ledger.specs.declared.parcel.Reason.TheVariants.{BadLength, AfterClose, Repeat, BeyondClose, EarlyClose, WrongPartition, UnknownSender}
 use Rattle.rj_ledger.specs.declared.parcel.Answer.{Answer}
 use Rattle.rj_ledger.specs.declared.parcel.Answer.TheVariants.{Accepted, Held, Refused}
-use Rattle.rj_ledger.specs.Standing.{is_close}
+use Rattle.rj_ledger.specs.Standing.{Standing, is_close}
+use Rattle.rj_ledger.specs.Reading.{gap_at}
 use Rattle.rj_ledger.specs.Rules.{is_bad_length}
-use Rattle.rj_ledger.specs.Kept.{keep, body_in}
+use Rattle.rj_ledger.specs.Kept.{keep, body_in, rows_below}
 use Rattle.rj_ledger.specs.Lawful.{passing}
 
 -- the least number that no parcel of the sender has; it is at most how many parcels there are
@@ -53,3 +54,15 @@ kept_answer q n block ks x =
 abbrev pub kept_answers : ℕ → ℕ → ℕ → List Parcel → List Parcel → List Answer
 kept_answers q n block ks [] = []
 kept_answers q n block ks (x ∷ xs) = kept_answer q n block ks x ∷ kept_answers q n block (keep (kept_answer q n block ks x) x ks) xs
+
+-- the gap before the held parcels of the sender, the next number and the smallest held one; none where none is held
+abbrev pub IsGapIn : List Parcel → ℕ → Option (ℕ × ℕ) → Type 0
+IsGapIn ks s None = (m : ℕ) → next_in ks s ≤ m → body_in ks s m ≡ None
+IsGapIn ks s (Some gap) = (gap.0 ≡ next_in ks s) × (gap.0 < gap.1) × IsSome (body_in ks s gap.1) × ((m : ℕ) → next_in ks s ≤ m → m < gap.1 → body_in ks s m ≡ None)
+
+-- what a ledger shows of a sender is read off the kept parcels
+pub record ShowsKept (ks : List Parcel) (s : ℕ) (t : Standing) : Type 0 where
+  pub next : t.next ≡ next_in ks s
+  pub closed : t.closed ≡ is_closed_in ks s
+  pub rows : t.rows ≡ rows_below (body_in ks s) (next_in ks s)
+  pub gap : IsGapIn ks s (gap_at t)

@@ -6,8 +6,8 @@ ghost use Rattle.rj_ledger.specs.declared.parcel.Answer.TheVariants.{Accepted};
 ghost use Rattle.rj_ledger.specs.Cutting.{plan};
 ghost use Rattle.rj_ledger.specs.Ledgers.{LedgerValue, opened, standing, answer_to, after_offer, answers, after_all};
 ghost use Rattle.rj_ledger.specs.Reading.{IsRefused};
-ghost use Rattle.rj_ledger.specs.Kept.{keep, kept, Keeps};
-ghost use Rattle.rj_ledger.specs.KeptRules.{next_in, kept_answers};
+ghost use Rattle.rj_ledger.specs.Kept.{AreKeptOnce, keep, kept, Keeps};
+ghost use Rattle.rj_ledger.specs.KeptRules.{ShowsKept, kept_answers};
 ghost use Rattle.rj_ledger.specs.Lawful.{AreLawful, IsPlanned, HasAll, AreAmong, planned_answers};
 ghost use Rattle.rj_ledger.specs.Delivery.{Delivers, AreExactly};
 
@@ -21,9 +21,10 @@ pub fn replay_rules()
     ensures { (q n block : ℕ) (xs : List Parcel) → answers (opened q n block) xs ≡ kept_answers q n block [] xs }
 {}
 
-/// A ledger that agrees with the kept parcels has as a sender's next number the least that no kept parcel of it has.
-pub fn next_is_least()
-    ensures { (ks : List Parcel) (v : LedgerValue) → Keeps ks v → (s : ℕ) → s < length v.senders → (standing v s).next ≡ next_in ks s }
+/// What a ledger shows of a sender, read off the parcels that it has kept: the next number is the least that none of them
+/// has, the rows are those of the parcels below it, by number, and the gap reaches to the smallest held number.
+pub fn shows_kept()
+    ensures { (ks : List Parcel) (v : LedgerValue) → Keeps ks v → AreKeptOnce v.partition (length v.senders) ks → (s : ℕ) → s < length v.senders → ShowsKept ks s (standing v s) }
 {}
 
 /// An accepted parcel moves its sender's next number on by the count in the answer.

@@ -15,8 +15,8 @@ mod parcel;
 
 pub use cutting::cut;
 pub use laws::{
-    accepted_counts, all_plans_suffice, closed_refuses, cut_is_planned, next_is_least, offer_keeps,
-    offers_answer, offers_deliver, offers_keep_exactly, replay_rules,
+    accepted_counts, all_plans_suffice, closed_refuses, cut_is_planned, offer_keeps, offers_answer,
+    offers_deliver, offers_keep_exactly, replay_rules, shows_kept,
 };
 pub use ledger::{Ledger, replay};
 pub use parcel::{Answer, Block, Body, Parcel, Reason};
