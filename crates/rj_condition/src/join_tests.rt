@@ -398,16 +398,21 @@ fn null_keys(rt: HostRuntime) -> Result<(), Fail> {
 // What may be lent to threads.
 fn lend<T: Sync>(_shared: &T) {}
 
+// A key, and in parentheses another key, turned, with a comparison to a number.
+fn nested_conjunction(alloc: Global) -> Result<Clause, AllocError> {
+    let first = same(alloc, ("L", "a"), ("R", "b"))?;
+    let second = same(alloc, ("R", "c"), ("L", "d"))?;
+    let third = compare(of(alloc, "L", "x")?, Comparison::Greater, integer(5));
+    let nested = Condition::All(list(alloc, second, third)?);
+    Ok(on(Condition::All(list(alloc, first, nested)?)))
+}
+
 #[test]
 fn split_nested_conjunction(rt: HostRuntime) -> Result<(), Fail> {
     let alloc = rt.alloc();
     let left = three_columns(alloc, "a", "d", "x")?;
     let right = three_columns(alloc, "b", "c", "e")?;
-    let first = same(alloc, ("L", "a"), ("R", "b"))?;
-    let second = same(alloc, ("R", "c"), ("L", "d"))?;
-    let third = compare(of(alloc, "L", "x")?, Comparison::Greater, integer(5));
-    let nested = Condition::All(list(alloc, second, third)?);
-    let clause = on(Condition::All(list(alloc, first, nested)?));
+    let clause = nested_conjunction(alloc)?;
     let join = bind(alloc, &clause, &left, &right)?;
     let parts = split(alloc, &join)?;
     assert_eq!(rt; parts.keys.as_slice(), [(0, 0), (1, 1)].as_slice());
@@ -429,14 +434,19 @@ fn split_disjunction(rt: HostRuntime) -> Result<(), Fail> {
     Ok(())
 }
 
+// An equality of two left columns, and a key, turned.
+fn equality_of_one_table(alloc: Global) -> Result<Clause, AllocError> {
+    let one_sided = same(alloc, ("L", "a"), ("L", "k"))?;
+    let key = same(alloc, ("R", "a"), ("L", "a"))?;
+    Ok(on(Condition::All(list(alloc, one_sided, key)?)))
+}
+
 #[test]
 fn split_equality_of_one_table(rt: HostRuntime) -> Result<(), Fail> {
     let alloc = rt.alloc();
     let left = numbers_and_null(alloc)?;
     let right = numbers_and_null(alloc)?;
-    let one_sided = same(alloc, ("L", "a"), ("L", "k"))?;
-    let key = same(alloc, ("R", "a"), ("L", "a"))?;
-    let clause = on(Condition::All(list(alloc, one_sided, key)?));
+    let clause = equality_of_one_table(alloc)?;
     let join = bind(alloc, &clause, &left, &right)?;
     let parts = split(alloc, &join)?;
     assert_eq!(rt; parts.keys.as_slice(), [(1, 1)].as_slice());
