@@ -5,6 +5,7 @@ mod gathering;
 mod joined;
 mod marks;
 mod origin;
+mod partitions;
 mod plain;
 mod settings;
 mod view;
