@@ -3,6 +3,7 @@ pub mod Marked
 pub mod Members
 pub mod Meeting
 pub mod Grouped
+pub mod Partitioning
 pub mod Same
 pub mod Rising
 pub mod Parts

@@ -4,3 +4,4 @@ pub mod Results
 pub mod Origins
 pub mod Cells
 pub mod Limits
+pub mod Partitioned

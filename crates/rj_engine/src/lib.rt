@@ -13,6 +13,7 @@ mod view;
 pub use gathering::gather;
 pub use joined::{Joined, JoinedRow, Rows};
 pub use marks::unmatched;
+pub use partitions::run_join;
 pub use plain::nested_loop;
 pub use settings::Settings;
 pub use view::{View, header};
