@@ -1,4 +1,5 @@
 mod ChainFacts
+mod OperandFacts
 mod TypeFacts
 pub mod NumeralFacts
 pub mod ReadingFacts

@@ -3,8 +3,10 @@
 
 mod fault;
 mod line;
+mod operands;
 mod options;
 mod request;
+mod running;
 mod script;
 mod stats;
 mod types;
@@ -12,5 +14,9 @@ mod types;
 pub use fault::{Fault, Side};
 pub use line::{Line, read_line};
 pub use request::Request;
+pub use running::run;
 pub use script::arrivals;
 pub use stats::Stats;
+
+#[cfg(test)]
+mod tests;

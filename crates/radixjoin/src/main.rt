@@ -1,0 +1,87 @@
+//! The program `radixjoin`: joins two tables read from CSV files, and writes the joined table as CSV on standard output.
+//! Statistics and faults go to standard error.
+#![tactic(auto)]
+
+use rj_command::{Fault, Side, read_line, run};
+use rj_csv_io::Counted;
+use std::alloc::Global;
+use std::env::{self, Env};
+use std::fs::{self, Files};
+use std::io;
+use std::process::ExitCode;
+
+// The words after the program's name.
+fn read_words<R: Env + AllocGlobal>(rt: &R) -> Result<Vec<String>, Fault> {
+    match env::args(rt) {
+        Ok(words) => match words.skip(1).collect(rt.alloc()) {
+            Ok(words) => Ok(words),
+            Err(_) => Err(Fault::Memory),
+        },
+        Err(error) if error.kind() == io::ErrorKind::OutOfMemory => Err(Fault::Memory),
+        Err(_) => Err(Fault::NotText),
+    }
+}
+
+// The words as texts.
+fn texts_of<'a>(alloc: Global, words: &'a [String]) -> Result<Vec<&'a str>, Fault> {
+    match words.iter().map(|word| word.as_str()).collect(alloc) {
+        Ok(texts) => Ok(texts),
+        Err(_) => Err(Fault::Memory),
+    }
+}
+
+// The bytes of a file.
+fn read_file<R: Files + AllocGlobal>(rt: &R, name: &str, side: Side) -> Result<Vec<u8>, Fault> {
+    match fs::read(rt, name) {
+        Ok(bytes) => Ok(bytes),
+        Err(error) if error.kind() == io::ErrorKind::OutOfMemory => Err(Fault::Memory),
+        Err(_) => Err(Fault::ReadDevice(side)),
+    }
+}
+
+// Reads the command line and both files, left first, and writes the joined table.
+fn join<R: Env + Files + AllocGlobal + Print + Eprint>(rt: &R) -> Result<(), Fault> {
+    let alloc = rt.alloc();
+    let words = read_words(rt)?;
+    let texts = texts_of(alloc, words.as_slice())?;
+    let line = read_line(alloc, texts.as_slice())?;
+    let left = read_file(rt, line.left, Side::Left)?;
+    let right = read_file(rt, line.right, Side::Right)?;
+    let mut writer = Counted::new(io::writer(rt));
+    let stats = run(
+        alloc,
+        left.as_slice(),
+        right.as_slice(),
+        &line.request,
+        &mut writer,
+    )?;
+    if line.stats {
+        let _ = eprintln!(rt; "{stats}");
+    }
+    Ok(())
+}
+
+// Prints the line of a fault, and gives the exit status.
+fn tell_line(rt: &impl Eprint, fault: &Fault) -> u8 {
+    let _ = eprintln!(rt; "{fault}");
+    fault.status()
+}
+
+// Prints why there is no output, or help on standard output, and gives the exit status.
+fn tell<R: Print + Eprint>(rt: &R, fault: &Fault) -> u8 {
+    if let Fault::CommandLine(error) = fault {
+        let printed = error.print(rt).is_ok();
+        if printed || error.use_stderr() {
+            return fault.status();
+        }
+        return tell_line(rt, &Fault::WriteDevice);
+    }
+    tell_line(rt, fault)
+}
+
+fn main(rt: HostRuntime) -> ExitCode {
+    match join(&rt) {
+        Ok(()) => ExitCode::SUCCESS,
+        Err(fault) => ExitCode::from(tell(&rt, &fault)),
+    }
+}
