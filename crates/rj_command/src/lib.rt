@@ -17,3 +17,6 @@ pub use request::Request;
 pub use running::run;
 pub use script::arrivals;
 pub use stats::Stats;
+
+#[cfg(test)]
+mod tests;
