@@ -107,8 +107,6 @@ def large_tables(tally, with_sqlite):
 
 def run_all(tally):
     """All comparisons; those with sqlite3 only where it is installed."""
-    if not harness.program("radixjoin").exists():
-        return
     with_sqlite = shutil.which("sqlite3") is not None
     if not with_sqlite:
         print("sqlite3 is not installed: compared with the plain nested loop alone")

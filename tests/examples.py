@@ -49,12 +49,9 @@ def faults_of(case, files):
 
 
 def run_all(tally):
-    """Runs every case of both tables whose program is built."""
+    """Runs every case of both tables."""
     for table in ("examples.toml", "arrivals.toml"):
-        path = harness.ROOT / "tests" / table
-        if not path.exists():
-            continue
-        with open(path, "rb") as text:
+        with open(harness.ROOT / "tests" / table, "rb") as text:
             found = tomllib.load(text)
         for case in found["case"]:
             tally.check(f"{table}: {case['name']}", faults_of(case, found.get("file", {})))

@@ -41,6 +41,8 @@ class Ran:
 
 def run(words, folder, stdin=b"", output="read", environment=None):
     """Runs a program; `output` is `read`, or `full` or `closed` for a standard output that takes nothing."""
+    if not pathlib.Path(words[0]).exists():
+        return Ran(None, b"", f"{words[0]} is not built".encode())
     how = {"cwd": folder, "input": stdin, "stderr": subprocess.PIPE, "timeout": SECONDS, "env": environment}
     words = [str(word) for word in words]
     if output == "closed":
