@@ -8,8 +8,6 @@ mod clauses;
 mod conditions;
 mod deciding;
 mod fault;
-#[cfg(test)]
-mod join_tests;
 mod joining;
 mod lexer;
 mod names;
