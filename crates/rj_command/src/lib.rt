@@ -17,6 +17,3 @@ pub use request::Request;
 pub use running::run;
 pub use script::arrivals;
 pub use stats::Stats;
-
-#[cfg(test)]
-mod tests;
