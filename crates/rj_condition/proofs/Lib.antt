@@ -16,6 +16,7 @@ pub mod FlatFacts
 pub mod SplitFacts
 pub mod PartnerFacts
 pub mod SplitFits
+pub mod KeyColumns
 pub mod Turns
 pub mod Behind
 pub mod Sound
