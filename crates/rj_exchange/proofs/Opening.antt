@@ -1,13 +1,15 @@
 -- An exchange grows by a queue.
-use Rattle.std.proofs.Common.{◌≡◌, ℕ, ◌+◌, ◌*◌, ◌<◌, ◌≤◌, List, [], ◌∷◌, ◌++◌, length, get_or, sym, ap, ◌∙◌, subst, arith, length-append, lt_of_not-le, mul-le-mul_right}
+use Rattle.std.proofs.Common.{◌≡◌, ℕ, ◌+◌, ◌*◌, ◌<◌, ◌≤◌, List, [], ◌∷◌, ◌++◌, map, length, get_or, sym, ap, ◌∙◌, subst, arith, length-append, lt_of_not-le, mul-le-mul_right}
 use mathlib.Core.Logic.{dite}
 use native.Mathlib.Decide.{ℕ_discrete, dec_le}
 use Rattle.rj_exchange.specs.declared.boxes.Stub.{Stub}
+use Rattle.rj_exchange.specs.declared.queue.Trace.{Trace}
 use Rattle.rj_exchange.specs.declared.boxes.Outbox.{Outbox}
 use Rattle.rj_exchange.specs.declared.boxes.Inbox.{Inbox}
-use Rattle.rj_exchange.specs.Boxes.{Queue, place_of, AddsStub}
+use Rattle.rj_exchange.specs.Boxes.{Queue, heard_of, place_of, AddsStub}
 use Rattle.rj_exchange.specs.Opening.{IsFreshStub, IsFreshEnd, AreBoxes, AreEnds, AreInboxes}
-use Rattle.rj_exchange.proofs.Of.{before_end, at_end}
+use Rattle.rj_exchange.proofs.Of.{past_end, before_end, at_end}
+use Rattle.rj_exchange.proofs.Stubs.{get_or-map, length-map', pick}
 
 -- a place has one row and one column
 row_of : (l p k q m : ℕ) → k < l → m < l → p * l + k ≡ q * l + m → p ≤ q
@@ -64,3 +66,9 @@ inboxes_grow lanes outboxes n queues is new h named fresh = let many = h.many in
       (λ e. subst (λ (z : ℕ × Inbox). AreEnds lanes outboxes z.0 lanes queues z.1.ends.items) (λ i. (sym e i, sym (at_end is new x p (e ∙ sym many)) i)) fresh)
       (λ ne. subst (λ (z : Inbox). AreEnds lanes outboxes p lanes queues z.ends.items) (sym (before_end is (new ∷ []) p x (omega arith))) (h.ends p x (omega arith)));
 }
+
+-- an inbox whose tokens are fresh has heard of no outbox's end
+pub fresh_untold : (lanes outboxes p : ℕ) (queues : List Queue) (ends : List Stub) → AreEnds lanes outboxes p lanes queues ends → 0 < length queues → (k : ℕ) → get_or (map heard_of ends) k [] ≡ []
+fresh_untold lanes outboxes p queues ends h some k = dite (dec_le (length ends) k)
+    (λ le. past_end (map heard_of ends) k [] (let n = length-map' heard_of ends in omega arith))
+    (λ ne. let lt : k < length ends = lt_of_not-le ne in let s : Stub = pick ends k lt in let l : Queue = pick queues 0 some in get_or-map heard_of ends k s [] lt ∙ ap (λ (v : Trace). v.known) (h.row k l s (let m = h.many in omega arith)).1)

@@ -75,7 +75,7 @@ known_at lanes ss k (suc n) o lt = let len = length-known_of lanes ss k n in dit
     (λ e. at_end (known_of lanes ss k n) _ [] o (e ∙ sym len) ∙ ap (λ (m : ℕ). get_or (map sent_of ss) (m * lanes + k) []) (sym e))
     (λ ne. before_end (known_of lanes ss k n) _ o [] (omega arith) ∙ known_at lanes ss k n o (omega arith))
 
-length-map' : {A B : Type 0} (f : A → B) (xs : List A) → length (map f xs) ≡ length xs
+pub length-map' : {A B : Type 0} (f : A → B) (xs : List A) → length (map f xs) ≡ length xs
 length-map' f [] = refl
 length-map' f (x ∷ xs) = ap suc (length-map' f xs)
 

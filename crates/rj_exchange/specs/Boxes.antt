@@ -32,28 +32,41 @@ sent_of s = (view s.pass).sent
 abbrev pub taken_of : Stub → List Posted
 taken_of s = (view s.pass).taken
 
+-- what the first outboxes, which have ended, sent, as far as the token was told
+abbrev pub heard_of : Stub → List (List Parcel)
+heard_of s = (view s.pass).known
+
 abbrev pub sents : Outbox → List (List Parcel)
 sents o = map sent_of o.stubs.items
 
 abbrev pub takens : Inbox → List (List Posted)
 takens i = map taken_of i.ends.items
 
+abbrev pub heards : Inbox → List (List (List Parcel))
+heards i = map heard_of i.ends.items
+
 -- a token of outbox k at this queue
 abbrev pub IsStubOf : Where → ℕ → Queue → Stub → Type 0
 IsStubOf place k l s = IsPassOf l s.pass × (view s.pass ≡ sender place k (view s.pass).sent)
 
 abbrev pub IsEndOf : Where → ℕ → Queue → Stub → Type 0
-IsEndOf place made l s = IsPassOf l s.pass × (view s.pass ≡ taker place made (view s.pass).taken [])
+IsEndOf place made l s = IsPassOf l s.pass × (view s.pass ≡ taker place made (view s.pass).taken (view s.pass).known)
 
 pub record IsOutboxOf (e : Exchange) (o : Outbox) : Type 0 where
   pub many : length o.stubs.items ≡ e.partitions * e.lanes
   pub below : o.number < e.outboxes
   pub tokens : (p k : ℕ) (l : Queue) (s : Stub) → p < e.partitions → k < e.lanes → IsStubOf (where_at e p k) o.number (slice_index_or e.queues.items (p * e.lanes + k) l) (slice_index_or o.stubs.items (p * e.lanes + k) s)
 
-pub record IsInboxOf (e : Exchange) (i : Inbox) : Type 0 where
+-- an inbox of this exchange, whatever it has heard of outboxes that have ended
+pub record TakesFrom (e : Exchange) (i : Inbox) : Type 0 where
   pub many : length i.ends.items ≡ e.lanes
   pub below : i.partition < e.partitions
   pub tokens : (k : ℕ) (l : Queue) (s : Stub) → k < e.lanes → IsEndOf (where_at e i.partition k) e.outboxes (slice_index_or e.queues.items (i.partition * e.lanes + k) l) (slice_index_or i.ends.items k s)
+
+-- an inbox that has heard of no outbox's end
+pub record IsInboxOf (e : Exchange) (i : Inbox) : Type 0 where
+  pub takes : TakesFrom e i
+  pub untold : (k : ℕ) → slice_index_or (heards i) k [] ≡ []
 
 -- outbox number n, and the inbox of partition p
 abbrev pub IsOutboxAt : Exchange → ℕ → Outbox → Type 0

@@ -69,9 +69,13 @@ HeldAt p k sent items = All (Belongs p) items × ((got : List Posted) × (of k (
 abbrev pub Left : Trace → List Posted → Type 0
 Left v items = All (Belongs v.place) items × ((length v.known ≡ v.made) → Interleaves v.known (v.taken ++ items))
 
+-- x is the first of what is left: where each outbox has ended, what was taken, then x, then some more, is what they sent
+abbrev pub Next : Trace → Posted → Type 0
+Next v x = (items : List Posted) × (length v.known ≡ v.made → Interleaves v.known (v.taken ++ x ∷ items))
+
 -- what a pop tells the taker
 abbrev pub Took : Trace → Posted → Trace → Type 0
-Took v x w = (w ≡ taker v.place v.made (v.taken ++ x ∷ []) v.known) × Belongs v.place x × ((items : List Posted) × (length v.known ≡ v.made → Interleaves v.known (v.taken ++ x ∷ items)))
+Took v x w = (w ≡ taker v.place v.made (v.taken ++ x ∷ []) v.known) × Belongs v.place x × Next v x
 
 abbrev pub posted_by : ℕ → Parcel → Posted
 posted_by o x = record { outbox = o; parcel = x }

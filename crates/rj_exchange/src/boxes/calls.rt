@@ -2,8 +2,8 @@
 ghost use Rattle.std.specs.Prelude.{◌≡◌, ◌<◌, ◌*◌, ◌+◌, ◌%◌, ◌∷◌, ◌++◌, [], ℕ, length, All, slice_set, slice_index_or, MatchOption, MatchResult};
 ghost use Rattle.crossbeam_queue.specs.Passes.{view, ruled_capacity};
 ghost use Rattle.crossbeam_queue.specs.Fifo.{Held};
-ghost use Rattle.rj_exchange.specs.Passing.{Belongs, HeldAt, Left, sender, taker, posted_by};
-ghost use Rattle.rj_exchange.specs.Boxes.{sent_of, taken_of, sents, takens, where_at, queue_of, IsStubOf, IsEndOf, IsOutboxOf, IsInboxOf};
+ghost use Rattle.rj_exchange.specs.Passing.{Belongs, HeldAt, Left, Next, sender, taker, posted_by};
+ghost use Rattle.rj_exchange.specs.Boxes.{sent_of, taken_of, heard_of, sents, takens, heards, where_at, queue_of, IsStubOf, IsEndOf, IsOutboxOf, TakesFrom, IsInboxOf};
 
 use super::{Exchange, Full, Inbox, Outbox, Stub};
 use crate::posted::Posted;
@@ -49,8 +49,8 @@ fn post_at<R: Wait>(
 
 fn take_at<R: Wait>(rt: &R, queue: &ParcelQueue, end: &mut Stub) -> Option<Posted>
     requires { let v = view end.old.pass in IsEndOf v.place v.made queue.now end.old }
-    ensures end { let v = view end.old.pass in IsEndOf v.place v.made queue.now end.new }
-    ensures told { let v = view end.old.pass in MatchOption result ((taken_of end.new ≡ taken_of end.old) × Held 0 (Left v)) (λ x. (taken_of end.new ≡ taken_of end.old ++ x ∷ []) × Belongs v.place x) }
+    ensures end { let v = view end.old.pass in IsEndOf v.place v.made queue.now end.new × (heard_of end.new ≡ heard_of end.old) }
+    ensures told { let v = view end.old.pass in MatchOption result ((taken_of end.new ≡ taken_of end.old) × Held 0 (Left v)) (λ x. (taken_of end.new ≡ taken_of end.old ++ x ∷ []) × Belongs v.place x × Next v x) }
 {
     take(rt, queue, &mut end.pass)
 }
@@ -95,12 +95,13 @@ impl Inbox {
         self.partition
     }
 
-    /// Takes the oldest parcel of one lane, in one step. `None` comes only where the queue was empty at a moment of the call.
-    /// Takes no memory.
+    /// Takes the oldest parcel of one lane, in one step. `None` comes only where the queue was empty at a moment of the call:
+    /// an inbox that has heard of the end of each outbox has then taken all that they sent there. Takes no memory.
     pub fn take<R: Wait>(&mut self, rt: &R, exchange: &Exchange, lane: u32) -> Option<Parcel>
-        requires { IsInboxOf exchange.now self.old × (lane < exchange.now.lanes) }
-        ensures same { IsInboxOf exchange.now self.new × (self.new.partition ≡ self.old.partition) }
-        ensures taken { let was = slice_index_or (takens self.old) lane [] in MatchOption result ((takens self.new ≡ takens self.old) × Held 0 (All (Belongs (where_at exchange.now self.old.partition lane)))) (λ x. (o : ℕ) × (takens self.new ≡ slice_set (takens self.old) lane (was ++ posted_by o x ∷ [])) × Belongs (where_at exchange.now self.old.partition lane) (posted_by o x)) }
+        requires { TakesFrom exchange.now self.old × (lane < exchange.now.lanes) }
+        ensures same { TakesFrom exchange.now self.new × (self.new.partition ≡ self.old.partition) × (heards self.new ≡ heards self.old) }
+        ensures inbox { IsInboxOf exchange.now self.old → IsInboxOf exchange.now self.new }
+        ensures taken { let was = slice_index_or (takens self.old) lane [] in let place = where_at exchange.now self.old.partition lane in let v = taker place exchange.now.outboxes was (slice_index_or (heards self.old) lane []) in MatchOption result ((takens self.new ≡ takens self.old) × Held 0 (Left v)) (λ x. (o : ℕ) × (takens self.new ≡ slice_set (takens self.old) lane (was ++ posted_by o x ∷ [])) × Belongs place (posted_by o x) × Next v (posted_by o x)) }
     {
         let at = exchange.index(self.partition, lane);
         let posted = take_at(rt, &exchange.queues[at], &mut self.ends[lane as usize])?;

@@ -7,7 +7,7 @@ use Rattle.rj_exchange.specs.Passing.{taker, sender}
 use Rattle.rj_exchange.specs.Boxes.{Queue, place_of, IsEndOf}
 use Rattle.rj_exchange.specs.Opening.{AreBoxes, AreEnds, AreInboxes}
 use Rattle.rj_exchange.proofs.Stubs.{pick, row_fits}
-use Rattle.rj_exchange.proofs.Opening.{grows, ends_grow, inboxes_stay, inboxes_grow}
+use Rattle.rj_exchange.proofs.Opening.{grows, ends_grow, inboxes_stay, inboxes_grow, fresh_untold}
 use Rattle.rj_exchange.proofs.boxes.Exchange.open.Goals as goal
 
 pub loop-lane-preserved : goal.loop-lane-preserved
@@ -51,11 +51,14 @@ returns-clause-opened c = let v = c.loop-partition.invariant in let lanes : ℕ 
       ),
       λ p x lt. let e = n.ends p x (omega arith) in (
         record {
-          many = e.many;
-          below = (let z = n.partition p x (omega arith) in omega arith);
-          tokens = λ k l s kl. let same = n.partition p x (omega arith) in let f = e.row k l s kl in
-              subst (λ (m : ℕ). IsEndOf (place_of m k lanes outboxes) outboxes (get_or c.loop-partition.queues.items (m * lanes + k) l) (get_or (get_or c.loop-partition.inboxes.items p x).ends.items k s)) (sym same)
-              (f.0, f.1 ∙ (λ j. taker (place_of p k lanes outboxes) outboxes (sym f.1 j).taken []));
+          takes = record {
+            many = e.many;
+            below = (let z = n.partition p x (omega arith) in omega arith);
+            tokens = λ k l s kl. let same = n.partition p x (omega arith) in let f = e.row k l s kl in
+                subst (λ (m : ℕ). IsEndOf (place_of m k lanes outboxes) outboxes (get_or c.loop-partition.queues.items (m * lanes + k) l) (get_or (get_or c.loop-partition.inboxes.items p x).ends.items k s)) (sym same)
+                (f.0, f.1 ∙ (λ j. taker (place_of p k lanes outboxes) outboxes (sym f.1 j).taken (sym f.1 j).known));
+          };
+          untold = fresh_untold lanes outboxes p c.loop-partition.queues.items (get_or c.loop-partition.inboxes.items p x).ends.items e (let f = row_fits p partitions lanes 0 lt (omega arith) in let z : 0 < length c.loop-partition.queues.items = omega arith in z);
         },
         n.partition p x (omega arith),
         λ k s kl. let inside : p * lanes + k < length c.loop-partition.queues.items = (let z = row_fits p partitions lanes k lt kl in omega arith) in
