@@ -1,23 +1,20 @@
 -- What a chain of options keeps.
-use Rattle.std.proofs.Common.{◌≡◌, ◌∙◌, ◌&&◌, ◌<◌, ◌≤◌, ◌++◌, ◌⊎◌, ℕ, Bool, zero, suc, true, false, not, refl, sym, ap, subst, inl, inr, arith, List, [], ◌∷◌, map, take, length, ◌+◌, ap₂, Option, Some, None, is_some, codes, true≢false}
+use Rattle.std.proofs.Common.{◌≡◌, ◌∙◌, ◌&&◌, ◌<◌, ◌≤◌, ◌++◌, ℕ, Bool, zero, suc, true, false, not, refl, sym, ap, subst, inl, inr, arith, List, [], ◌∷◌, map, take, length, ◌+◌, ap₂, Option, Some, None, is_some, codes, true≢false}
 use Rattle.std.specs.Prelude.{◌||◌}
 use Rattle.std.specs.Str.{bytes_eq}
 use Rattle.std.specs.List.{All, list_all, list_any, slice_index_or}
 use Rattle.std.proofs.lemmas.Slice.Eq.{bytes_eq-Decides}
 use Rattle.std.proofs.lemmas.List.{map-append, length-map}
-use Rattle.std.proofs.Math.ListN.{get_or-map}
 use Rattle.clap.specs.Facts.{unwrap_or_range}
 use Rattle.clap.specs.Matches.{first_value, found_of}
-use Rattle.clap.specs.Built.{AddsArg, AddsInTurn, FitsChain, HasDistinctIds, IsAuto, IsParsedFrom, IsPlainArg, TakesValue}
+use Rattle.clap.specs.Built.{AddsArg, AddsInTurn, FitsChain, HasDistinctIds, IsParsedFrom, TakesValue}
 use Rattle.clap.specs.Simple.{app_of}
-use Rattle.clap.specs.Walk.{Rule, Text, is_empty, is_free_arg, is_simple_arg, rule_of}
+use Rattle.clap.specs.Walk.{Rule, Text, is_empty, is_simple_arg, rule_of}
 use Rattle.clap.specs.Simple.{new_rule}
 use Rattle.clap.specs.declared.builder.ArgAction.{ArgAction}
 use Rattle.clap.specs.declared.builder.ArgAction.TheVariants.{Set}
 use Rattle.clap.specs.declared.builder.arg.Arg.{Arg}
 use Rattle.clap.specs.declared.builder.command.Command.{Command}
-use Rattle.clap.specs.declared.builder.command.Command.TheViews.{out-Command}
-use Rattle.clap.specs.declared.builder.range.ValueRange.{ValueRange}
 use Rattle.clap.specs.declared.parser.matches.ArgMatches.{ArgMatches}
 use Rattle.clap.proofs.CallerLemmas.{required_in_chain}
 use Rattle.clap.proofs.SimpleLemmas.{is_false, is_nil}
@@ -86,7 +83,7 @@ turns_app start command [] same all = ap app_of (sym same)
 turns_app start command (a ∷ xs) chain all =
     turns_app chain.0 command xs chain.2 (tail FitsChain a xs all) ∙ ap (λ x. with_rules x (map rule_of xs)) (chain.1.shape (all 0 a (omega arith)).1)
 
-all_fit : (xs : List Arg) (rules : List Rule) → map rule_of xs ≡ rules → list_all fits_option rules ≡ true → All FitsChain xs
+pub all_fit : (xs : List Arg) (rules : List Rule) → map rule_of xs ≡ rules → list_all fits_option rules ≡ true → All FitsChain xs
 all_fit xs rules is fits = λ k d lt. fits_chain (slice_index_or xs k d) (each_rule fits_option xs (ap (list_all fits_option) is ∙ fits) k d lt)
 
 -- a chain makes the command of its rules
@@ -121,7 +118,7 @@ distinct_at (r ∷ rules) (suc j) zero d e lj lk same =
     absurd (true≢false (sym same ∙ none_at (λ s. bytes_eq s.id r.id) rules j d (is_false _ (both _ _ e).0) (omega arith)))
 distinct_at (r ∷ rules) (suc j) (suc k) d e lj lk same = ap suc (distinct_at rules j k d (both _ _ e).1 (omega arith) (omega arith) same)
 
-rule_at : (xs : List Arg) (rules : List Rule) (k : ℕ) (d : Arg) (e : Rule) → map rule_of xs ≡ rules → k < length xs → rule_of (slice_index_or xs k d) ≡ slice_index_or rules k e
+pub rule_at : (xs : List Arg) (rules : List Rule) (k : ℕ) (d : Arg) (e : Rule) → map rule_of xs ≡ rules → k < length xs → rule_of (slice_index_or xs k d) ≡ slice_index_or rules k e
 rule_at [] rules k d e is lt = absurd (omega arith)
 rule_at (x ∷ xs) rules zero d e is lt = ap (λ r. slice_index_or r 0 e) is
 rule_at (x ∷ xs) rules (suc k) d e is lt = rule_at xs (map rule_of xs) k d e refl (omega arith) ∙ ap (λ r. slice_index_or r (suc k) e) is
@@ -129,7 +126,7 @@ rule_at (x ∷ xs) rules (suc k) d e is lt = rule_at xs (map rule_of xs) k d e r
 id_at : (xs : List Arg) (rules : List Rule) (k : ℕ) (d : Arg) → map rule_of xs ≡ rules → k < length xs → (slice_index_or xs k d).id.now ≡ (slice_index_or rules k (new_rule [])).id
 id_at xs rules k d is lt = ap (λ (r : Rule). r.id) (rule_at xs rules k d (new_rule []) is lt)
 
-all_distinct : (xs : List Arg) (rules : List Rule) → map rule_of xs ≡ rules → are_distinct rules ≡ true → HasDistinctIds xs
+pub all_distinct : (xs : List Arg) (rules : List Rule) → map rule_of xs ≡ rules → are_distinct rules ≡ true → HasDistinctIds xs
 all_distinct xs rules is e j k d f lj lk same =
     let len : length xs ≡ length rules = sym (length-map xs rule_of) ∙ ap length is in
     distinct_at rules j k (new_rule []) e (omega arith) (omega arith) (ap₂ bytes_eq (sym (id_at xs rules j f is lj)) (sym (id_at xs rules k d is lk)) ∙ same)

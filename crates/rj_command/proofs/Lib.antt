@@ -1,4 +1,5 @@
 mod ChainFacts
+mod NumberFacts
 mod OperandFacts
 mod TypeFacts
 pub mod NumeralFacts

@@ -1,5 +1,5 @@
 -- The options of the command line, as `clap` has them.
-use Rattle.std.specs.Prelude.{◌≡◌, true, false, List, [], ◌∷◌, Some, codes, map}
+use Rattle.std.specs.Prelude.{◌≡◌, true, false, List, [], ◌∷◌, Some, codes, map, pos}
 use Rattle.clap.specs.Words.{App, Rule, Text, AddsArg, app_of, args_of, groups_of, new_app, new_rule, rule_of, with_rule}
 use Rattle.clap.specs.Built.{AddsInTurn}
 use Rattle.clap.specs.Simple.{on_top}
@@ -7,6 +7,7 @@ use Rattle.clap.specs.declared.builder.ArgAction.TheVariants.{Set, SetTrue}
 use Rattle.clap.specs.declared.builder.arg.Arg.{Arg}
 use Rattle.clap.specs.declared.builder.command.Command.{Command}
 use Rattle.clap.specs.declared.builder.command.Command.TheViews.{out-Command}
+use Rattle.clap.specs.declared.builder.value_parser.ValueParser.TheVariants as parser
 use Rattle.rj_command.specs.declared.options.LineOption.{LineOption}
 use Rattle.rj_command.specs.declared.options.Takes.{Takes}
 use Rattle.rj_command.specs.declared.options.Takes.TheVariants as takes
@@ -15,6 +16,8 @@ use Rattle.rj_command.specs.declared.options.Takes.TheVariants as takes
 abbrev pub rule_for : Text → Takes → Rule
 rule_for name takes.Required = record (new_rule name) { long = Some name; action = Some Set; required = true }
 rule_for name takes.Text = record (new_rule name) { long = Some name; action = Some Set }
+rule_for name (takes.Number least most) =
+    record (new_rule name) { long = Some name; action = Some Set; parser = Some (parser.Signed (pos least) (pos most)) }
 rule_for name takes.Nothing = record (new_rule name) { long = Some name; action = Some SetTrue }
 
 abbrev pub rule_of_option : LineOption → Rule
@@ -29,6 +32,7 @@ option_rules =
     ∷ rule_for (codes "right-types") takes.Required
     ∷ rule_for (codes "join") takes.Required
     ∷ rule_for (codes "null") takes.Text
+    ∷ rule_for (codes "bits1") (takes.Number 0 10)
     ∷ rule_for (codes "stats") takes.Nothing
     ∷ []
 

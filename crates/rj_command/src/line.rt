@@ -1,8 +1,8 @@
 // Reading the words of the command line.
 
-ghost use Rattle.std.specs.Prelude.{◌≡◌, ◌⊎◌, IfOk, IfErr, Some, is_some, map, true};
+ghost use Rattle.std.specs.Prelude.{◌≡◌, ◌⊎◌, ◌-◌, ◌^◌, IfOk, IfErr, Some, codes, is_some, map, true};
 ghost use Rattle.clap.specs.Words.{first_value, found_of, kind_of};
-ghost use Rattle.rj_command.specs.Line.{IsLineFault, IsLineOf, IsParseOf, is_true};
+ghost use Rattle.rj_command.specs.Line.{AreSettings, IsLineFault, IsLineOf, IsNumberIn, IsNumberOr, IsParseOf, is_true};
 
 use super::fault::{Fault, Side};
 use super::options::line_command;
@@ -10,6 +10,7 @@ use super::request::Request;
 use super::types::read_types;
 use clap::error::ErrorKind;
 use clap::{ArgMatches, Error};
+use rj_engine::Settings;
 use std::alloc::Global;
 
 /// What the words of the command line say.
@@ -59,6 +60,34 @@ fn given<'a>(matches: &ArgMatches<'a>, name: &str) -> &'a str
     matches.get_str(name).unwrap()
 }
 
+// The number of an option, or another one where it is not given.
+fn number_or(matches: &ArgMatches<'_>, name: &str, other: u32) -> u32
+    requires { IsNumberIn 0 (2 ^ 32 - 1) (first_value (found_of matches.now) name.now) }
+    ensures { IsNumberOr other (first_value (found_of matches.now) name.now) result }
+{
+    match matches.get_str(name) {
+        Some(text) => text.parse::<i64>().unwrap() as u32,
+        None => other,
+    }
+}
+
+// The settings of a join: where nothing else is asked, one worker, 16 partitions, blocks of 1,024 rows, one lane of 64
+// parcels, and one retry.
+fn settings_of(matches: &ArgMatches<'_>) -> Settings
+    requires { IsNumberIn 0 10 (first_value (found_of matches.now) (codes "bits1")) }
+    ensures { AreSettings (first_value (found_of matches.now)) result }
+{
+    Settings {
+        workers: 1,
+        bits1: number_or(matches, "bits1", 4),
+        bits2: 0,
+        block: 1024,
+        lanes: 1,
+        capacity: 64,
+        retries: 1,
+    }
+}
+
 // Whether a flag is given.
 fn is_given(matches: &ArgMatches<'_>, name: &str) -> bool
     ensures { result ≡ is_true (first_value (found_of matches.now) name.now) }
@@ -87,6 +116,7 @@ pub fn read_line<'a>(alloc: Global, words: &'a [&'a str]) -> Result<Line<'a>, Fa
             right_types,
             null: matches.get_str("null").unwrap_or(""),
             clause: given(&matches, "join"),
+            settings: settings_of(&matches),
         },
         stats: is_given(&matches, "stats"),
     })

@@ -4,7 +4,7 @@ ghost use Rattle.std.specs.Prelude.{◌≡◌, IfOk, map};
 ghost use Rattle.clap.specs.Words.{rule_of};
 ghost use Rattle.rj_command.specs.Options.{IsChain, IsLineCommand, rule_of_option};
 
-use clap::{Arg, ArgAction, Command};
+use clap::{Arg, ArgAction, Command, value_parser};
 use std::alloc::{AllocError, Global};
 
 // What an option takes.
@@ -14,6 +14,8 @@ pub(crate) enum Takes {
     Required,
     // A text.
     Text,
+    // A number, from the first of these to the second.
+    Number(u32, u32),
     // Nothing: the option is given or not.
     Nothing,
 }
@@ -26,7 +28,7 @@ pub(crate) struct LineOption {
     help: &'static str,
 }
 
-const OPTIONS: [LineOption; 7] = [
+const OPTIONS: [LineOption; 8] = [
     LineOption {
         name: "left",
         takes: Takes::Required,
@@ -58,6 +60,11 @@ const OPTIONS: [LineOption; 7] = [
         help: "Text that stands for null [default: none]",
     },
     LineOption {
+        name: "bits1",
+        takes: Takes::Number(0, 10),
+        help: "Bits of the hash that partition the tables, 0 to 10 [default: 4]",
+    },
+    LineOption {
         name: "stats",
         takes: Takes::Nothing,
         help: "Print how many rows were written of each kind",
@@ -74,6 +81,10 @@ fn argument<'a>(alloc: Global, option: &LineOption) -> Arg<'a>
     match option.takes {
         Takes::Required => argument.action(ArgAction::Set).required(true),
         Takes::Text => argument.action(ArgAction::Set),
+        Takes::Number(least, most) => {
+            let numbers = value_parser!(u32).range(i64::from(least)..=i64::from(most));
+            argument.action(ArgAction::Set).value_parser(numbers)
+        }
         Takes::Nothing => argument.action(ArgAction::SetTrue),
     }
 }

@@ -1,6 +1,7 @@
 // What a join is asked to do.
 
 use rj_columns::ColumnType;
+use rj_engine::Settings;
 
 /// What a join of two files is asked to do.
 #[derive(Debug, Drop)]
@@ -13,4 +14,6 @@ pub struct Request<'a> {
     pub null: &'a str,
     /// The text of the join clause.
     pub clause: &'a str,
+    /// How the join is done. No setting changes its result.
+    pub settings: Settings,
 }

@@ -1,4 +1,4 @@
-use Rattle.std.proofs.Common.{◌≡◌, ◌∙◌, ◌⊎◌, ap, refl, sym, subst, inl, inr, true, codes, lit<, List, ℕ, Bor, map}
+use Rattle.std.proofs.Common.{◌≡◌, ◌∙◌, ap, refl, sym, subst, inl, inr, true, lit<, List, Bor, map}
 use Rattle.clap.specs.Words.{App, IsAmong, Text, fault_of, first_of, found_of, kind_of, is_simple, is_simple_and_free, matches_of}
 use Rattle.clap.proofs.OnLiterals.{clap_on_literals}
 use Rattle.clap.proofs.WalkLemmas.{first_value-rows}
@@ -6,6 +6,7 @@ use Rattle.rj_command.specs.Line.{IsLineFault}
 use Rattle.rj_command.specs.declared.fault.Fault.TheVariants as fault
 use Rattle.rj_command.specs.Options.{line_app, option_rules}
 use Rattle.rj_command.proofs.ChainFacts.{wanted_given}
+use Rattle.rj_command.proofs.NumberFacts.{number_given}
 use Rattle.rj_command.proofs.line.parse_words.Goals as goal
 
 simple : is_simple line_app ≡ true
@@ -24,6 +25,7 @@ returns-in-Ok-try_get_matches_from-clause-ok c =
     let got = c.in-Ok-try_get_matches_from.ensures in
     let rows = (got.matches (ap is_simple command.app ∙ simple)).0 ∙ ap (λ (a : App). matches_of a words) command.app in
     let given = wanted_given command.start c.in-Ok.command option_rules m command.bare command.chain refl refl in
+    let number = number_given command.start c.in-Ok.command option_rules m command.bare command.chain refl refl in
     record {
       accepted = ap (λ (a : App). fault_of a words) (sym command.app) ∙ got.kinds (ap is_simple_and_free command.app ∙ free);
       values = λ name. first_value-rows (found_of m) name ∙ ap (first_of name) rows;
@@ -32,6 +34,7 @@ returns-in-Ok-try_get_matches_from-clause-ok c =
       left_types = given 2 (lit< tt) refl got.parsed;
       right_types = given 3 (lit< tt) refl got.parsed;
       join = given 4 (lit< tt) refl got.parsed;
+      bits1 = number 6 0 10 (lit< tt) refl got.parsed;
     }
 
 pub returns-in-Err-clause-fault : goal.returns-in-Err-clause-fault

@@ -1,6 +1,7 @@
-use Rattle.std.proofs.Common.{◌≡◌, ◌∙◌, ap, refl, sym, [], ℕ, List, Option, Some, None, unwrap_or, codes, option_map, Bor}
-use Rattle.clap.specs.Words.{Text}
-use Rattle.rj_command.specs.Line.{is_true}
+use Rattle.std.proofs.Common.{◌≡◌, ◌∙◌, ap, refl, subst, sym, [], Option, Some, None, unwrap_or, codes, option_map, Bor}
+use Rattle.clap.specs.Words.{Text, first_value, found_of}
+use Rattle.rj_engine.specs.declared.settings.Settings.{Settings}
+use Rattle.rj_command.specs.Line.{AreSettings, IsNumberOr, is_true}
 use Rattle.rj_command.proofs.line.read_line.Goals as goal
 
 -- the value of an option, or the empty text
@@ -10,6 +11,18 @@ value-or v o u d is got empty = ap (λ (s : Bor Text). s.now) got ∙ (shown o �
     shown : (o : Option (Bor Text)) → (unwrap_or o d).now ≡ unwrap_or (option_map (λ s. s.now) o) []
     shown None = empty
     shown (Some x) = refl
+
+-- settings by the values that a parse found are those by the words
+same-settings : (found word : Text → Option Text) (s : Settings) → ((name : Text) → found name ≡ word name) → AreSettings found s → AreSettings word s
+same-settings found word s same are = record {
+  workers = are.workers;
+  bits1 = subst (λ (o : Option Text). IsNumberOr 4 o s.bits1) (same (codes "bits1")) are.bits1;
+  bits2 = are.bits2;
+  block = are.block;
+  lanes = are.lanes;
+  capacity = are.capacity;
+  retries = are.retries;
+}
 
 pub returns-clause-line : goal.returns-clause-line
 returns-clause-line c =
@@ -22,5 +35,6 @@ returns-clause-line c =
       right_types = (c.given-2.result.now, sym (parse.values (codes "right-types")) ∙ c.given-2.ensures, c.in_ok-right_types.ensures.types);
       join = sym (parse.values (codes "join")) ∙ c.given-5.ensures;
       null = value-or _ c.get_str.result c.unwrap_or.result _ (c.get_str.ensures ∙ parse.values (codes "null")) c.unwrap_or.ensures refl;
+      settings = same-settings (first_value (found_of c.in_ok-matches.matches)) _ c.settings_of.result parse.values c.settings_of.ensures;
       stats = c.is_given.ensures ∙ ap is_true (parse.values (codes "stats"));
     }
