@@ -348,6 +348,54 @@ fn broken_writers(rt: HostRuntime) {
     }
 }
 
+// A writer of std that takes a byte at a time, and fails after so many calls.
+#[derive(Drop)]
+struct Tires {
+    left: u64,
+}
+
+impl Tires {
+    fn call(&mut self) -> io::Result<()> {
+        if self.left == 0 {
+            return Err(io::Error::from(io::ErrorKind::BrokenPipe));
+        }
+        self.left -= 1;
+        Ok(())
+    }
+}
+
+impl Write for Tires {
+    fn write(&mut self, bytes: &[u8]) -> io::Result<usize> {
+        self.call()?;
+        Ok(bytes.len().min(1))
+    }
+
+    fn flush(&mut self) -> io::Result<()> {
+        self.call()
+    }
+}
+
+// Whether rows that take four writes and a flush are written, or refused with one failure counted.
+fn is_told(alloc: Global, table: &Table, left: u64) -> bool {
+    if table.columns() != 1 {
+        return false;
+    }
+    let mut device = Counted::new(Tires { left });
+    match write_rows(alloc, &mut device, &["a"], table, "") {
+        Ok(()) => left >= 5 && device.failures() == 0,
+        Err(e) => left < 5 && e == WriteRefused::WriteDevice && device.failures() == 1,
+    }
+}
+
+#[test]
+fn tiring_writer_sweep(rt: HostRuntime) -> Result<(), Fail> {
+    let table = read_table(rt.alloc(), b"a\n1\n", &[INT], "")?;
+    for left in 0..8 {
+        assert!(rt; is_told(rt.alloc(), &table, left), "at {left}");
+    }
+    Ok(())
+}
+
 #[test]
 fn counted_writer(rt: HostRuntime) {
     let mut device = Counted::new(Vec::new(rt.alloc()));
@@ -407,6 +455,55 @@ fn failing_reader_sweep(rt: HostRuntime) {
                 assert!(rt; device.failures() == 1);
             }
         }
+    }
+}
+
+// A reader of std that gives a byte at a time, so many in all, and fails once, after so many reads.
+#[derive(Drop)]
+struct Trickle {
+    bytes: u64,
+    left: u64,
+    failed: bool,
+}
+
+impl Read for Trickle {
+    fn read(&mut self, buffer: &mut [u8]) -> io::Result<usize> {
+        if self.left == 0 && !self.failed {
+            self.failed = true;
+            return Err(io::Error::from(io::ErrorKind::Other));
+        }
+        self.left = self.left.saturating_sub(1);
+        if self.bytes == 0 || buffer.is_empty() {
+            return Ok(0);
+        }
+        self.bytes -= 1;
+        buffer[0] = b'a';
+        Ok(1)
+    }
+}
+
+// Whether the reader is read to its end, or refused with one failure counted, and the rest by another call.
+fn is_read(alloc: Global, left: u64) -> bool {
+    let mut device = CountedReader::new(Trickle {
+        bytes: 3,
+        left,
+        failed: false,
+    });
+    match read_all(alloc, &mut device) {
+        Ok(bytes) => left >= 4 && bytes.as_slice() == b"aaa".as_slice() && device.failures() == 0,
+        Err(e) => {
+            if left >= 4 || e != ReadRefused::ReadDevice || device.failures() != 1 {
+                return false;
+            }
+            read_all(alloc, &mut device).is_ok() && device.failures() == 1
+        }
+    }
+}
+
+#[test]
+fn trickling_reader_sweep(rt: HostRuntime) {
+    for left in 0..6 {
+        assert!(rt; is_read(rt.alloc(), left), "at {left}");
     }
 }
 
