@@ -3,7 +3,7 @@
 #![tactic(auto)]
 
 use rj_command::{Fault, Side, read_line, run};
-use rj_csv_io::Counted;
+use rj_csv_io::{Counted, CountedReader, ReadRefused, read_all};
 use std::alloc::Global;
 use std::env::{self, Env};
 use std::fs::{self, Files};
@@ -30,11 +30,16 @@ fn texts_of<'a>(alloc: Global, words: &'a [String]) -> Result<Vec<&'a str>, Faul
     }
 }
 
-// The bytes of a file.
+// The bytes of a file, to its end.
 fn read_file<R: Files + AllocGlobal>(rt: &R, name: &str, side: Side) -> Result<Vec<u8>, Fault> {
-    match fs::read(rt, name) {
+    let mut reader = match fs::open(rt, name) {
+        Ok(file) => CountedReader::new(file),
+        Err(error) if error.kind() == io::ErrorKind::OutOfMemory => return Err(Fault::Memory),
+        Err(_) => return Err(Fault::ReadDevice(side)),
+    };
+    match read_all(rt.alloc(), &mut reader) {
         Ok(bytes) => Ok(bytes),
-        Err(error) if error.kind() == io::ErrorKind::OutOfMemory => Err(Fault::Memory),
+        Err(ReadRefused::Memory) => Err(Fault::Memory),
         Err(_) => Err(Fault::ReadDevice(side)),
     }
 }
