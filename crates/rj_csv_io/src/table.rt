@@ -1,6 +1,6 @@
 // Reading a whole table.
 
-ghost use Rattle.std.specs.Prelude.{◌≡◌, ◌≢◌, [], map, IfOk, IfErr, OnOk, Ok, Err, Some, IsTrue};
+ghost use Rattle.std.specs.Prelude.{◌≡◌, ◌≢◌, ◌≤◌, ◌*◌, [], length, map, IfOk, IfErr, OnOk, Ok, Err, Some, IsTrue};
 ghost use Rattle.std.specs.List.{list_all};
 ghost use Rattle.csv.specs.Reading.{default_config, records, strip_bom};
 ghost use Rattle.csv.specs.Records.{fields_of};
@@ -79,7 +79,9 @@ fn refused_of(e: BuildRefused) -> ReadRefused
 }
 
 // About the rows of the bytes, by the lines of their first part; no more than have place.
-fn likely_rows(bytes: &[u8], columns: usize) -> usize {
+fn likely_rows(bytes: &[u8], columns: usize) -> usize
+    ensures { result * columns ≤ length bytes.now }
+{
     if columns == 0 {
         return 0;
     }
