@@ -48,10 +48,23 @@ def faults_of(case, files):
     return faults + harness.differences(ran, **wanted)
 
 
+def sweep_partitions(case, files, tally):
+    """Runs a case that names no number of partitions with each one: what it prints is the same."""
+    options = case.get("options", [])
+    if "words" in case or any(word.startswith(("--bits1", "--stats", "--help")) for word in options):
+        return
+    for bits in range(11):
+        swept = {**case, "options": [*options, f"--bits1={bits}"]}
+        tally.check(f"{case['name']}, --bits1={bits}", faults_of(swept, files))
+
+
 def run_all(tally):
-    """Runs every case of both tables."""
+    """Runs every case of both tables, those of joins for each number of partitions too."""
     for table in ("examples.toml", "arrivals.toml"):
         with open(harness.ROOT / "tests" / table, "rb") as text:
             found = tomllib.load(text)
         for case in found["case"]:
-            tally.check(f"{table}: {case['name']}", faults_of(case, found.get("file", {})))
+            files = found.get("file", {})
+            tally.check(f"{table}: {case['name']}", faults_of(case, files))
+            if "join" in case:
+                sweep_partitions(case, files, tally)

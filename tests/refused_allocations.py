@@ -18,10 +18,14 @@ BASIC_WORDS = ["--left", "left.csv", "--left-types", "int,text", "--right", "rig
 NULLS = {"left.csv": b"id,a\n1,x\n,y\n", "right.csv": b"id,b\n,p\n1,q\n3,r\n"}
 NULLS_WORDS = [*BASIC_WORDS[:-1], "FULL JOIN USING (id)"]
 
+NUMBERS = {"left.csv": b"k\n-1\n0\n5\n", "right.csv": b"k\n5\n"}
+NUMBERS_WORDS = ["--left", "left.csv", "--left-types", "int", "--right", "right.csv", "--right-types", "int", "--join", "JOIN USING (k)", "--bits1", "2"]
+
 # Name, program, its files, its words, its standard input, what it prints.
 RUNS = [
     ("basic_inner", "radixjoin", BASIC, BASIC_WORDS, b"", b"id,name,city\n2,bob,oslo\n"),
     ("full_null_keys", "radixjoin", NULLS, NULLS_WORDS, b"", b"id,a,b\n1,x,q\n,y,\n,,p\n3,,r\n"),
+    ("partition_statistics", "radixjoin", NUMBERS, NUMBERS_WORDS, b"", b"k\n5\n"),
     (
         "arrivals_basic",
         "arrivals",

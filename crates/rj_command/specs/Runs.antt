@@ -1,11 +1,14 @@
 -- What a run writes and counts (SQL-92, 7.5).
-use Rattle.std.specs.Prelude.{◌≡◌, List, ℕ, length}
+use Rattle.std.specs.Prelude.{◌≡◌, List, ℕ, length, map}
 use Rattle.rj_columns.specs.Tables.{TableValue}
 use Rattle.rj_csv_io.specs.Shown.{table_text}
 use Rattle.rj_csv_io.specs.declared.write.WriteRefused.{WriteRefused}
 use Rattle.rj_csv_io.specs.declared.write.WriteRefused.TheVariants as write
 use Rattle.rj_condition.specs.declared.bound.BoundJoin.{BoundJoin}
+use Rattle.rj_condition.specs.Splits.{keys_of}
+use Rattle.rj_radix.specs.Hashes.{plain}
 use Rattle.rj_engine.specs.Cells.{header_of, view_of}
+use Rattle.rj_engine.specs.Partitioned.{sizes_of}
 use Rattle.rj_engine.specs.Results.{joined_of}
 use Rattle.rj_command.specs.Operands.{AreOperands}
 use Rattle.rj_command.specs.declared.fault.Fault.{Fault}
@@ -17,22 +20,27 @@ use Rattle.rj_command.specs.declared.stats.Stats.{Stats}
 abbrev pub joined_text : List ℕ → BoundJoin → TableValue → TableValue → List ℕ
 joined_text null join l r = table_text null (header_of join l r) (view_of join l r).cells
 
--- how many members of each kind the joined table has
-abbrev pub counts_of : BoundJoin → TableValue → TableValue → Stats
-counts_of join l r = record {
-  pairs = length (joined_of join l r).pairs;
-  lone_left = length (joined_of join l r).lone_left;
-  lone_right = length (joined_of join l r).lone_right;
-}
+-- how many members of each kind the joined table has, and how many rows of each table are routed to each partition: to
+-- the one that the low bits of the plain hash of their key name
+pub record IsCounted (q : Request) (l r : TableValue) (join : BoundJoin) (stats : Stats) : Type 0 where
+  pub pairs : stats.pairs ≡ length (joined_of join l r).pairs
+  pub lone_left : stats.lone_left ≡ length (joined_of join l r).lone_left
+  pub lone_right : stats.lone_right ≡ length (joined_of join l r).lone_right
+  pub lefts : map (λ p. p.left) stats.partitions.items ≡ sizes_of plain q.settings.bits1 l (map (λ k. k.0) (keys_of join))
+  pub rights : map (λ p. p.right) stats.partitions.items ≡ sizes_of plain q.settings.bits1 r (map (λ k. k.1) (keys_of join))
 
--- the text of the joined table of what the bytes denote, and the counts of its members
+-- the text of the joined table of what the bytes denote, and what is counted of it
 pub record IsJoined (left right : List ℕ) (q : Request) (stats : Stats) (text : List ℕ) : Type 0 where
   pub l : TableValue
   pub r : TableValue
   pub join : BoundJoin
   pub operands : AreOperands left right q l r join
-  pub counts : stats ≡ counts_of join l r
+  pub counts : IsCounted q l r join stats
   pub shown : text ≡ joined_text q.null.now join l r
+
+-- the bytes denote two tables, and the clause a join of them
+abbrev pub HasOperands : List ℕ → List ℕ → Request → Type 0
+HasOperands left right q = (l r : TableValue) × (join : BoundJoin) × AreOperands left right q l r join
 
 -- the fault of rows that can't be written
 abbrev pub write_fault : WriteRefused → Fault

@@ -16,4 +16,4 @@ pub use line::{Line, read_line};
 pub use request::Request;
 pub use running::run;
 pub use script::arrivals;
-pub use stats::Stats;
+pub use stats::{PartitionRows, Stats};

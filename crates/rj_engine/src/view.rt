@@ -28,9 +28,9 @@ impl<'a> Model for View<'a> {
 
     ghost Value = { ViewValue };
 
-    ghost view = { λ a. record { cells = map (joined_cells a.left.now a.right.now a.origins.items) (rows_in a.joined.now); width = length a.origins.items } };
+    ghost view = { λ a. record { cells = map (joined_cells a.left.now a.right.now a.origins.items) (rows_in a.joined.now.members); width = length a.origins.items } };
 
-    ghost invariant = { λ a. All (IsMemberOf a.left.now a.right.now) (rows_in a.joined.now) × All (IsColumnOf a.left.now a.right.now) a.origins.items };
+    ghost invariant = { λ a. All (IsMemberOf a.left.now a.right.now) (rows_in a.joined.now.members) × All (IsColumnOf a.left.now a.right.now) a.origins.items };
 }
 
 impl<'a> Drop for View<'a> {
@@ -58,7 +58,7 @@ impl<'a> View<'a> {
         joined: &'a Joined,
     ) -> Result<View<'a>, AllocError>
         requires bound { fits join.now left.now.types right.now.types ≡ true }
-        requires joined { joined.now ≡ joined_of join.now left.now right.now }
+        requires joined { joined.now.members ≡ joined_of join.now left.now right.now }
         ensures { IfOk result (λ v. v ≡ view_of join.now left.now right.now) }
     {
         let origins = origins(alloc, join.partners(), right.columns())?;

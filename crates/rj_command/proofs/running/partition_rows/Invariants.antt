@@ -1,0 +1,5 @@
+use Rattle.std.proofs.Common.{◌≡◌, map, take}
+use Rattle.rj_command.proofs.running.partition_rows.Given as goal
+
+abbrev pub invariant-loop-p : goal.invariant-loop-p
+invariant-loop-p l = (map (λ r. r.left) l.rows.items ≡ take l.p l.lefts) × (map (λ r. r.right) l.rows.items ≡ take l.p l.rights)
