@@ -1,10 +1,17 @@
--- The exit statuses.
-use Rattle.std.specs.Prelude.{ℕ}
+-- The texts of the sides, and the exit statuses.
+use Rattle.std.specs.Prelude.{ℕ, List, codes}
 use Rattle.clap.specs.Values.{kind_of}
 use Rattle.clap.specs.declared.error.kind.ErrorKind.{ErrorKind}
 use Rattle.clap.specs.declared.error.kind.ErrorKind.TheVariants.{DisplayHelp, DisplayVersion}
 use Rattle.rj_command.specs.declared.fault.Fault.{Fault}
 use Rattle.rj_command.specs.declared.fault.Fault.TheVariants as fault
+use Rattle.rj_command.specs.declared.fault.Side.{Side}
+use Rattle.rj_command.specs.declared.fault.Side.TheVariants as side
+
+-- the word of a side
+abbrev pub side_text : Side → List ℕ
+side_text side.Left = codes "left"
+side_text side.Right = codes "right"
 
 -- help and the version are what was asked for
 abbrev pub refused_status : ErrorKind → ℕ

@@ -1,7 +1,7 @@
 // Why a run gave no output.
 
-ghost use Rattle.std.specs.Prelude.{◌≡◌};
-ghost use Rattle.rj_command.specs.Faults.{status_of};
+ghost use Rattle.std.specs.Prelude.{◌≡◌, Some};
+ghost use Rattle.rj_command.specs.Faults.{side_text, status_of};
 
 use std::fmt;
 use thiserror::Error;
@@ -14,6 +14,8 @@ pub enum Side {
 }
 
 impl fmt::Display for Side {
+    ghost output = { λ side. Some (side_text side) };
+
     fn fmt<W: fmt::Write>(&self, f: &mut fmt::Formatter<W>) -> fmt::Result {
         match self {
             Side::Left => f.write_str("left"),
