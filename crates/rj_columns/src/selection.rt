@@ -1,0 +1,73 @@
+// Cells of some rows of a table at some of its columns, packed.
+
+ghost use Rattle.std.specs.Prelude.{◌≡◌, ◌<◌, All, IfOk, [], length, map, slice_index_or};
+ghost use Rattle.rj_columns.specs.Contents.{content_of, nothing};
+ghost use Rattle.rj_columns.specs.Tables.{cell_of};
+
+use super::cell::Cell;
+use super::column::Column;
+use super::table::Table;
+use std::alloc::{AllocError, Global};
+use std::marker::Model;
+
+/// The cells of some rows of a table at some of its columns, copied into columns of their own: what is read again and
+/// again lies close together. Places and columns count from 0, in the order in which they were selected.
+#[derive(Drop)]
+pub struct Selection {
+    columns: Vec<Column>,
+}
+
+impl Model for Selection {
+    ghost use Rattle.std.specs.Prelude.{List, map};
+    ghost use Rattle.rj_columns.specs.Contents.{Content};
+
+    ghost Value = { List (List Content) };
+
+    ghost view = { λ a. map (λ c. c.cells) a.columns.items };
+}
+
+impl Selection {
+    /// The cell at a place of a column. A text is lent by the selection. Takes no memory.
+    pub fn cell(&self, place: usize, col: usize) -> Cell<'_>
+        requires col { col < length self.now }
+        requires place { place < length (slice_index_or self.now col []) }
+        ensures { content_of result ≡ slice_index_or (slice_index_or self.now col []) place nothing }
+    {
+        self.columns[col].get(place)
+    }
+}
+
+impl Table {
+    // The cells of a column at these rows.
+    fn select_column(&self, alloc: Global, rows: &[u32], col: usize) -> Result<Column, AllocError>
+        requires rows { All (λ r. r < length self.now.rows) rows.now }
+        requires col { col < length self.now.types }
+        ensures { IfOk result (λ c. c.cells ≡ map (λ r. cell_of self.now r col) rows.now) }
+    {
+        let mut column = Column::new(alloc, self.column_type(col));
+        column.reserve(rows.len())?;
+        for row in rows {
+            column.push(self.cell(u64::from(*row), col))?;
+        }
+        Ok(column)
+    }
+
+    /// Copies the cells of these rows at these columns, column by column, each in the order of the rows. It fails only
+    /// where memory is refused.
+    pub fn select(
+        &self,
+        alloc: Global,
+        rows: &[u32],
+        columns: &[usize],
+    ) -> Result<Selection, AllocError>
+        requires rows { All (λ r. r < length self.now.rows) rows.now }
+        requires columns { All (λ c. c < length self.now.types) columns.now }
+        ensures { IfOk result (λ s. s ≡ map (λ c. map (λ r. cell_of self.now r c) rows.now) columns.now) }
+    {
+        let mut selected = Vec::with_capacity(alloc, columns.len())?;
+        for col in columns {
+            selected.push(self.select_column(alloc, rows, *col)?)?;
+        }
+        Ok(Selection { columns: selected })
+    }
+}
