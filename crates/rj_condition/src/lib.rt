@@ -12,8 +12,6 @@ mod joining;
 mod lexer;
 mod names;
 mod nesting;
-#[cfg(test)]
-mod parse_tests;
 mod parsing;
 mod partners;
 mod parts;
@@ -22,6 +20,8 @@ mod refused;
 mod resolving;
 mod splitting;
 mod steps;
+#[cfg(test)]
+mod tests;
 mod token;
 mod tree;
 mod truth;

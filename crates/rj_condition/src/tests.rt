@@ -1,0 +1,8 @@
+// Worked examples of clauses from their text to the truth at two rows, and what no contract says.
+
+mod binding;
+mod parsing;
+mod splitting;
+mod tables;
+mod truths;
+mod wrapping;
