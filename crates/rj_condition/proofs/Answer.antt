@@ -1,5 +1,5 @@
 -- What an answer says of the text.
-use Rattle.std.proofs.Common.{◌≡◌, ◌<◌, ◌≤◌, ℕ, List, length, Bool, true, false, Result, Ok, Err, Option, Some, None, refl, sym, ap, ◌∙◌, subst, arith}
+use Rattle.std.proofs.Common.{◌≡◌, ◌<◌, ◌≤◌, ℕ, List, length, true, false, Result, Ok, Err, Some, None, refl, ap, subst, arith}
 use Rattle.rj_condition.specs.declared.token.Token.{Token}
 use Rattle.rj_condition.specs.declared.tree.Clause.{Clause}
 use Rattle.rj_condition.specs.declared.fault.ParseRefused.{ParseRefused}

@@ -1,5 +1,5 @@
 -- What stands behind a keyword, a sign, a name or an operator.
-use Rattle.std.proofs.Common.{◌≡◌, ◌⊎◌, inl, inr, ℕ, List, [], ◌∷◌, ◌++◌, Option, Some, None, Bool, true, false, cond, refl, sym, ap, ◌∙◌, subst}
+use Rattle.std.proofs.Common.{◌≡◌, inl, inr, ℕ, List, [], ◌∷◌, Option, Some, None, true, cond, refl, sym, ap, ◌∙◌}
 use Rattle.std.specs.List.{find}
 use Rattle.std.specs.Str.{bytes_eq, str_to_ascii_lowercase}
 use Rattle.std.proofs.lemmas.Slice.Eq.{bytes_eq-Decides}
@@ -10,14 +10,13 @@ use Rattle.rj_condition.specs.declared.token.Sign.TheVariants as sign
 use Rattle.rj_condition.specs.declared.token.Token.{Token}
 use Rattle.rj_condition.specs.declared.token.Token.TheVariants as token
 use Rattle.rj_condition.specs.declared.truth.Truth.{Truth}
-use Rattle.rj_condition.specs.declared.truth.Truth.TheVariants as truth
 use Rattle.rj_condition.specs.declared.tree.Name.{Name}
 use Rattle.rj_condition.specs.declared.tree.Comparison.{Comparison}
 use Rattle.rj_condition.specs.declared.tree.Comparison.TheVariants as comparison
 use Rattle.rj_condition.specs.Tokens.{spelling_of, sign_text}
 use Rattle.rj_condition.specs.Scanning.{all_keywords}
 use Rattle.rj_condition.specs.Grammar.{optional, sign_of, keyword_of_truth}
-use Rattle.rj_condition.specs.Reading.{Read, ◌>>=◌, same_keyword, same_sign, after, behind, optionally, opt, name_at, comparison_of, operator_at, truth_of, truth_at}
+use Rattle.rj_condition.specs.Reading.{◌>>=◌, same_keyword, same_sign, after, behind, optionally, opt, name_at, comparison_of, operator_at, truth_of, truth_at}
 use Rattle.rj_condition.proofs.Words.{spelled_once}
 use Rattle.rj_condition.proofs.TokenLaws.{chosen}
 

@@ -1,8 +1,8 @@
 -- When a text is an integer, and where a number ends.
-use Rattle.std.proofs.Common.{◌≡◌, ◌<◌, ◌≤◌, ◌+◌, ℕ, ℤ, pos, negsuc, zero, suc, List, [], ◌∷◌, ◌++◌, length, take, drop, true, false, Bool, cond, Option, Some, None, Result, Ok, Err, refl, ap, sym, ◌∙◌, arith, inl, inr, w64, subst, ◌^◌}
-use Rattle.std.specs.Prelude.{nat_lt, ◌==◌, ◌&&◌, IsUtf8}
+use Rattle.std.proofs.Common.{◌≡◌, ◌<◌, ◌≤◌, ◌+◌, ℕ, ℤ, pos, negsuc, zero, suc, List, [], ◌∷◌, length, take, drop, true, false, Bool, cond, Some, None, Result, Ok, Err, ap, sym, ◌∙◌, arith, inl, inr, w64, subst, ◌^◌}
+use Rattle.std.specs.Prelude.{nat_lt, ◌&&◌, IsUtf8}
 use Rattle.std.specs.Bool.{Decides}
-use Rattle.std.specs.List.{prefix_len, list_all}
+use Rattle.std.specs.List.{prefix_len}
 use Rattle.std.specs.Result.{OkIff}
 use Rattle.std.specs.Char.{is_ascii_digit}
 use Rattle.std.specs.Str.{IsAscii, IsCharBoundary, all_ascii_digits}

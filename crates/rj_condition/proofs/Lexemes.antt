@@ -1,5 +1,5 @@
 -- Each token is found, and a text has one list of tokens.
-use Rattle.std.proofs.Common.{◌≡◌, ◌≢◌, ◌⊎◌, inl, inr, ℕ, ℤ, zero, suc, ◌+◌, ◌<◌, ◌≤◌, ◌&&◌, List, [], ◌∷◌, ◌++◌, Bool, true, false, cond, take, drop, length, length-append, Option, Some, None, refl, sym, ap, ◌∙◌, subst, arith, append_assoc, get_or}
+use Rattle.std.proofs.Common.{◌≡◌, ◌≢◌, inl, inr, ℕ, ℤ, suc, ◌+◌, ◌<◌, ◌≤◌, ◌&&◌, List, [], ◌∷◌, ◌++◌, Bool, true, false, cond, take, drop, length, length-append, Some, None, refl, sym, ap, ◌∙◌, subst, arith, append_assoc, get_or}
 use Rattle.std.specs.Prelude.{◌==◌, ◌||◌, nat_lt, FitsSigned}
 use Rattle.std.specs.Int.{w64}
 use Rattle.std.specs.Char.{is_ascii_alphabetic, is_ascii_digit}
@@ -8,14 +8,13 @@ use Rattle.std.specs.Str.{all_ascii_digits}
 use Rattle.std.specs.Str.Parse.{IsNumeral, AllDigits, without_leading_sign, signed_digits_value}
 use Rattle.std.proofs.lemmas.Bool.Decides.{nat_tests}
 use Rattle.std.proofs.Math.Seq.{drop-append_seam}
-use Rattle.rj_condition.specs.declared.tree.Name.{Name}
 use Rattle.rj_condition.specs.declared.token.Sign.{Sign}
 use Rattle.rj_condition.specs.declared.token.Sign.TheVariants as sign
 use Rattle.rj_condition.specs.declared.token.Token.{Token}
 use Rattle.rj_condition.specs.declared.token.Token.TheVariants as token
 use Rattle.rj_condition.specs.Tokens.{is_blank, is_name_byte, begins, doubled, in_quotes, sign_text, IsIdentifier, IsNamed, IsSpelled, EndsSign, Ends, IsToken}
 use Rattle.rj_condition.specs.Lexing.{Lexes, nothing, blank, next, unreadable}
-use Rattle.rj_condition.specs.Scanning.{quoted, text_at, delimited_at, word_at, named, number_len, is_sign_of_number, is_integer, judged, integer_at, as_integer, less_at, greater_at, mark_of, as_mark, sign_at, as_sign, begins_number, token_at}
+use Rattle.rj_condition.specs.Scanning.{quoted, text_at, delimited_at, word_at, named, number_len, is_sign_of_number, is_integer, judged, integer_at, as_integer, less_at, greater_at, mark_of, sign_at, as_sign, begins_number, token_at}
 use Rattle.rj_condition.proofs.Runs.{either, both_true, run_is}
 use Rattle.rj_condition.proofs.Words.{keyword_word, name_word, take_seam}
 use Rattle.rj_condition.proofs.Quotes.{some_same, quoted_complete}

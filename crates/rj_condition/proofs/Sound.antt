@@ -1,17 +1,15 @@
 -- What is read is in the grammar.
-use Rattle.std.proofs.Common.{◌≡◌, ℕ, zero, suc, ◌⊎◌, inl, inr, List, [], ◌∷◌, ◌++◌, length, Option, Some, None, Bool, true, false, refl, sym, ap, ◌∙◌, subst, append_assoc}
+use Rattle.std.proofs.Common.{◌≡◌, ℕ, zero, suc, ◌⊎◌, inl, inr, List, [], ◌∷◌, ◌++◌, length, Option, Some, None, Bool, refl, sym, ap, ◌∙◌, subst, append_assoc}
 use Rattle.rj_condition.specs.declared.token.Keyword.TheVariants as keyword
 use Rattle.rj_condition.specs.declared.token.Sign.TheVariants as sign
 use Rattle.rj_condition.specs.declared.token.Token.{Token}
 use Rattle.rj_condition.specs.declared.token.Token.TheVariants as token
 use Rattle.rj_condition.specs.declared.tree.Name.{Name}
 use Rattle.rj_condition.specs.declared.tree.Operand.{Operand}
-use Rattle.rj_condition.specs.declared.tree.Operand.TheVariants as operand
 use Rattle.rj_condition.specs.declared.tree.Comparison.{Comparison}
 use Rattle.rj_condition.specs.declared.tree.Condition.{Condition}
-use Rattle.rj_condition.specs.declared.tree.Condition.TheVariants as tree
-use Rattle.rj_condition.specs.Grammar.{optional, sign_of, keyword_of_truth, any_of, all_of, IsOperand, plain_name, qualified_name, integer, text, IsOperands, last_operand, more_operands, IsNames, last_name, more_names, IsPredicate, compare, is_null, between, among, IsFactor, not, test, IsTest, plain, is_truth, IsPrimary, predicate, group, IsFactors, last_factor, and_factors, IsTerms, last_term, or_terms}
-use Rattle.rj_condition.specs.Reading.{Read, ◌>>=◌, go_on, separated, after, behind, opt, name_at, column_of, column_at, operand_at, operands_at, names_at, operator_at, null_at, bounds_at, members_at, by_in, by_between, range_at, by_is, by_operator, test_of, predicate_at, factor_of, factor_at, factors_at, term_at, terms_at, cond_at, term_with, cond_with, group_with, group_at, truth_at, truth_test_at, suffix_of, suffix, primary_of, primary_with, test_with, primary_at, test_at}
+use Rattle.rj_condition.specs.Grammar.{optional, any_of, all_of, IsOperand, plain_name, qualified_name, integer, text, IsOperands, last_operand, more_operands, IsNames, last_name, more_names, IsPredicate, compare, is_null, between, among, IsFactor, not, test, IsTest, plain, is_truth, IsPrimary, predicate, group, IsFactors, last_factor, and_factors, IsTerms, last_term, or_terms}
+use Rattle.rj_condition.specs.Reading.{Read, go_on, separated, after, behind, opt, name_at, column_of, column_at, operand_at, operands_at, names_at, operator_at, null_at, bounds_at, members_at, by_in, by_between, range_at, by_is, by_operator, test_of, predicate_at, factor_of, factor_at, factors_at, term_at, terms_at, cond_at, term_with, cond_with, group_with, group_at, truth_at, truth_test_at, suffix_of, suffix, primary_of, primary_with, test_with, primary_at, test_at}
 use Rattle.rj_condition.proofs.Behind.{some_same, bind_some, after_next, behind_next, opt_is, name_next, operator_next, truth_next}
 
 pub go_on_some : {A : Type 0} (o : Option (List Token)) (stop : Read A) (go : List Token → Read A) (y : A × List Token) → go_on o stop go ≡ Some y →

@@ -1,5 +1,5 @@
 -- Words: keywords and identifiers.
-use Rattle.std.proofs.Common.{◌≡◌, ◌⊎◌, inl, inr, ℕ, zero, suc, ◌+◌, ◌<◌, ◌≤◌, ◌&&◌, ◌||◌, List, [], ◌∷◌, ◌++◌, Bool, true, false, cond, take, drop, length, Option, Some, None, refl, sym, ap, ◌∙◌, subst, arith}
+use Rattle.std.proofs.Common.{◌≡◌, inl, inr, ℕ, ◌&&◌, List, [], ◌∷◌, ◌++◌, Bool, true, false, cond, take, drop, length, Option, Some, None, refl, sym, ap, ◌∙◌, subst, arith}
 use Rattle.std.specs.Char.{is_ascii_alphabetic}
 use Rattle.std.specs.List.{prefix_len, list_all, find}
 use Rattle.std.specs.Str.{bytes_eq, str_to_ascii_lowercase}
@@ -9,11 +9,10 @@ use Rattle.std.proofs.lemmas.Slice.Eq.{bytes_eq-Decides}
 use Rattle.std.proofs.Math.Seq.{drop-append_seam}
 use Rattle.rj_condition.specs.declared.token.Keyword.{Keyword}
 use Rattle.rj_condition.specs.declared.token.Keyword.TheVariants as keyword
-use Rattle.rj_condition.specs.declared.token.Token.{Token}
 use Rattle.rj_condition.specs.declared.token.Token.TheVariants as token
 use Rattle.rj_condition.specs.Tokens.{spelling_of, spells, is_name_byte, begins, IsIdentifier, IsSpelled, Ends, IsToken}
 use Rattle.rj_condition.specs.Scanning.{all_keywords, keyword_of, word_or_name, word_at, named}
-use Rattle.rj_condition.proofs.Runs.{either, both_true, run_passes, run_ends, run_is, len_in}
+use Rattle.rj_condition.proofs.Runs.{either, run_passes, run_ends, run_is, len_in}
 
 pub letter_is_name_byte : (b : ℕ) → is_ascii_alphabetic b ≡ true → is_name_byte b ≡ true
 letter_is_name_byte b e = grind (arith, nat_tests)

@@ -11,7 +11,7 @@
 --     operand   = column | integer | text
 --     column    = name | name . name
 -- `IsX ts x us`: ts are the tokens of x, and then us.
-use Rattle.std.specs.Prelude.{◌≡◌, ℤ, ℕ, List, [], ◌∷◌, Option, Some, None, Bool, true, false}
+use Rattle.std.specs.Prelude.{ℤ, ℕ, List, [], ◌∷◌, Some, None, Bool, true, false}
 use Rattle.rj_condition.specs.declared.token.Keyword.{Keyword}
 use Rattle.rj_condition.specs.declared.token.Keyword.TheVariants as keyword
 use Rattle.rj_condition.specs.declared.token.Sign.{Sign}
@@ -22,7 +22,6 @@ use Rattle.rj_condition.specs.declared.truth.Truth.{Truth}
 use Rattle.rj_condition.specs.declared.truth.Truth.TheVariants as truth
 use Rattle.rj_condition.specs.declared.tree.Name.{Name}
 use Rattle.rj_condition.specs.declared.tree.ColumnName.{ColumnName}
-use Rattle.rj_condition.specs.declared.tree.Literal.{Literal}
 use Rattle.rj_condition.specs.declared.tree.Literal.TheVariants as literal
 use Rattle.rj_condition.specs.declared.tree.Operand.{Operand}
 use Rattle.rj_condition.specs.declared.tree.Operand.TheVariants as operand

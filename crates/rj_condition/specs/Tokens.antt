@@ -5,7 +5,6 @@ use Rattle.std.specs.Char.{is_ascii_alphabetic, is_ascii_alphanumeric}
 use Rattle.std.specs.List.{list_all}
 use Rattle.std.specs.Str.{str_eq_ignore_ascii_case}
 use Rattle.std.specs.Str.Parse.{IsNumeral, without_leading_sign, signed_digits_value}
-use Rattle.rj_condition.specs.declared.tree.Name.{Name}
 use Rattle.rj_condition.specs.declared.token.Keyword.{Keyword}
 use Rattle.rj_condition.specs.declared.token.Keyword.TheVariants as keyword
 use Rattle.rj_condition.specs.declared.token.Sign.{Sign}

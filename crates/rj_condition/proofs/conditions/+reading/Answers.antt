@@ -1,4 +1,4 @@
-use Rattle.std.proofs.Common.{◌≡◌, ◌+◌, ◌-◌, List, ap, sym, ◌∙◌}
+use Rattle.std.proofs.Common.{◌+◌, ◌-◌, List, ap, sym, ◌∙◌}
 use Rattle.rj_condition.specs.declared.token.Keyword.TheVariants as keyword
 use Rattle.rj_condition.specs.declared.tree.Condition.{Condition}
 use Rattle.rj_condition.specs.Reading.{separated, after, factor_at, term_at}

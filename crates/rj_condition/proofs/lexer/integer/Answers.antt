@@ -1,6 +1,5 @@
-use Rattle.std.proofs.Common.{◌≡◌, ◌∙◌, ap, sym, take, drop}
+use Rattle.std.proofs.Common.{◌∙◌, ap}
 use Rattle.rj_condition.specs.Tokens.{begins, is_name_byte}
-use Rattle.rj_condition.specs.Scanning.{judged, integer_at, number_len}
 use Rattle.rj_condition.proofs.Integers.{cut_number, integer_found, integer_not_found, at_number}
 use Rattle.rj_condition.proofs.lexer.integer.Goals as goal
 

@@ -1,8 +1,6 @@
-use Rattle.std.proofs.Common.{◌≡◌, ◌∙◌, ap, sym, ◌++◌, ◌∷◌, []}
-use Rattle.std.specs.Prelude.{string_bytes, slice_index, Some}
+use Rattle.std.proofs.Common.{◌∙◌, ap, sym, ◌++◌, ◌∷◌, []}
+use Rattle.std.specs.Prelude.{string_bytes, slice_index}
 use Rattle.rj_condition.specs.Tokens.{begins}
-use Rattle.rj_condition.specs.Scanning.{in_front}
-use Rattle.rj_condition.specs.Scanning as scanning
 use Rattle.rj_condition.proofs.Quotes.{cut, cut_quote, quote_there, quoted_open, quoted_last, quoted_two, none_left, some_left, low_quote, is_quote}
 use Rattle.rj_condition.proofs.lexer.quoted.Goals as goal
 

@@ -1,4 +1,3 @@
-use Rattle.std.proofs.Common.{arith}
 use Rattle.std.proofs.lemmas.Str.{lead_after_ascii}
 use Rattle.rj_condition.proofs.lexer.tail.Goals as goal
 

@@ -1,4 +1,4 @@
-use Rattle.std.proofs.Common.{◌≡◌, ◌+◌, ◌<◌, ◌≤◌, [], ◌∷◌, drop, length}
+use Rattle.std.proofs.Common.{◌≡◌, ◌+◌, ◌<◌, ◌≤◌, drop, length}
 use Rattle.std.specs.Prelude.{sum}
 use Rattle.rj_condition.specs.Nesting.{is_deep_from, is_deep}
 use Rattle.rj_condition.proofs.nesting.too_deep.Given as goal

@@ -1,4 +1,4 @@
-use Rattle.std.proofs.Common.{◌≡◌, ◌+◌, ◌-◌, List, ap, sym, ◌∙◌, length}
+use Rattle.std.proofs.Common.{◌+◌, ◌-◌, List, ap, sym, ◌∙◌, length}
 use Rattle.rj_condition.specs.declared.token.Sign.TheVariants as sign
 use Rattle.rj_condition.specs.declared.tree.Name.{Name}
 use Rattle.rj_condition.specs.Reading.{separated, behind, name_at}
