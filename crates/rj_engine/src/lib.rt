@@ -8,6 +8,8 @@ mod origin;
 mod partitions;
 mod plain;
 mod settings;
+#[cfg(test)]
+mod tests;
 mod view;
 
 pub use gathering::gather;
