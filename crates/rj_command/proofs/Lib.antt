@@ -6,3 +6,4 @@ pub mod NumeralFacts
 pub mod ReadingFacts
 pub mod ReportFacts
 pub mod SplitFacts
+pub mod StatisticsFacts

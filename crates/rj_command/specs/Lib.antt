@@ -6,3 +6,4 @@ pub mod Runs
 pub mod Types
 pub mod Report
 pub mod Script
+pub mod Statistics

@@ -1,5 +1,6 @@
 -- What a run writes and counts (SQL-92, 7.5).
-use Rattle.std.specs.Prelude.{◌≡◌, List, ℕ, length, map}
+use Rattle.std.specs.Prelude.{◌≡◌, List, ℕ, ◌^◌, length, map}
+use Rattle.std.specs.List.{range_with_len}
 use Rattle.rj_columns.specs.Tables.{TableValue}
 use Rattle.rj_csv_io.specs.Shown.{table_text}
 use Rattle.rj_csv_io.specs.declared.write.WriteRefused.{WriteRefused}
@@ -26,6 +27,7 @@ pub record IsCounted (q : Request) (l r : TableValue) (join : BoundJoin) (stats 
   pub pairs : stats.pairs ≡ length (joined_of join l r).pairs
   pub lone_left : stats.lone_left ≡ length (joined_of join l r).lone_left
   pub lone_right : stats.lone_right ≡ length (joined_of join l r).lone_right
+  pub numbers : map (λ p. p.number) stats.partitions.items ≡ range_with_len 0 (2 ^ q.settings.bits1)
   pub lefts : map (λ p. p.left) stats.partitions.items ≡ sizes_of plain q.settings.bits1 l (map (λ k. k.0) (keys_of join))
   pub rights : map (λ p. p.right) stats.partitions.items ≡ sizes_of plain q.settings.bits1 r (map (λ k. k.1) (keys_of join))
 

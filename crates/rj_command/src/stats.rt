@@ -1,10 +1,15 @@
 // What a join counts.
 
+ghost use Rattle.std.specs.Prelude.{Some};
+ghost use Rattle.rj_command.specs.Statistics.{partition_text, stats_text};
+
 use std::fmt;
 
-/// How many rows of each table were routed to a partition.
+/// How many rows of each table were routed to a partition. The text is its line, without the line end.
 #[derive(Clone, Copy, Debug, PartialEq, Eq)]
 pub struct PartitionRows {
+    /// The partition, counted from 0.
+    pub number: u64,
     /// The left rows.
     pub left: u64,
     /// The right rows.
@@ -25,19 +30,26 @@ pub struct Stats {
     pub lone_right: u64,
 }
 
-impl fmt::Display for Stats {
+impl fmt::Display for PartitionRows {
+    ghost output = { λ p. Some (partition_text p) };
+
     fn fmt<W: fmt::Write>(&self, f: &mut fmt::Formatter<W>) -> fmt::Result {
-        for (number, rows) in self.partitions.iter().enumerate() {
-            write!(
-                f,
-                "partition {} left {} right {}\n",
-                number, rows.left, rows.right
-            )?;
+        let (number, left, right) = (self.number, self.left, self.right);
+        write!(f, "partition {number} left {left} right {right}")
+    }
+}
+
+impl fmt::Display for Stats {
+    ghost output = { λ s. Some (stats_text s) };
+
+    fn fmt<W: fmt::Write>(&self, f: &mut fmt::Formatter<W>) -> fmt::Result {
+        for rows in &self.partitions {
+            writeln!(f, "{rows}")?;
         }
+        let (pairs, lone_left, lone_right) = (self.pairs, self.lone_left, self.lone_right);
         write!(
             f,
-            "pairs {} lone-left {} lone-right {}",
-            self.pairs, self.lone_left, self.lone_right
+            "pairs {pairs} lone-left {lone_left} lone-right {lone_right}"
         )
     }
 }
