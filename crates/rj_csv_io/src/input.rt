@@ -64,7 +64,7 @@ fn read_some<R: Read>(reader: &mut R, buffer: &mut [u8]) -> Option<usize>
         match reader.read(buffer) {
             Ok(k) => return Some(k),
             Err(e) => {
-                if e.kind() != ErrorKind::Interrupted { return Some(0); } if e.kind() != ErrorKind::Interrupted {
+                if e.kind() != ErrorKind::Interrupted {
                     return None;
                 }
             }
