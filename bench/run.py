@@ -1,9 +1,10 @@
-"""Times radixjoin beside a plain single-threaded Rust join, and checks that both write the same rows.
+"""Times radixjoin, with one worker and with more, beside a plain single-threaded Rust join, and checks that all write
+the same rows.
 
 usage: run.py [--scale F] [--runs N] [NAME ..]
 
 Makes the workloads under bench/data (once), builds both programs, runs each several times in turn, and prints a table
-of the least wall time, CPU time and peak memory of each, and their ratios. It judges nothing: it ends with status 0
+of the least wall time, CPU time and peak memory of each, and of one worker their ratios. It judges nothing: it ends with status 0
 unless the rows differ or a program can't be run."""
 import argparse
 import hashlib
@@ -18,6 +19,8 @@ import workloads
 BENCH = pathlib.Path(__file__).resolve().parent
 ROOT = BENCH.parent
 DATA = BENCH / "data"
+# With how many workers radixjoin runs beside its one.
+WORKERS = (2, 4)
 
 
 class Measured:
@@ -60,22 +63,24 @@ def build():
 
 
 def compare(workload, proved, plain, runs, options):
-    """Runs one workload on both programs, in turn."""
+    """Runs one workload on both programs in turn, radixjoin with one worker and with each of `WORKERS`."""
     left, right = workload.file(DATA, "left"), workload.file(DATA, "right")
     types = f"{workload.keys},text"
     files = ["--left", left, "--left-types", types, "--right", right, "--right-types", types]
     proved_words = [proved, *files, "--join", workload.clause(), *options]
-    plain_words = [plain, left, right, workload.keys, workload.kind]
-    found = [(measure(proved_words), measure(plain_words)) for _ in range(runs)]
-    ours, theirs = least([run for run, _ in found]), least([run for _, run in found])
+    lines = [[plain, left, right, workload.keys, workload.kind], proved_words]
+    lines += [[*proved_words, f"--workers={workers}"] for workers in WORKERS]
+    found = [[measure(words) for words in lines] for _ in range(runs)]
+    theirs, ours, *others = [least(of_one) for of_one in zip(*found)]
     size = left.stat().st_size + right.stat().st_size
+    more = "".join(f" {it.wall:.2f} s | {it.cpu:.2f} s | {it.memory / 1e6:.0f} MB |" for it in others)
     print(
         f"| {workload.name} | {size / 1e6:.0f} MB | {ours.wall:.2f} s | {theirs.wall:.2f} s | {ours.wall / theirs.wall:.2f} "
         f"| {ours.cpu:.2f} s | {theirs.cpu:.2f} s | {ours.cpu / theirs.cpu:.2f} "
-        f"| {ours.memory / 1e6:.0f} MB | {theirs.memory / 1e6:.0f} MB | {ours.memory / size:.1f} |",
+        f"| {ours.memory / 1e6:.0f} MB | {theirs.memory / 1e6:.0f} MB | {ours.memory / size:.1f} |{more}",
         flush=True,
     )
-    return {run.digest for pair in found for run in pair} == {ours.digest}
+    return {run.digest for turn in found for run in turn} == {ours.digest}
 
 
 def main():
@@ -87,8 +92,11 @@ def main():
     given = words.parse_args()
     DATA.mkdir(exist_ok=True)
     proved, plain = build()
-    print("| workload | input | radixjoin wall | plain wall | ratio | radixjoin CPU | plain CPU | ratio | radixjoin peak | plain peak | peak by input |")
-    print("|---|---|---|---|---|---|---|---|---|---|---|")
+    heads = ["workload", "input", "radixjoin wall", "plain wall", "ratio", "radixjoin CPU", "plain CPU", "ratio"]
+    heads += ["radixjoin peak", "plain peak", "peak by input"]
+    heads += [f"{workers} workers {figure}" for workers in WORKERS for figure in ("wall", "CPU", "peak")]
+    print(f"| {' | '.join(heads)} |")
+    print("|---" * len(heads) + "|")
     differing = []
     for workload in workloads.WORKLOADS:
         if given.names and workload.name not in given.names:

@@ -58,8 +58,37 @@ def sweep_partitions(case, files, tally):
         tally.check(f"{case['name']}, --bits1={bits}", faults_of(swept, files))
 
 
+# How a join is done: each number of workers, block size, number of lanes and queue capacity stands beside most others.
+WAYS = [
+    {"workers": workers, "block": block, "lanes": lanes, "capacity": capacity}
+    for workers, block, lanes, capacity in [
+        (1, 1, 1, 1),
+        (1, 1024, 3, 64),
+        (2, 1, 4, 64),
+        (2, 1024, 2, 1),
+        (2, 1, 1, 1),
+        (3, 1, 3, 1),
+        (3, 1024, 4, 64),
+        (64, 1, 2, 64),
+        (64, 1024, 1, 64),
+        (64, 1, 4, 1),
+    ]
+]
+
+
+def sweep_ways(case, files, tally):
+    """Runs a case that says nothing of workers with each of several ways: what it prints is the same."""
+    options = case.get("options", [])
+    named = tuple(f"--{name}" for name in (*WAYS[0], "retries", "help"))
+    if "words" in case or any(word.startswith(named) for word in options):
+        return
+    for way in WAYS:
+        words = [f"--{name}={number}" for name, number in way.items()]
+        tally.check(f"{case['name']}, {' '.join(words)}", faults_of({**case, "options": [*options, *words]}, files))
+
+
 def run_all(tally):
-    """Runs every case of both tables, those of joins for each number of partitions too."""
+    """Runs every case of both tables, those of joins for each number of partitions and by several workers too."""
     for table in ("examples.toml", "arrivals.toml"):
         with open(harness.ROOT / "tests" / table, "rb") as text:
             found = tomllib.load(text)
@@ -68,3 +97,4 @@ def run_all(tally):
             tally.check(f"{table}: {case['name']}", faults_of(case, files))
             if "join" in case:
                 sweep_partitions(case, files, tally)
+                sweep_ways(case, files, tally)

@@ -39,20 +39,25 @@ class Ran:
         self.stderr = stderr
 
 
-def run(words, folder, stdin=b"", output="read", environment=None):
-    """Runs a program; `output` is `read`, or `full` or `closed` for a standard output that takes nothing."""
+def run(words, folder, stdin=b"", output="read", environment=None, seconds=SECONDS):
+    """Runs a program; `output` is `read`, or `full` or `closed` for a standard output that takes nothing.
+
+    A program that hasn't ended within so many seconds is killed, and has no status."""
     if not pathlib.Path(words[0]).exists():
         return Ran(None, b"", f"{words[0]} is not built".encode())
-    how = {"cwd": folder, "input": stdin, "stderr": subprocess.PIPE, "timeout": SECONDS, "env": environment}
+    how = {"cwd": folder, "input": stdin, "stderr": subprocess.PIPE, "timeout": seconds, "env": environment}
     words = [str(word) for word in words]
-    if output == "closed":
-        words = ["sh", "-c", 'exec "$@" >&-', "sh", *words]
-        ran = subprocess.run(words, stdout=subprocess.DEVNULL, **how)
-    elif output == "full":
-        with open("/dev/full", "wb") as full:
-            ran = subprocess.run(words, stdout=full, **how)
-    else:
-        ran = subprocess.run(words, stdout=subprocess.PIPE, **how)
+    try:
+        if output == "closed":
+            words = ["sh", "-c", 'exec "$@" >&-', "sh", *words]
+            ran = subprocess.run(words, stdout=subprocess.DEVNULL, **how)
+        elif output == "full":
+            with open("/dev/full", "wb") as full:
+                ran = subprocess.run(words, stdout=full, **how)
+        else:
+            ran = subprocess.run(words, stdout=subprocess.PIPE, **how)
+    except subprocess.TimeoutExpired:
+        return Ran(None, b"", f"no end within {seconds} seconds".encode())
     return Ran(ran.returncode, ran.stdout or b"", ran.stderr)
 
 

@@ -1,6 +1,6 @@
-"""Refuses each allocation of the built program in turn, by a small library that is preloaded.
+"""Refuses each allocation and each start of a thread of the built programs in turn, by a small library that is preloaded.
 
-Each run ends as if nothing had been refused, or with `E18 Memory`, status 5 and nothing on standard output."""
+Each run ends as if nothing had been refused, or with `E18 Memory`, status 5 and nothing on standard output; none hangs."""
 import os
 import pathlib
 import subprocess
@@ -9,32 +9,33 @@ import harness
 
 # Past this many a run without a refusal is not to be expected any more.
 MOST = 20_000
+# A run ends within so many seconds, or hangs.
+SECONDS = 30
 
-BASIC = {
+TABLES = {
     "left.csv": b"id,name\n1,ann\n2,bob\n3,cy\n",
     "right.csv": b"id,city\n4,rome\n2,oslo\n5,lima\n",
 }
-BASIC_WORDS = ["--left", "left.csv", "--left-types", "int,text", "--right", "right.csv", "--right-types", "int,text", "--join", "JOIN USING (id)"]
+WORDS = ["--left", "left.csv", "--left-types", "int,text", "--right", "right.csv", "--right-types", "int,text", "--join", "JOIN USING (id)"]
 NULLS = {"left.csv": b"id,a\n1,x\n,y\n", "right.csv": b"id,b\n,p\n1,q\n3,r\n"}
-NULLS_WORDS = [*BASIC_WORDS[:-1], "FULL JOIN USING (id)"]
-
+NULLS_WORDS = [*WORDS[:-1], "FULL JOIN USING (id)"]
 NUMBERS = {"left.csv": b"k\n-1\n0\n5\n", "right.csv": b"k\n5\n"}
 NUMBERS_WORDS = ["--left", "left.csv", "--left-types", "int", "--right", "right.csv", "--right-types", "int", "--join", "JOIN USING (k)", "--bits1", "2"]
 
 # Name, program, its files, its words, its standard input, what it prints.
-RUNS = [
-    ("basic_inner", "radixjoin", BASIC, BASIC_WORDS, b"", b"id,name,city\n2,bob,oslo\n"),
+JOINS = [
+    ("basic_inner", "radixjoin", TABLES, WORDS, b"", b"id,name,city\n2,bob,oslo\n"),
     ("full_null_keys", "radixjoin", NULLS, NULLS_WORDS, b"", b"id,a,b\n1,x,q\n,y,\n,,p\n3,,r\n"),
     ("partition_statistics", "radixjoin", NUMBERS, NUMBERS_WORDS, b"", b"k\n5\n"),
-    (
-        "arrivals_basic",
-        "arrivals",
-        {},
-        ["--partition", "0", "--senders", "1", "--block", "4"],
-        b"0 0 1 rows 5 7\n0 0 0 rows 1 2 3 4\n0 0 2 close\n",
-        b"held\naccepted 2\naccepted 1\nsender 0 complete rows 1 2 3 4 5 7\ncomplete\n",
-    ),
 ]
+ARRIVALS = (
+    "arrivals_basic",
+    "arrivals",
+    {},
+    ["--partition", "0", "--senders", "1", "--block", "4"],
+    b"0 0 1 rows 5 7\n0 0 0 rows 1 2 3 4\n0 0 2 close\n",
+    b"held\naccepted 2\naccepted 1\nsender 0 complete rows 1 2 3 4 5 7\ncomplete\n",
+)
 
 
 def library(folder):
@@ -55,7 +56,7 @@ def faults_of(ran, name, stdout):
 
 
 def sweep(tally, refuse, kind, run):
-    """Refuses the first, the second, .. until a run meets no refusal."""
+    """Refuses the first, the second, .. until a run meets no refusal. Returns how many it met."""
     label, name, files, words, stdin, stdout = run
     for n in range(1, MOST):
         with harness.folder() as at:
@@ -64,7 +65,7 @@ def sweep(tally, refuse, kind, run):
                 (folder / file).write_bytes(content)
             report = folder / "report"
             environment = {**os.environ, "LD_PRELOAD": str(refuse), kind: str(n), "REFUSE_REPORT": str(report)}
-            ran = harness.run([harness.program(name), *words], folder, stdin, environment=environment)
+            ran = harness.run([harness.program(name), *words], folder, stdin, environment=environment, seconds=SECONDS)
             if not report.exists():
                 tally.check(f"{label}: no refusal", harness.differences(ran, stdout))
                 return n - 1
@@ -73,10 +74,21 @@ def sweep(tally, refuse, kind, run):
     return MOST
 
 
+def by_workers(run, workers, retries):
+    """A join by so many workers, which scan a stripe again so often."""
+    label, name, files, words, stdin, stdout = run
+    return (f"{label}, {workers} workers, {retries} retries", name, files, [*words, f"--workers={workers}", f"--retries={retries}"], stdin, stdout)
+
+
 def run_all(tally):
-    """Sweeps each run."""
+    """Sweeps each run, joins by one and by four workers with no retry and with three."""
     with harness.folder() as at:
         refuse = library(pathlib.Path(at))
-        for run in RUNS:
+        runs = [by_workers(run, workers, retries) for run in JOINS for workers in (1, 4) for retries in (0, 3)]
+        for run in [ARRIVALS, *runs]:
             count = sweep(tally, refuse, "REFUSE_ALLOCATION", run)
             print(f"{run[0]}: {count} allocations refused in turn")
+        for run in runs:
+            count = sweep(tally, refuse, "REFUSE_THREAD", run)
+            tally.check(f"{run[0]}: threads are started", [] if count >= 2 else [f"only {count}"])
+            print(f"{run[0]}: {count} starts of threads refused in turn")

@@ -2,13 +2,16 @@
 //! Statistics and faults go to standard error.
 #![tactic(auto)]
 
-use rj_command::{Fault, Side, read_line, run};
+use rj_command::{Fault, Open, Side, read_line, run};
 use rj_csv_io::{Counted, CountedReader, ReadRefused, read_all};
 use std::alloc::Global;
 use std::env::{self, Env};
 use std::fs::{self, Files};
 use std::io;
 use std::process::ExitCode;
+use std::sync::Wait;
+use std::thread::Threads;
+use std::time::Clock;
 
 // The words after the program's name.
 fn read_words<R: Env + AllocGlobal>(rt: &R) -> Result<Vec<String>, Fault> {
@@ -45,7 +48,9 @@ fn read_file<R: Files + AllocGlobal>(rt: &R, name: &str, side: Side) -> Result<V
 }
 
 // Reads the command line and both files, left first, and writes the joined table.
-fn join<R: Env + Files + AllocGlobal + Print + Eprint>(rt: &R) -> Result<(), Fault> {
+fn join<R: Env + Files + AllocGlobal + Print + Eprint + Threads + Wait + Clock + Sync>(
+    rt: &R,
+) -> Result<(), Fault> {
     let alloc = rt.alloc();
     let words = read_words(rt)?;
     let texts = texts_of(alloc, words.as_slice())?;
@@ -54,10 +59,12 @@ fn join<R: Env + Files + AllocGlobal + Print + Eprint>(rt: &R) -> Result<(), Fau
     let right = read_file(rt, line.right, Side::Right)?;
     let mut writer = Counted::new(io::writer(rt));
     let stats = run(
+        rt,
         alloc,
         left.as_slice(),
         right.as_slice(),
         &line.request,
+        &Open,
         &mut writer,
     )?;
     if line.stats {

@@ -7,3 +7,4 @@ pub mod ReadingFacts
 pub mod ReportFacts
 pub mod SplitFacts
 pub mod StatisticsFacts
+pub mod LimitFacts

@@ -33,6 +33,11 @@ option_rules =
     ∷ rule_for (codes "join") takes.Required
     ∷ rule_for (codes "null") takes.Text
     ∷ rule_for (codes "bits1") (takes.Number 0 10)
+    ∷ rule_for (codes "workers") (takes.Number 1 64)
+    ∷ rule_for (codes "block") (takes.Number 1 65536)
+    ∷ rule_for (codes "capacity") (takes.Number 1 4096)
+    ∷ rule_for (codes "lanes") (takes.Number 1 4)
+    ∷ rule_for (codes "retries") (takes.Number 0 3)
     ∷ rule_for (codes "stats") takes.Nothing
     ∷ []
 

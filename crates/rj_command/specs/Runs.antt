@@ -21,8 +21,8 @@ use Rattle.rj_command.specs.declared.stats.Stats.{Stats}
 abbrev pub joined_text : List ℕ → BoundJoin → TableValue → TableValue → List ℕ
 joined_text null join l r = table_text null (header_of join l r) (view_of join l r).cells
 
--- how many members of each kind the joined table has, and how many rows of each table are routed to each partition: to
--- the one that the low bits of the plain hash of their key name
+-- how many members of each kind the joined table has, and how many rows of each table were delivered to each partition:
+-- the rows with a key whose plain hash ends in the partition's bits
 pub record IsCounted (q : Request) (l r : TableValue) (join : BoundJoin) (stats : Stats) : Type 0 where
   pub pairs : stats.pairs ≡ length (joined_of join l r).pairs
   pub lone_left : stats.lone_left ≡ length (joined_of join l r).lone_left

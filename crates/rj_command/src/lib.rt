@@ -14,6 +14,7 @@ mod types;
 pub use fault::{Fault, Side};
 pub use line::{Line, read_line};
 pub use request::Request;
+pub use rj_engine::Open;
 pub use running::run;
 pub use script::arrivals;
 pub use stats::{PartitionRows, Stats};

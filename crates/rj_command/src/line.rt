@@ -1,8 +1,8 @@
 // Reading the words of the command line.
 
-ghost use Rattle.std.specs.Prelude.{◌≡◌, ◌⊎◌, ◌-◌, ◌^◌, IfOk, IfErr, Some, codes, is_some, map, true};
+ghost use Rattle.std.specs.Prelude.{◌≡◌, ◌⊎◌, ◌-◌, ◌^◌, IfOk, IfErr, Some, is_some, map, true};
 ghost use Rattle.clap.specs.Words.{first_value, found_of, kind_of};
-ghost use Rattle.rj_command.specs.Line.{AreSettings, IsLineFault, IsLineOf, IsNumberIn, IsNumberOr, IsParseOf, is_true};
+ghost use Rattle.rj_command.specs.Line.{AreNumbersIn, AreSettings, IsLineFault, IsLineOf, IsNumberIn, IsNumberOr, IsParseOf, is_true};
 
 use super::fault::{Fault, Side};
 use super::options::line_command;
@@ -74,17 +74,17 @@ fn number_or(matches: &ArgMatches<'_>, name: &str, other: u32) -> u32
 // The settings of a join: where nothing else is asked, one worker, 16 partitions, blocks of 1,024 rows, one lane of 64
 // parcels, and one retry.
 fn settings_of(matches: &ArgMatches<'_>) -> Settings
-    requires { IsNumberIn 0 10 (first_value (found_of matches.now) (codes "bits1")) }
+    requires { AreNumbersIn (first_value (found_of matches.now)) }
     ensures { AreSettings (first_value (found_of matches.now)) result }
 {
     Settings {
-        workers: 1,
+        workers: number_or(matches, "workers", 1),
         bits1: number_or(matches, "bits1", 4),
         bits2: 0,
-        block: 1024,
-        lanes: 1,
-        capacity: 64,
-        retries: 1,
+        block: number_or(matches, "block", 1024),
+        lanes: number_or(matches, "lanes", 1),
+        capacity: number_or(matches, "capacity", 64),
+        retries: number_or(matches, "retries", 1),
     }
 }
 

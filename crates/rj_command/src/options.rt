@@ -28,7 +28,7 @@ pub(crate) struct LineOption {
     help: &'static str,
 }
 
-const OPTIONS: [LineOption; 8] = [
+const OPTIONS: [LineOption; 13] = [
     LineOption {
         name: "left",
         takes: Takes::Required,
@@ -63,6 +63,31 @@ const OPTIONS: [LineOption; 8] = [
         name: "bits1",
         takes: Takes::Number(0, 10),
         help: "Bits of the hash that partition the tables, 0 to 10 [default: 4]",
+    },
+    LineOption {
+        name: "workers",
+        takes: Takes::Number(1, 64),
+        help: "Threads that scan the tables, and as many that join, 1 to 64 [default: 1]",
+    },
+    LineOption {
+        name: "block",
+        takes: Takes::Number(1, 65_536),
+        help: "Rows that a scanning thread hands on at once, 1 to 65536 [default: 1024]",
+    },
+    LineOption {
+        name: "capacity",
+        takes: Takes::Number(1, 4096),
+        help: "Blocks that wait in a queue at most, 1 to 4096 [default: 64]",
+    },
+    LineOption {
+        name: "lanes",
+        takes: Takes::Number(1, 4),
+        help: "Queues that lead to each partition, 1 to 4 [default: 1]",
+    },
+    LineOption {
+        name: "retries",
+        takes: Takes::Number(0, 3),
+        help: "Times that a part of the tables is scanned again where memory was short, 0 to 3 [default: 1]",
     },
     LineOption {
         name: "stats",

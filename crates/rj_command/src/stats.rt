@@ -5,7 +5,7 @@ ghost use Rattle.rj_command.specs.Statistics.{partition_text, stats_text};
 
 use std::fmt;
 
-/// How many rows of each table were routed to a partition. The text is its line, without the line end.
+/// How many rows of each table were delivered to a partition. The text is its line, without the line end.
 #[derive(Clone, Copy, Debug, PartialEq, Eq)]
 pub struct PartitionRows {
     /// The partition, counted from 0.

@@ -43,7 +43,23 @@ fn truth_of(keyword: Keyword) -> Option<Truth>
         Keyword::False => Some(Truth::False),
         Keyword::Unknown => Some(Truth::Unknown),
         Keyword::True => Some(Truth::True),
-        _ => None,
+        Keyword::And
+        | Keyword::Between
+        | Keyword::Cross
+        | Keyword::Full
+        | Keyword::In
+        | Keyword::Inner
+        | Keyword::Is
+        | Keyword::Join
+        | Keyword::Left
+        | Keyword::Natural
+        | Keyword::Not
+        | Keyword::Null
+        | Keyword::On
+        | Keyword::Or
+        | Keyword::Outer
+        | Keyword::Right
+        | Keyword::Using => None,
     }
 }
 

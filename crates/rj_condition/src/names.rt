@@ -4,6 +4,7 @@ ghost use Rattle.std.specs.Prelude.{◌≡◌, ◌≢◌, ◌<◌, IfOk, IfErr, 
 ghost use Rattle.std.specs.List.{position_from};
 ghost use Rattle.std.specs.Str.{bytes_eq, str_eq_ignore_ascii_case};
 ghost use Rattle.std.specs.Option.{option_copied};
+ghost use Rattle.rj_condition.specs.Names as names;
 ghost use Rattle.rj_condition.specs.Names.{matches, qualified, resolved_operand};
 
 use crate::bound::BoundOperand;
@@ -64,6 +65,36 @@ pub(crate) fn column_called(table: &Table, called: &str) -> Option<usize>
     None
 }
 
+// What an unqualified name means that stands in these columns: it stands in exactly one table.
+fn in_one(left: Option<usize>, right: Option<usize>) -> Result<BoundOperand, BindRefused>
+    ensures { result ≡ names.in_one left right }
+{
+    match (left, right) {
+        (Some(_), Some(_)) => Err(BindRefused::AmbiguousColumn),
+        (Some(i), None) => Ok(BoundOperand::Left(i)),
+        (None, Some(j)) => Ok(BoundOperand::Right(j)),
+        (None, None) => Err(BindRefused::UnknownColumn),
+    }
+}
+
+fn in_left(column: Option<usize>) -> Result<BoundOperand, BindRefused>
+    ensures { result ≡ names.in_left column }
+{
+    match column {
+        Some(i) => Ok(BoundOperand::Left(i)),
+        None => Err(BindRefused::UnknownColumn),
+    }
+}
+
+fn in_right(column: Option<usize>) -> Result<BoundOperand, BindRefused>
+    ensures { result ≡ names.in_right column }
+{
+    match column {
+        Some(j) => Ok(BoundOperand::Right(j)),
+        None => Err(BindRefused::UnknownColumn),
+    }
+}
+
 // The column that the name means, perhaps qualified by its table's name.
 fn resolve_column(
     qualifier: Option<&Name>,
@@ -74,23 +105,12 @@ fn resolve_column(
     ensures { result ≡ qualified left.now.names right.now.names (option_copied qualifier.entry) name.now }
 {
     match qualifier {
-        None => match (column_named(left, name), column_named(right, name)) {
-            (Some(_), Some(_)) => Err(BindRefused::AmbiguousColumn),
-            (Some(i), None) => Ok(BoundOperand::Left(i)),
-            (None, Some(j)) => Ok(BoundOperand::Right(j)),
-            (None, None) => Err(BindRefused::UnknownColumn),
-        },
+        None => in_one(column_named(left, name), column_named(right, name)),
         Some(table) => {
             if is_name_of(table, "L") {
-                match column_named(left, name) {
-                    Some(i) => Ok(BoundOperand::Left(i)),
-                    None => Err(BindRefused::UnknownColumn),
-                }
+                in_left(column_named(left, name))
             } else if is_name_of(table, "R") {
-                match column_named(right, name) {
-                    Some(j) => Ok(BoundOperand::Right(j)),
-                    None => Err(BindRefused::UnknownColumn),
-                }
+                in_right(column_named(right, name))
             } else {
                 Err(BindRefused::UnknownColumn)
             }

@@ -2,7 +2,7 @@
 
 mod binding;
 mod parsing;
+mod samples;
 mod splitting;
-mod tables;
 mod truths;
 mod wrapping;

@@ -9,3 +9,8 @@ pub mod Rising
 pub mod Parts
 pub mod Sources
 pub mod Grown
+pub mod Stripes
+pub mod Starts
+pub mod Within
+pub mod Whole
+pub mod Delivered

@@ -5,3 +5,4 @@ pub mod Origins
 pub mod Cells
 pub mod Limits
 pub mod Partitioned
+pub mod Stripes

@@ -1,21 +1,26 @@
 //! The joined table of SQL-92 (7.5) over two tables: its rows by their numbers, its header and its cells.
 #![tactic(auto)]
 
+mod dealing;
 mod gathering;
 mod joined;
 mod marks;
 mod origin;
 mod partitions;
 mod plain;
+mod scattering;
 mod settings;
+mod sizes;
 #[cfg(test)]
 mod tests;
 mod view;
+mod working;
 
 pub use gathering::gather;
 pub use joined::{Joined, JoinedRow, Rows};
 pub use marks::unmatched;
 pub use partitions::run_join;
 pub use plain::nested_loop;
+pub use rj_workers::{Gate, Open, Place};
 pub use settings::Settings;
 pub use view::{View, header};

@@ -1,5 +1,5 @@
 -- Each move keeps the rule of the stripe queue.
-use Rattle.std.proofs.Common.{◌≡◌, ◌≢◌, ℕ, zero, suc, ◌+◌, ◌<◌, ◌≤◌, List, [], ◌∷◌, ◌++◌, length, set, sym, refl, ap, ◌∙◌, subst, ⊎_elim, arith, lt_of_not-le}
+use Rattle.std.proofs.Common.{◌≡◌, ◌≢◌, ℕ, zero, suc, ◌+◌, ◌<◌, ◌≤◌, List, [], ◌∷◌, ◌++◌, length, set, sym, refl, ap, ◌∙◌, subst, ⊎_elim, ◌⊎◌, ◌↔◌, inl, inr, arith, lt_of_not-le}
 use mathlib.Core.Option.{some, some-injective, some-ne-none}
 use mathlib.Core.Logic.{dite}
 use native.Mathlib.Decide.{ℕ_discrete, dec_le}
@@ -160,3 +160,15 @@ first_left x n l left lt = let f : ℕ → ℕ = here x in let s = left f in let
 
 pub holds_last : (old new : List ℕ) (x : ℕ) → new ≡ old ++ x ∷ [] → 0 < times x new
 holds_last old new x e = let f : ℕ → ℕ = here x in let t = total-snoc f old x in let a = ap (total f) e in let s = here_same x in omega arith
+
+pub gains_one : (old new : List ℕ) (s x : ℕ) → new ≡ old ++ s ∷ [] → (0 < times x new) ↔ ((0 < times x old) ⊎ (x ≡ s))
+gains_one old new s x is =
+    let t = ap (times x) is in let u = total-snoc (here x) old s in (
+      λ h. dite (ℕ_discrete s x) (λ e. inr (sym e)) (λ ne. inl (let z = here_other x s ne in omega arith)),
+      λ h. elim h [ inl o ↦ omega arith | inr e ↦ (let z : here x s ≡ 1 = ap (here x) (sym e) ∙ here_same x in omega arith) ],
+    )
+
+pub put_back_undoes : (xs : List ℕ) (s x : ℕ) → times x (without s (xs ++ s ∷ [])) ≡ times x xs
+put_back_undoes xs s x =
+    let u = total-snoc (here x) xs s in
+    let w = total-without (here x) s (xs ++ s ∷ []) (holds_last xs (xs ++ s ∷ []) s refl) in omega arith

@@ -75,6 +75,15 @@ IsOutboxAt e n o = IsOutboxOf e o × (o.number ≡ n)
 abbrev pub IsInboxAt : Exchange → ℕ → Inbox → Type 0
 IsInboxAt e p i = IsInboxOf e i × (i.partition ≡ p)
 
+-- all outboxes of the exchange, by number
+abbrev pub AreAllOutboxes : Exchange → List Outbox → Type 0
+AreAllOutboxes e os = (length os ≡ e.outboxes) × ((o : ℕ) (d : Outbox) → o < e.outboxes → IsOutboxAt e o (slice_index_or os o d))
+
+-- of what outboxes leave, the stubs for partition p, by outbox, then lane
+pub record AreLeftAt (e : Exchange) (p : ℕ) (os : List Outbox) (ss : List Stub) : Type 0 where
+  pub many : length ss ≡ e.outboxes * e.lanes
+  pub each : (o k : ℕ) (d : Outbox) (s : Stub) → o < e.outboxes → k < e.lanes → slice_index_or ss (o * e.lanes + k) s ≡ slice_index_or (slice_index_or os o d).stubs.items (p * e.lanes + k) s
+
 -- what is left of a list after its first n
 abbrev pub IsLater : ℕ → List Stub → List Stub → Type 0
 IsLater n old new = (length new + n ≡ length old) × ((i : ℕ) (d : Stub) → slice_index_or new i d ≡ slice_index_or old (n + i) d)

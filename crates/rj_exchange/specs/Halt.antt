@@ -11,6 +11,10 @@ HasRaised s = s.raised ≡ true
 abbrev pub HasSeen : HaltSeat → Type 0
 HasSeen s = s.seen ≡ true
 
+-- it has neither raised the word nor seen it raised
+abbrev pub IsCalm : HaltSeat → Type 0
+IsCalm s = (HasRaised s → ⊥) × (HasSeen s → ⊥)
+
 abbrev pub halt_seats_of : Halt → ℕ
 halt_seats_of h = h.table.shared.key
 

@@ -1,5 +1,5 @@
 -- What the contracts of stripes say.
-use Rattle.std.specs.Prelude.{◌≡◌, ℕ, ◌<◌, List, [], length, All, Option}
+use Rattle.std.specs.Prelude.{◌≡◌, ℕ, ◌<◌, List, [], length, slice_index_or, All, Option}
 use Rattle.std.proofs.Common.{Global}
 use Rattle.crossbeam_queue.specs.declared.array_queue.Doing.{Doing}
 use Rattle.crossbeam_queue.specs.declared.array_queue.Slotted.{Slotted}
@@ -52,6 +52,13 @@ AreAllStripeSeats t ss = (length ss ≡ stripe_seats_of t) × All (IsStripeSeatO
 
 abbrev pub Holds : StripeSeat → ℕ → Type 0
 Holds s x = 0 < times x (held s)
+
+-- one of the seats holds x, and no other does
+pub record HasHolder (x : ℕ) (ss : List StripeSeat) : Type 0 where
+  pub place : ℕ
+  pub within : place < length ss
+  pub holds : (d : StripeSeat) → Holds (slice_index_or ss place d) x
+  pub alone : (i : ℕ) (d : StripeSeat) → i < length ss → Holds (slice_index_or ss i d) x → i ≡ place
 
 -- what a seat knows of the queue at a moment
 abbrev pub Queued : StripeSeat → List Stripe → Type 0

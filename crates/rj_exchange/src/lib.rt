@@ -5,11 +5,13 @@
 //! queue or word and all tokens stands between any two steps, whatever the schedule of the threads. Where all tokens are
 //! handed in, `finish` tells what the rule says of them together.
 //!
-//! Every call asks boxes, stubs and seats that were opened with the value that they are used with.
+//! Every call asks boxes, stubs and seats that were opened with the value that they are used with. The functions of `laws` do
+//! nothing: their contracts are facts that callers conclude from.
 #![tactic(auto)]
 
 mod boxes;
 mod halt;
+mod laws;
 mod posted;
 mod queue;
 mod stripes;
@@ -19,6 +21,7 @@ mod tickets;
 
 pub use boxes::{Exchange, Finished, Full, Inbox, Outbox, Stub};
 pub use halt::{Halt, HaltSeat};
+pub use laws::{all_sent_holds, holder, put_back_undoes, stubs_by_partition};
 pub use posted::Posted;
 pub use stripes::{StripeSeat, Stripes};
 pub use tickets::{Seat, Tickets};

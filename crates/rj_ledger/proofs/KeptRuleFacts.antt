@@ -1,5 +1,5 @@
 -- The rules over the kept parcels alone give the ledger's answers.
-use Rattle.std.proofs.Common.{IsSome, ◌≡◌, ℕ, zero, suc, ◌+◌, ◌-◌, ◌<◌, ◌≤◌, ◌==◌, Bool, true, false, cond, not, ◌||◌, ◌&&◌, List, [], ◌∷◌, length, nat_lt, nat_le, refl, ap, sym, ◌∙◌, arith, subst, inl, inr, ◌⊎◌, is_some, Some, None, Option, eq-eqb, length-set}
+use Rattle.std.proofs.Common.{IsSome, ◌≡◌, ℕ, zero, suc, ◌+◌, ◌-◌, ◌<◌, ◌≤◌, ◌==◌, Bool, true, false, cond, not, ◌||◌, ◌&&◌, List, [], ◌∷◌, length, nat_lt, nat_le, refl, ap, sym, ◌∙◌, arith, subst, inl, inr, ◌⊎◌, is_some, Some, None, Option, eq-eqb}
 use Rattle.std.proofs.lemmas.List.{length-replicate}
 use Rattle.std.proofs.lemmas.Bool.Decides.{nat_tests}
 use Rattle.rj_ledger.specs.declared.parcel.Body.{Body}
@@ -10,7 +10,7 @@ use Rattle.rj_ledger.specs.declared.parcel.Answer.{Answer}
 use Rattle.rj_ledger.specs.declared.parcel.Answer.TheVariants.{Accepted, Held, Refused}
 use Rattle.rj_ledger.specs.Standing.{Standing, is_close, Orderly, IsSound, nothing_yet}
 use Rattle.rj_ledger.specs.Rules.{is_bad_length, holds, holds_close_below, holds_above, refusal}
-use Rattle.rj_ledger.specs.Ledgers.{LedgerValue, standing, opened, answer_to, after_answer, after_offer, answers}
+use Rattle.rj_ledger.specs.Ledgers.{LedgerValue, standing, opened, answer_to, after_offer, answers}
 use Rattle.rj_ledger.specs.Kept.{rows_below, keep, body_in, held_at, is_close_at, close_below, Agrees, Keeps, AreKeptOnce}
 use Rattle.rj_ledger.specs.KeptRules.{IsGapIn, ShowsKept, next_in, some_of, is_closed_in, is_kept_in, holds_close_before, holds_after, kept_answer, kept_answers}
 use Rattle.rj_ledger.specs.Reading.{gap_before}
@@ -18,7 +18,7 @@ use Rattle.rj_ledger.proofs.KeptFacts.{none_held_below, number_apart, number_apa
 use Rattle.rj_ledger.proofs.PlanFacts.{holds_is}
 use Rattle.rj_ledger.proofs.LawfulFacts.{wrong, unknown, refused, next, later, outcome, passing_is}
 use Rattle.rj_ledger.proofs.LedgerFacts.{keeps_offer, keeps_opened}
-use Rattle.rj_ledger.proofs.EngineFacts.{accepted_counts, kept_once}
+use Rattle.rj_ledger.proofs.EngineFacts.{accepted_counts, kept_once, same_shape}
 
 -- how many numbers below n pass
 abbrev count_below : (ℕ → Bool) → ℕ → ℕ
@@ -128,7 +128,7 @@ same_truth false false f g = refl
 same_number : (a b : ℕ) → (a == b) ≡ true → a ≡ b
 same_number a b h = grind (arith, nat_tests)
 
-lt_is : (a b : ℕ) → a < b → nat_lt a b ≡ true
+pub lt_is : (a b : ℕ) → a < b → nat_lt a b ≡ true
 lt_is a b h = grind (arith, nat_tests)
 
 lt_if : (a b : ℕ) → nat_lt a b ≡ true → a < b
@@ -197,7 +197,7 @@ abbrev held_any : (ℕ → Body → Bool) → List (ℕ × Body) → Bool
 held_any test [] = false
 held_any test (e ∷ es) = test e.0 e.1 || held_any test es
 
-close_is_any : (n : ℕ) (es : List (ℕ × Body)) → holds_close_below n es ≡ held_any (λ m b. is_close b && nat_lt m n) es
+pub close_is_any : (n : ℕ) (es : List (ℕ × Body)) → holds_close_below n es ≡ held_any (λ m b. is_close b && nat_lt m n) es
 close_is_any n [] = refl
 close_is_any n (e ∷ es) = ap (λ (t : Bool). (is_close e.1 && nat_lt e.0 n) || t) (close_is_any n es)
 
@@ -222,7 +222,7 @@ held_if test (e ∷ es) least o h = elim (or_cases _ _ h) [
       record { number = p.number; body = p.body; from = omega arith; is = ap (λ (t : Bool). cond t (Some e.1) (held_at p.number es)) (number_apart_above e.0 p.number (omega arith)) ∙ p.is; pass = p.pass }
 ]
 
-any_if : (test : ℕ → Body → Bool) (es : List (ℕ × Body)) (m : ℕ) (b : Body) → held_at m es ≡ Some b → test m b ≡ true → held_any test es ≡ true
+pub any_if : (test : ℕ → Body → Bool) (es : List (ℕ × Body)) (m : ℕ) (b : Body) → held_at m es ≡ Some b → test m b ≡ true → held_any test es ≡ true
 any_if test [] m b h t = cc
 any_if test (e ∷ es) m b h t = elim (truth (e.0 == m)) [
   | inl hit ↦ let body : e.1 ≡ b = some_body_is e.1 b (ap (λ (u : Bool). cond u (Some e.1) (held_at m es)) (sym hit) ∙ h) in
@@ -252,7 +252,7 @@ closes_if f (suc n) h = elim (or_cases _ _ h) [
 below_or_at : (m n : ℕ) → m < suc n → (m < n) ⊎ (m ≡ n)
 below_or_at m n h = grind arith
 
-close_if : (f : ℕ → Option Body) (n m : ℕ) (b : Body) → m < n → f m ≡ Some b → is_close b ≡ true → close_below f n ≡ true
+pub close_if : (f : ℕ → Option Body) (n m : ℕ) (b : Body) → m < n → f m ≡ Some b → is_close b ≡ true → close_below f n ≡ true
 close_if f zero m b l h c = absurd (omega arith)
 close_if f (suc n) m b l h c = elim (below_or_at m n l) [
   | inl q ↦ or_right _ _ (close_if f n m b q h c)
@@ -339,26 +339,11 @@ known_answer q n block ks x t right known once sound a =
     ∙ ap (λ (u : Bool). five t.closed d e u) (sym (above_same q n ks x.sender x.number t once sound a))
     ∙ in_order b t.closed d e (is_close x.body && g) (accepting ks x)
 
-same_partition : (a : Answer) (v : LedgerValue) (x : Parcel) → (after_answer a v x).partition ≡ v.partition
-same_partition (Accepted n) v x = refl
-same_partition Held v x = refl
-same_partition (Refused r) v x = refl
-
-same_block : (a : Answer) (v : LedgerValue) (x : Parcel) → (after_answer a v x).block ≡ v.block
-same_block (Accepted n) v x = refl
-same_block Held v x = refl
-same_block (Refused r) v x = refl
-
-same_senders : (a : Answer) (v : LedgerValue) (x : Parcel) → length (after_answer a v x).senders ≡ length v.senders
-same_senders (Accepted n) v x = length-set _ _ _
-same_senders Held v x = length-set _ _ _
-same_senders (Refused r) v x = refl
-
 accept_counts : (ks : List Parcel) (v : LedgerValue) (x : Parcel) (c : ℕ) → Keeps ks v → x.sender < length v.senders → answer_to v x ≡ Accepted c → next_in (x ∷ ks) x.sender - next_in ks x.sender ≡ c
 accept_counts ks v x c k known h =
     let before : next_in ks x.sender ≡ (standing v x.sender).next = next_is ks x.sender (standing v x.sender) (k x.sender known).1 in
     let kept : Keeps (x ∷ ks) (after_offer v x) = subst (λ (a : Answer). Keeps (keep a x ks) (after_offer v x)) h (keeps_offer ks v x k) in
-    let there : x.sender < length (after_offer v x).senders = subst (λ (m : ℕ). x.sender < m) (sym (same_senders (answer_to v x) v x)) known in
+    let there : x.sender < length (after_offer v x).senders = subst (λ (m : ℕ). x.sender < m) (sym ((same_shape v x).senders)) known in
     let after : next_in (x ∷ ks) x.sender ≡ (standing (after_offer v x) x.sender).next = next_is (x ∷ ks) x.sender (standing (after_offer v x) x.sender) (kept x.sender there).1 in
     let moved : (standing (after_offer v x) x.sender).next ≡ (standing v x.sender).next + c = accepted_counts v x c h in
     omega arith
@@ -401,7 +386,7 @@ all_rules q n block (x ∷ xs) ks v eq en eb k once =
     let once_here : AreKeptOnce v.partition (length v.senders) ks = subst (λ (p : ℕ). AreKeptOnce p (length v.senders) ks) (sym eq) (subst (λ (m : ℕ). AreKeptOnce q m ks) (sym en) once) in
     let one : answer_to v x ≡ kept_answer q n block ks x = one_rule ks v x k once_here ∙ ap (λ (p : ℕ). kept_answer p (length v.senders) v.block ks x) eq ∙ ap (λ (m : ℕ). kept_answer q m v.block ks x) en ∙ ap (λ (m : ℕ). kept_answer q n m ks x) eb in
     let once_after : AreKeptOnce q n (keep (answer_to v x) x ks) = subst (λ (p : ℕ). AreKeptOnce p n (keep (answer_to v x) x ks)) eq (subst (λ (m : ℕ). AreKeptOnce v.partition m (keep (answer_to v x) x ks)) en (kept_once (x ∷ []) ks v k once_here)) in
-    let more : answers (after_offer v x) xs ≡ kept_answers q n block (keep (answer_to v x) x ks) xs = all_rules q n block xs (keep (answer_to v x) x ks) (after_offer v x) (same_partition (answer_to v x) v x ∙ eq) (same_senders (answer_to v x) v x ∙ en) (same_block (answer_to v x) v x ∙ eb) (keeps_offer ks v x k) once_after in
+    let more : answers (after_offer v x) xs ≡ kept_answers q n block (keep (answer_to v x) x ks) xs = all_rules q n block xs (keep (answer_to v x) x ks) (after_offer v x) ((same_shape v x).partition ∙ eq) ((same_shape v x).senders ∙ en) ((same_shape v x).block ∙ eb) (keeps_offer ks v x k) once_after in
     ap (λ (as' : List Answer). answer_to v x ∷ as') more ∙ ap (λ (a : Answer). a ∷ kept_answers q n block (keep a x ks) xs) one
 
 pub replay_rules : (q n block : ℕ) (xs : List Parcel) → answers (opened q n block) xs ≡ kept_answers q n block [] xs

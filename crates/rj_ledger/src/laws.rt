@@ -1,19 +1,44 @@
 // Laws: each of these functions does nothing, and its contract is a fact about every ledger, list of parcels or plan.
 
-ghost use Rattle.std.specs.Prelude.{List, slice_get, [], ◌≡◌, ◌<◌, ◌+◌, ℕ, true, Some, length};
+ghost use Rattle.std.specs.Prelude.{List, slice_get, [], ◌++◌, ◌≡◌, ◌<◌, ◌+◌, ℕ, true, Some, length, All, Contains};
 ghost use Rattle.rj_ledger.specs.declared.parcel.Parcel.{Parcel};
 ghost use Rattle.rj_ledger.specs.declared.parcel.Answer.TheVariants.{Accepted};
-ghost use Rattle.rj_ledger.specs.Cutting.{plan};
-ghost use Rattle.rj_ledger.specs.Ledgers.{LedgerValue, opened, standing, answer_to, after_offer, answers, after_all};
+ghost use Rattle.rj_ledger.specs.Cutting.{bodies, plan, IsPlacedAt};
+ghost use Rattle.rj_ledger.specs.Ledgers.{LedgerValue, opened, standing, answer_to, after_offer, answers, after_all, IsComplete, IsSameShape};
 ghost use Rattle.rj_ledger.specs.Reading.{IsRefused};
-ghost use Rattle.rj_ledger.specs.Kept.{AreKeptOnce, keep, kept, Keeps};
-ghost use Rattle.rj_ledger.specs.KeptRules.{ShowsKept, kept_answers};
+ghost use Rattle.rj_ledger.specs.Kept.{AreKeptOnce, AreClosedLast, keep, kept, Keeps};
+ghost use Rattle.rj_ledger.specs.KeptRules.{ShowsKept, kept_answer, kept_answers};
 ghost use Rattle.rj_ledger.specs.Lawful.{AreLawful, IsPlanned, HasAll, AreAmong, planned_answers};
-ghost use Rattle.rj_ledger.specs.Delivery.{Delivers, AreExactly};
+ghost use Rattle.rj_ledger.specs.Delivery.{Delivers, DeliversAll, AreExactly};
 
 /// An offer keeps a ledger in agreement with the kept parcels, whatever they are.
 pub fn offer_keeps()
     ensures { (ks : List Parcel) (v : LedgerValue) (x : Parcel) → Keeps ks v → Keeps (keep (answer_to v x) x ks) (after_offer v x) }
+{}
+
+/// No parcel is kept twice: an offer keeps none whose sender and number a kept one has.
+pub fn offer_keeps_once()
+    ensures { (ks : List Parcel) (v : LedgerValue) (x : Parcel) → Keeps ks v → AreKeptOnce v.partition (length v.senders) ks → AreKeptOnce v.partition (length v.senders) (keep (answer_to v x) x ks) }
+{}
+
+/// Of any list each parcel is kept at most once.
+pub fn kept_once()
+    ensures { (q n block : ℕ) (xs : List Parcel) → AreKeptOnce q n (kept xs (answers (opened q n block) xs)) }
+{}
+
+/// While a close is kept, be it held or delivered, an offer keeps no larger number of its sender.
+pub fn offer_keeps_close_last()
+    ensures { (ks : List Parcel) (v : LedgerValue) (x : Parcel) → Keeps ks v → AreClosedLast ks → AreClosedLast (keep (answer_to v x) x ks) }
+{}
+
+/// Of any list the kept close of a sender is the last of its kept parcels, be it held or delivered.
+pub fn close_is_last()
+    ensures { (q n block : ℕ) (xs : List Parcel) → AreClosedLast (kept xs (answers (opened q n block) xs)) }
+{}
+
+/// The answer to one offer is that of the nine rules read over the kept parcels alone.
+pub fn offer_rules()
+    ensures { (ks : List Parcel) (v : LedgerValue) (x : Parcel) → Keeps ks v → AreKeptOnce v.partition (length v.senders) ks → answer_to v x ≡ kept_answer v.partition (length v.senders) v.block ks x }
 {}
 
 /// The answers to any list are those of the nine rules read over the kept parcels alone.
@@ -37,6 +62,28 @@ pub fn closed_refuses()
     ensures { (v : LedgerValue) (x : Parcel) → (standing v x.sender).closed ≡ true → IsRefused (answer_to v x) }
 {}
 
+/// A complete ledger refuses each parcel, and stays as it is whatever is offered.
+pub fn complete_stays()
+    ensures refuses { (v : LedgerValue) (x : Parcel) → IsComplete v → IsRefused (answer_to v x) }
+    ensures stays { (v : LedgerValue) (xs : List Parcel) → IsComplete v → after_all v xs ≡ v }
+{}
+
+/// Whatever is offered, a ledger's partition, block size and number of senders stay.
+pub fn shape_stays()
+    ensures { (v : LedgerValue) (xs : List Parcel) → IsSameShape v (after_all v xs) }
+{}
+
+/// Offering one list and then another is offering the two as one.
+pub fn offers_go_on()
+    ensures answers { (v : LedgerValue) (xs ys : List Parcel) → answers v (xs ++ ys) ≡ answers v xs ++ answers (after_all v xs) ys }
+    ensures ledger { (v : LedgerValue) (xs ys : List Parcel) → after_all v (xs ++ ys) ≡ after_all (after_all v xs) ys }
+{}
+
+/// Arrivals each of which is planned are lawful.
+pub fn lawful_if_all()
+    ensures { (due : ℕ → ℕ → List ℕ) (block : ℕ) (xs : List Parcel) → All (IsPlanned due block) xs → AreLawful due block xs }
+{}
+
 /// The answers to any lawful arrivals, offered one by one to a ledger to which nothing was offered.
 pub fn offers_answer()
     ensures { (due : ℕ → ℕ → List ℕ) (block q n : ℕ) → 0 < block → (xs : List Parcel) → AreLawful due block xs → answers (opened q n block) xs ≡ planned_answers due block q n [] xs }
@@ -52,6 +99,11 @@ pub fn offers_deliver()
     ensures { (due : ℕ → ℕ → List ℕ) (block q n : ℕ) → 0 < block → (xs : List Parcel) → AreLawful due block xs → Delivers due block q n xs (after_all (opened q n block) xs) }
 {}
 
+/// A parcel of a plan has the plan's sender and partition, its place there as its number, and carries what stands there.
+pub fn plan_is_placed()
+    ensures { (block s p i : ℕ) (rows : List ℕ) (x : Parcel) → slice_get (plan block rows s p) i ≡ Some x → IsPlacedAt s p i (bodies block rows) x }
+{}
+
 /// The parcels of a cut are planned.
 pub fn cut_is_planned()
     ensures { (due : ℕ → ℕ → List ℕ) (block s p i : ℕ) (x : Parcel) → slice_get (plan block (due s p) s p) i ≡ Some x → IsPlanned due block x }
@@ -60,4 +112,10 @@ pub fn cut_is_planned()
 /// Arrivals among which the plans of all senders stand, in any order and number, are complete.
 pub fn all_plans_suffice()
     ensures { (due : ℕ → ℕ → List ℕ) (block q n : ℕ) (xs : List Parcel) → ((s : ℕ) → s < n → AreAmong (plan block (due s q) s q) xs) → HasAll due block q n xs }
+{}
+
+/// Planned arrivals that contain the plans of all senders, in any order and number, leave a ledger that is complete and has
+/// delivered of each sender what was due.
+pub fn contained_suffice()
+    ensures { (due : ℕ → ℕ → List ℕ) (block q n : ℕ) → 0 < block → (xs : List Parcel) → All (IsPlanned due block) xs → ((s : ℕ) → s < n → All (Contains xs) (plan block (due s q) s q)) → DeliversAll due q n (after_all (opened q n block) xs) }
 {}

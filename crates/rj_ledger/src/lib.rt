@@ -15,8 +15,10 @@ mod parcel;
 
 pub use cutting::cut;
 pub use laws::{
-    accepted_counts, all_plans_suffice, closed_refuses, cut_is_planned, offer_keeps, offers_answer,
-    offers_deliver, offers_keep_exactly, replay_rules, shows_kept,
+    accepted_counts, all_plans_suffice, close_is_last, closed_refuses, complete_stays,
+    contained_suffice, cut_is_planned, kept_once, lawful_if_all, offer_keeps,
+    offer_keeps_close_last, offer_keeps_once, offer_rules, offers_answer, offers_deliver,
+    offers_go_on, offers_keep_exactly, plan_is_placed, replay_rules, shape_stays, shows_kept,
 };
 pub use ledger::{Ledger, replay};
 pub use parcel::{Answer, Block, Body, Parcel, Reason};

@@ -1,50 +1,48 @@
 // Faults of binding, and the columns that names mean.
 
-use crate::binding::bind;
-use crate::bound::BoundJoin;
-use crate::parsing::parse;
 use crate::refused::BindRefused;
-use crate::tests::tables::{join_of, numbers_and_texts, three_columns};
+use crate::tests::samples::{INT, Sample, TEXT, join_of, tables};
 use crate::tree::JoinKind;
 use rj_columns::Table;
 use std::alloc::Global;
-use std::test::Fail;
 
-// Why the clause is not bound, if so.
-fn refusal(
-    alloc: Global,
-    text: &str,
-    left: &Table,
-    right: &Table,
-) -> Result<Option<BindRefused>, Fail> {
-    let clause = parse(alloc, text)?;
-    match bind(alloc, &clause, left, right) {
-        Ok(_) => Ok(None),
-        Err(refused) => Ok(Some(refused)),
+// A text and why its clause is not bound, if so.
+type Case<'a> = (&'a str, Option<BindRefused>);
+
+fn fault(alloc: Global, text: &str, left: &Table, right: &Table) -> Option<BindRefused> {
+    match join_of(alloc, text, left, right) {
+        Ok(_) => None,
+        Err(refused) => Some(refused),
     }
 }
 
-// The first text whose clause has another fault than the one that stands beside it; empty where there is none.
-fn first_wrong<'a>(
-    alloc: Global,
-    rows: &[(&'a str, Option<BindRefused>)],
-    left: &Table,
-    right: &Table,
-) -> Result<&'a str, Fail> {
-    for row in rows {
-        if refusal(alloc, row.0, left, right)? != row.1 {
-            return Ok(row.0);
+fn wrong_of<'a>(alloc: Global, cases: &[Case<'a>], left: &Table, right: &Table) -> &'a str {
+    for case in cases {
+        if fault(alloc, case.0, left, right) != case.1 {
+            return case.0;
         }
     }
-    Ok("")
+    ""
 }
 
-fn without_rows(alloc: Global, number: &str, word: &str) -> Result<Table, Fail> {
-    let table = numbers_and_texts(alloc, (number, word), [].as_slice())?;
-    Ok(table)
+// The first text whose clause has another fault; empty where there is none.
+fn first_wrong<'a>(
+    alloc: Global,
+    left: Sample<'_>,
+    right: Sample<'_>,
+    cases: &[Case<'a>],
+) -> &'a str {
+    match tables(alloc, left, right) {
+        Some((left, right)) => wrong_of(alloc, cases, &left, &right),
+        None => "the tables",
+    }
 }
 
-const CLAUSE_FAULTS: [(&str, Option<BindRefused>); 9] = [
+const NAMES: Sample<'static> = (&[b"id", b"name"], &[INT, TEXT], &[]);
+
+const CITIES: Sample<'static> = (&[b"id", b"city"], &[INT, TEXT], &[]);
+
+const CLAUSE_FAULTS: [Case<'static>; 9] = [
     ("JOIN USING (zip)", Some(BindRefused::UnknownColumn)),
     ("JOIN ON id = 1", Some(BindRefused::AmbiguousColumn)),
     ("JOIN ON L.id = 'x'", Some(BindRefused::TypeMismatch)),
@@ -62,21 +60,17 @@ const CLAUSE_FAULTS: [(&str, Option<BindRefused>); 9] = [
     ),
 ];
 
-fn wrong_fault(alloc: Global) -> Result<&'static str, Fail> {
-    let left = without_rows(alloc, "id", "name")?;
-    let right = without_rows(alloc, "id", "city")?;
-    let wrong = first_wrong(alloc, CLAUSE_FAULTS.as_slice(), &left, &right)?;
-    Ok(wrong)
-}
-
 #[test]
-fn clause_faults(rt: HostRuntime) -> Result<(), Fail> {
-    let wrong = wrong_fault(rt.alloc())?;
-    assert_eq!(rt; wrong, "");
-    Ok(())
+fn clause_faults(rt: HostRuntime) {
+    assert_eq!(rt;
+        first_wrong(rt.alloc(), NAMES, CITIES, CLAUSE_FAULTS.as_slice()),
+        ""
+    );
 }
 
-const DELIMITED_NAMES: [(&str, Option<BindRefused>); 5] = [
+const CITIES_IN_CAPITALS: Sample<'static> = (&[b"ID", b"city"], &[INT, TEXT], &[]);
+
+const DELIMITED_NAMES: [Case<'static>; 5] = [
     ("JOIN USING (id)", None),
     ("JOIN USING (\"id\")", Some(BindRefused::UnknownColumn)),
     ("JOIN ON \"id\" = 1", None),
@@ -84,45 +78,42 @@ const DELIMITED_NAMES: [(&str, Option<BindRefused>); 5] = [
     ("JOIN ON \"l\".id = 1", Some(BindRefused::UnknownColumn)),
 ];
 
-fn wrong_delimited(alloc: Global) -> Result<&'static str, Fail> {
-    let left = without_rows(alloc, "id", "name")?;
-    let right = without_rows(alloc, "ID", "city")?;
-    let wrong = first_wrong(alloc, DELIMITED_NAMES.as_slice(), &left, &right)?;
-    Ok(wrong)
-}
-
 #[test]
-fn delimited_names(rt: HostRuntime) -> Result<(), Fail> {
-    let wrong = wrong_delimited(rt.alloc())?;
+fn delimited_names(rt: HostRuntime) {
+    let wrong = first_wrong(
+        rt.alloc(),
+        NAMES,
+        CITIES_IN_CAPITALS,
+        DELIMITED_NAMES.as_slice(),
+    );
     assert_eq!(rt; wrong, "");
-    Ok(())
 }
 
-fn three_names(alloc: Global, a: &str, b: &str, c: &str) -> Result<Table, Fail> {
-    let table = three_columns(alloc, (a, b, c), [].as_slice())?;
-    Ok(table)
+const AKB: Sample<'static> = (&[b"a", b"k", b"b"], &[INT, INT, INT], &[]);
+
+const BCA: Sample<'static> = (&[b"B", b"c", b"A"], &[INT, INT, INT], &[]);
+
+// Whether the join is of this kind and joins the columns of one name, which stand the other way round.
+fn is_turned_join(alloc: Global, text: &str, kind: JoinKind, left: &Table, right: &Table) -> bool {
+    match join_of(alloc, text, left, right) {
+        Ok(join) => join.kind() == kind && join.partners() == [Some(2), None, Some(0)].as_slice(),
+        Err(_) => false,
+    }
 }
 
-// The join of two tables that have their first and third columns in common, the other way round.
-fn turned(alloc: Global, text: &str) -> Result<BoundJoin, Fail> {
-    let left = three_names(alloc, "a", "k", "b")?;
-    let right = three_names(alloc, "B", "c", "A")?;
-    let join = join_of(alloc, text, &left, &right)?;
-    Ok(join)
-}
-
-const TURNED: [Option<usize>; 3] = [Some(2), None, Some(0)];
-
-#[test]
-fn join_column_order(rt: HostRuntime) -> Result<(), Fail> {
-    let join = turned(rt.alloc(), "JOIN USING (b, a)")?;
-    assert!(rt; join.partners() == TURNED.as_slice());
-    Ok(())
+fn is_turned(alloc: Global, text: &str, kind: JoinKind) -> bool {
+    match tables(alloc, AKB, BCA) {
+        Some((left, right)) => is_turned_join(alloc, text, kind, &left, &right),
+        None => false,
+    }
 }
 
 #[test]
-fn natural_column_order(rt: HostRuntime) -> Result<(), Fail> {
-    let join = turned(rt.alloc(), "NATURAL FULL JOIN")?;
-    assert!(rt; join.kind() == JoinKind::Full && join.partners() == TURNED.as_slice());
-    Ok(())
+fn join_column_order(rt: HostRuntime) {
+    assert!(rt; is_turned(rt.alloc(), "JOIN USING (b, a)", JoinKind::Inner));
+}
+
+#[test]
+fn natural_column_order(rt: HostRuntime) {
+    assert!(rt; is_turned(rt.alloc(), "NATURAL FULL JOIN", JoinKind::Full));
 }

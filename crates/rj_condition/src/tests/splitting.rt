@@ -1,91 +1,121 @@
 // What joins are split into: the pairs of key columns, and the truth of the remainder, which is that of a clause.
 
-ghost use Rattle.std.specs.Prelude.{◌≡◌, true};
+ghost use Rattle.std.specs.Prelude.{◌≡◌, ◌<◌, length, true};
+ghost use Rattle.rj_condition.specs.Fits.{fits};
 ghost use Rattle.rj_condition.specs.Parts.{split_fits};
 
+use crate::bound::BoundJoin;
 use crate::parts::Split;
 use crate::splitting::split;
-use crate::tests::tables::{join_of, letter, three_columns, truths, two_columns};
-use rj_columns::Table;
+use crate::tests::samples::{INT, Sample, join_of, tables};
+use rj_columns::{Cell, Table};
 use std::alloc::{AllocError, Global};
-use std::test::Fail;
 
-// A letter for the truth of the remainder at each pair of rows, by left, then right row number.
-fn remainder_letters(
-    alloc: Global,
-    parts: &Split<'_>,
-    left: &Table,
-    right: &Table,
-) -> Result<String, AllocError>
-    requires { split_fits parts.now left.now.types right.now.types ≡ true }
+// Whether the remainder is as true as a join at a left row and each right row.
+fn is_row(parts: &Split<'_>, rest: &BoundJoin, left: &Table, row: u32, right: &Table) -> bool
+    requires row { row < length left.now.rows }
+    requires parts { split_fits parts.now left.now.types right.now.types ≡ true }
+    requires rest { fits rest.now left.now.types right.now.types ≡ true }
 {
-    let mut letters = String::new(alloc);
-    for i in 0..left.rows() as u32 {
-        for j in 0..right.rows() as u32 {
-            letters.push(letter(parts.remainder.truth(left, i, right, j)))?;
+    for j in 0..right.rows() as u32 {
+        if parts.remainder.truth(left, row, right, j) != rest.truth(left, row, right, j) {
+            return false;
         }
     }
-    Ok(letters)
+    true
+}
+
+// Whether it is at each pair of rows.
+fn are_rows(parts: &Split<'_>, rest: &BoundJoin, left: &Table, right: &Table) -> bool
+    requires parts { split_fits parts.now left.now.types right.now.types ≡ true }
+    requires rest { fits rest.now left.now.types right.now.types ≡ true }
+{
+    for i in 0..left.rows() as u32 {
+        if !is_row(parts, rest, left, i, right) {
+            return false;
+        }
+    }
+    true
 }
 
 // A clause, its key columns, the same in both tables, and a clause that its remainder means.
 type Case<'a> = (&'a str, &'a [usize], &'a str);
 
-fn has_keys(alloc: Global, parts: &Split<'_>, keys: &[usize]) -> Result<bool, AllocError> {
-    let lefts = parts.left_columns(alloc)?;
-    let rights = parts.right_columns(alloc)?;
-    Ok(lefts.as_slice() == keys && rights.as_slice() == keys)
+fn are(columns: Result<Vec<usize>, AllocError>, want: &[usize]) -> bool {
+    match columns {
+        Ok(columns) => columns.as_slice() == want,
+        Err(_) => false,
+    }
 }
 
-fn has_rest(
-    alloc: Global,
-    parts: &Split<'_>,
-    rest: &str,
-    left: &Table,
-    right: &Table,
-) -> Result<bool, Fail>
+fn has_keys(alloc: Global, parts: &Split<'_>, keys: &[usize]) -> bool {
+    are(parts.left_columns(alloc), keys) && are(parts.right_columns(alloc), keys)
+}
+
+fn has_rest(alloc: Global, parts: &Split<'_>, rest: &str, left: &Table, right: &Table) -> bool
     requires { split_fits parts.now left.now.types right.now.types ≡ true }
 {
-    let found = remainder_letters(alloc, parts, left, right)?;
-    let letters = truths(alloc, rest, left, right)?;
-    Ok(found.as_str() == letters.as_str())
+    match join_of(alloc, rest, left, right) {
+        Ok(rest) => are_rows(parts, &rest, left, right),
+        Err(_) => false,
+    }
 }
 
-fn is_right(alloc: Global, case: Case<'_>, left: &Table, right: &Table) -> Result<bool, Fail> {
-    let join = join_of(alloc, case.0, left, right)?;
-    let parts = split(alloc, &join)?;
-    if !has_keys(alloc, &parts, case.1)? {
-        return Ok(false);
+fn has_parts(alloc: Global, join: &BoundJoin, case: Case<'_>, left: &Table, right: &Table) -> bool
+    requires { fits join.now left.now.types right.now.types ≡ true }
+{
+    match split(alloc, join) {
+        Ok(parts) => {
+            has_keys(alloc, &parts, case.1) && has_rest(alloc, &parts, case.2, left, right)
+        }
+        Err(_) => false,
     }
-    has_rest(alloc, &parts, case.2, left, right)
+}
+
+fn is_right(alloc: Global, case: Case<'_>, left: &Table, right: &Table) -> bool {
+    match join_of(alloc, case.0, left, right) {
+        Ok(join) => has_parts(alloc, &join, case, left, right),
+        Err(_) => false,
+    }
+}
+
+fn wrong_of<'a>(alloc: Global, cases: &[Case<'a>], left: &Table, right: &Table) -> &'a str {
+    for case in cases {
+        if !is_right(alloc, *case, left, right) {
+            return case.0;
+        }
+    }
+    ""
 }
 
 // The first clause of the cases that has other parts; empty where there is none.
 fn first_wrong<'a>(
     alloc: Global,
+    left: Sample<'_>,
+    right: Sample<'_>,
     cases: &[Case<'a>],
-    left: &Table,
-    right: &Table,
-) -> Result<&'a str, Fail> {
-    for case in cases {
-        if !is_right(alloc, *case, left, right)? {
-            return Ok(case.0);
-        }
+) -> &'a str {
+    match tables(alloc, left, right) {
+        Some((left, right)) => wrong_of(alloc, cases, &left, &right),
+        None => "the tables",
     }
-    Ok("")
 }
 
-fn three_rows(alloc: Global) -> Result<Table, Fail> {
-    let rows = [(1, 1, 5), (1, 2, 6), (2, 1, 9)];
-    let table = three_columns(alloc, ("a", "d", "x"), rows.as_slice())?;
-    Ok(table)
-}
+const THREE_ROWS: Sample<'static> = (
+    &[b"a", b"d", b"x"],
+    &[INT, INT, INT],
+    &[
+        &[Cell::Int(1), Cell::Int(1), Cell::Int(5)],
+        &[Cell::Int(1), Cell::Int(2), Cell::Int(6)],
+        &[Cell::Int(2), Cell::Int(1), Cell::Int(9)],
+    ],
+);
 
-fn two_rows(alloc: Global) -> Result<Table, Fail> {
-    let rows = [(Some(1), Some(2)), (None, Some(1))];
-    let table = two_columns(alloc, ("b", "c"), rows.as_slice())?;
-    Ok(table)
-}
+const TWO_ROWS: Sample<'static> = (
+    &[b"b", b"c"],
+    &[INT, INT],
+    &[&[Cell::Int(1), Cell::Int(2)], &[Cell::Null, Cell::Int(1)]],
+);
 
 const NESTED: [Case<'static>; 1] = [(
     "JOIN ON L.a = R.b AND (R.c = L.d AND L.x > 5)",
@@ -93,31 +123,33 @@ const NESTED: [Case<'static>; 1] = [(
     "JOIN ON L.x > 5",
 )];
 
-fn wrong_nested(alloc: Global) -> Result<&'static str, Fail> {
-    let left = three_rows(alloc)?;
-    let right = two_rows(alloc)?;
-    let wrong = first_wrong(alloc, NESTED.as_slice(), &left, &right)?;
-    Ok(wrong)
-}
-
 #[test]
-fn nested_conjunction(rt: HostRuntime) -> Result<(), Fail> {
-    let wrong = wrong_nested(rt.alloc())?;
-    assert_eq!(rt; wrong, "");
-    Ok(())
+fn nested_conjunction(rt: HostRuntime) {
+    assert_eq!(rt;
+        first_wrong(rt.alloc(), THREE_ROWS, TWO_ROWS, NESTED.as_slice()),
+        ""
+    );
 }
 
-fn lefts(alloc: Global) -> Result<Table, Fail> {
-    let rows = [(Some(1), Some(3)), (Some(2), Some(2)), (Some(2), None)];
-    let table = two_columns(alloc, ("a", "b"), rows.as_slice())?;
-    Ok(table)
-}
+const LEFTS: Sample<'static> = (
+    &[b"a", b"b"],
+    &[INT, INT],
+    &[
+        &[Cell::Int(1), Cell::Int(3)],
+        &[Cell::Int(2), Cell::Int(2)],
+        &[Cell::Int(2), Cell::Null],
+    ],
+);
 
-fn rights(alloc: Global) -> Result<Table, Fail> {
-    let rows = [(Some(2), Some(5)), (Some(1), Some(4)), (None, Some(1))];
-    let table = two_columns(alloc, ("a", "b"), rows.as_slice())?;
-    Ok(table)
-}
+const RIGHTS: Sample<'static> = (
+    &[b"a", b"b"],
+    &[INT, INT],
+    &[
+        &[Cell::Int(2), Cell::Int(5)],
+        &[Cell::Int(1), Cell::Int(4)],
+        &[Cell::Null, Cell::Int(1)],
+    ],
+);
 
 const EITHER: &str = "JOIN ON L.a = R.a OR L.b < R.b";
 
@@ -136,16 +168,10 @@ const KEYS_AND_RESTS: [Case<'static>; 6] = [
     ("CROSS JOIN", &[], "CROSS JOIN"),
 ];
 
-fn wrong_rest(alloc: Global) -> Result<&'static str, Fail> {
-    let left = lefts(alloc)?;
-    let right = rights(alloc)?;
-    let wrong = first_wrong(alloc, KEYS_AND_RESTS.as_slice(), &left, &right)?;
-    Ok(wrong)
-}
-
 #[test]
-fn keys_and_remainders(rt: HostRuntime) -> Result<(), Fail> {
-    let wrong = wrong_rest(rt.alloc())?;
-    assert_eq!(rt; wrong, "");
-    Ok(())
+fn keys_and_remainders(rt: HostRuntime) {
+    assert_eq!(rt;
+        first_wrong(rt.alloc(), LEFTS, RIGHTS, KEYS_AND_RESTS.as_slice()),
+        ""
+    );
 }

@@ -1,175 +1,252 @@
 // The truth of clauses at pairs of rows: a letter for each pair, by left, then right row number.
 
-use crate::tests::tables::{first_wrong, numbers_and_texts, one_column, truths, two_columns};
+ghost use Rattle.std.specs.Prelude.{◌≡◌, ◌<◌, length, true};
+ghost use Rattle.rj_condition.specs.Fits.{fits};
+
+use crate::bound::BoundJoin;
+use crate::tests::samples::{INT, Sample, TEXT, join_of, tables};
 use crate::tests::wrapping::wrapped;
-use rj_columns::Table;
+use crate::truth::Truth;
+use rj_columns::{Cell, Table};
 use std::alloc::Global;
-use std::test::Fail;
 
-fn number_and_null(alloc: Global) -> Result<Table, Fail> {
-    let rows = [(Some(1), Some(5)), (Some(2), None)];
-    let table = two_columns(alloc, ("k", "a"), rows.as_slice())?;
-    Ok(table)
+// A letter for a truth value: F, U or T.
+fn letter(truth: Truth) -> u8 {
+    match truth {
+        Truth::False => b'F',
+        Truth::Unknown => b'U',
+        Truth::True => b'T',
+    }
 }
 
-const NOT_AND_UNKNOWN: [(&str, &str); 4] = [
-    ("JOIN ON NOT (L.a = R.b)", "FU"),
-    ("JOIN ON (NOT (L.a = R.b)) IS UNKNOWN", "FT"),
-    ("JOIN ON NOT (L.a = R.b) IS UNKNOWN", "TF"),
-    ("JOIN ON NOT L.a <> R.b AND (L.a < 9) IS NOT FALSE", "TU"),
-];
-
-fn wrong_unknown(alloc: Global) -> Result<&'static str, Fail> {
-    let left = number_and_null(alloc)?;
-    let right = one_column(alloc, "b", [Some(5)].as_slice())?;
-    let wrong = first_wrong(alloc, NOT_AND_UNKNOWN.as_slice(), &left, &right)?;
-    Ok(wrong)
+// Whether a left row has these letters with each right row.
+fn is_row(join: &BoundJoin, left: &Table, row: u32, right: &Table, want: &[u8]) -> bool
+    requires row { row < length left.now.rows }
+    requires fits { fits join.now left.now.types right.now.types ≡ true }
+{
+    if want.len() as u64 != right.rows() {
+        return false;
+    }
+    for i in 0..want.len() {
+        if letter(join.truth(left, row, right, i as u32)) != want[i] {
+            return false;
+        }
+    }
+    true
 }
 
-#[test]
-fn not_and_unknown(rt: HostRuntime) -> Result<(), Fail> {
-    let wrong = wrong_unknown(rt.alloc())?;
-    assert_eq!(rt; wrong, "");
-    Ok(())
+// Whether each left row has its letters with each right row.
+fn are_rows(join: &BoundJoin, left: &Table, right: &Table, want: &[&[u8]]) -> bool
+    requires { fits join.now left.now.types right.now.types ≡ true }
+{
+    if want.len() as u64 != left.rows() {
+        return false;
+    }
+    for i in 0..want.len() {
+        if !is_row(join, left, i as u32, right, want[i]) {
+            return false;
+        }
+    }
+    true
 }
 
-fn lefts(alloc: Global) -> Result<Table, Fail> {
-    let rows = [(Some(1), Some(3)), (Some(2), Some(9))];
-    let table = two_columns(alloc, ("a", "b"), rows.as_slice())?;
-    Ok(table)
+// A clause and its letters, a text for each left row.
+type Case<'a> = (&'a str, &'a [&'a [u8]]);
+
+fn is_right(alloc: Global, case: Case<'_>, left: &Table, right: &Table) -> bool {
+    match join_of(alloc, case.0, left, right) {
+        Ok(join) => are_rows(&join, left, right, case.1),
+        Err(_) => false,
+    }
 }
 
-fn rights(alloc: Global) -> Result<Table, Fail> {
-    let rows = [(Some(2), Some(5)), (Some(1), Some(4))];
-    let table = two_columns(alloc, ("a", "b"), rows.as_slice())?;
-    Ok(table)
+fn wrong_of<'a>(alloc: Global, cases: &[Case<'a>], left: &Table, right: &Table) -> &'a str {
+    for case in cases {
+        if !is_right(alloc, *case, left, right) {
+            return case.0;
+        }
+    }
+    ""
 }
 
-fn either(alloc: Global) -> Result<String, Fail> {
-    let left = lefts(alloc)?;
-    let right = rights(alloc)?;
-    let letters = truths(alloc, "JOIN ON L.a = R.a OR L.b < R.b", &left, &right)?;
-    Ok(letters)
-}
-
-#[test]
-fn or_condition(rt: HostRuntime) -> Result<(), Fail> {
-    let letters = either(rt.alloc())?;
-    assert_eq!(rt; letters.as_str(), "TTTF");
-    Ok(())
-}
-
-fn three_rows(alloc: Global) -> Result<Table, Fail> {
-    let rows = [(Some(1), Some(1)), (Some(2), Some(5)), (Some(3), None)];
-    let table = two_columns(alloc, ("k", "x"), rows.as_slice())?;
-    Ok(table)
-}
-
-const ON_PREDICATES: [(&str, &str); 3] = [
-    ("JOIN ON L.x NOT BETWEEN 2 AND 9", "TFU"),
-    ("JOIN ON L.x IN (5, R.b)", "FTU"),
-    ("JOIN ON L.x IS NULL OR x > 4", "FTT"),
-];
-
-fn wrong_predicate(alloc: Global) -> Result<&'static str, Fail> {
-    let left = three_rows(alloc)?;
-    let right = one_column(alloc, "b", [Some(0)].as_slice())?;
-    let wrong = first_wrong(alloc, ON_PREDICATES.as_slice(), &left, &right)?;
-    Ok(wrong)
-}
-
-#[test]
-fn on_predicates(rt: HostRuntime) -> Result<(), Fail> {
-    let wrong = wrong_predicate(rt.alloc())?;
-    assert_eq!(rt; wrong, "");
-    Ok(())
-}
-
-fn names(alloc: Global) -> Result<Table, Fail> {
-    let rows = [(Some(1), "ann"), (Some(2), "bob"), (None, "cy")];
-    let table = numbers_and_texts(alloc, ("id", "name"), rows.as_slice())?;
-    Ok(table)
-}
-
-fn cities(alloc: Global) -> Result<Table, Fail> {
-    let rows = [(None, "rome"), (Some(2), "oslo"), (Some(5), "lima")];
-    let table = numbers_and_texts(alloc, ("id", "city"), rows.as_slice())?;
-    Ok(table)
-}
-
-const JOIN_COLUMNS: [(&str, &str); 4] = [
-    ("JOIN USING (id)", "UFFUTFUUU"),
-    ("NATURAL FULL JOIN", "UFFUTFUUU"),
-    ("JOIN ON L.id = R.id AND name <> city", "UFFUTFUUU"),
-    ("CROSS JOIN", "TTTTTTTTT"),
-];
-
-fn wrong_join_column(alloc: Global) -> Result<&'static str, Fail> {
-    let left = names(alloc)?;
-    let right = cities(alloc)?;
-    let wrong = first_wrong(alloc, JOIN_COLUMNS.as_slice(), &left, &right)?;
-    Ok(wrong)
-}
-
-#[test]
-fn join_columns(rt: HostRuntime) -> Result<(), Fail> {
-    let wrong = wrong_join_column(rt.alloc())?;
-    assert_eq!(rt; wrong, "");
-    Ok(())
-}
-
-// The truth at each pair of two rows of one column each, called `a` and `b`.
-fn pairs(alloc: Global, text: &str) -> Result<String, Fail> {
-    let left = one_column(alloc, "a", [Some(1), None].as_slice())?;
-    let right = one_column(alloc, "b", [None, Some(2)].as_slice())?;
-    let letters = truths(alloc, text, &left, &right)?;
-    Ok(letters)
-}
-
-#[test]
-fn no_common_column(rt: HostRuntime) -> Result<(), Fail> {
-    let letters = pairs(rt.alloc(), "NATURAL JOIN")?;
-    assert_eq!(rt; letters.as_str(), "TTTT");
-    Ok(())
-}
-
-// The truths of a text with a part that is repeated before it and another behind it.
-fn nested(
+// The first clause that has other letters; empty where there is none.
+fn first_wrong<'a>(
     alloc: Global,
-    (head, before): (&str, &str),
-    core: &str,
-    behind: &str,
-    times: u64,
-) -> Result<String, Fail> {
-    let text = wrapped(alloc, head, before, core, behind, times)?;
-    let letters = pairs(alloc, text.as_str())?;
-    Ok(letters)
+    left: Sample<'_>,
+    right: Sample<'_>,
+    cases: &[Case<'a>],
+) -> &'a str {
+    match tables(alloc, left, right) {
+        Some((left, right)) => wrong_of(alloc, cases, &left, &right),
+        None => "the tables",
+    }
+}
+
+const NUMBER_AND_NULL: Sample<'static> = (
+    &[b"k", b"a"],
+    &[INT, INT],
+    &[&[Cell::Int(1), Cell::Int(5)], &[Cell::Int(2), Cell::Null]],
+);
+
+const FIVE: Sample<'static> = (&[b"b"], &[INT], &[&[Cell::Int(5)]]);
+
+const NOT_AND_UNKNOWN: [Case<'static>; 4] = [
+    ("JOIN ON NOT (L.a = R.b)", &[b"F", b"U"]),
+    ("JOIN ON (NOT (L.a = R.b)) IS UNKNOWN", &[b"F", b"T"]),
+    ("JOIN ON NOT (L.a = R.b) IS UNKNOWN", &[b"T", b"F"]),
+    (
+        "JOIN ON NOT L.a <> R.b AND (L.a < 9) IS NOT FALSE",
+        &[b"T", b"U"],
+    ),
+];
+
+#[test]
+fn not_and_unknown(rt: HostRuntime) {
+    assert_eq!(rt;
+        first_wrong(
+            rt.alloc(),
+            NUMBER_AND_NULL,
+            FIVE,
+            NOT_AND_UNKNOWN.as_slice()
+        ),
+        ""
+    );
+}
+
+const LEFTS: Sample<'static> = (
+    &[b"a", b"b"],
+    &[INT, INT],
+    &[&[Cell::Int(1), Cell::Int(3)], &[Cell::Int(2), Cell::Int(9)]],
+);
+
+const RIGHTS: Sample<'static> = (
+    &[b"a", b"b"],
+    &[INT, INT],
+    &[&[Cell::Int(2), Cell::Int(5)], &[Cell::Int(1), Cell::Int(4)]],
+);
+
+const EITHER: [Case<'static>; 1] = [("JOIN ON L.a = R.a OR L.b < R.b", &[b"TT", b"TF"])];
+
+#[test]
+fn or_condition(rt: HostRuntime) {
+    assert_eq!(rt;
+        first_wrong(rt.alloc(), LEFTS, RIGHTS, EITHER.as_slice()),
+        ""
+    );
+}
+
+const THREE_ROWS: Sample<'static> = (
+    &[b"k", b"x"],
+    &[INT, INT],
+    &[
+        &[Cell::Int(1), Cell::Int(1)],
+        &[Cell::Int(2), Cell::Int(5)],
+        &[Cell::Int(3), Cell::Null],
+    ],
+);
+
+const ZERO: Sample<'static> = (&[b"b"], &[INT], &[&[Cell::Int(0)]]);
+
+const ON_PREDICATES: [Case<'static>; 3] = [
+    ("JOIN ON L.x NOT BETWEEN 2 AND 9", &[b"T", b"F", b"U"]),
+    ("JOIN ON L.x IN (5, R.b)", &[b"F", b"T", b"U"]),
+    ("JOIN ON L.x IS NULL OR x > 4", &[b"F", b"T", b"T"]),
+];
+
+#[test]
+fn on_predicates(rt: HostRuntime) {
+    assert_eq!(rt;
+        first_wrong(rt.alloc(), THREE_ROWS, ZERO, ON_PREDICATES.as_slice()),
+        ""
+    );
+}
+
+const NAMES: Sample<'static> = (
+    &[b"id", b"name"],
+    &[INT, TEXT],
+    &[
+        &[Cell::Int(1), Cell::Text("ann")],
+        &[Cell::Int(2), Cell::Text("bob")],
+        &[Cell::Null, Cell::Text("cy")],
+    ],
+);
+
+const CITIES: Sample<'static> = (
+    &[b"id", b"city"],
+    &[INT, TEXT],
+    &[
+        &[Cell::Null, Cell::Text("rome")],
+        &[Cell::Int(2), Cell::Text("oslo")],
+        &[Cell::Int(5), Cell::Text("lima")],
+    ],
+);
+
+const JOIN_COLUMNS: [Case<'static>; 4] = [
+    ("JOIN USING (id)", &[b"UFF", b"UTF", b"UUU"]),
+    ("NATURAL FULL JOIN", &[b"UFF", b"UTF", b"UUU"]),
+    (
+        "JOIN ON L.id = R.id AND name <> city",
+        &[b"UFF", b"UTF", b"UUU"],
+    ),
+    ("CROSS JOIN", &[b"TTT", b"TTT", b"TTT"]),
+];
+
+#[test]
+fn join_columns(rt: HostRuntime) {
+    assert_eq!(rt;
+        first_wrong(rt.alloc(), NAMES, CITIES, JOIN_COLUMNS.as_slice()),
+        ""
+    );
+}
+
+const ONE_OR_NULL: Sample<'static> = (&[b"a"], &[INT], &[&[Cell::Int(1)], &[Cell::Null]]);
+
+const NULL_OR_TWO: Sample<'static> = (&[b"b"], &[INT], &[&[Cell::Null], &[Cell::Int(2)]]);
+
+// Whether the text is true at each pair of rows of two tables that have no column in common.
+fn is_true(alloc: Global, text: &str) -> bool {
+    let row = b"TT".as_slice();
+    let rows = [row, row];
+    let cases = [(text, rows.as_slice())];
+    first_wrong(alloc, ONE_OR_NULL, NULL_OR_TWO, cases.as_slice()).is_empty()
 }
 
 #[test]
-fn nested_parentheses(rt: HostRuntime) -> Result<(), Fail> {
-    let letters = nested(rt.alloc(), ("JOIN ON ", "("), "1 = 1", ")", 64)?;
-    assert_eq!(rt; letters.as_str(), "TTTT");
-    Ok(())
+fn no_common_column(rt: HostRuntime) {
+    assert!(rt; is_true(rt.alloc(), "NATURAL JOIN"));
+}
+
+// Whether a text is, with a part that is repeated before it and another behind it.
+fn is_true_nested(alloc: Global, before: &str, behind: &str, times: u64) -> bool {
+    match wrapped(alloc, "JOIN ON ", before, "1 = 1", behind, times) {
+        Ok(text) => is_true(alloc, text.as_str()),
+        Err(_) => false,
+    }
 }
 
 #[test]
-fn nested_negations(rt: HostRuntime) -> Result<(), Fail> {
-    let letters = nested(rt.alloc(), ("JOIN ON ", "NOT "), "1 = 1", "", 64)?;
-    assert_eq!(rt; letters.as_str(), "TTTT");
-    Ok(())
+fn nested_parentheses(rt: HostRuntime) {
+    assert!(rt; is_true_nested(rt.alloc(), "(", ")", 64));
 }
 
 #[test]
-fn nested_both(rt: HostRuntime) -> Result<(), Fail> {
-    let letters = nested(rt.alloc(), ("JOIN ON ", "NOT ("), "1 = 1", ")", 32)?;
-    assert_eq!(rt; letters.as_str(), "TTTT");
-    Ok(())
+fn nested_negations(rt: HostRuntime) {
+    assert!(rt; is_true_nested(rt.alloc(), "NOT ", "", 64));
 }
 
 #[test]
-fn longest_text(rt: HostRuntime) -> Result<(), Fail> {
-    let letters = nested(rt.alloc(), ("NATURAL JOIN", " "), "", "", 65_524)?;
-    assert_eq!(rt; letters.as_str(), "TTTT");
-    Ok(())
+fn nested_both(rt: HostRuntime) {
+    assert!(rt; is_true_nested(rt.alloc(), "NOT (", ")", 32));
+}
+
+fn is_longest_true(alloc: Global) -> bool {
+    match wrapped(alloc, "NATURAL JOIN", " ", "", "", 65_524) {
+        Ok(text) => is_true(alloc, text.as_str()),
+        Err(_) => false,
+    }
+}
+
+#[test]
+fn longest_text(rt: HostRuntime) {
+    assert!(rt; is_longest_true(rt.alloc()));
 }

@@ -1,6 +1,7 @@
 //! The calls of the halt word.
 ghost use Rattle.std.specs.Prelude.{◌≡◌, ◌≤◌, ◌⊎◌, ◌↔◌, All, IfOk, IsTrue};
-ghost use Rattle.rj_exchange.specs.Halt.{HasRaised, HasSeen, halt_seats_of, IsHaltSeatOf, IsNewHalt, AreAllHaltSeats, AnyRaised, AnySeen};
+ghost use Rattle.rj_exchange.specs.Halt.{HasRaised, HasSeen, IsCalm, halt_seats_of, IsHaltSeatOf, IsNewHalt, AreAllHaltSeats, AnyRaised, AnySeen};
+ghost use Rattle.std.specs.Bool.{OnFalse};
 
 use super::{CutLook, Halt, HaltSeat, Looks, Raises};
 use atomic_table::Table;
@@ -64,6 +65,7 @@ impl Halt {
         requires { AreAllHaltSeats self seats.items }
         ensures raised { IsTrue result ↔ AnyRaised seats.items }
         ensures seen { AnySeen seats.items → IsTrue result }
+        ensures calm { OnFalse result (All IsCalm seats.items) }
     {
         let Halt { table } = self;
         let mut seats = seats;

@@ -1,5 +1,5 @@
 //! The calls of stripes.
-ghost use Rattle.std.specs.Prelude.{◌≡◌, ◌≤◌, ◌<◌, ◌+◌, ◌++◌, ◌∷◌, [], ◌↔◌, ℕ, map, All, IfOk, IfSome, IsTrue, MatchOption};
+ghost use Rattle.std.specs.Prelude.{◌≡◌, ◌≤◌, ◌<◌, ◌+◌, ◌++◌, ◌∷◌, [], ◌↔◌, ◌⊎◌, ℕ, map, All, IfOk, IfSome, IsTrue, MatchOption};
 ghost use Rattle.crossbeam_queue.specs.Passes.{view, IsPassOf, IsSamePass, ruled_capacity};
 ghost use Rattle.crossbeam_queue.specs.Fifo.{Held};
 ghost use Rattle.rj_exchange.specs.Totals.{total};
@@ -94,6 +94,7 @@ impl Stripes {
         ensures seat { IsStripeSeatOf self.now seat.new }
         ensures held { MatchOption result ((held seat.new ≡ held seat.old) × Held 0 (Queued seat.old)) (λ x. (held seat.new ≡ held seat.old ++ x.0 ∷ []) × (x.0 < stripes_of self.now)) }
         ensures holds { IfSome result (λ x. Holds seat.new x.0) }
+        ensures gains { IfSome result (λ x. (y : ℕ) → Holds seat.new y ↔ (Holds seat.old y ⊎ (y ≡ x.0))) }
         ensures drawn { MatchOption result (draws seat.new ≡ draws seat.old) (λ x. draws seat.new ≡ draws seat.old ++ stripe x.0 x.1 ∷ []) }
         ensures put { puts seat.new ≡ puts seat.old }
     {

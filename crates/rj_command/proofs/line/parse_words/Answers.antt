@@ -34,7 +34,14 @@ returns-in-Ok-try_get_matches_from-clause-ok c =
       left_types = given 2 (lit< tt) refl got.parsed;
       right_types = given 3 (lit< tt) refl got.parsed;
       join = given 4 (lit< tt) refl got.parsed;
-      bits1 = number 6 0 10 (lit< tt) refl got.parsed;
+      numbers = record {
+        bits1 = number 6 0 10 (lit< tt) refl got.parsed;
+        workers = number 7 1 64 (lit< tt) refl got.parsed;
+        block = number 8 1 65536 (lit< tt) refl got.parsed;
+        capacity = number 9 1 4096 (lit< tt) refl got.parsed;
+        lanes = number 10 1 4 (lit< tt) refl got.parsed;
+        retries = number 11 0 3 (lit< tt) refl got.parsed;
+      };
     }
 
 pub returns-in-Err-clause-fault : goal.returns-in-Err-clause-fault

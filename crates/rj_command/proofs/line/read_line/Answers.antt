@@ -15,13 +15,13 @@ value-or v o u d is got empty = ap (λ (s : Bor Text). s.now) got ∙ (shown o �
 -- settings by the values that a parse found are those by the words
 same-settings : (found word : Text → Option Text) (s : Settings) → ((name : Text) → found name ≡ word name) → AreSettings found s → AreSettings word s
 same-settings found word s same are = record {
-  workers = are.workers;
+  workers = subst (λ (o : Option Text). IsNumberOr 1 o s.workers) (same (codes "workers")) are.workers;
   bits1 = subst (λ (o : Option Text). IsNumberOr 4 o s.bits1) (same (codes "bits1")) are.bits1;
   bits2 = are.bits2;
-  block = are.block;
-  lanes = are.lanes;
-  capacity = are.capacity;
-  retries = are.retries;
+  block = subst (λ (o : Option Text). IsNumberOr 1024 o s.block) (same (codes "block")) are.block;
+  lanes = subst (λ (o : Option Text). IsNumberOr 1 o s.lanes) (same (codes "lanes")) are.lanes;
+  capacity = subst (λ (o : Option Text). IsNumberOr 64 o s.capacity) (same (codes "capacity")) are.capacity;
+  retries = subst (λ (o : Option Text). IsNumberOr 1 o s.retries) (same (codes "retries")) are.retries;
 }
 
 pub returns-clause-line : goal.returns-clause-line

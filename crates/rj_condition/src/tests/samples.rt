@@ -1,0 +1,92 @@
+// Small tables, and joins bound to them.
+
+ghost use Rattle.std.specs.Prelude.{◌≡◌, IfOk, map, true};
+ghost use Rattle.rj_columns.specs.Contents.{content_of, FitsType};
+ghost use Rattle.rj_columns.specs.Tables.{FitsTypes};
+ghost use Rattle.rj_condition.specs.Fits.{fits};
+
+use crate::binding::bind;
+use crate::bound::BoundJoin;
+use crate::parsing::parse;
+use crate::refused::BindRefused;
+use rj_columns::{Cell, ColumnType, Table, TableBuilder};
+use std::alloc::Global;
+
+/// The names, the types and the rows of a table.
+pub type Sample<'a> = (&'a [&'a [u8]], &'a [ColumnType], &'a [&'a [Cell<'a>]]);
+
+/// A column of numbers.
+pub const INT: ColumnType = ColumnType::Int;
+
+/// A column of texts.
+pub const TEXT: ColumnType = ColumnType::Text;
+
+const FEW: u64 = 9;
+
+fn is_typed(kind: ColumnType, cell: Cell<'_>) -> bool
+    ensures { result ≡ true → FitsType kind (content_of cell.entry) }
+{
+    match (kind, cell) {
+        (ColumnType::Int, Cell::Null | Cell::Int(_)) => true,
+        (ColumnType::Text, Cell::Null | Cell::Text(_)) => true,
+        _ => false,
+    }
+}
+
+// Whether there is a cell for each type, null or of it.
+#[tactic(auto, unfolding(rj_columns::specs::Tables::FitsTypes))]
+fn are_typed(types: &[ColumnType], cells: &[Cell<'_>]) -> bool
+    ensures { result ≡ true → FitsTypes types.now (map content_of cells.now) }
+{
+    match (types, cells) {
+        ([], []) => true,
+        ([kind, types @ ..], [cell, cells @ ..]) => {
+            is_typed(*kind, *cell) && are_typed(types, cells)
+        }
+        _ => false,
+    }
+}
+
+// Adds a row, and says whether it did.
+fn push(builder: &mut TableBuilder, types: &[ColumnType], cells: &[Cell<'_>]) -> bool
+    requires { builder.old.table.types ≡ types.now }
+    ensures { builder.new.table.types ≡ types.now }
+{
+    builder.rows() < FEW && are_typed(types, cells) && builder.push_row(cells).is_ok()
+}
+
+fn table(alloc: Global, (names, types, rows): Sample<'_>) -> Option<Table> {
+    let Ok(mut builder) = TableBuilder::new(alloc, names, types) else {
+        return None;
+    };
+    for row in rows {
+        if !push(&mut builder, types, row) {
+            return None;
+        }
+    }
+    Some(builder.finish())
+}
+
+/// Both tables.
+pub fn tables(alloc: Global, left: Sample<'_>, right: Sample<'_>) -> Option<(Table, Table)> {
+    match (table(alloc, left), table(alloc, right)) {
+        (Some(left), Some(right)) => Some((left, right)),
+        _ => None,
+    }
+}
+
+/// The join that the text is, bound to the tables. A text that is no clause is refused as want of memory, which no
+/// test asks for.
+pub fn join_of(
+    alloc: Global,
+    text: &str,
+    left: &Table,
+    right: &Table,
+) -> Result<BoundJoin, BindRefused>
+    ensures { IfOk result (λ join. fits join left.now.types right.now.types ≡ true) }
+{
+    match parse(alloc, text) {
+        Ok(clause) => bind(alloc, &clause, left, right),
+        Err(_) => Err(BindRefused::Memory),
+    }
+}

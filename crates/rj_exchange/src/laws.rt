@@ -1,0 +1,33 @@
+//! Laws: each of these functions does nothing, and its contract is a fact about all stubs, seats and parcels.
+ghost use Rattle.std.specs.Prelude.{List, [], ◌∷◌, ◌++◌, ◌≡◌, ◌<◌, ◌+◌, ◌*◌, ◌↔◌, ℕ, map, Contains, slice_index_or};
+ghost use Rattle.rj_ledger.specs.declared.parcel.Parcel.{Parcel};
+ghost use Rattle.rj_exchange.specs.declared.posted.Posted.{Posted};
+ghost use Rattle.rj_exchange.specs.declared.boxes.Stub.{Stub};
+ghost use Rattle.rj_exchange.specs.declared.boxes.Outbox.{Outbox};
+ghost use Rattle.rj_exchange.specs.declared.boxes.Exchange.{Exchange};
+ghost use Rattle.rj_exchange.specs.declared.stripes.StripeSeat.{StripeSeat};
+ghost use Rattle.rj_exchange.specs.Passing.{posted_by};
+ghost use Rattle.rj_exchange.specs.Boxes.{sent_of, AreAllOutboxes, AreLeftAt, AreStubsOf, IsAllSent};
+ghost use Rattle.rj_exchange.specs.Tickets.{times, EachOnce};
+ghost use Rattle.rj_exchange.specs.Striping.{without};
+ghost use Rattle.rj_exchange.specs.Stripes.{held, HasHolder};
+
+/// Where seats together hold the numbers below n, each once, each of these is held by exactly one of them.
+pub fn holder()
+    ensures { (n x : ℕ) (ss : List StripeSeat) → EachOnce n (map held ss) → x < n → HasHolder x ss }
+{}
+
+/// A number that is drawn and then put back leaves each number held as often as before.
+pub fn put_back_undoes()
+    ensures { (xs : List ℕ) (s x : ℕ) → times x (without s (xs ++ s ∷ [])) ≡ times x xs }
+{}
+
+/// Of what all outboxes leave, the stubs for a partition, by outbox and then lane, are those that its inbox asks for.
+pub fn stubs_by_partition()
+    ensures { (e : Exchange) (p : ℕ) (os : List Outbox) (ss : List Stub) → AreAllOutboxes e os → p < e.partitions → AreLeftAt e p os ss → AreStubsOf e p ss }
+{}
+
+/// What is all that was sent to a lane has a parcel with an outbox's number exactly where this outbox sent it there.
+pub fn all_sent_holds()
+    ensures { (lanes k : ℕ) (ss : List Stub) (xs : List Posted) → IsAllSent lanes ss k xs → (o : ℕ) (x : Parcel) → Contains xs (posted_by o x) ↔ Contains (slice_index_or (map sent_of ss) (o * lanes + k) []) x }
+{}

@@ -1,0 +1,38 @@
+-- How ledgers change by offers.
+use Rattle.std.proofs.Common.{◌≡◌, ℕ, zero, suc, List, [], ◌∷◌, ◌++◌, length, refl, sym, ap, ◌∙◌, subst, replicate, map, append-nil, append_assoc}
+use Rattle.rj_ledger.specs.declared.parcel.Parcel.{Parcel}
+use Rattle.rj_ledger.specs.Standing.{nothing_yet}
+use Rattle.rj_ledger.specs.Ledgers.{LedgerValue, IsComplete, IsSameShape, opened, after_offer, after_all}
+use Rattle.rj_exchange.specs.declared.posted.Posted.{Posted}
+use Rattle.rj_exchange.specs.Boxes.{PostedVec}
+use Rattle.rj_workers.specs.Arrivals.{rows_by_sender, parcel_of, parcels_of}
+use Rattle.rj_workers.specs.Takes.{Joins, IsJoining}
+use Rattle.rj_workers.specs.declared.take.Joining.{Joining}
+use Rattle.rj_workers.specs.declared.take.Joining.TheVariants.{Waiting, Left, Done}
+
+pub after_append : (v : LedgerValue) (xs ys : List Parcel) → after_all v (xs ++ ys) ≡ after_all (after_all v xs) ys
+after_append v [] ys = refl
+after_append v (x ∷ xs) ys = after_append (after_offer v x) xs ys
+
+length-replicate : {A : Type 0} (n : ℕ) (a : A) → length (replicate n a) ≡ n
+length-replicate zero a = refl
+length-replicate (suc n) a = ap suc (length-replicate n a)
+
+pub senders_opened : ((v : LedgerValue) (xs : List Parcel) → IsSameShape v (after_all v xs)) → (v : LedgerValue) (p n block : ℕ) (xs : List Parcel) → v ≡ after_all (opened p n block) xs → length v.senders ≡ n
+senders_opened stays v p n block xs is = ap (λ (u : LedgerValue). length u.senders) is ∙ (stays (opened p n block) xs).senders ∙ length-replicate n nothing_yet
+
+-- what was joined stays joined
+module _ (joins : Joins) (v w : LedgerValue) (stays : IsComplete v → w ≡ v) where
+  pub joining_kept : (j : Joining) → IsJoining joins v j → IsJoining joins w j
+  joining_kept Waiting h = tt
+  joining_kept Left h = tt
+  joining_kept (Done pairs) h = subst (λ (u : LedgerValue). IsComplete u × joins (rows_by_sender u) pairs.items) (sym (stays h.0)) h
+
+-- the parcels of a list that has one more
+pub parcels_snoc : (xs : List Posted) (x : Posted) → map parcel_of (xs ++ x ∷ []) ≡ map parcel_of xs ++ x.parcel ∷ []
+parcels_snoc [] x = refl
+parcels_snoc (y ∷ ys) x = ap (λ (l : List Parcel). y.parcel ∷ l) (parcels_snoc ys x)
+
+pub rests_snoc : (xs : List PostedVec) (x : PostedVec) → parcels_of (xs ++ x ∷ []) ≡ parcels_of xs ++ map parcel_of x.items
+rests_snoc [] x = append-nil (map parcel_of x.items)
+rests_snoc (y ∷ ys) x = ap (λ (l : List Parcel). map parcel_of y.items ++ l) (rests_snoc ys x) ∙ sym (append_assoc (map parcel_of y.items) (parcels_of ys) (map parcel_of x.items))

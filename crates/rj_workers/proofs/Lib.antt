@@ -1,0 +1,10 @@
+pub mod Lists
+pub mod Posts
+pub mod Held
+pub mod Sends
+pub mod Takes
+pub mod Ledgers
+pub mod Ends
+pub mod Parts
+pub mod Wholes
+pub mod Openings

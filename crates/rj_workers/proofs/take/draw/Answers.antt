@@ -1,0 +1,15 @@
+use Rattle.std.proofs.Common.{◌≡◌, ◌+◌, [], ℕ, sym, subst, ap, ◌∙◌}
+use Rattle.std.specs.Prelude.{All}
+use Rattle.std.proofs.lemmas.List.Elements.{All-push}
+use Rattle.rj_ledger.specs.Ledgers.{opened}
+use Rattle.rj_workers.specs.Takes.{IsHeld}
+use Rattle.rj_workers.proofs.take.draw.Goals as goal
+
+pub returns-clause-all : goal.returns-clause-all
+returns-clause-all g c =
+    let p : ℕ = c.in-Some.partition in let t = c.in-Some-take_place.ensures in let f = c.requires.room.fresh p c.in-Some-take_place.inbox t.0 in let r = c.requires.room in
+    let senders : ℕ = c.args.shared.now.crew.workers + c.args.shared.now.crew.workers in let block : ℕ = c.args.shared.now.crew.block in
+    let is : c.in-Some-take_place.ledger ≡ opened c.in-Some-take_place.inbox.partition senders block =
+    t.1 ∙ ap (λ (q : ℕ). opened q g.B.Room.senders g.B.Room.block) (sym f.1) ∙ ap (λ (n : ℕ). opened c.in-Some-take_place.inbox.partition n g.B.Room.block) r.both ∙ ap (opened c.in-Some-take_place.inbox.partition senders) r.rows in
+    let joins = g.J.Job.joins c.args.shared.now.job.now in
+    subst (All (IsHeld joins c.args.shared.now)) (sym c.in_ok-push.ensures.items) (All-push (IsHeld joins c.args.shared.now) c.args.me.now.all.items _ c.requires.all (record { taking = (f.0, ([], f.2, is)); joined = tt }))

@@ -1,0 +1,50 @@
+-- What the workers of a run start with, and what they hand back.
+use Rattle.std.specs.Prelude.{◌≡◌, ℕ, ◌+◌, length, All}
+use Rattle.rj_exchange.specs.declared.boxes.Exchange.{Exchange}
+use Rattle.rj_exchange.specs.declared.halt.Halt.{Halt}
+use Rattle.rj_exchange.specs.declared.stripes.Stripes.{Stripes}
+use Rattle.rj_exchange.specs.declared.tickets.Tickets.{Tickets}
+use Rattle.rj_exchange.specs.Halt.{IsHaltSeatOf, halt_seats_of}
+use Rattle.rj_exchange.specs.Stripes.{stripes_of, stripe_seats_of}
+use Rattle.rj_exchange.specs.Tickets.{IsSeatOf, limit_of}
+use Rattle.rj_workers.specs.declared.crew.Crew.{Crew}
+use Rattle.rj_workers.specs.declared.crew.Hands.{Hands}
+use Rattle.rj_workers.specs.declared.crew.Back.{Back}
+use Rattle.rj_workers.specs.declared.floor.Floor.{Floor}
+use Rattle.rj_workers.specs.declared.words.Words.{Words}
+use Rattle.rj_workers.specs.declared.words.Seats.{Seats}
+use Rattle.rj_workers.specs.Posts.{Due}
+use Rattle.rj_workers.specs.Scans.{AreNewScanners, AreScans, IsFreshDraws}
+use Rattle.rj_workers.specs.Takes.{Joins, AreTakes, IsNewTaker}
+
+-- words, stripes and tickets for this crew: a seat at the word halt for each scanner, each taker and the starting thread
+pub record AreWords (crew : Crew) (w : Words) : Type 0 where
+  pub halt_seats : halt_seats_of w.halt ≡ crew.workers + crew.workers + 1
+  pub drawn : stripes_of w.stripes ≡ crew.workers
+  pub stripe_seats : stripe_seats_of w.stripes ≡ crew.workers
+  pub limit : limit_of w.tickets ≡ crew.partitions
+
+-- seats at these words, of stripes and tickets one for each of n workers
+pub record AreSeats (w : Words) (n : ℕ) (s : Seats) : Type 0 where
+  pub at_halt : All (IsHaltSeatOf w.halt) s.halt.items
+  pub at_done : All (IsHaltSeatOf w.done) s.done.items
+  pub at_stripes : All (IsFreshDraws w.stripes) s.stripes.items
+  pub at_tickets : All (IsSeatOf w.tickets) s.tickets.items
+  pub takers : length s.tickets.items ≡ n
+
+-- a scanner for each outbox and as many takers, as they start
+pub record AreHandsOf (e : Exchange) (h o : Halt) (st : Stripes) (t : Tickets) (x : Hands) : Type 0 where
+  pub scanning : AreNewScanners e h st e.outboxes x.scanners.items
+  pub taking : All (IsNewTaker h o t) x.takers.items
+  pub many : length x.takers.items ≡ e.outboxes
+  pub looking : IsHaltSeatOf o x.over
+
+abbrev pub AreHands : {J G : Type 0} → Floor J G → Hands → Type 0
+AreHands f x = AreHandsOf f.exchange.now f.halt.now f.done.now f.stripes.now f.tickets.now x
+
+pub record IsBackOf (due : Due) (joins : Joins) (e : Exchange) (h : Halt) (st : Stripes) (crew : Crew) (b : Back) : Type 0 where
+  pub scanned : AreScans due crew.block crew.workers e h st b.scanners.items
+  pub taken : AreTakes joins e h crew.workers crew.block e.outboxes b.takers.items
+
+abbrev pub IsBack : {J G : Type 0} → Due → Joins → Floor J G → Back → Type 0
+IsBack due joins f b = IsBackOf due joins f.exchange.now f.halt.now f.stripes.now f.crew b

@@ -1,0 +1,208 @@
+//! What becomes of all that the workers hand back.
+ghost use Rattle.std.specs.Prelude.{◌≡◌, ◌<◌, ◌+◌, ◌++◌, ◌∷◌, ℕ, [], All, IfOk, map, length, slice_index_or};
+ghost use Rattle.rj_ledger.specs.Ledgers.{standing};
+ghost use Rattle.rj_exchange.specs.Halt.{IsHaltSeatOf};
+ghost use Rattle.rj_workers.specs.Arrivals.{IsDelivered, due_lists, rows_by_sender};
+ghost use Rattle.rj_workers.specs.Hands.{AreWords, IsBackOf};
+ghost use Rattle.rj_workers.specs.Takes.{IsHeldOf, IsJoining, IsSlot};
+ghost use Rattle.rj_workers.specs.Ends.{IsSettled};
+
+use crate::crew::Back;
+use crate::ending::{EndShared, Ended, finish_all};
+use crate::job::Job;
+use crate::scan::Scanner;
+use crate::take::{Held, Joining, Taker};
+use crate::words::Words;
+use rj_exchange::{HaltSeat, Outbox, StripeSeat};
+use rj_ledger::{Ledger, contained_suffice};
+use std::alloc::{AllocError, Global};
+use std::sync::Wait;
+
+/// What all partitions were delivered, and what they keep, in their order.
+#[derive(Drop)]
+pub struct Delivered {
+    /// The ledgers, each with all that was due to its partition.
+    pub ledgers: Vec<Ledger>,
+    /// The pairs that each partition keeps.
+    pub pairs: Vec<Vec<(u32, u32)>>,
+}
+
+// Puts an item behind others.
+fn add<T: Drop>(list: &mut Vec<T>, item: T) -> Result<(), AllocError>
+    ensures { IfOk result (λ _. list.new.items ≡ list.old.items ++ item ∷ []) }
+{
+    list.push(item)?;
+    Ok(())
+}
+
+// The outboxes of all scanners; their seats go behind the others.
+fn hand_scanned(
+    alloc: Global,
+    scanned: Vec<Scanner>,
+    seats: &mut Vec<HaltSeat>,
+    draws: &mut Vec<StripeSeat>,
+) -> Result<Vec<Outbox>, AllocError>
+    ensures outboxes { IfOk result (λ v. v.items ≡ map (λ r. r.outbox) scanned.items) }
+    ensures seats { IfOk result (λ _. seats.new.items ≡ seats.old.items ++ map (λ r. r.seat) scanned.items) }
+    ensures draws { IfOk result (λ _. draws.new.items ≡ draws.old.items ++ map (λ r. r.draws) scanned.items) }
+{
+    let mut outboxes = Vec::new(alloc);
+    for one in scanned {
+        let Scanner {
+            outbox,
+            seat,
+            draws: stripes,
+        } = one;
+        outboxes.push(outbox)?;
+        seats.push(seat)?;
+        draws.push(stripes)?;
+    }
+    Ok(outboxes)
+}
+
+// The partitions of all takers; their seats go behind the others.
+fn hand_taken(
+    alloc: Global,
+    taken: Vec<Taker>,
+    seats: &mut Vec<HaltSeat>,
+) -> Result<Vec<Vec<Held>>, AllocError>
+    ensures groups { IfOk result (λ v. v.items ≡ map (λ t. t.all) taken.items) }
+    ensures seats { IfOk result (λ _. seats.new.items ≡ seats.old.items ++ map (λ t. t.seat) taken.items) }
+{
+    let mut groups = Vec::new(alloc);
+    for one in taken {
+        let Taker {
+            all,
+            seat,
+            look: _,
+            draws: _,
+        } = one;
+        groups.push(all)?;
+        seats.push(seat)?;
+    }
+    Ok(groups)
+}
+
+// So many empty places.
+fn no_slots(alloc: Global, partitions: u32) -> Result<Vec<Option<Held>>, AllocError>
+    ensures { IfOk result (λ v. (length v.items ≡ partitions) × All (λ s. s ≡ None) v.items) }
+{
+    let mut slots = Vec::new(alloc);
+    for _ in 0..partitions {
+        slots.push(None)?;
+    }
+    Ok(slots)
+}
+
+fn place(slot: &mut Option<Held>, held: Held)
+    ensures { slot.new ≡ Some held }
+{
+    *slot = Some(held);
+}
+
+// Puts the partitions of one taker into their places.
+fn place_group<J: Job>(shared: &EndShared<'_, J>, slots: &mut Vec<Option<Held>>, group: Vec<Held>)
+    requires slots { (length slots.old.items ≡ shared.now.exchange.now.partitions) × ((p : ℕ) (d : _) → p < shared.now.exchange.now.partitions → IsSlot (J.joins shared.now.job.now) shared.now.exchange.now shared.now.crew.workers shared.now.crew.block p (slice_index_or slots.old.items p d)) }
+    requires group { All (IsHeldOf (J.joins shared.now.job.now) shared.now.exchange.now shared.now.crew.workers shared.now.crew.block) group.items }
+    ensures { (length slots.new.items ≡ shared.now.exchange.now.partitions) × ((p : ℕ) (d : _) → p < shared.now.exchange.now.partitions → IsSlot (J.joins shared.now.job.now) shared.now.exchange.now shared.now.crew.workers shared.now.crew.block p (slice_index_or slots.new.items p d)) }
+{
+    let _shared = shared;
+    for held in group {
+        let at = held.inbox.partition() as usize;
+        place(&mut slots[at], held);
+    }
+}
+
+// Puts the partitions of all takers into their places.
+fn place_all<J: Job>(
+    alloc: Global,
+    shared: &EndShared<'_, J>,
+    groups: Vec<Vec<Held>>,
+) -> Result<Vec<Option<Held>>, AllocError>
+    requires { All (λ g. All (IsHeldOf (J.joins shared.now.job.now) shared.now.exchange.now shared.now.crew.workers shared.now.crew.block) g.items) groups.items }
+    ensures { IfOk result (λ v. (length v.items ≡ shared.now.exchange.now.partitions) × ((p : ℕ) (d : _) → p < shared.now.exchange.now.partitions → IsSlot (J.joins shared.now.job.now) shared.now.exchange.now shared.now.crew.workers shared.now.crew.block p (slice_index_or v.items p d))) }
+{
+    let mut slots = no_slots(alloc, shared.exchange.partitions())?;
+    for group in groups {
+        place_group(shared, &mut slots, group);
+    }
+    Ok(slots)
+}
+
+/// Ends all partitions once all workers have ended. Where the word halt was raised, or a stripe is held by no scanner,
+/// nothing comes of it.
+pub(crate) fn conclude<R: Wait, J: Job>(
+    rt: &R,
+    alloc: Global,
+    shared: &EndShared<'_, J>,
+    words: Words,
+    back: Back,
+    own: HaltSeat,
+) -> Result<Vec<Ended>, AllocError>
+    requires block { 0 < shared.now.crew.block }
+    requires words { AreWords shared.now.crew words × (shared.now.exchange.now.outboxes ≡ shared.now.crew.workers) }
+    requires back { IsBackOf (J.due shared.now.job.now) (J.joins shared.now.job.now) shared.now.exchange.now words.halt words.stripes shared.now.crew back }
+    requires own { IsHaltSeatOf words.halt own }
+    ensures len { IfOk result (λ v. length v.items ≡ shared.now.exchange.now.partitions) }
+    ensures each { IfOk result (λ v. (p : ℕ) (d : _) → p < shared.now.exchange.now.partitions → IsSettled (J.joins shared.now.job.now) (J.due shared.now.job.now) (shared.now.crew.workers + shared.now.crew.workers) p (slice_index_or v.items p d)) }
+{
+    contained_suffice();
+    let mut seats = Vec::new(alloc);
+    let mut draws = Vec::new(alloc);
+    let outboxes = hand_scanned(alloc, back.scanners, &mut seats, &mut draws)?;
+    let groups = hand_taken(alloc, back.takers, &mut seats)?;
+    add(&mut seats, own)?;
+    if words.halt.finish(seats) {
+        return Err(AllocError);
+    }
+    if !words.stripes.finish(rt, draws) {
+        return Err(AllocError);
+    }
+    let slots = place_all(alloc, shared, groups)?;
+    let all = finish_all(rt, alloc, shared, slots, outboxes)?;
+    Ok(all)
+}
+
+// The pairs of a partition, joined here where no taker has joined it.
+fn join_one<J: Job>(
+    alloc: Global,
+    job: &J,
+    ended: Ended,
+) -> Result<(Ledger, Vec<(u32, u32)>), AllocError>
+    requires senders { length ended.ledger.senders ≡ J.stripes job.now + J.stripes job.now }
+    requires rows { J.joinable job.now (rows_by_sender ended.ledger) }
+    requires joined { IsJoining (J.joins job.now) ended.ledger ended.joining }
+    ensures ledger { IfOk result (λ r. r.0 ≡ ended.ledger) }
+    ensures pairs { IfOk result (λ r. J.joins job.now (rows_by_sender ended.ledger) r.1.items) }
+{
+    let Ended { ledger, joining } = ended;
+    let pairs = match joining {
+        Joining::Done(pairs) => pairs,
+        Joining::Waiting => job.join(alloc, &ledger)?,
+        Joining::Left => job.join(alloc, &ledger)?,
+    };
+    Ok((ledger, pairs))
+}
+
+/// Joins what no taker has joined.
+pub(crate) fn join_rest<J: Job>(
+    alloc: Global,
+    job: &J,
+    all: Vec<Ended>,
+) -> Result<Delivered, AllocError>
+    requires due { (p : ℕ) → p < J.partitions job.now → J.joinable job.now (due_lists (J.due job.now) (J.stripes job.now + J.stripes job.now) p) }
+    requires len { length all.items ≡ J.partitions job.now }
+    requires each { (p : ℕ) (d : _) → p < J.partitions job.now → IsSettled (J.joins job.now) (J.due job.now) (J.stripes job.now + J.stripes job.now) p (slice_index_or all.items p d) }
+    ensures len { IfOk result (λ r. (length r.ledgers.items ≡ J.partitions job.now) × (length r.pairs.items ≡ J.partitions job.now)) }
+    ensures delivered { IfOk result (λ r. (p : ℕ) (d : _) → p < J.partitions job.now → IsDelivered (J.due job.now) (J.stripes job.now + J.stripes job.now) p (slice_index_or r.ledgers.items p d)) }
+    ensures pairs { IfOk result (λ r. (p : ℕ) (d : _) → p < J.partitions job.now → J.joins job.now (due_lists (J.due job.now) (J.stripes job.now + J.stripes job.now) p) (slice_index_or r.pairs.items p d).items) }
+{
+    let mut ledgers = Vec::with_capacity(alloc, all.len())?;
+    let mut pairs = Vec::with_capacity(alloc, all.len())?;
+    for ended in all {
+        let (ledger, kept) = join_one(alloc, job, ended)?;
+        ledgers.push(ledger)?;
+        pairs.push(kept)?;
+    }
+    Ok(Delivered { ledgers, pairs })
+}

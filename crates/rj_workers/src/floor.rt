@@ -1,0 +1,60 @@
+//! What all workers of a run share.
+ghost use Rattle.std.specs.Prelude.{◌≡◌};
+
+use crate::crew::Crew;
+use rj_exchange::{Exchange, Halt, Stripes, Tickets};
+use std::alloc::AllocError;
+
+/// What all workers of a run share.
+pub(crate) struct Floor<'a, J, G> {
+    /// The queues that lead from scanners to takers.
+    pub(crate) exchange: &'a Exchange,
+    /// Is raised where memory or a thread is refused.
+    pub(crate) halt: &'a Halt,
+    /// Is raised once all scanners have ended.
+    pub(crate) done: &'a Halt,
+    /// The stripes that scanners draw.
+    pub(crate) stripes: &'a Stripes,
+    /// The numbers of the partitions that takers draw.
+    pub(crate) tickets: &'a Tickets,
+    /// What is scanned and joined.
+    pub(crate) job: &'a J,
+    /// What workers pass at each place.
+    pub(crate) gate: &'a G,
+    /// The numbers of the run.
+    pub(crate) crew: Crew,
+}
+
+impl<J, G> Clone for Floor<'_, J, G> {
+    fn clone(&self) -> Result<Self, AllocError> {
+        Ok(*self)
+    }
+}
+
+impl<J, G> Copy for Floor<'_, J, G> {}
+
+impl<'a, J, G> Floor<'a, J, G> {
+    pub(crate) fn new(
+        exchange: &'a Exchange,
+        halt: &'a Halt,
+        done: &'a Halt,
+        stripes: &'a Stripes,
+        tickets: &'a Tickets,
+        job: &'a J,
+        gate: &'a G,
+        crew: Crew,
+    ) -> Self
+        ensures { result ≡ record { exchange = exchange.entry; halt = halt.entry; done = done.entry; stripes = stripes.entry; tickets = tickets.entry; job = job.entry; gate = gate.entry; crew = crew } }
+    {
+        Floor {
+            exchange,
+            halt,
+            done,
+            stripes,
+            tickets,
+            job,
+            gate,
+            crew,
+        }
+    }
+}

@@ -1,0 +1,163 @@
+//! How scanners and takers are started.
+ghost use Rattle.std.specs.Prelude.{◌≡◌, ◌<◌, ◌≤◌, ◌++◌, ◌∷◌, [], ℕ, All, IfSome, length, slice_index_or};
+ghost use Rattle.rj_exchange.specs.Tickets.{limit_of};
+ghost use Rattle.rj_workers.specs.Crews.{IsReady, IsReadyOf};
+ghost use Rattle.rj_workers.specs.Scans.{IsNewScanner, AreNewScanners, IsScan, IsScanOf};
+ghost use Rattle.rj_workers.specs.Takes.{IsRoom, IsRoomOf, IsNewTaker, IsTake, IsTakeOf};
+
+use crate::floor::Floor;
+use crate::gate::Gate;
+use crate::job::Job;
+use crate::places::{Place, Room};
+use crate::scan::{Scanner, scan};
+use crate::take::{Taker, take_all};
+use std::alloc::Global;
+use std::sync::Wait;
+use std::thread::{Promise, PromisedHandle, Scope};
+use std::time::Clock;
+
+/// That a scanner hands back what it posted.
+#[derive(Drop)]
+pub(crate) struct ScanOf<'a, J, G> {
+    shared: Floor<'a, J, G>,
+    number: u32,
+}
+
+impl<'a, J: Job, G> Promise<Scanner> for ScanOf<'a, J, G> {
+    ghost kept_by = { λ p r. IsScan (J.due p.shared.job.now) p.shared p.number r };
+}
+
+/// A scanner that was started.
+pub(crate) type ScanHandle<'a, J, G> = PromisedHandle<Scanner, ScanOf<'a, J, G>>;
+
+/// That a taker hands back what it took.
+#[derive(Drop)]
+pub(crate) struct TakeOf<'a, J, G> {
+    shared: Floor<'a, J, G>,
+}
+
+impl<'a, J: Job, G> Promise<Taker> for TakeOf<'a, J, G> {
+    ghost kept_by = { λ p r. IsTake (J.joins p.shared.job.now) p.shared r };
+}
+
+/// A taker that was started.
+pub(crate) type TakeHandle<'a, J, G> = PromisedHandle<Taker, TakeOf<'a, J, G>>;
+
+// Puts a handle behind others. None where there is no room for it.
+fn keep<T: Drop>(list: &mut Vec<T>, handle: T) -> Option<()>
+    ensures { IfSome result (λ _. list.new.items ≡ list.old.items ++ handle ∷ []) }
+{
+    match list.push(handle) {
+        Ok(_) => Some(()),
+        Err(_) => None,
+    }
+}
+
+// Starts one scanner. None where no thread can be made.
+fn start_scanner<'s, E, R: Wait + Clock + Sync, J: Job + Sync, G: Gate + Sync>(
+    scope: &Scope<'s, E>,
+    rt: &'s R,
+    alloc: Global,
+    shared: &Floor<'s, J, G>,
+    number: u32,
+    me: Scanner,
+) -> Option<ScanHandle<'s, J, G>>
+    requires ready { IsReady (J.stripes shared.now.job.now) (J.partitions shared.now.job.now) shared.now }
+    requires me { IsNewScanner shared.now.exchange.now shared.now.halt.now shared.now.stripes.now number me }
+    ensures { IfSome result (λ h. (h.promise.shared ≡ shared.now) × (h.promise.number ≡ number)) }
+{
+    // (a thread's closure tells what it ensures only where it captures plain references)
+    let f = *shared;
+    let started = scope.spawn_with(
+        ScanOf { shared: f, number },
+        move || -> Scanner
+            requires { IsReadyOf (J.stripes f.job.now) (J.partitions f.job.now) f.exchange.now f.stripes.now f.crew × IsNewScanner f.exchange.now f.halt.now f.stripes.now number me }
+            ensures { IsScanOf (J.due f.entry.job.now) f.entry.crew.block f.entry.crew.workers f.entry.exchange.now f.entry.halt.now f.entry.stripes.now number result }
+        {
+            let _number = number;
+            let floor = Floor::new(
+                f.exchange, f.halt, f.done, f.stripes, f.tickets, f.job, f.gate, f.crew,
+            );
+            scan(rt, alloc, &floor, me)
+        },
+    );
+    started.ok()
+}
+
+/// Starts all scanners. None where a thread or memory is refused.
+pub(crate) fn start_scanners<'s, E, R: Wait + Clock + Sync, J: Job + Sync, G: Gate + Sync>(
+    scope: &Scope<'s, E>,
+    rt: &'s R,
+    alloc: Global,
+    shared: &Floor<'s, J, G>,
+    scanners: Vec<Scanner>,
+) -> Option<Vec<ScanHandle<'s, J, G>>>
+    requires ready { IsReady (J.stripes shared.now.job.now) (J.partitions shared.now.job.now) shared.now }
+    requires scanners { (length scanners.items ≤ 64) × AreNewScanners shared.now.exchange.now shared.now.halt.now shared.now.stripes.now (length scanners.items) scanners.items }
+    ensures len { IfSome result (λ v. length v.items ≡ length scanners.items) }
+    ensures each { IfSome result (λ v. (s : ℕ) (d : _) → s < length scanners.items → ((slice_index_or v.items s d).promise.shared ≡ shared.now) × ((slice_index_or v.items s d).promise.number ≡ s)) }
+{
+    let mut handles = Vec::with_capacity(alloc, scanners.len()).ok()?;
+    let mut number = 0;
+    for me in scanners {
+        let handle = start_scanner(scope, rt, alloc, shared, number, me)?;
+        keep(&mut handles, handle)?;
+        number += 1;
+    }
+    Some(handles)
+}
+
+// Starts one taker. None where no thread can be made.
+fn start_taker<'s, E, B: Room, R: Wait + Clock + Sync, J: Job + Sync, G: Gate + Sync>(
+    scope: &Scope<'s, E>,
+    rt: &'s R,
+    alloc: Global,
+    shared: &Floor<'s, J, G>,
+    places: &'s [Place<B>],
+    me: Taker,
+) -> Option<TakeHandle<'s, J, G>>
+    requires job { J.stripes shared.now.job.now ≡ shared.now.crew.workers }
+    requires places { limit_of shared.now.tickets.now ≡ length places.now }
+    requires room { IsRoom shared.now B.inboxes B.senders B.block }
+    requires me { IsNewTaker shared.now.halt.now shared.now.done.now shared.now.tickets.now me }
+    ensures { IfSome result (λ h. h.promise.shared ≡ shared.now) }
+{
+    let f = *shared;
+    let started = scope.spawn_with(
+        TakeOf { shared: f },
+        move || -> Taker
+            requires { (J.stripes f.job.now ≡ f.crew.workers) × (limit_of f.tickets.now ≡ length places.now) × IsRoomOf f.exchange.now f.crew B.inboxes B.senders B.block × IsNewTaker f.halt.now f.done.now f.tickets.now me }
+            ensures { IsTakeOf (J.joins f.entry.job.now) f.entry.exchange.now f.entry.halt.now f.entry.crew.workers f.entry.crew.block result }
+        {
+            let floor = Floor::new(
+                f.exchange, f.halt, f.done, f.stripes, f.tickets, f.job, f.gate, f.crew,
+            );
+            take_all(rt, alloc, &floor, places, me)
+        },
+    );
+    started.ok()
+}
+
+/// Starts all takers. None where a thread or memory is refused.
+pub(crate) fn start_takers<'s, E, B: Room, R: Wait + Clock + Sync, J: Job + Sync, G: Gate + Sync>(
+    scope: &Scope<'s, E>,
+    rt: &'s R,
+    alloc: Global,
+    shared: &Floor<'s, J, G>,
+    places: &'s [Place<B>],
+    takers: Vec<Taker>,
+) -> Option<Vec<TakeHandle<'s, J, G>>>
+    requires job { J.stripes shared.now.job.now ≡ shared.now.crew.workers }
+    requires places { limit_of shared.now.tickets.now ≡ length places.now }
+    requires room { IsRoom shared.now B.inboxes B.senders B.block }
+    requires takers { All (IsNewTaker shared.now.halt.now shared.now.done.now shared.now.tickets.now) takers.items }
+    ensures len { IfSome result (λ v. length v.items ≡ length takers.items) }
+    ensures each { IfSome result (λ v. All (λ h. h.promise.shared ≡ shared.now) v.items) }
+{
+    let mut handles = Vec::with_capacity(alloc, takers.len()).ok()?;
+    for me in takers {
+        let handle = start_taker(scope, rt, alloc, shared, places, me)?;
+        keep(&mut handles, handle)?;
+    }
+    Some(handles)
+}

@@ -1,0 +1,301 @@
+//! A taker: it draws partitions, offers what arrives to their ledgers, and joins each one that is complete.
+ghost use Rattle.std.specs.Prelude.{◌≡◌, ◌<◌, ◌+◌, All, IfOk, length};
+ghost use Rattle.rj_ledger.specs.Ledgers.{after_offer};
+ghost use Rattle.rj_exchange.specs.Tickets.{limit_of};
+ghost use Rattle.rj_workers.specs.Takes.{IsTaker, IsHeld, IsTake, IsRoom};
+
+use crate::floor::Floor;
+use crate::gate::{Gate, Place};
+use crate::job::Job;
+use crate::pause::Pause;
+use crate::places;
+use crate::places::{Room, take_place};
+use rj_exchange::{HaltSeat, Inbox, Seat};
+use rj_ledger::{Ledger, Parcel, complete_stays, shape_stays};
+use std::alloc::{AllocError, Global};
+use std::sync::Wait;
+use std::time::Clock;
+
+/// How far a partition is joined.
+#[derive(Drop)]
+pub(crate) enum Joining {
+    /// Its ledger is not complete yet.
+    Waiting,
+    /// It is left to the starting thread.
+    Left,
+    /// These are its pairs.
+    Done(Vec<(u32, u32)>),
+}
+
+/// A partition that a taker owns.
+#[derive(Drop)]
+pub(crate) struct Held {
+    pub(crate) inbox: Inbox,
+    pub(crate) ledger: Ledger,
+    pub(crate) joining: Joining,
+}
+
+/// What one taker has of its own, and hands back.
+#[derive(Drop)]
+pub(crate) struct Taker {
+    pub(crate) all: Vec<Held>,
+    pub(crate) seat: HaltSeat,
+    pub(crate) look: HaltSeat,
+    pub(crate) draws: Seat,
+}
+
+/// Offers a parcel to a ledger, whatever it answers.
+pub(crate) fn offer(ledger: &mut Ledger, parcel: Parcel) -> Result<(), AllocError>
+    ensures { IfOk result (λ _. ledger.new ≡ after_offer ledger.old parcel) }
+{
+    match ledger.offer(parcel) {
+        Ok(_) => Ok(()),
+        Err(_) => Err(AllocError),
+    }
+}
+
+// Takes once at one lane, and says whether a parcel came.
+fn take_once<R: Wait, J: Job, G>(
+    rt: &R,
+    shared: &Floor<'_, J, G>,
+    held: &mut Held,
+    lane: u32,
+) -> Result<bool, AllocError>
+    requires lane { lane < shared.now.exchange.now.lanes }
+    requires held { IsHeld (J.joins shared.now.job.now) shared.now held.old }
+    ensures { IfOk result (λ _. IsHeld (J.joins shared.now.job.now) shared.now held.new) }
+{
+    complete_stays();
+    let Some(parcel) = held.inbox.take(rt, shared.exchange, lane) else {
+        return Ok(false);
+    };
+    offer(&mut held.ledger, parcel)?;
+    Ok(true)
+}
+
+// Takes once at each lane of a partition.
+fn take_lanes<R: Wait, J: Job, G>(
+    rt: &R,
+    shared: &Floor<'_, J, G>,
+    held: &mut Held,
+) -> Result<bool, AllocError>
+    requires { IsHeld (J.joins shared.now.job.now) shared.now held.old }
+    ensures { IfOk result (λ _. IsHeld (J.joins shared.now.job.now) shared.now held.new) }
+{
+    let mut found = false;
+    for lane in 0..shared.exchange.lanes() {
+        if take_once(rt, shared, held, lane)? {
+            found = true;
+        }
+    }
+    Ok(found)
+}
+
+// Joins a partition that is complete, where its rows pass the test of the job.
+fn join_complete<J: Job, G: Gate>(
+    alloc: Global,
+    shared: &Floor<'_, J, G>,
+    held: &mut Held,
+) -> Result<(), AllocError>
+    requires job { J.stripes shared.now.job.now ≡ shared.now.crew.workers }
+    requires held { IsHeld (J.joins shared.now.job.now) shared.now held.old }
+    ensures { IfOk result (λ _. IsHeld (J.joins shared.now.job.now) shared.now held.new) }
+{
+    shape_stays();
+    if is_settled(held) || !held.ledger.complete() {
+        return Ok(());
+    }
+    let place = Place::Partition(held.inbox.partition());
+    shared.gate.pass(place);
+    held.joining = match shared.job.try_join(alloc, &held.ledger)? {
+        Some(pairs) => Joining::Done(pairs),
+        None => Joining::Left,
+    };
+    Ok(())
+}
+
+// Whether a partition is joined or left to the starting thread.
+fn is_settled(held: &Held) -> bool {
+    match held.joining {
+        Joining::Waiting => false,
+        Joining::Left => true,
+        Joining::Done(_) => true,
+    }
+}
+
+// Takes once at each lane of each partition.
+fn take_round<R: Wait, J: Job, G: Gate>(
+    rt: &R,
+    alloc: Global,
+    shared: &Floor<'_, J, G>,
+    all: &mut Vec<Held>,
+) -> Result<bool, AllocError>
+    requires job { J.stripes shared.now.job.now ≡ shared.now.crew.workers }
+    requires all { All (IsHeld (J.joins shared.now.job.now) shared.now) all.old.items }
+    ensures { IfOk result (λ _. All (IsHeld (J.joins shared.now.job.now) shared.now) all.new.items) }
+{
+    let mut found = false;
+    for at in 0..all.len() {
+        if take_at(rt, alloc, shared, &mut all[at])? {
+            found = true;
+        }
+    }
+    Ok(found)
+}
+
+// Takes once at each lane of a partition, and joins it where it is complete then.
+fn take_at<R: Wait, J: Job, G: Gate>(
+    rt: &R,
+    alloc: Global,
+    shared: &Floor<'_, J, G>,
+    held: &mut Held,
+) -> Result<bool, AllocError>
+    requires job { J.stripes shared.now.job.now ≡ shared.now.crew.workers }
+    requires held { IsHeld (J.joins shared.now.job.now) shared.now held.old }
+    ensures { IfOk result (λ _. IsHeld (J.joins shared.now.job.now) shared.now held.new) }
+{
+    if !take_lanes(rt, shared, held)? {
+        return Ok(false);
+    }
+    join_complete(alloc, shared, held)?;
+    Ok(true)
+}
+
+// Draws a partition. It says whether one was left.
+fn draw<B: Room, R: Wait, J: Job, G: Gate>(
+    rt: &R,
+    shared: &Floor<'_, J, G>,
+    places: &[places::Place<B>],
+    me: &mut Taker,
+) -> Result<bool, AllocError>
+    requires places { limit_of shared.now.tickets.now ≡ length places.now }
+    requires room { IsRoom shared.now B.inboxes B.senders B.block }
+    requires me { IsTaker shared.now me.old }
+    requires all { All (IsHeld (J.joins shared.now.job.now) shared.now) me.old.all.items }
+    ensures me { IsTaker shared.now me.new }
+    ensures all { IfOk result (λ _. All (IsHeld (J.joins shared.now.job.now) shared.now) me.new.all.items) }
+{
+    let Some(partition) = shared.tickets.claim(&mut me.draws) else {
+        return Ok(false);
+    };
+    let Some((inbox, ledger)) = take_place(rt, places, partition as usize) else {
+        return Err(AllocError);
+    };
+    shared.gate.pass(Place::Take(inbox.partition()));
+    me.all.push(Held {
+        inbox,
+        ledger,
+        joining: Joining::Waiting,
+    })?;
+    Ok(true)
+}
+
+// Whether the newest partition is not settled yet. All others are.
+fn is_waiting(all: &[Held]) -> bool {
+    match all.last() {
+        Some(held) => !is_settled(held),
+        None => false,
+    }
+}
+
+// Draws a further partition where the newest one is settled, unless none was left.
+fn draw_next<B: Room, R: Wait, J: Job, G: Gate>(
+    rt: &R,
+    shared: &Floor<'_, J, G>,
+    places: &[places::Place<B>],
+    me: &mut Taker,
+    spent: &mut bool,
+) -> Result<(), AllocError>
+    requires places { limit_of shared.now.tickets.now ≡ length places.now }
+    requires room { IsRoom shared.now B.inboxes B.senders B.block }
+    requires me { IsTaker shared.now me.old }
+    requires all { All (IsHeld (J.joins shared.now.job.now) shared.now) me.old.all.items }
+    ensures me { IsTaker shared.now me.new }
+    ensures all { IfOk result (λ _. All (IsHeld (J.joins shared.now.job.now) shared.now) me.new.all.items) }
+{
+    if *spent || is_waiting(&me.all) {
+        return Ok(());
+    }
+    let drawn = draw(rt, shared, places, me)?;
+    *spent = !drawn;
+    Ok(())
+}
+
+// Takes once at each lane of the newest partition.
+fn take_newest<R: Wait, J: Job, G: Gate>(
+    rt: &R,
+    alloc: Global,
+    shared: &Floor<'_, J, G>,
+    all: &mut Vec<Held>,
+) -> Result<bool, AllocError>
+    requires job { J.stripes shared.now.job.now ≡ shared.now.crew.workers }
+    requires all { All (IsHeld (J.joins shared.now.job.now) shared.now) all.old.items }
+    ensures { IfOk result (λ _. All (IsHeld (J.joins shared.now.job.now) shared.now) all.new.items) }
+{
+    let count = all.len();
+    if count == 0 {
+        return Ok(false);
+    }
+    let found = take_at(rt, alloc, shared, &mut all[count - 1])?;
+    Ok(found)
+}
+
+// Draws a partition where none is open, and takes at the newest one, and at all others where nothing came there.
+fn step<B: Room, R: Wait, J: Job, G: Gate>(
+    rt: &R,
+    alloc: Global,
+    shared: &Floor<'_, J, G>,
+    places: &[places::Place<B>],
+    me: &mut Taker,
+    spent: &mut bool,
+) -> Result<bool, AllocError>
+    requires job { J.stripes shared.now.job.now ≡ shared.now.crew.workers }
+    requires places { limit_of shared.now.tickets.now ≡ length places.now }
+    requires room { IsRoom shared.now B.inboxes B.senders B.block }
+    requires me { IsTaker shared.now me.old }
+    requires all { All (IsHeld (J.joins shared.now.job.now) shared.now) me.old.all.items }
+    ensures me { IsTaker shared.now me.new }
+    ensures all { IfOk result (λ _. All (IsHeld (J.joins shared.now.job.now) shared.now) me.new.all.items) }
+{
+    draw_next(rt, shared, places, me, spent)?;
+    if take_newest(rt, alloc, shared, &mut me.all)? {
+        return Ok(true);
+    }
+    take_round(rt, alloc, shared, &mut me.all)
+}
+
+/// Takes until it sees the word halt, or has drawn all that it could and seen the word done, and then finds nothing. Where
+/// it is refused memory, or finds a place empty, it raises the word halt.
+pub(crate) fn take_all<B: Room, R: Wait + Clock, J: Job, G: Gate>(
+    rt: &R,
+    alloc: Global,
+    shared: &Floor<'_, J, G>,
+    places: &[places::Place<B>],
+    mut me: Taker,
+) -> Taker
+    requires job { J.stripes shared.now.job.now ≡ shared.now.crew.workers }
+    requires places { limit_of shared.now.tickets.now ≡ length places.now }
+    requires room { IsRoom shared.now B.inboxes B.senders B.block }
+    requires me { IsTaker shared.now me }
+    requires all { All (IsHeld (J.joins shared.now.job.now) shared.now) me.all.items }
+    ensures { IsTake (J.joins shared.now.job.now) shared.now result }
+{
+    let mut spent = false;
+    let mut over = false;
+    let mut pause = Pause::new();
+    for _ in rt.forever() {
+        let Ok(found) = step(rt, alloc, shared, places, &mut me, &mut spent) else {
+            shared.halt.raise(&mut me.seat);
+            return me;
+        };
+        if over && spent && !found {
+            return me;
+        }
+        if shared.halt.raised(&mut me.seat) {
+            return me;
+        }
+        over = shared.done.raised(&mut me.look);
+        pause.after(rt, found || over);
+    }
+    unreachable!()
+}

@@ -1,0 +1,153 @@
+"""The words of both command lines: "The order" and "Faults and statuses" of docs/specification.md.
+
+Options are long ones, used at most once; `--name value` and `--name=value` mean the same, and a value that begins
+with `-` is given by `=` (but `-` alone is a value)."""
+import re
+
+from .faults import BadLine, Fault, Help
+from . import joining, ledger, reading
+
+# What an option takes: any text that has to be given, any text, a number of a range, or nothing.
+TEXT, NEEDED_TEXT, FLAG = "text", "needed text", "flag"
+
+
+class Number:
+    """A whole number from `least` to `most`."""
+
+    def __init__(self, least, most, default=None):
+        self.least = least
+        self.most = most
+        self.default = default
+
+
+OPTIONS_OF = {
+    "radixjoin": {
+        "left": NEEDED_TEXT,
+        "right": NEEDED_TEXT,
+        "left-types": NEEDED_TEXT,
+        "right-types": NEEDED_TEXT,
+        "join": NEEDED_TEXT,
+        "null": TEXT,
+        "bits1": Number(0, 10, 4),
+        "workers": Number(1, 64, 1),
+        "block": Number(1, 65536, 1024),
+        "lanes": Number(1, 4, 1),
+        "capacity": Number(1, 4096, 64),
+        "retries": Number(0, 3, 1),
+        "stats": FLAG,
+    },
+    "arrivals": {"partition": Number(0, 1023), "senders": Number(1, 128), "block": Number(1, 65536), "gaps": FLAG},
+}
+
+
+def number(value, of):
+    """The number that a value spells: digits, and a sign may stand first."""
+    if not re.fullmatch(r"[+-]?[0-9]+", value):
+        raise BadLine
+    found = reading.integer(value.encode())
+    if not of.least <= found <= of.most:
+        raise BadLine
+    return found
+
+
+def put(found, options, name, value):
+    """Takes one use of an option."""
+    if name in found:
+        raise BadLine
+    found[name] = number(value, options[name]) if isinstance(options[name], Number) else value
+
+
+def take_option(found, options, word, waiting):
+    """Reads a word `--name` or `--name=value`; the option that now waits for its value, or None."""
+    name, has_value, value = word[2:].partition("=")
+    if waiting is not None:
+        raise BadLine
+    if name == "help" and not has_value:
+        raise Help
+    if name not in options or (options[name] == FLAG and has_value):
+        raise BadLine
+    if options[name] == FLAG:
+        put(found, options, name, "")
+        return None
+    if not has_value:
+        return name
+    put(found, options, name, value)
+    return None
+
+
+def read_words(program, words):
+    """The value of each option that was given, by its name."""
+    options, found, waiting = OPTIONS_OF[program], {}, None
+    try:
+        words = [word.decode() for word in words]
+    except UnicodeDecodeError:
+        raise BadLine(f"{program}: an argument is not text") from None
+    for at, word in enumerate(words):
+        if word == "--":
+            # Nothing may come after it, since no program takes words of their own.
+            if words[at + 1 :]:
+                raise BadLine
+        elif word.startswith("--"):
+            waiting = take_option(found, options, word, waiting)
+        elif word.startswith("-h") and waiting is None:
+            raise Help
+        elif waiting is None or (word.startswith("-") and word != "-"):
+            raise BadLine
+        else:
+            put(found, options, waiting, word)
+            waiting = None
+    needed = {name for name, takes in options.items() if takes == NEEDED_TEXT or (isinstance(takes, Number) and takes.default is None)}
+    if waiting is not None or not needed <= set(found):
+        raise BadLine
+    return found
+
+
+class Request:
+    """What the words ask of radixjoin."""
+
+    def __init__(self, found):
+        options = OPTIONS_OF["radixjoin"]
+        bad = lambda text: BadLine(f"radixjoin: {text}")
+        self.left_types = reading.type_list(found["left-types"], "left", bad)
+        self.right_types = reading.type_list(found["right-types"], "right", bad)
+        self.left = found["left"]
+        self.right = found["right"]
+        self.clause = found["join"].encode()
+        self.null = found.get("null", "").encode()
+        self.bits1 = found.get("bits1", options["bits1"].default)
+        self.stats = "stats" in found
+
+
+class Ended:
+    """How a run has to end; None for a text that is the library clap's own."""
+
+    def __init__(self, status, stdout=b"", stderr=b""):
+        self.status = status
+        self.stdout = stdout
+        self.stderr = stderr
+
+
+def ended(program, words, files, stdin=b""):
+    """How a run has to end: `files` holds the bytes of each file that there is."""
+    try:
+        found = read_words(program, words)
+        if program == "arrivals":
+            script = ledger.Script(found["partition"], found["senders"], found["block"], "gaps" in found)
+            text, is_readable = script.replay(stdin)
+            return Ended(0 if is_readable else 3, text)
+        return joined(Request(found), files)
+    except Help:
+        return Ended(0, None)
+    except BadLine as fault:
+        return Ended(fault.status, b"", None if fault.line is None else f"{fault.line}\n".encode())
+    except Fault as fault:
+        return Ended(fault.status, b"", f"{program}: {fault}\n".encode())
+
+
+def joined(request, files):
+    """How a run of radixjoin has to end."""
+    for side in ("left", "right"):
+        if getattr(request, side) not in files:
+            raise Fault(19, "ReadDevice", side)
+    text, statistics = joining.run(files[request.left], files[request.right], request)
+    return Ended(0, text, statistics if request.stats else b"")

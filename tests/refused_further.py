@@ -1,0 +1,102 @@
+"""Refuses each allocation in turn in further runs of the built programs: statistics, coalesced texts, a remainder, a
+quoted header, help, faults, a write that fails, and scripts with gaps.
+
+Each run ends as if nothing had been refused, or with `E18 Memory`, status 5. Where it would end by a fault it may end
+by that too; nothing is on standard output then but after a write that failed."""
+import os
+import pathlib
+import subprocess
+
+import harness
+import refused_allocations
+
+MOST = 20_000
+SECONDS = 30
+
+
+class Run:
+    """A run of a program, and how it ends where nothing is refused; `stdout` may be `full`, a device that takes nothing."""
+
+    def __init__(self, name, words, files, stdout, stderr=b"", status=0, program="radixjoin", stdin=b"", is_full=False):
+        self.name = name
+        self.words = words
+        self.files = files
+        self.stdout = stdout
+        self.stderr = stderr
+        self.status = status
+        self.program = program
+        self.stdin = stdin
+        self.is_full = is_full
+
+
+def joined(name, left, right, types, clause, stdout, *options, **how):
+    """A run of radixjoin on two files."""
+    words = ["--left", "left.csv", "--right", "right.csv", "--left-types", types[0], "--right-types", types[1], "--join", clause, *options]
+    return Run(name, words, {"left.csv": left, "right.csv": right}, stdout, **how)
+
+
+STATISTICS = b"partition 0 left 1 right 0\npartition 1 left 1 right 1\npartition 2 left 0 right 0\npartition 3 left 1 right 0\npairs 1 lone-left 0 lone-right 0\n"
+TEXTS = b"k,a\nann,1\n,2\ncy,3\n", b"b,k\n4,bob\n5,cy\n6,\n"
+QUOTED = b'"a,b","say ""it"""\n1,x\n', b'"a,b",c\n1,"p,q"\n'
+REPLAYED = b"held\naccepted 1\nheld\nrefused repeat\nunreadable\nsender 0 waiting 1 rows 9 9\nsender 0 gap 1 2\nsender 1 waiting 0 rows\nsender 1 gap 0 7\nincomplete\n"
+SCRIPT = b"0 0 2 rows 5 7\n0 0 0 rows 9 9\n1 0 7 close\n0 0 2 rows 1\nx\n"
+REPLAY = ["--partition=0", "--senders=2", "--block=2", "--gaps"]
+RUNS = [
+    joined("statistics", b"k\n-1\n0\n5\n", b"k\n5\n", ["int", "int"], "JOIN USING (k)", b"k\n5\n", "--bits1=2", "--stats", stderr=STATISTICS),
+    joined("coalesced texts", *TEXTS, ["text,int", "int,text"], "FULL JOIN USING (k)", b"k,a,b\ncy,3,5\nann,1,\n,2,\nbob,,4\n,,6\n"),
+    joined("a remainder", b"k,a\n1,5\n1,9\n2,7\n", b"k,b\n1,7\n2,8\n", ["int,int", "int,int"], "LEFT JOIN ON L.k = R.k AND (L.a > R.b OR R.b IN (8, 6) AND NOT L.a IS NULL)", b"k,a,k,b\n1,9,1,7\n2,7,2,8\n1,5,,\n"),
+    joined("a quoted header", *QUOTED, ["int,text", "int,text"], 'RIGHT JOIN ON L."a,b" = R."a,b"', b'"a,b","say ""it""","a,b",c\n1,x,1,"p,q"\n'),
+    joined("a null text", b"k\nNULL\n1\n", b"k,b\n1,NULL\n", ["int", "int,text"], "NATURAL FULL JOIN", b"k,b\n1,NULL\nNULL,NULL\n", "--null=NULL"),
+    joined("a bad integer", b"k\n1\nx\n", b"k\n1\n", ["int", "int"], "CROSS JOIN", b"", stderr=b"radixjoin: E6 BadInteger left row 2 column 1\n", status=3),
+    joined("no clause", b"k\n1\n", b"k\n1\n", ["int", "int"], "JOIN ON (L.k = 1 AND NOT R.k IS NULL", b"", stderr=b"radixjoin: E11 Syntax byte 36\n", status=4),
+    joined("no column", b"k\n1\n", b"k\n1\n", ["int", "int"], 'JOIN ON L.k = 1 AND R."K" > 2', b"", stderr=b"radixjoin: E13 UnknownColumn\n", status=4),
+    joined("a write that fails", b"k\n1\n", b"k\n1\n", ["int", "int"], "CROSS JOIN", b"", "--stats", stderr=b"radixjoin: E20 WriteDevice\n", status=6, is_full=True),
+    Run("a missing file", ["--left=none", "--right=none", "--left-types=int", "--right-types=int", "--join=JOIN"], {}, b"", b"radixjoin: E19 ReadDevice left\n", 6),
+    Run("a bad type list", ["--left=none", "--right=none", "--left-types=int,x", "--right-types=int", "--join=JOIN"], {}, b"", b"radixjoin: bad type list left\n", 2),
+    Run("a script with gaps", REPLAY, {}, REPLAYED, status=3, program="arrivals", stdin=SCRIPT),
+    Run("a script to a full device", REPLAY, {}, b"", b"arrivals: E20 WriteDevice\n", 6, program="arrivals", stdin=SCRIPT, is_full=True),
+]
+
+
+def ended(run, folder, environment):
+    """How a run ended."""
+    how = {"cwd": folder, "input": run.stdin, "stderr": subprocess.PIPE, "env": environment, "timeout": SECONDS}
+    with open("/dev/full", "wb") as full:
+        ran = subprocess.run([harness.program(run.program), *run.words], stdout=full if run.is_full else subprocess.PIPE, **how)
+    return harness.Ran(ran.returncode, ran.stdout or b"", ran.stderr)
+
+
+def faults_of(run, ran):
+    """What isn't as wanted of a run in which something was refused."""
+    as_ever = harness.differences(ran, run.stdout, run.stderr, run.status)
+    # Nothing is promised of how much `arrivals` had written.
+    stdout = None if run.program == "arrivals" else b""
+    for_memory = harness.differences(ran, stdout, f"{run.program}: E18 Memory\n".encode(), 5)
+    return as_ever and for_memory and [*as_ever, "and not for want of memory:", *for_memory]
+
+
+def sweep(tally, refuse, run):
+    """Refuses the first, the second, .. until a run meets no refusal."""
+    with harness.folder() as at:
+        folder = pathlib.Path(at)
+        for file, content in run.files.items():
+            (folder / file).write_bytes(content)
+        report = folder / "report"
+        for n in range(1, MOST):
+            environment = {**os.environ, "LD_PRELOAD": str(refuse), "REFUSE_ALLOCATION": str(n), "REFUSE_REPORT": str(report)}
+            ran = ended(run, folder, environment)
+            if not report.exists():
+                tally.check(f"{run.name}: no refusal", harness.differences(ran, run.stdout, run.stderr, run.status))
+                return n - 1
+            report.unlink()
+            tally.check(f"{run.name}: allocation {n} refused", faults_of(run, ran))
+    tally.check(run.name, [f"{MOST} refusals, and no end"])
+    return MOST
+
+
+def run_all(tally):
+    """Sweeps each run."""
+    with harness.folder() as at:
+        refuse = refused_allocations.library(pathlib.Path(at))
+        counts = [f"{run.name} {sweep(tally, refuse, run)}" for run in RUNS]
+    print("allocations refused in turn:", ", ".join(counts))
