@@ -10,8 +10,6 @@ import harness
 
 # Past this many calls a run without a failure is not to be expected any more.
 MOST = 5_000
-# The toolchain's standard output tries a write of n bytes n + TRIES times, whatever breaks it off.
-TRIES = 64
 FILES = {"left.csv": b"id,name\n1,ann\n2,bob\n3,cy\n", "right.csv": b"id,city\n4,rome\n2,oslo\n5,lima\n"}
 WORDS = ["--left", "left.csv", "--right", "right.csv", "--left-types", "int,text", "--right-types", "int,text", "--join", "JOIN USING (id)", "--stats", "--bits1=0"]
 JOINED = b"id,name,city\n2,bob,oslo\n"
@@ -135,18 +133,8 @@ def failing_reader_sweep(tally):
     print(f"failing_reader_sweep: {total} reads failed in turn")
 
 
-def interrupted(run, kind, most, interrupts, ran):
-    """What isn't as wanted where signals break calls off: reads may be broken off in any number, and so may writes up to
-    the number of times that the toolchain's standard output tries; past that number it may tell a failed write."""
-    calls = (interrupts + 1) * -(-len(run.stdout) // most)
-    faults = right(run, ran)
-    if kind == "read" or calls <= len(run.stdout) + TRIES:
-        return faults
-    return faults and failed_write(run, ran) and faults
-
-
 def interrupted_calls(tally):
-    """Signals break calls off, and calls move few bytes: the bytes are right."""
+    """Signals break calls off, in any number, and calls move few bytes: the bytes are right."""
     for run, mosts in ((SMALL, (1, 2, 3, 7, 1 << 30)), (REPLAY, (1, 2, 5, 1 << 30)), (large(), (4096, 65_537, 1 << 30))):
         with harness.folder() as name:
             device = Device(pathlib.Path(name), run)
@@ -155,7 +143,7 @@ def interrupted_calls(tally):
                     for interrupts in (0, 1, 4, 60, 1000):
                         ran, _ = device.ended(device=kind, most=most, interrupts=interrupts)
                         label = f"{run.name}, each {kind} of at most {most} broken off {interrupts} times"
-                        tally.check(label, interrupted(run, kind, most, interrupts, ran))
+                        tally.check(label, right(run, ran))
 
 
 def written_to(run, folder, file, most=None):

@@ -3,8 +3,9 @@
    A request is a count of words, each word as its length and its bytes, and standard input for the program in the same
    way; an answer is the status (below 0 for a signal), the greatest memory in KiB, and what the program wrote on
    standard output and on standard error, each as its length and its bytes. Numbers have 32 bits. A program gets
-   20 seconds of CPU, 60 of the clock and a GiB of addresses. It is a small program of its own since the memory of a
-   child counts from its parent's. */
+   20 seconds of CPU, 60 of the clock and 8 GiB of addresses, of which 64 threads set some aside that they never use:
+   8 MiB each for a stack, 128 for a heap. It is a small program of its own since the memory of a child counts from its
+   parent's. */
 #define _GNU_SOURCE
 #include <signal.h>
 #include <stdint.h>
@@ -92,7 +93,7 @@ static void run(char **words, int input, int output, int faults)
         dup2(output, 1);
         dup2(faults, 2);
         limit(RLIMIT_CPU, 20);
-        limit(RLIMIT_AS, (rlim_t)1 << 30);
+        limit(RLIMIT_AS, (rlim_t)8 << 30);
         execv(words[0], words);
         _exit(127);
     }

@@ -1,11 +1,10 @@
 // Devices that take bytes.
 
 ghost use Rattle.std.specs.Prelude.{◌≡◌, ◌<◌, ◌+◌, ◌-◌, ◌^◌, ℕ, List, Option, None, OnOk, OnErr};
-ghost use Rattle.std.specs.Io.KnownBytes.{Appends};
+ghost use Rattle.std.specs.Io.KnownBytes.{Appends, Keeps};
 ghost use Rattle.rj_csv_io.specs.Devices.{writer_of, write_failures_of};
 
-use std::io;
-use std::io::Write;
+use std::io::{ErrorKind, Write};
 
 /// The device failed in this call.
 #[derive(Clone, Copy, Debug, PartialEq, Eq)]
@@ -32,7 +31,8 @@ pub trait Output {
         ensures { result ≡ count self.now };
 }
 
-/// A writer of std with the count of its failures. It tells the bytes that the writer tells.
+/// A writer of std with the count of its failures. It tells the bytes that the writer tells, and
+/// writes again where a signal broke a write off.
 #[derive(Drop)]
 pub struct Counted<W: Write> {
     writer: W,
@@ -63,12 +63,51 @@ impl<W: Write> Counted<W> {
     }
 }
 
-// Writes all of the bytes, and what the writer holds back of them.
-fn write_through<W: Write>(writer: &mut W, bytes: &[u8]) -> io::Result<()>
+// Writes all of the bytes, by as many writes as signals break off.
+fn write_whole<W: Write>(writer: &mut W, bytes: &[u8]) -> Result<(), Failed>
     ensures { OnOk result (Appends (W.contents writer.old) (W.contents writer.new) bytes.now) }
 {
-    writer.write_all(bytes)?;
-    writer.flush()?;
+    let mut rest = bytes;
+    for _turn in 0..u64::MAX {
+        if rest.is_empty() {
+            return Ok(());
+        }
+        match writer.write(rest) {
+            Ok(0) => return Err(Failed),
+            Ok(n) => rest = &rest[n..],
+            Err(e) => {
+                if e.kind() != ErrorKind::Interrupted {
+                    return Err(Failed);
+                }
+            }
+        }
+    }
+    Err(Failed)
+}
+
+// Has the writer give on what it holds back, by as many flushes as signals break off.
+fn flush_whole<W: Write>(writer: &mut W) -> Result<(), Failed>
+    ensures { OnOk result (Keeps (W.contents writer.old) (W.contents writer.new)) }
+{
+    for _turn in 0..u64::MAX {
+        match writer.flush() {
+            Ok(()) => return Ok(()),
+            Err(e) => {
+                if e.kind() != ErrorKind::Interrupted {
+                    return Err(Failed);
+                }
+            }
+        }
+    }
+    Err(Failed)
+}
+
+// Writes all of the bytes, and what the writer holds back of them.
+fn write_through<W: Write>(writer: &mut W, bytes: &[u8]) -> Result<(), Failed>
+    ensures { OnOk result (Appends (W.contents writer.old) (W.contents writer.new) bytes.now) }
+{
+    write_whole(writer, bytes)?;
+    flush_whole(writer)?;
     Ok(())
 }
 
@@ -80,7 +119,7 @@ impl<W: Write> Output for Counted<W> {
     fn put(&mut self, bytes: &[u8]) -> Result<(), Failed> {
         match write_through(&mut self.writer, bytes) {
             Ok(()) => Ok(()),
-            Err(_) => {
+            Err(Failed) => {
                 self.failures += 1;
                 Err(Failed)
             }
