@@ -26,7 +26,8 @@ fn answer_line(
     out: &mut String,
 ) -> Result<bool, AllocError>
     ensures readable { IfOk result (λ r. r ≡ is_some (reading line.now)) }
-    ensures written { OnOk result (string_bytes out.new ≡ string_bytes out.old ++ text_of_lines (answer_lines (reading line.now ∷ []) (answers ledger.old (parcels_of (reading line.now ∷ []))))) }
+    ensures written { OnOk result (string_bytes out.new ≡ string_bytes out.old
+        ++ text_of_lines (answer_lines (reading line.now ∷ []) (answers ledger.old (parcels_of (reading line.now ∷ []))))) }
     ensures ledger { OnOk result (ledger.new ≡ after_all ledger.old (parcels_of (reading line.now ∷ []))) }
     ensures senders { length ledger.new.senders ≡ length ledger.old.senders }
 {
@@ -49,7 +50,8 @@ fn answer_script(
     out: &mut String,
 ) -> Result<bool, AllocError>
     ensures readable { IfOk result (λ r. r ≡ are_readable (readings script.now)) }
-    ensures written { OnOk result (string_bytes out.new ≡ string_bytes out.old ++ text_of_lines (answer_lines (readings script.now) (answers ledger.old (parcels_of (readings script.now))))) }
+    ensures written { OnOk result (string_bytes out.new ≡ string_bytes out.old
+        ++ text_of_lines (answer_lines (readings script.now) (answers ledger.old (parcels_of (readings script.now))))) }
     ensures ledger { OnOk result (ledger.new ≡ after_all ledger.old (parcels_of (readings script.now))) }
     ensures senders { length ledger.new.senders ≡ length ledger.old.senders }
 {

@@ -29,5 +29,6 @@ pub fn stubs_by_partition()
 
 /// What is all that was sent to a lane has a parcel with an outbox's number exactly where this outbox sent it there.
 pub fn all_sent_holds()
-    ensures { (lanes k : ℕ) (ss : List Stub) (xs : List Posted) → IsAllSent lanes ss k xs → (o : ℕ) (x : Parcel) → Contains xs (posted_by o x) ↔ Contains (slice_index_or (map sent_of ss) (o * lanes + k) []) x }
+    ensures { (lanes k : ℕ) (ss : List Stub) (xs : List Posted) → IsAllSent lanes ss k xs → (o : ℕ) (x : Parcel)
+        → Contains xs (posted_by o x) ↔ Contains (slice_index_or (map sent_of ss) (o * lanes + k) []) x }
 {}

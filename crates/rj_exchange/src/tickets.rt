@@ -14,7 +14,8 @@ pub struct Plan {
     pub seats: u32,
 }
 
-/// What a seat knows: the limit, its part of the right to know the whole, the numbers that it drew, and how many of its steps drew nothing. No value of it is made.
+/// What a seat knows: the limit, its part of the right to know the whole, the numbers that it drew, and how many of its steps drew
+/// nothing. No value of it is made.
 pub struct Draw {
     pub limit: u64,
     pub parts: u64,

@@ -44,7 +44,8 @@ fn write_rows(out: &mut String, rows: &[u32]) -> Result<(), AllocError>
 
 fn write_standing(out: &mut String, sender: u32, ledger: &Ledger) -> Result<(), AllocError>
     requires { sender < length ledger.now.senders }
-    ensures { OnOk result (string_bytes out.new ≡ string_bytes out.old ++ (codes "sender " ++ (decimal sender ++ (32 ∷ standing_text (standing ledger.now sender))))) }
+    ensures { OnOk result (string_bytes out.new ≡ string_bytes out.old
+        ++ (codes "sender " ++ (decimal sender ++ (32 ∷ standing_text (standing ledger.now sender))))) }
 {
     match ledger.waiting(sender) {
         Some(next) => write!(out, "sender {sender} waiting {next}"),

@@ -35,8 +35,16 @@ fn is_printed(
 fn arrivals_basic(rt: HostRuntime) {
     let script =
         "0 0 1 rows 5 7\n0 0 0 rows 1 2 3 4\n0 0 2 close\n0 0 0 rows 1 2 3 4\n0 1 3 rows 9\n9 0 0 rows 9\n";
-    let want =
-        "held\naccepted 2\naccepted 1\nrefused after-close\nrefused wrong-partition\nrefused unknown-sender\nsender 0 complete rows 1 2 3 4 5 7\ncomplete\n";
+    let want = concat!(
+        "held\n",
+        "accepted 2\n",
+        "accepted 1\n",
+        "refused after-close\n",
+        "refused wrong-partition\n",
+        "refused unknown-sender\n",
+        "sender 0 complete rows 1 2 3 4 5 7\n",
+        "complete\n",
+    );
     assert!(rt; is_printed(rt.alloc(), script, 0, 1, 4, false, want, true));
 }
 
@@ -61,19 +69,70 @@ fn arrivals_first_line(rt: HostRuntime) {
 
 #[test]
 fn arrivals_refusals(rt: HostRuntime) {
-    let script =
-        "0 3 0 rows\n0 3 0 rows 1 2 3\n0 3 2 close\n0 3 3 rows 8\n0 3 2 rows 8\n0 3 1 rows 6\n0 3 0 rows 4 5\n1 3 5 rows 9\n1 3 4 close\nhello\n";
-    let want =
-        "refused bad-length\nrefused bad-length\nheld\nrefused beyond-close\nrefused repeat\nheld\naccepted 3\nheld\nrefused early-close\nunreadable\nsender 0 complete rows 4 5 6\nsender 1 waiting 0 rows\nincomplete\n";
+    let script = concat!(
+        "0 3 0 rows\n",
+        "0 3 0 rows 1 2 3\n",
+        "0 3 2 close\n",
+        "0 3 3 rows 8\n",
+        "0 3 2 rows 8\n",
+        "0 3 1 rows 6\n",
+        "0 3 0 rows 4 5\n",
+        "1 3 5 rows 9\n",
+        "1 3 4 close\n",
+        "hello\n",
+    );
+    let want = concat!(
+        "refused bad-length\n",
+        "refused bad-length\n",
+        "held\n",
+        "refused beyond-close\n",
+        "refused repeat\n",
+        "held\n",
+        "accepted 3\n",
+        "held\n",
+        "refused early-close\n",
+        "unreadable\n",
+        "sender 0 complete rows 4 5 6\n",
+        "sender 1 waiting 0 rows\n",
+        "incomplete\n",
+    );
     assert!(rt; is_printed(rt.alloc(), script, 3, 2, 2, false, want, false));
 }
 
 #[test]
 fn arrivals_hostile(rt: HostRuntime) {
-    let script =
-        "0 1 0 rows 4 4\n0 1 0 close\n1 1 18446744073709551615 close\n1 1 0 close\n1 1 18446744073709551615 rows 1\n1 1 0 rows\n0 1 18446744073709551616 close\n0 1 1 close\r\n0 1 1 close\n2 1 0 close\n2 0 0 close\n0  1 2 close\n";
-    let want =
-        "accepted 1\nrefused repeat\nheld\nrefused early-close\nrefused repeat\nrefused bad-length\nunreadable\naccepted 1\nrefused after-close\nrefused unknown-sender\nrefused wrong-partition\nunreadable\nsender 0 complete rows 4 4\nsender 1 waiting 0 rows\nsender 1 gap 0 18446744073709551615\nincomplete\n";
+    let script = concat!(
+        "0 1 0 rows 4 4\n",
+        "0 1 0 close\n",
+        "1 1 18446744073709551615 close\n",
+        "1 1 0 close\n",
+        "1 1 18446744073709551615 rows 1\n",
+        "1 1 0 rows\n",
+        "0 1 18446744073709551616 close\n",
+        "0 1 1 close\r\n",
+        "0 1 1 close\n",
+        "2 1 0 close\n",
+        "2 0 0 close\n",
+        "0  1 2 close\n",
+    );
+    let want = concat!(
+        "accepted 1\n",
+        "refused repeat\n",
+        "held\n",
+        "refused early-close\n",
+        "refused repeat\n",
+        "refused bad-length\n",
+        "unreadable\n",
+        "accepted 1\n",
+        "refused after-close\n",
+        "refused unknown-sender\n",
+        "refused wrong-partition\n",
+        "unreadable\n",
+        "sender 0 complete rows 4 4\n",
+        "sender 1 waiting 0 rows\n",
+        "sender 1 gap 0 18446744073709551615\n",
+        "incomplete\n",
+    );
     assert!(rt; is_printed(rt.alloc(), script, 1, 2, 3, true, want, false));
 }
 

@@ -3,7 +3,8 @@ ghost use Rattle.std.specs.Prelude.{◌≡◌, ◌<◌, ◌*◌, ◌+◌, ◌%�
 ghost use Rattle.crossbeam_queue.specs.Passes.{view, ruled_capacity};
 ghost use Rattle.crossbeam_queue.specs.Fifo.{Held};
 ghost use Rattle.rj_exchange.specs.Passing.{Belongs, HeldAt, Left, Next, sender, taker, posted_by};
-ghost use Rattle.rj_exchange.specs.Boxes.{sent_of, taken_of, heard_of, sents, takens, heards, where_at, queue_of, IsStubOf, IsEndOf, IsOutboxOf, TakesFrom, IsInboxOf};
+ghost use Rattle.rj_exchange.specs.Boxes.{sent_of, taken_of, heard_of, sents, takens, heards, where_at, queue_of, IsStubOf, IsEndOf, IsOutboxOf};
+ghost use Rattle.rj_exchange.specs.Boxes.{TakesFrom, IsInboxOf};
 
 use super::{Exchange, Full, Inbox, Outbox, Stub};
 use crate::posted::Posted;
@@ -42,7 +43,9 @@ fn post_at<R: Wait>(
 ) -> Result<(), Posted>
     requires { let v = view stub.old.pass in IsStubOf v.place posted.outbox queue.now stub.old × Belongs v.place posted }
     ensures stub { IsStubOf (view stub.old.pass).place posted.outbox queue.now stub.new }
-    ensures told { MatchResult result (λ _. sent_of stub.new ≡ sent_of stub.old ++ posted.parcel ∷ []) (λ x. (x ≡ posted) × (sent_of stub.new ≡ sent_of stub.old) × Held (ruled_capacity queue.now) (HeldAt (view stub.old.pass).place posted.outbox (sent_of stub.old))) }
+    ensures told { MatchResult result (λ _. sent_of stub.new ≡ sent_of stub.old ++ posted.parcel ∷ [])
+        (λ x. (x ≡ posted) × (sent_of stub.new ≡ sent_of stub.old)
+        × Held (ruled_capacity queue.now) (HeldAt (view stub.old.pass).place posted.outbox (sent_of stub.old))) }
 {
     put(rt, queue, &mut stub.pass, posted)
 }
@@ -50,7 +53,9 @@ fn post_at<R: Wait>(
 fn take_at<R: Wait>(rt: &R, queue: &ParcelQueue, end: &mut Stub) -> Option<Posted>
     requires { let v = view end.old.pass in IsEndOf v.place v.made queue.now end.old }
     ensures end { let v = view end.old.pass in IsEndOf v.place v.made queue.now end.new × (heard_of end.new ≡ heard_of end.old) }
-    ensures told { let v = view end.old.pass in MatchOption result ((taken_of end.new ≡ taken_of end.old) × Held 0 (Left v)) (λ x. (taken_of end.new ≡ taken_of end.old ++ x ∷ []) × Belongs v.place x × Next v x) }
+    ensures told { let v = view end.old.pass in
+        MatchOption result ((taken_of end.new ≡ taken_of end.old) × Held 0 (Left v))
+        (λ x. (taken_of end.new ≡ taken_of end.old ++ x ∷ []) × Belongs v.place x × Next v x) }
 {
     take(rt, queue, &mut end.pass)
 }
@@ -61,7 +66,10 @@ impl Outbox {
     pub fn post<R: Wait>(&mut self, rt: &R, exchange: &Exchange, parcel: Parcel) -> Result<(), Full>
         requires { IsOutboxOf exchange.now self.old × (parcel.partition < exchange.now.partitions) }
         ensures same { IsOutboxOf exchange.now self.new × (self.new.number ≡ self.old.number) }
-        ensures sent { let q = queue_of exchange.now parcel in let was = slice_index_or (sents self.old) q [] in MatchResult result (λ _. sents self.new ≡ slice_set (sents self.old) q (was ++ parcel ∷ [])) (λ f. (f.0 ≡ parcel) × (sents self.new ≡ sents self.old) × Held exchange.now.capacity (HeldAt (where_at exchange.now parcel.partition (parcel.number % exchange.now.lanes)) self.old.number was)) }
+        ensures sent { let q = queue_of exchange.now parcel in let was = slice_index_or (sents self.old) q [] in
+            MatchResult result (λ _. sents self.new ≡ slice_set (sents self.old) q (was ++ parcel ∷ []))
+            (λ f. (f.0 ≡ parcel) × (sents self.new ≡ sents self.old)
+            × Held exchange.now.capacity (HeldAt (where_at exchange.now parcel.partition (parcel.number % exchange.now.lanes)) self.old.number was)) }
     {
         let lane = (parcel.number % u64::from(exchange.lanes)) as u32;
         let at = exchange.index(parcel.partition, lane);
@@ -101,7 +109,11 @@ impl Inbox {
         requires { TakesFrom exchange.now self.old × (lane < exchange.now.lanes) }
         ensures same { TakesFrom exchange.now self.new × (self.new.partition ≡ self.old.partition) × (heards self.new ≡ heards self.old) }
         ensures inbox { IsInboxOf exchange.now self.old → IsInboxOf exchange.now self.new }
-        ensures taken { let was = slice_index_or (takens self.old) lane [] in let place = where_at exchange.now self.old.partition lane in let v = taker place exchange.now.outboxes was (slice_index_or (heards self.old) lane []) in MatchOption result ((takens self.new ≡ takens self.old) × Held 0 (Left v)) (λ x. (o : ℕ) × (takens self.new ≡ slice_set (takens self.old) lane (was ++ posted_by o x ∷ [])) × Belongs place (posted_by o x) × Next v (posted_by o x)) }
+        ensures taken { let was = slice_index_or (takens self.old) lane [] in let place = where_at exchange.now self.old.partition lane in
+            let v = taker place exchange.now.outboxes was (slice_index_or (heards self.old) lane []) in
+            MatchOption result ((takens self.new ≡ takens self.old) × Held 0 (Left v))
+            (λ x. (o : ℕ) × (takens self.new ≡ slice_set (takens self.old) lane (was ++ posted_by o x ∷ [])) × Belongs place (posted_by o x)
+            × Next v (posted_by o x)) }
     {
         let at = exchange.index(self.partition, lane);
         let posted = take_at(rt, &exchange.queues[at], &mut self.ends[lane as usize])?;

@@ -5,7 +5,8 @@ ghost use Rattle.crossbeam_queue.specs.Passes.{view, IsPassOf, ruled_capacity};
 ghost use Rattle.rj_exchange.specs.Passing.{Belongs, Interleaves, sender, taker};
 ghost use Rattle.rj_exchange.specs.declared.boxes.Stub.{Stub};
 ghost use Rattle.rj_exchange.specs.declared.posted.Posted.{Posted};
-ghost use Rattle.rj_exchange.specs.Boxes.{Queue, sent_of, taken_of, takens, where_at, IsStubOf, IsInboxOf, IsLater, IsTaker, IsGrown, AreStubsOf, known_of, Knows, IsAllSent, IsRoom, PostedVec};
+ghost use Rattle.rj_exchange.specs.Boxes.{Queue, sent_of, taken_of, takens, where_at, IsStubOf, IsInboxOf, IsLater, IsTaker, IsGrown, AreStubsOf};
+ghost use Rattle.rj_exchange.specs.Boxes.{known_of, Knows, IsAllSent, IsRoom, PostedVec};
 
 use super::{Exchange, Finished, Inbox, Stub};
 use crate::posted::Posted;
@@ -43,9 +44,17 @@ fn round(
     stubs: &mut IntoIter<Stub, Global>,
 )
     requires place { partition < exchange.now.partitions }
-    requires ends { (length ends.old.items ≡ exchange.now.lanes) × ((k : ℕ) (l : Queue) (s : Stub) → k < exchange.now.lanes → IsTaker outbox (slice_index_or exchange.now.queues.items (partition * exchange.now.lanes + k) l) (slice_index_or ends.old.items k s)) }
-    requires stubs { (exchange.now.lanes ≤ length (into_iter_items stubs.old)) × ((k : ℕ) (l : Queue) (s : Stub) → k < exchange.now.lanes → IsStubOf (view (slice_index_or (into_iter_items stubs.old) k s).pass).place outbox (slice_index_or exchange.now.queues.items (partition * exchange.now.lanes + k) l) (slice_index_or (into_iter_items stubs.old) k s)) }
-    ensures ends { (length ends.new.items ≡ exchange.now.lanes) × ((k : ℕ) (l : Queue) (s t u : Stub) → k < exchange.now.lanes → IsGrown (slice_index_or exchange.now.queues.items (partition * exchange.now.lanes + k) l) (slice_index_or ends.old.items k s) (slice_index_or (into_iter_items stubs.old) k t) (slice_index_or ends.new.items k u)) }
+    requires ends { (length ends.old.items ≡ exchange.now.lanes)
+        × ((k : ℕ) (l : Queue) (s : Stub) → k < exchange.now.lanes
+        → IsTaker outbox (slice_index_or exchange.now.queues.items (partition * exchange.now.lanes + k) l) (slice_index_or ends.old.items k s)) }
+    requires stubs { (exchange.now.lanes ≤ length (into_iter_items stubs.old))
+        × ((k : ℕ) (l : Queue) (s : Stub) → k < exchange.now.lanes
+        → IsStubOf (view (slice_index_or (into_iter_items stubs.old) k s).pass).place outbox
+        (slice_index_or exchange.now.queues.items (partition * exchange.now.lanes + k) l) (slice_index_or (into_iter_items stubs.old) k s)) }
+    ensures ends { (length ends.new.items ≡ exchange.now.lanes)
+        × ((k : ℕ) (l : Queue) (s t u : Stub) → k < exchange.now.lanes
+        → IsGrown (slice_index_or exchange.now.queues.items (partition * exchange.now.lanes + k) l) (slice_index_or ends.old.items k s)
+        (slice_index_or (into_iter_items stubs.old) k t) (slice_index_or ends.new.items k u)) }
     ensures stubs { IsLater exchange.now.lanes (into_iter_items stubs.old) (into_iter_items stubs.new) }
 {
     for lane in 0..exchange.lanes {
@@ -60,9 +69,14 @@ fn round(
 // The tokens of all outboxes.
 fn give_back_all(exchange: &Exchange, partition: u32, ends: &mut Vec<Stub>, stubs: Vec<Stub>)
     requires place { partition < exchange.now.partitions }
-    requires ends { (length ends.old.items ≡ exchange.now.lanes) × ((k : ℕ) (l : Queue) (s : Stub) → k < exchange.now.lanes → IsTaker 0 (slice_index_or exchange.now.queues.items (partition * exchange.now.lanes + k) l) (slice_index_or ends.old.items k s)) }
+    requires ends { (length ends.old.items ≡ exchange.now.lanes)
+        × ((k : ℕ) (l : Queue) (s : Stub) → k < exchange.now.lanes
+        → IsTaker 0 (slice_index_or exchange.now.queues.items (partition * exchange.now.lanes + k) l) (slice_index_or ends.old.items k s)) }
     requires stubs { AreStubsOf exchange.now partition stubs.items }
-    ensures { (length ends.new.items ≡ exchange.now.lanes) × ((k : ℕ) (l : Queue) (s u : Stub) → k < exchange.now.lanes → Knows (slice_index_or exchange.now.queues.items (partition * exchange.now.lanes + k) l) (slice_index_or ends.old.items k s) (known_of exchange.now.lanes stubs.items k exchange.now.outboxes) (slice_index_or ends.new.items k u)) }
+    ensures { (length ends.new.items ≡ exchange.now.lanes)
+        × ((k : ℕ) (l : Queue) (s u : Stub) → k < exchange.now.lanes
+        → Knows (slice_index_or exchange.now.queues.items (partition * exchange.now.lanes + k) l) (slice_index_or ends.old.items k s)
+        (known_of exchange.now.lanes stubs.items k exchange.now.outboxes) (slice_index_or ends.new.items k u)) }
 {
     let mut left = stubs.into_iter();
     for outbox in 0..exchange.outboxes {
@@ -87,10 +101,17 @@ fn drain_all<R: Wait>(
     rest: &mut Vec<Vec<Posted>>,
 )
     requires place { partition < exchange.now.partitions }
-    requires ends { (length ends.old.items ≡ exchange.now.lanes) × ((k : ℕ) (l : Queue) (s : Stub) → k < exchange.now.lanes → IsTaker (view (slice_index_or ends.old.items k s).pass).made (slice_index_or exchange.now.queues.items (partition * exchange.now.lanes + k) l) (slice_index_or ends.old.items k s)) }
+    requires ends { (length ends.old.items ≡ exchange.now.lanes)
+        × ((k : ℕ) (l : Queue) (s : Stub) → k < exchange.now.lanes
+        → IsTaker (view (slice_index_or ends.old.items k s).pass).made (slice_index_or exchange.now.queues.items (partition * exchange.now.lanes + k) l)
+        (slice_index_or ends.old.items k s)) }
     requires rooms { (length rest.old.items ≡ exchange.now.lanes) × All (IsRoom exchange.now.capacity) rest.old.items }
-    ensures all { (length rest.new.items ≡ exchange.now.lanes) × ((k : ℕ) (s : Stub) (v : PostedVec) → k < exchange.now.lanes → Interleaves (view (slice_index_or ends.old.items k s).pass).known (taken_of (slice_index_or ends.old.items k s) ++ (slice_index_or rest.new.items k v).items)) }
-    ensures placed { (k : ℕ) (s : Stub) (v : PostedVec) → k < exchange.now.lanes → All (Belongs (view (slice_index_or ends.old.items k s).pass).place) (slice_index_or rest.new.items k v).items }
+    ensures all { (length rest.new.items ≡ exchange.now.lanes)
+        × ((k : ℕ) (s : Stub) (v : PostedVec) → k < exchange.now.lanes
+        → Interleaves (view (slice_index_or ends.old.items k s).pass).known (taken_of (slice_index_or ends.old.items k s)
+        ++ (slice_index_or rest.new.items k v).items)) }
+    ensures placed { (k : ℕ) (s : Stub) (v : PostedVec) → k < exchange.now.lanes
+        → All (Belongs (view (slice_index_or ends.old.items k s).pass).place) (slice_index_or rest.new.items k v).items }
 {
     for lane in 0..exchange.lanes {
         let at = exchange.index(partition, lane);
@@ -116,8 +137,14 @@ impl Inbox {
         stubs: Vec<Stub>,
     ) -> Result<Finished, (Inbox, Vec<Stub>)>
         requires { IsInboxOf exchange.now self × AreStubsOf exchange.now self.partition stubs.items }
-        ensures all { MatchResult result (λ f. (length f.rest.items ≡ exchange.now.lanes) × ((k : ℕ) (v : PostedVec) → k < exchange.now.lanes → IsAllSent exchange.now.lanes stubs.items k (slice_index_or (takens self) k [] ++ (slice_index_or f.rest.items k v).items))) (λ b. (b.0 ≡ self) × (b.1 ≡ stubs)) }
-        ensures placed { IfOk result (λ f. (k : ℕ) (v : PostedVec) → k < exchange.now.lanes → All (Belongs (where_at exchange.now self.partition k)) (slice_index_or f.rest.items k v).items) }
+        ensures all { MatchResult result
+            (λ f. (length f.rest.items ≡ exchange.now.lanes)
+            × ((k : ℕ) (v : PostedVec) → k < exchange.now.lanes
+            → IsAllSent exchange.now.lanes stubs.items k (slice_index_or (takens self) k [] ++ (slice_index_or f.rest.items k v).items)))
+            (λ b. (b.0 ≡ self) × (b.1 ≡ stubs)) }
+        ensures placed { IfOk result
+            (λ f. (k : ℕ) (v : PostedVec) → k < exchange.now.lanes
+            → All (Belongs (where_at exchange.now self.partition k)) (slice_index_or f.rest.items k v).items) }
     {
         let Ok(mut rest) = rooms(alloc, exchange.lanes, exchange.capacity) else {
             return Err((self, stubs));

@@ -21,7 +21,8 @@ fn queue_at<B: Place>(
 ) -> Result<(ParcelQueue, Stub), AllocError>
     requires capacity { 0 < capacity }
     requires place { B.place ≡ place_of partition lane lanes outboxes }
-    ensures { IfOk result (λ q. (ruled_capacity q.0 ≡ capacity) × IsPassOf q.0 q.1.pass × (view q.1.pass ≡ taker (place_of partition lane lanes outboxes) 0 [] [])) }
+    ensures { IfOk result
+        (λ q. (ruled_capacity q.0 ≡ capacity) × IsPassOf q.0 q.1.pass × (view q.1.pass ≡ taker (place_of partition lane lanes outboxes) 0 [] [])) }
 {
     let (queue, mut pass) = ParcelQueue::ruled(alloc, capacity)?;
     fix::<B>(&queue, &mut pass);
@@ -56,8 +57,12 @@ fn add_queue(
 ) -> Result<(ParcelQueue, Stub), AllocError>
     requires capacity { 0 < capacity }
     requires boxes { length boxes.old.items ≡ outboxes }
-    ensures queue { IfOk result (λ q. (ruled_capacity q.0 ≡ capacity) × IsPassOf q.0 q.1.pass × (view q.1.pass ≡ taker (place_of partition lane lanes outboxes) outboxes [] [])) }
-    ensures boxes { IfOk result (λ q. (length boxes.new.items ≡ outboxes) × ((i : ℕ) (b d : Outbox) → i < outboxes → AddsStub (place_of partition lane lanes outboxes) i q.0 (slice_index_or boxes.old.items i b) (slice_index_or boxes.new.items i d))) }
+    ensures queue { IfOk result
+        (λ q. (ruled_capacity q.0 ≡ capacity) × IsPassOf q.0 q.1.pass × (view q.1.pass ≡ taker (place_of partition lane lanes outboxes) outboxes [] [])) }
+    ensures boxes { IfOk result
+        (λ q. (length boxes.new.items ≡ outboxes)
+        × ((i : ℕ) (b d : Outbox) → i < outboxes
+        → AddsStub (place_of partition lane lanes outboxes) i q.0 (slice_index_or boxes.old.items i b) (slice_index_or boxes.new.items i d))) }
 {
     let (queue, mut end) = queue_at::<Brand>(alloc, capacity, partition, lane, lanes, outboxes)?;
     for at in 0..boxes.len() {

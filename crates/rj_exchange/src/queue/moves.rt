@@ -37,7 +37,9 @@ pub(crate) fn put<R: Wait>(
     requires pass { IsPassOf queue.now pass.old }
     requires view { let v = view pass.old in (v ≡ sender v.place v.outbox v.sent) × (posted.outbox ≡ v.outbox) × Belongs v.place posted }
     ensures pass { IsSamePass pass.old pass.new }
-    ensures view { let v = view pass.old in MatchResult result (λ _. view pass.new ≡ sender v.place v.outbox (v.sent ++ posted.parcel ∷ [])) (λ x. (x ≡ posted) × (view pass.new ≡ v) × Held (ruled_capacity queue.now) (HeldAt v.place v.outbox v.sent)) }
+    ensures view { let v = view pass.old in
+        MatchResult result (λ _. view pass.new ≡ sender v.place v.outbox (v.sent ++ posted.parcel ∷ []))
+        (λ x. (x ≡ posted) × (view pass.new ≡ v) × Held (ruled_capacity queue.now) (HeldAt v.place v.outbox v.sent)) }
 {
     queue.push_as::<Posts, R>(rt, pass, posted)
 }
@@ -62,7 +64,8 @@ pub(crate) fn give_back(
     stub: Pass<Posted, Trace>,
 )
     requires pass { IsPassOf queue.now pass.old × IsPassOf queue.now stub }
-    requires view { let v = view pass.old in let w = view stub in (v ≡ taker v.place v.made v.taken v.known) × (w ≡ sender w.place w.outbox w.sent) × (w.outbox ≡ length v.known) }
+    requires view { let v = view pass.old in let w = view stub in
+        (v ≡ taker v.place v.made v.taken v.known) × (w ≡ sender w.place w.outbox w.sent) × (w.outbox ≡ length v.known) }
     ensures pass { IsSamePass pass.old pass.new }
     ensures view { let v = view pass.old in view pass.new ≡ taker v.place v.made v.taken (v.known ++ (view stub).sent ∷ []) }
 {

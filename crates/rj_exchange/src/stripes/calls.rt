@@ -6,7 +6,8 @@ ghost use Rattle.rj_exchange.specs.Totals.{total};
 ghost use Rattle.rj_exchange.specs.Tickets.{times, EachOnce};
 ghost use Rattle.rj_exchange.specs.declared.stripes.Stripe.{Stripe};
 ghost use Rattle.rj_exchange.specs.Striping.{share, below, opening, stripe, without};
-ghost use Rattle.rj_exchange.specs.Stripes.{held, draws, puts, drew_in_all, put_in_all, Holds, Queued, stripes_of, stripe_seats_of, IsStripeSeatOf, IsNewStripeSeat, AreAllStripeSeats};
+ghost use Rattle.rj_exchange.specs.Stripes.{held, draws, puts, drew_in_all, put_in_all, Holds, Queued, stripes_of, stripe_seats_of, IsStripeSeatOf};
+ghost use Rattle.rj_exchange.specs.Stripes.{IsNewStripeSeat, AreAllStripeSeats};
 
 use super::{
     CutShare, DealOut, Draws, Gives, Lot, Settle, Share, Stripe, StripeQueue, StripeSeat, Stripes,
@@ -92,7 +93,8 @@ impl Stripes {
     pub fn draw<R: Wait>(&self, rt: &R, seat: &mut StripeSeat) -> Option<(u32, u32)>
         requires { IsStripeSeatOf self.now seat.old }
         ensures seat { IsStripeSeatOf self.now seat.new }
-        ensures held { MatchOption result ((held seat.new ≡ held seat.old) × Held 0 (Queued seat.old)) (λ x. (held seat.new ≡ held seat.old ++ x.0 ∷ []) × (x.0 < stripes_of self.now)) }
+        ensures held { MatchOption result ((held seat.new ≡ held seat.old) × Held 0 (Queued seat.old))
+            (λ x. (held seat.new ≡ held seat.old ++ x.0 ∷ []) × (x.0 < stripes_of self.now)) }
         ensures holds { IfSome result (λ x. Holds seat.new x.0) }
         ensures gains { IfSome result (λ x. (y : ℕ) → Holds seat.new y ↔ (Holds seat.old y ⊎ (y ≡ x.0))) }
         ensures drawn { MatchOption result (draws seat.new ≡ draws seat.old) (λ x. draws seat.new ≡ draws seat.old ++ stripe x.0 x.1 ∷ []) }

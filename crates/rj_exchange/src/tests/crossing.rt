@@ -29,7 +29,8 @@ fn open_three(
     requires { (partitions ≤ 1024) × (1 ≤ lanes) × (lanes ≤ 4) × (1 ≤ capacity) × (capacity ≤ 4096) }
     ensures sizes { IfOk result (λ r. (r.0.outboxes ≡ 3) × (r.0.partitions ≡ partitions) × (r.0.lanes ≡ lanes)) }
     ensures boxes { IfOk result (λ r. IsOutboxAt r.0 0 r.1.0 × IsOutboxAt r.0 1 r.1.1 × IsOutboxAt r.0 2 r.1.2) }
-    ensures inboxes { IfOk result (λ r. (length r.2.items ≡ partitions) × ((p : ℕ) (i : Inbox) → p < partitions → IsInboxAt r.0 p (slice_index_or r.2.items p i))) }
+    ensures inboxes { IfOk result
+        (λ r. (length r.2.items ≡ partitions) × ((p : ℕ) (i : Inbox) → p < partitions → IsInboxAt r.0 p (slice_index_or r.2.items p i))) }
 {
     let (exchange, mut boxes, inboxes) = Exchange::open(alloc, 3, partitions, lanes, capacity)?;
     let Some(third) = boxes.pop() else {
@@ -131,7 +132,8 @@ fn join_stubs(
     third: Vec<Stub>,
 ) -> Result<Vec<Stub>, AllocError>
     requires three { exchange.now.outboxes ≡ 3 }
-    requires stubs { AreStubsFrom exchange.now partition 0 first.items × AreStubsFrom exchange.now partition 1 second.items × AreStubsFrom exchange.now partition 2 third.items }
+    requires stubs { AreStubsFrom exchange.now partition 0 first.items × AreStubsFrom exchange.now partition 1 second.items
+        × AreStubsFrom exchange.now partition 2 third.items }
     ensures { IfOk result (λ v. AreStubsOf exchange.now partition v.items) }
 {
     let _shared = exchange;

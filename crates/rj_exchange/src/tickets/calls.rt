@@ -33,7 +33,8 @@ impl Tickets {
     pub fn claim(&self, seat: &mut Seat) -> Option<u64>
         requires { IsSeatOf self.now seat.old }
         ensures seat { IsSeatOf self.now seat.new }
-        ensures drawn { MatchOption result ((drawn seat.new ≡ drawn seat.old) × IsSpent seat.new) (λ x. (drawn seat.new ≡ drawn seat.old ++ x ∷ []) × (x < limit_of self.now) × IsUnspent seat.new) }
+        ensures drawn { MatchOption result ((drawn seat.new ≡ drawn seat.old) × IsSpent seat.new)
+            (λ x. (drawn seat.new ≡ drawn seat.old ++ x ∷ []) × (x < limit_of self.now) × IsUnspent seat.new) }
         ensures spent { IsSpent seat.old → IsNone result }
     {
         if seat.spent {
