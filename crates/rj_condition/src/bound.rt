@@ -8,7 +8,7 @@ use crate::truth::Truth;
 use sqlite_items::{Boxed, Items};
 
 /// An operand with its name resolved: a column of the left or of the right table, counted from 0, or a literal.
-#[derive(Debug, Drop)]
+#[derive(Drop)]
 pub enum BoundOperand {
     Left(usize),
     Right(usize),

@@ -43,23 +43,7 @@ fn truth_of(keyword: Keyword) -> Option<Truth>
         Keyword::False => Some(Truth::False),
         Keyword::Unknown => Some(Truth::Unknown),
         Keyword::True => Some(Truth::True),
-        Keyword::And
-        | Keyword::Between
-        | Keyword::Cross
-        | Keyword::Full
-        | Keyword::In
-        | Keyword::Inner
-        | Keyword::Is
-        | Keyword::Join
-        | Keyword::Left
-        | Keyword::Natural
-        | Keyword::Not
-        | Keyword::Null
-        | Keyword::On
-        | Keyword::Or
-        | Keyword::Outer
-        | Keyword::Right
-        | Keyword::Using => None,
+        _ => None,
     }
 }
 

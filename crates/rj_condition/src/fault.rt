@@ -28,7 +28,7 @@ impl From<AllocError> for ParseRefused {
 }
 
 /// Why tokens have no tree.
-#[derive(Clone, Copy, Debug)]
+#[derive(Clone, Copy)]
 pub enum Fault {
     Memory,
     /// How many tokens were left where none goes on.

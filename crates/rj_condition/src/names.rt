@@ -69,11 +69,12 @@ pub(crate) fn column_called(table: &Table, called: &str) -> Option<usize>
 fn in_one(left: Option<usize>, right: Option<usize>) -> Result<BoundOperand, BindRefused>
     ensures { result ≡ names.in_one left right }
 {
-    match (left, right) {
-        (Some(_), Some(_)) => Err(BindRefused::AmbiguousColumn),
-        (Some(i), None) => Ok(BoundOperand::Left(i)),
-        (None, Some(j)) => Ok(BoundOperand::Right(j)),
-        (None, None) => Err(BindRefused::UnknownColumn),
+    match left {
+        Some(i) => match right {
+            Some(_) => Err(BindRefused::AmbiguousColumn),
+            None => Ok(BoundOperand::Left(i)),
+        },
+        None => in_right(right),
     }
 }
 

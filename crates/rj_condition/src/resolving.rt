@@ -3,12 +3,14 @@
 ghost use Rattle.std.specs.Prelude.{◌≡◌, ◌≢◌, IfOk, IfErr, Ok, Err, map};
 ghost use Rattle.rj_condition.specs.Names.{resolved_operand};
 ghost use Rattle.rj_condition.specs.Resolved.{resolved, resolved_at, all_ok};
+ghost use Rattle.rj_condition.specs.declared.bound.BoundCondition.{Is, Not};
 ghost use Rattle.rj_condition.specs.declared.tree.Condition.TheOpen.{Condition-F};
 
 use crate::bound::{BoundCondition, BoundOperand};
 use crate::names::resolve_operand;
 use crate::refused::BindRefused;
 use crate::tree::{Comparison, Condition, Operand};
+use crate::truth::Truth;
 use rj_columns::Table;
 use sqlite_items::{Boxed, Items};
 use std::alloc::Global;
@@ -76,7 +78,8 @@ fn resolve_between(
     right: &Table,
 ) -> Result<BoundCondition, BindRefused>
     ensures ok { IfOk result (λ c. resolved_at left.now.names right.now.names (Condition-F.Between operand.now low.now high.now negated) ≡ Ok c) }
-    ensures err { IfErr result (λ e. e ≢ BindRefused.Memory → resolved_at left.now.names right.now.names (Condition-F.Between operand.now low.now high.now negated) ≡ Err e) }
+    ensures err { IfErr result
+        (λ e. e ≢ BindRefused.Memory → resolved_at left.now.names right.now.names (Condition-F.Between operand.now low.now high.now negated) ≡ Err e) }
 {
     let operand = resolve_operand(alloc, operand, left, right)?;
     let low = resolve_operand(alloc, low, left, right)?;
@@ -99,7 +102,8 @@ fn resolve_in(
     right: &Table,
 ) -> Result<BoundCondition, BindRefused>
     ensures ok { IfOk result (λ c. resolved_at left.now.names right.now.names (Condition-F.In operand.now members.now negated) ≡ Ok c) }
-    ensures err { IfErr result (λ e. e ≢ BindRefused.Memory → resolved_at left.now.names right.now.names (Condition-F.In operand.now members.now negated) ≡ Err e) }
+    ensures err { IfErr result
+        (λ e. e ≢ BindRefused.Memory → resolved_at left.now.names right.now.names (Condition-F.In operand.now members.now negated) ≡ Err e) }
 {
     let operand = resolve_operand(alloc, operand, left, right)?;
     let members = resolve_operands(alloc, members, left, right)?;
@@ -108,6 +112,46 @@ fn resolve_in(
         members,
         negated,
     })
+}
+
+// An IS NULL with its name resolved.
+fn resolve_null_test(
+    alloc: Global,
+    operand: &Operand,
+    negated: bool,
+    left: &Table,
+    right: &Table,
+) -> Result<BoundCondition, BindRefused>
+    ensures ok { IfOk result (λ c. resolved_at left.now.names right.now.names (Condition-F.IsNull operand.now negated) ≡ Ok c) }
+    ensures err { IfErr result (λ e. e ≢ BindRefused.Memory → resolved_at left.now.names right.now.names (Condition-F.IsNull operand.now negated) ≡ Err e) }
+{
+    let operand = resolve_operand(alloc, operand, left, right)?;
+    Ok(BoundCondition::IsNull { operand, negated })
+}
+
+// The test of a bound condition's truth.
+fn truth_test(
+    alloc: Global,
+    bound: BoundCondition,
+    truth: Truth,
+    negated: bool,
+) -> Result<BoundCondition, BindRefused>
+    ensures ok { IfOk result (λ c. c ≡ Is bound truth negated) }
+    ensures err { IfErr result (λ e. e ≡ BindRefused.Memory) }
+{
+    Ok(BoundCondition::Is {
+        condition: boxed(alloc, bound)?,
+        truth,
+        negated,
+    })
+}
+
+// The negation of a bound condition.
+fn negation(alloc: Global, bound: BoundCondition) -> Result<BoundCondition, BindRefused>
+    ensures ok { IfOk result (λ c. c ≡ Not bound) }
+    ensures err { IfErr result (λ e. e ≡ BindRefused.Memory) }
+{
+    Ok(BoundCondition::Not(boxed(alloc, bound)?))
 }
 
 // The condition with its names resolved, or the first fault in the order of the text.
@@ -139,11 +183,7 @@ pub(crate) fn resolve(
             negated,
         } => resolve_in(alloc, operand, members.as_slice(), *negated, left, right),
         Condition::IsNull { operand, negated } => {
-            let operand = resolve_operand(alloc, operand, left, right)?;
-            Ok(BoundCondition::IsNull {
-                operand,
-                negated: *negated,
-            })
+            resolve_null_test(alloc, operand, *negated, left, right)
         }
         Condition::Is {
             condition: inner,
@@ -151,17 +191,11 @@ pub(crate) fn resolve(
             negated,
         } => {
             let bound = resolve(alloc, inner.get(), left, right)?;
-            let condition = boxed(alloc, bound)?;
-            Ok(BoundCondition::Is {
-                condition,
-                truth: *truth,
-                negated: *negated,
-            })
+            truth_test(alloc, bound, *truth, *negated)
         }
         Condition::Not(inner) => {
             let bound = resolve(alloc, inner.get(), left, right)?;
-            let inner = boxed(alloc, bound)?;
-            Ok(BoundCondition::Not(inner))
+            negation(alloc, bound)
         }
         Condition::All(conditions) => {
             let all = resolve_each(alloc, conditions.as_slice(), left, right)?;

@@ -7,7 +7,7 @@ use crate::tree::Name;
 use crate::word::Word;
 
 /// A keyword of the clause, which ignores ASCII case.
-#[derive(Clone, Copy, Debug, PartialEq, Eq)]
+#[derive(Clone, Copy, PartialEq, Eq)]
 pub enum Keyword {
     And,
     Between,
@@ -62,7 +62,7 @@ impl Keyword {
 }
 
 /// A sign: an operator of a comparison, or a mark.
-#[derive(Clone, Copy, Debug, PartialEq, Eq)]
+#[derive(Clone, Copy, PartialEq, Eq)]
 pub enum Sign {
     Equal,
     NotEqual,
@@ -77,7 +77,7 @@ pub enum Sign {
 }
 
 /// A token of a clause.
-#[derive(Debug, Drop)]
+#[derive(Drop)]
 pub enum Token {
     Keyword(Keyword),
     Name(Name),

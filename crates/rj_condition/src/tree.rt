@@ -15,7 +15,7 @@ pub enum JoinKind {
 }
 
 /// A name: a regular identifier, which ignores ASCII case, or a delimited one, which is exact (SQL-92, 5.4).
-#[derive(Debug, Drop)]
+#[derive(Drop)]
 pub struct Name {
     /// The name as it is written, without the quotes of a delimited one.
     pub text: Word,
@@ -23,21 +23,21 @@ pub struct Name {
 }
 
 /// A column reference, perhaps qualified by the name of its table, `L` or `R` (SQL-92, 6.4).
-#[derive(Debug, Drop)]
+#[derive(Drop)]
 pub struct ColumnName {
     pub qualifier: Option<Name>,
     pub name: Name,
 }
 
 /// A constant of the clause (SQL-92, 5.3).
-#[derive(Debug, Drop)]
+#[derive(Drop)]
 pub enum Literal {
     Integer(i64),
     Text(Word),
 }
 
 /// What a predicate compares: a column or a literal.
-#[derive(Debug, Drop)]
+#[derive(Drop)]
 pub enum Operand {
     Column(ColumnName),
     Literal(Literal),

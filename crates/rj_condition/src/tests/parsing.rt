@@ -8,10 +8,7 @@ use std::alloc::Global;
 use std::test::Fail;
 
 fn refusal(alloc: Global, text: &str) -> Option<ParseRefused> {
-    match parse(alloc, text) {
-        Ok(_clause) => None,
-        Err(refused) => Some(refused),
-    }
+    parse(alloc, text).err()
 }
 
 // The first text that is not refused as a syntax fault at the byte that stands beside it; `-` where there is none.
@@ -89,9 +86,12 @@ fn takes_the_forms_of_a_clause(rt: HostRuntime) {
 
 // How many conditions joined by OR, or names of USING, the clause has.
 fn parts(alloc: Global, text: &str) -> Option<(JoinKind, usize)> {
-    match parse(alloc, text) {
-        Ok(Clause::On(kind, Condition::Any(parts))) => Some((kind, parts.len())),
-        Ok(Clause::Using(kind, names)) => Some((kind, names.len())),
+    let Ok(clause) = parse(alloc, text) else {
+        return None;
+    };
+    match &clause {
+        Clause::On(kind, Condition::Any(parts)) => Some((*kind, parts.len())),
+        Clause::Using(kind, names) => Some((*kind, names.len())),
         _ => None,
     }
 }

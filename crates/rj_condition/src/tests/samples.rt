@@ -26,10 +26,10 @@ const FEW: u64 = 9;
 fn is_typed(kind: ColumnType, cell: Cell<'_>) -> bool
     ensures { result ≡ true → FitsType kind (content_of cell.entry) }
 {
-    match (kind, cell) {
-        (ColumnType::Int, Cell::Null | Cell::Int(_)) => true,
-        (ColumnType::Text, Cell::Null | Cell::Text(_)) => true,
-        _ => false,
+    match cell {
+        Cell::Null => true,
+        Cell::Int(_) => matches!(kind, ColumnType::Int),
+        Cell::Text(_) => matches!(kind, ColumnType::Text),
     }
 }
 

@@ -173,16 +173,21 @@ fn end_two(
     Ok((first, second))
 }
 
-// What three outboxes post to two partitions, each partition's own numbers rising.
+// A parcel of one of two partitions by turns, each partition's own numbers rising.
+fn in_turn(sender: u32, at: u64) -> Parcel {
+    Parcel {
+        sender,
+        partition: (at % 2) as u32,
+        number: at / 2,
+        body: Body::Close,
+    }
+}
+
+// What three outboxes post to two partitions.
 fn for_two(alloc: Global, sender: u32) -> Result<Vec<Parcel>, AllocError> {
     let mut parcels = Vec::new(alloc);
     for at in 0..2 * EACH {
-        parcels.push(Parcel {
-            sender,
-            partition: (at % 2) as u32,
-            number: at / 2,
-            body: Body::Close,
-        })?;
+        parcels.push(in_turn(sender, at))?;
     }
     Ok(parcels)
 }
