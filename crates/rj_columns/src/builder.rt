@@ -3,7 +3,7 @@
 ghost use Rattle.std.specs.Prelude.{◌≡◌, ◌<◌, ◌≤◌, ◌+◌, ◌-◌, ◌^◌, ◌++◌, ◌∷◌, [], map, length, OnOk, OnErr, IfOk, IfErr, Ok, Err, ◌≢◌};
 ghost use Rattle.rj_columns.specs.Names.{begun};
 ghost use Rattle.rj_columns.specs.Contents.{content_of};
-ghost use Rattle.rj_columns.specs.Columns.{AreFull, cut};
+ghost use Rattle.rj_columns.specs.Columns.{AreFull, cut, changed, popped, without, grown_by};
 ghost use Rattle.rj_columns.specs.Tables.{FitsAt, FitsTypes};
 
 use super::cell::{Cell, ColumnType};
@@ -71,6 +71,41 @@ fn cut_back(columns: &mut Vec<Column>, filled: usize, rows: usize)
     for i in 0..filled {
         columns[i].truncate(rows);
     }
+}
+
+// Drops the last cells of the first columns.
+fn pop_each(columns: &mut Vec<Column>, pushed: usize)
+    requires { pushed ≤ length columns.old.items }
+    ensures { columns.new.items ≡ changed popped pushed columns.old.items }
+{
+    for i in 0..pushed {
+        columns[i].pop();
+    }
+}
+
+// Drops the cells of the first columns at a row.
+fn remove_each(columns: &mut Vec<Column>, filled: usize, row: usize)
+    requires { filled ≤ length columns.old.items }
+    ensures { columns.new.items ≡ changed (without row) filled columns.old.items }
+{
+    for i in 0..filled {
+        columns[i].remove(row);
+    }
+}
+
+// Adds a cell to each column. Where memory is refused the columns are as they were.
+fn push_each(columns: &mut Vec<Column>, cells: &[Cell<'_>]) -> Result<(), AllocError>
+    requires { FitsTypes (map (λ c. c.kind) columns.old.items) (map content_of cells.now) }
+    ensures ok { OnOk result (columns.new.items ≡ grown_by (map content_of cells.now) columns.old.items) }
+    ensures err { OnErr result (columns.new.items ≡ columns.old.items) }
+{
+    for i in 0..cells.len() {
+        if columns[i].push(cells[i]).is_err() {
+            pop_each(columns, i);
+            return Err(AllocError);
+        }
+    }
+    Ok(())
 }
 
 impl TableBuilder {
@@ -155,21 +190,18 @@ impl TableBuilder {
     }
 
     /// Adds a row: one cell a column, each null or of the column's type. There were fewer than 2^31 - 1
-    /// rows. A row at hand is dropped first. Where memory is refused the builder is otherwise unchanged.
+    /// rows. A row at hand is dropped. Where memory is refused the builder is unchanged, its row at hand too.
     pub fn push_row(&mut self, cells: &[Cell<'_>]) -> Result<(), AllocError>
         requires fits { FitsTypes self.old.table.types (map content_of cells.now) }
         requires room { length self.old.table.rows < 2 ^ 31 - 1 }
         ensures ok { OnOk result (self.new ≡ record { table = record self.old.table { rows = self.old.table.rows ++ map content_of cells.now ∷ [] }; row = [] }) }
-        ensures err { OnErr result (self.new ≡ record self.old { row = [] }) }
+        ensures err { OnErr result (self.new ≡ self.old) }
     {
-        self.drop_row();
-        for cell in cells {
-            if self.push_cell(*cell).is_err() {
-                self.drop_row();
-                return Err(AllocError);
-            }
-        }
-        self.end_row();
+        push_each(&mut self.columns, cells)?;
+        let rows = self.rows;
+        remove_each(&mut self.columns, self.filled, rows as usize);
+        self.rows = rows + 1;
+        self.filled = 0;
         Ok(())
     }
 

@@ -103,6 +103,25 @@ fn cells_as_pushed(rt: HostRuntime) -> Result<(), Fail> {
     Ok(())
 }
 
+#[tactic(auto, unfolding(crate::specs::Tables::FitsTypes, crate::specs::Tables::FitsAt))]
+#[test]
+fn a_row_in_place_of_the_row_at_hand(rt: HostRuntime) -> Result<(), Fail> {
+    let names = [b"id".as_slice(), b"Word".as_slice()];
+    let types = [INT, TEXT];
+    let mut builder = TableBuilder::new(rt.alloc(), names.as_slice(), types.as_slice())?;
+    builder.push_row([Cell::Null, Cell::Text("a")].as_slice())?;
+    builder.push_cell(Cell::Int(5))?;
+    builder.push_row([Cell::Int(6), Cell::Text("b")].as_slice())?;
+    builder.push_cell(Cell::Null)?;
+    builder.push_row([Cell::Int(7), Cell::Null].as_slice())?;
+    let table = builder.finish();
+    assert!(rt; table.rows() == 3);
+    assert!(rt; table.cell(0, 0) == Cell::Null && table.cell(0, 1) == Cell::Text("a"));
+    assert!(rt; table.cell(1, 0) == Cell::Int(6) && table.cell(1, 1) == Cell::Text("b"));
+    assert!(rt; table.cell(2, 0) == Cell::Int(7) && table.cell(2, 1) == Cell::Null);
+    Ok(())
+}
+
 // How many cells are null.
 fn count_nulls<S: RowSource>(source: &S) -> u64 {
     let mut nulls = 0;

@@ -1,4 +1,3 @@
-use Rattle.std.proofs.Common.{sym, ap, ◌∙◌, rules}
 use Rattle.rj_columns.proofs.RowFacts.{fits_kind}
 use Rattle.rj_columns.proofs.table.Table.select_column.Goals as goal
 
