@@ -77,7 +77,7 @@ takes pass v may placed x items views h at = let w : Trace = taker v.place v.mad
         senders = λ j u e s. ⊎_elim (λ y. absurd (not_both u.sends s (ap (λ (z : Trace). z.sends) (sym y.1))))
             (λ y. let f = h.senders j u y.1 s in record { mine = f.mine; other = f.other; sent = f.sent ∙ ap (of u.outbox) (sym same); there = f.there })
             (at_set views pass j w u e);
-        takers = λ j u e t. ⊎_elim (λ y. subst (λ (z : ℕ × Trace). FitsTaker h.reader h.owner h.place got items z.0 z.1) (λ i. (sym y.0 i, y.1 i)) now)
+        takers = λ j u e t. ⊎_elim (λ y. subst (λ (z : ℕ × Trace). FitsTaker h.reader h.owner h.place got items z.0 z.1) {x = (pass, w)} {y = (j, u)} (λ i. (sym y.0 i, y.1 i)) now)
             (λ y. absurd (y.0 ((h.takers j u y.1 t).only ∙ sym mine.only)))
             (at_set views pass j w u e);
       },
@@ -98,7 +98,7 @@ opens = record {
   got = [];
   belong = All-nil (Belongs nowhere);
   senders = λ j u e s. absurd (not_both u.sends s (ap (λ (z : Trace). z.sends) (sym (only j u e).1)));
-  takers = λ j u e t. subst (λ (z : ℕ × Trace). FitsTaker 0 (λ _. 0) nowhere [] [] z.0 z.1) (λ i. (sym (only j u e).0 i, (only j u e).1 i)) first;
+  takers = λ j u e t. subst (λ (z : ℕ × Trace). FitsTaker 0 (λ _. 0) nowhere [] [] z.0 z.1) {x = (0, blank)} {y = (j, u)} (λ i. (sym (only j u e).0 i, (only j u e).1 i)) first;
 }
   where
     only : (j : ℕ) (u : Trace) → get_elem? (blank ∷ []) j ≡ some u → (j ≡ 0) × (blank ≡ u)
@@ -131,7 +131,7 @@ fixes pass v p is items views h at = let l : Trace = taker p 0 [] [] in let mine
           (λ new. not_both u.sends s (ap (λ (z : Trace). z.sends) (sym new.1)))
           (snoc_cases vs nobody u j e));
       takers = λ j u e t. ⊎_elim
-          (λ old. ⊎_elim (λ y. subst (λ (z : ℕ × Trace). FitsTaker h.reader h.owner p h.got items z.0 z.1) (λ i. (sym y.0 i, y.1 i)) now) (λ y. absurd (y.0 ((h.takers j u y.1 t).only ∙ sym mine.only))) (at_set views pass j l u old))
+          (λ old. ⊎_elim (λ y. subst (λ (z : ℕ × Trace). FitsTaker h.reader h.owner p h.got items z.0 z.1) {x = (pass, l)} {y = (j, u)} (λ i. (sym y.0 i, y.1 i)) now) (λ y. absurd (y.0 ((h.takers j u y.1 t).only ∙ sym mine.only))) (at_set views pass j l u old))
           (λ new. absurd (not_both u.takes t (ap (λ (z : Trace). z.takes) (sym new.1))))
           (snoc_cases vs nobody u j e);
     }
@@ -158,10 +158,10 @@ deals pass v may placed items views h at = let l : Trace = taker v.place (v.made
           (λ old. ⊎_elim (λ y. absurd (not_both u.sends s (ap (λ (z : Trace). z.sends) (sym y.1))))
           (λ y. let f = h.senders j u y.1 s in record { mine = passed u.outbox v.made n (h.owner u.outbox) (λ is. f.other (sym f.mine ∙ ap h.owner is ∙ next.0)) ∙ f.mine; other = f.other; sent = f.sent; there = f.there })
           (at_set views pass j l u old))
-          (λ new. subst (λ (z : ℕ × Trace). FitsSender h.reader owner h.place posted z.0 z.1) (λ i. (sym new.0 i, new.1 i)) new_one)
+          (λ new. subst (λ (z : ℕ × Trace). FitsSender h.reader owner h.place posted z.0 z.1) {x = (n, r)} {y = (j, u)} (λ i. (sym new.0 i, new.1 i)) new_one)
           (snoc_cases vs r u j e);
       takers = λ j u e t. ⊎_elim
-          (λ old. ⊎_elim (λ y. subst (λ (z : ℕ × Trace). FitsTaker h.reader owner h.place h.got items z.0 z.1) (λ i. (sym y.0 i, y.1 i)) now) (λ y. absurd (y.0 ((h.takers j u y.1 t).only ∙ sym mine.only))) (at_set views pass j l u old))
+          (λ old. ⊎_elim (λ y. subst (λ (z : ℕ × Trace). FitsTaker h.reader owner h.place h.got items z.0 z.1) {x = (pass, l)} {y = (j, u)} (λ i. (sym y.0 i, y.1 i)) now) (λ y. absurd (y.0 ((h.takers j u y.1 t).only ∙ sym mine.only))) (at_set views pass j l u old))
           (λ new. absurd (not_both u.takes t (ap (λ (z : Trace). z.takes) (sym new.1))))
           (snoc_cases vs r u j e);
     }
@@ -195,6 +195,6 @@ returns pass v other w may placed theirs from items views h at apart at' = let b
           (at_set views pass j b u x.1))
           (at_set vs other j nobody u e);
       takers = λ j u e t. ⊎_elim (λ x. absurd (not_both u.takes t (ap (λ (z : Trace). z.takes) (sym x.1))))
-          (λ x. ⊎_elim (λ y. subst (λ (z : ℕ × Trace). FitsTaker h.reader owner h.place h.got items z.0 z.1) (λ i. (sym y.0 i, y.1 i)) now) (λ y. absurd (y.0 ((h.takers j u y.1 t).only ∙ sym mine.only))) (at_set views pass j b u x.1))
+          (λ x. ⊎_elim (λ y. subst (λ (z : ℕ × Trace). FitsTaker h.reader owner h.place h.got items z.0 z.1) {x = (pass, b)} {y = (j, u)} (λ i. (sym y.0 i, y.1 i)) now) (λ y. absurd (y.0 ((h.takers j u y.1 t).only ∙ sym mine.only))) (at_set views pass j b u x.1))
           (at_set vs other j nobody u e);
     }
