@@ -4,8 +4,8 @@ ghost use Rattle.rj_ledger.specs.Ledgers.{standing};
 ghost use Rattle.rj_exchange.specs.Halt.{IsHaltSeatOf};
 ghost use Rattle.rj_workers.specs.Arrivals.{IsDelivered, due_lists, rows_by_sender};
 ghost use Rattle.rj_workers.specs.Hands.{AreWords, IsBackOf};
-ghost use Rattle.rj_workers.specs.Takes.{IsHeldOf, IsJoining, IsSlot};
-ghost use Rattle.rj_workers.specs.Ends.{IsSettled};
+ghost use Rattle.rj_workers.specs.Takes.{IsHeldOf, IsJoining};
+ghost use Rattle.rj_workers.specs.Ends.{AreSettled, AreSlots};
 
 use crate::crew::Back;
 use crate::ending::{EndShared, Ended, finish_all};
@@ -102,9 +102,9 @@ fn place(slot: &mut Option<Held>, held: Held)
 
 // Puts the partitions of one taker into their places.
 fn place_group<J: Job>(shared: &EndShared<'_, J>, slots: &mut Vec<Option<Held>>, group: Vec<Held>)
-    requires slots { (length slots.old.items ≡ shared.now.exchange.now.partitions) × ((p : ℕ) (d : _) → p < shared.now.exchange.now.partitions → IsSlot (J.joins shared.now.job.now) shared.now.exchange.now shared.now.crew.workers shared.now.crew.block p (slice_index_or slots.old.items p d)) }
+    requires slots { AreSlots (J.joins shared.now.job.now) shared.now slots.old.items }
     requires group { All (IsHeldOf (J.joins shared.now.job.now) shared.now.exchange.now shared.now.crew.workers shared.now.crew.block) group.items }
-    ensures { (length slots.new.items ≡ shared.now.exchange.now.partitions) × ((p : ℕ) (d : _) → p < shared.now.exchange.now.partitions → IsSlot (J.joins shared.now.job.now) shared.now.exchange.now shared.now.crew.workers shared.now.crew.block p (slice_index_or slots.new.items p d)) }
+    ensures { AreSlots (J.joins shared.now.job.now) shared.now slots.new.items }
 {
     let _shared = shared;
     for held in group {
@@ -119,8 +119,9 @@ fn place_all<J: Job>(
     shared: &EndShared<'_, J>,
     groups: Vec<Vec<Held>>,
 ) -> Result<Vec<Option<Held>>, AllocError>
-    requires { All (λ g. All (IsHeldOf (J.joins shared.now.job.now) shared.now.exchange.now shared.now.crew.workers shared.now.crew.block) g.items) groups.items }
-    ensures { IfOk result (λ v. (length v.items ≡ shared.now.exchange.now.partitions) × ((p : ℕ) (d : _) → p < shared.now.exchange.now.partitions → IsSlot (J.joins shared.now.job.now) shared.now.exchange.now shared.now.crew.workers shared.now.crew.block p (slice_index_or v.items p d))) }
+    requires { All
+        (λ g. All (IsHeldOf (J.joins shared.now.job.now) shared.now.exchange.now shared.now.crew.workers shared.now.crew.block) g.items) groups.items }
+    ensures { IfOk result (λ v. AreSlots (J.joins shared.now.job.now) shared.now v.items) }
 {
     let mut slots = no_slots(alloc, shared.exchange.partitions())?;
     for group in groups {
@@ -144,7 +145,8 @@ pub(crate) fn conclude<R: Wait, J: Job>(
     requires back { IsBackOf (J.due shared.now.job.now) (J.joins shared.now.job.now) shared.now.exchange.now words.halt words.stripes shared.now.crew back }
     requires own { IsHaltSeatOf words.halt own }
     ensures len { IfOk result (λ v. length v.items ≡ shared.now.exchange.now.partitions) }
-    ensures each { IfOk result (λ v. (p : ℕ) (d : _) → p < shared.now.exchange.now.partitions → IsSettled (J.joins shared.now.job.now) (J.due shared.now.job.now) (shared.now.crew.workers + shared.now.crew.workers) p (slice_index_or v.items p d)) }
+    ensures each { let senders = shared.now.crew.workers + shared.now.crew.workers in
+        IfOk result (λ v. AreSettled (J.joins shared.now.job.now) (J.due shared.now.job.now) senders shared.now.exchange.now.partitions v.items) }
 {
     contained_suffice();
     let mut seats = Vec::new(alloc);
@@ -192,10 +194,12 @@ pub(crate) fn join_rest<J: Job>(
 ) -> Result<Delivered, AllocError>
     requires due { (p : ℕ) → p < J.partitions job.now → J.joinable job.now (due_lists (J.due job.now) (J.stripes job.now + J.stripes job.now) p) }
     requires len { length all.items ≡ J.partitions job.now }
-    requires each { (p : ℕ) (d : _) → p < J.partitions job.now → IsSettled (J.joins job.now) (J.due job.now) (J.stripes job.now + J.stripes job.now) p (slice_index_or all.items p d) }
+    requires each { AreSettled (J.joins job.now) (J.due job.now) (J.stripes job.now + J.stripes job.now) (J.partitions job.now) all.items }
     ensures len { IfOk result (λ r. (length r.ledgers.items ≡ J.partitions job.now) × (length r.pairs.items ≡ J.partitions job.now)) }
-    ensures delivered { IfOk result (λ r. (p : ℕ) (d : _) → p < J.partitions job.now → IsDelivered (J.due job.now) (J.stripes job.now + J.stripes job.now) p (slice_index_or r.ledgers.items p d)) }
-    ensures pairs { IfOk result (λ r. (p : ℕ) (d : _) → p < J.partitions job.now → J.joins job.now (due_lists (J.due job.now) (J.stripes job.now + J.stripes job.now) p) (slice_index_or r.pairs.items p d).items) }
+    ensures delivered { IfOk result (λ r. (p : ℕ) (d : _) → p < J.partitions job.now →
+        IsDelivered (J.due job.now) (J.stripes job.now + J.stripes job.now) p (slice_index_or r.ledgers.items p d)) }
+    ensures pairs { IfOk result (λ r. (p : ℕ) (d : _) → p < J.partitions job.now →
+        J.joins job.now (due_lists (J.due job.now) (J.stripes job.now + J.stripes job.now) p) (slice_index_or r.pairs.items p d).items) }
 {
     let mut ledgers = Vec::with_capacity(alloc, all.len())?;
     let mut pairs = Vec::with_capacity(alloc, all.len())?;

@@ -4,8 +4,8 @@ ghost use Rattle.std.specs.Vec.Iter.{into_iter_items};
 ghost use Rattle.rj_ledger.specs.Ledgers.{after_all, standing};
 ghost use Rattle.rj_exchange.specs.Boxes.{sent_of, AreStubsOf};
 ghost use Rattle.rj_workers.specs.Arrivals.{AreFirstOf, AreOutboxes, HasArrived, due_lists, parcel_of, parcels_of, rows_by_sender, stub_lists};
-ghost use Rattle.rj_workers.specs.Takes.{IsHeldOf, IsJoining, IsSlot};
-ghost use Rattle.rj_workers.specs.Ends.{IsEnded, IsSettled};
+ghost use Rattle.rj_workers.specs.Takes.{IsHeldOf, IsJoining};
+ghost use Rattle.rj_workers.specs.Ends.{AreSlots, IsEnded};
 
 use crate::crew::Crew;
 use crate::job::Job;
@@ -69,7 +69,8 @@ fn finish_one<R: Wait, J: Job>(
 ) -> Result<Ended, AllocError>
     requires held { IsHeldOf (J.joins shared.now.job.now) shared.now.exchange.now shared.now.crew.workers shared.now.crew.block held }
     requires stubs { AreStubsOf shared.now.exchange.now held.inbox.partition stubs.items }
-    ensures arrived { IfOk result (λ d. HasArrived (shared.now.crew.workers + shared.now.crew.workers) shared.now.crew.block shared.now.exchange.now.outboxes shared.now.exchange.now.lanes (map sent_of stubs.items) held.inbox.partition d.ledger) }
+    ensures arrived { let senders = shared.now.crew.workers + shared.now.crew.workers in IfOk result (λ d. HasArrived senders shared.now.crew.block
+        shared.now.exchange.now.outboxes shared.now.exchange.now.lanes (map sent_of stubs.items) held.inbox.partition d.ledger) }
     ensures joined { IfOk result (λ d. IsJoining (J.joins shared.now.job.now) d.ledger d.joining) }
 {
     complete_stays();
@@ -113,7 +114,8 @@ fn next_stubs(
 ) -> Result<Vec<Stub>, AllocError>
     requires { All (λ l. count ≤ length (into_iter_items l)) lists.old.items }
     ensures len { IfOk result (λ _. length lists.new.items ≡ length lists.old.items) }
-    ensures lists { IfOk result (λ _. (o : ℕ) (d : _) → o < length lists.old.items → into_iter_items (slice_index_or lists.new.items o d) ≡ drop count (into_iter_items (slice_index_or lists.old.items o d))) }
+    ensures lists { IfOk result (λ _. (o : ℕ) (d : _) → o < length lists.old.items →
+        into_iter_items (slice_index_or lists.new.items o d) ≡ drop count (into_iter_items (slice_index_or lists.old.items o d))) }
     ensures stubs { IfOk result (λ v. AreFirstOf count (map into_iter_items lists.old.items) v.items) }
 {
     let mut stubs = Vec::new(alloc);
@@ -142,10 +144,12 @@ pub(crate) fn finish_all<R: Wait, J: Job>(
     slots: Vec<Option<Held>>,
     outboxes: Vec<Outbox>,
 ) -> Result<Vec<Ended>, AllocError>
-    requires slots { (length slots.items ≡ shared.now.exchange.now.partitions) × ((p : ℕ) (d : _) → p < shared.now.exchange.now.partitions → IsSlot (J.joins shared.now.job.now) shared.now.exchange.now shared.now.crew.workers shared.now.crew.block p (slice_index_or slots.items p d)) }
+    requires slots { AreSlots (J.joins shared.now.job.now) shared.now slots.items }
     requires outboxes { AreOutboxes shared.now.exchange.now outboxes.items }
     ensures len { IfOk result (λ v. length v.items ≡ shared.now.exchange.now.partitions) }
-    ensures each { IfOk result (λ v. (p : ℕ) (d : _) → p < shared.now.exchange.now.partitions → IsEnded (J.joins shared.now.job.now) (shared.now.crew.workers + shared.now.crew.workers) shared.now.crew.block shared.now.exchange.now (stub_lists outboxes.items) p (slice_index_or v.items p d)) }
+    ensures each { let senders = shared.now.crew.workers + shared.now.crew.workers in
+        IfOk result (λ v. (p : ℕ) (d : _) → p < shared.now.exchange.now.partitions →
+        IsEnded (J.joins shared.now.job.now) senders shared.now.crew.block shared.now.exchange.now (stub_lists outboxes.items) p (slice_index_or v.items p d)) }
 {
     let mut lists = lists_of(alloc, outboxes)?;
     let mut all = Vec::new(alloc);

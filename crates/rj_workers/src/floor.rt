@@ -44,7 +44,16 @@ impl<'a, J, G> Floor<'a, J, G> {
         gate: &'a G,
         crew: Crew,
     ) -> Self
-        ensures { result ≡ record { exchange = exchange.entry; halt = halt.entry; done = done.entry; stripes = stripes.entry; tickets = tickets.entry; job = job.entry; gate = gate.entry; crew = crew } }
+        ensures { result ≡ record {
+          exchange = exchange.entry;
+          halt = halt.entry;
+          done = done.entry;
+          stripes = stripes.entry;
+          tickets = tickets.entry;
+          job = job.entry;
+          gate = gate.entry;
+          crew = crew;
+        } }
     {
         Floor {
             exchange,

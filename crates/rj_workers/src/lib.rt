@@ -19,6 +19,8 @@ mod scan;
 mod scope;
 mod start;
 mod take;
+#[cfg(test)]
+mod tests;
 mod words;
 
 pub use closing::Delivered;

@@ -132,7 +132,8 @@ pub(crate) fn post_all<R: Wait + Clock, J, G: Gate>(
     ensures me { IsScanner shared.now me.new × SameScanner me.old me.new }
     ensures kept { KeepsPosts (sents me.old.outbox) (sents me.new.outbox) }
     ensures added { AddsLeft (IsLeft lists.items) (sents me.old.outbox) (sents me.new.outbox) }
-    ensures all { MatchOption result (Stopped me.new.seat) (λ _. (x : Parcel) → IsLeft lists.items x → IsPosted shared.now.exchange.now (sents me.new.outbox) x) }
+    ensures all { MatchOption result (Stopped me.new.seat)
+        (λ _. (x : Parcel) → IsLeft lists.items x → IsPosted shared.now.exchange.now (sents me.new.outbox) x) }
 {
     let mut lists = lists;
     let mut pause = Pause::new();

@@ -2,7 +2,7 @@
 ghost use Rattle.std.specs.Prelude.{◌≡◌, ◌<◌, ◌≤◌, ◌+◌, ℕ, IfOk, length, slice_index_or};
 ghost use Rattle.rj_workers.specs.Arrivals.{IsDelivered, due_lists};
 ghost use Rattle.rj_workers.specs.Crews.{InLimits};
-ghost use Rattle.rj_workers.specs.Ends.{IsSettled};
+ghost use Rattle.rj_workers.specs.Ends.{AreSettled};
 ghost use Rattle.rj_workers.specs.Scans.{AreNewOutboxes};
 ghost use Rattle.rj_workers.specs.Takes.{AreFresh, IsRoomOf};
 ghost use Rattle.rj_exchange.specs.declared.boxes.Inbox.{Inbox};
@@ -42,7 +42,7 @@ fn run_in_room<B: Room, R: Threads + Wait + Clock + Sync, J: Job + Sync, G: Gate
     requires fresh { AreFresh exchange.now inboxes.items }
     requires room { IsRoomOf exchange.now crew B.inboxes B.senders B.block }
     ensures len { IfOk result (λ v. length v.items ≡ crew.partitions) }
-    ensures each { IfOk result (λ v. (p : ℕ) (d : _) → p < crew.partitions → IsSettled (J.joins job.now) (J.due job.now) (crew.workers + crew.workers) p (slice_index_or v.items p d)) }
+    ensures each { IfOk result (λ v. AreSettled (J.joins job.now) (J.due job.now) (crew.workers + crew.workers) crew.partitions v.items) }
 {
     let places = open_places::<B>(alloc, inboxes, crew.workers + crew.workers, crew.block)?;
     let (words, seats) = open_words(rt, alloc, crew)?;
@@ -78,8 +78,10 @@ pub fn run_workers<R: Threads + Wait + Clock + Sync, J: Job + Sync, G: Gate + Sy
     requires job { (J.stripes job.now ≡ crew.workers) × (J.partitions job.now ≡ crew.partitions) }
     requires due { (p : ℕ) → p < J.partitions job.now → J.joinable job.now (due_lists (J.due job.now) (J.stripes job.now + J.stripes job.now) p) }
     ensures len { IfOk result (λ r. (length r.ledgers.items ≡ crew.partitions) × (length r.pairs.items ≡ crew.partitions)) }
-    ensures delivered { IfOk result (λ r. (p : ℕ) (d : _) → p < crew.partitions → IsDelivered (J.due job.now) (crew.workers + crew.workers) p (slice_index_or r.ledgers.items p d)) }
-    ensures pairs { IfOk result (λ r. (p : ℕ) (d : _) → p < crew.partitions → J.joins job.now (due_lists (J.due job.now) (crew.workers + crew.workers) p) (slice_index_or r.pairs.items p d).items) }
+    ensures delivered { IfOk result (λ r. (p : ℕ) (d : _) → p < crew.partitions →
+        IsDelivered (J.due job.now) (crew.workers + crew.workers) p (slice_index_or r.ledgers.items p d)) }
+    ensures pairs { IfOk result (λ r. (p : ℕ) (d : _) → p < crew.partitions →
+        J.joins job.now (due_lists (J.due job.now) (crew.workers + crew.workers) p) (slice_index_or r.pairs.items p d).items) }
 {
     let (exchange, outboxes, inboxes) = Exchange::open(
         alloc,

@@ -48,7 +48,8 @@ fn cut_part(
     block: u32,
 ) -> Result<(), AllocError>
     requires { 0 < block }
-    ensures { IfOk result (λ _. (s : Sending) × (lists.new.items ≡ lists.old.items ++ s ∷ []) × IsPermutation (plan block rows.now sender partition) (to_post s)) }
+    ensures { IfOk result (λ _. (s : Sending) × (lists.new.items ≡ lists.old.items ++ s ∷ [])
+        × IsPermutation (plan block rows.now sender partition) (to_post s)) }
 {
     let list = Sending::new(cut(alloc, rows, sender, partition, block)?);
     lists.push(list)?;
@@ -110,8 +111,11 @@ fn scan_stripe<R: Wait + Clock, J: Job, G: Gate>(
     requires me { IsScanner shared.now me.old }
     ensures me { IsScanner shared.now me.new × SameScanner me.old me.new }
     ensures kept { KeepsPosts (sents me.old.outbox) (sents me.new.outbox) }
-    ensures added { let due = J.due shared.now.job.now in OnlyPlanned due shared.now.crew.block (sents me.old.outbox) → OnlyPlanned due shared.now.crew.block (sents me.new.outbox) }
-    ensures all { MatchResult result (λ _. HasPostedStripe (J.due shared.now.job.now) shared.now.crew.block shared.now.crew.workers shared.now.exchange.now stripe (sents me.new.outbox)) (StopsAt me.new.seat) }
+    ensures added { let due = J.due shared.now.job.now in
+        OnlyPlanned due shared.now.crew.block (sents me.old.outbox) → OnlyPlanned due shared.now.crew.block (sents me.new.outbox) }
+    ensures all { MatchResult result
+        (λ _. HasPostedStripe (J.due shared.now.job.now) shared.now.crew.block shared.now.crew.workers shared.now.exchange.now stripe (sents me.new.outbox))
+        (StopsAt me.new.seat) }
 {
     shared.gate.pass(Place::Stripe(stripe));
     let Ok(lists) = prepare(alloc, shared, stripe) else {

@@ -117,8 +117,11 @@ pub(crate) fn work<B: Room, R: Threads + Wait + Clock + Sync, J: Job + Sync, G: 
         thread::scope_env(),
         rt,
         move |scope| -> Result<(Back, HaltSeat), AllocError>
-            requires { IsReadyOf (J.stripes f.job.now) (J.partitions f.job.now) f.exchange.now f.stripes.now f.crew × (limit_of f.tickets.now ≡ length places.now) × IsRoomOf f.exchange.now f.crew B.inboxes B.senders B.block × AreHandsOf f.exchange.now f.halt.now f.done.now f.stripes.now f.tickets.now hands × IsHaltSeatOf f.halt.now own }
-            ensures back { IfOk result (λ r. IsBackOf (J.due f.entry.job.now) (J.joins f.entry.job.now) f.entry.exchange.now f.entry.halt.now f.entry.stripes.now f.entry.crew r.0) }
+            requires { IsReadyOf (J.stripes f.job.now) (J.partitions f.job.now) f.exchange.now f.stripes.now f.crew
+                × (limit_of f.tickets.now ≡ length places.now) × IsRoomOf f.exchange.now f.crew B.inboxes B.senders B.block
+                × AreHandsOf f.exchange.now f.halt.now f.done.now f.stripes.now f.tickets.now hands × IsHaltSeatOf f.halt.now own }
+            ensures back { IfOk result (λ r. IsBackOf (J.due f.entry.job.now) (J.joins f.entry.job.now) f.entry.exchange.now
+                f.entry.halt.now f.entry.stripes.now f.entry.crew r.0) }
             ensures own { IfOk result (λ r. IsHaltSeatOf f.entry.halt.now r.1) }
         {
             let floor = Floor::new(

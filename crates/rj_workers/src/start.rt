@@ -71,8 +71,10 @@ fn start_scanner<'s, E, R: Wait + Clock + Sync, J: Job + Sync, G: Gate + Sync>(
     let started = scope.spawn_with(
         ScanOf { shared: f, number },
         move || -> Scanner
-            requires { IsReadyOf (J.stripes f.job.now) (J.partitions f.job.now) f.exchange.now f.stripes.now f.crew × IsNewScanner f.exchange.now f.halt.now f.stripes.now number me }
-            ensures { IsScanOf (J.due f.entry.job.now) f.entry.crew.block f.entry.crew.workers f.entry.exchange.now f.entry.halt.now f.entry.stripes.now number result }
+            requires { IsReadyOf (J.stripes f.job.now) (J.partitions f.job.now) f.exchange.now f.stripes.now f.crew
+                × IsNewScanner f.exchange.now f.halt.now f.stripes.now number me }
+            ensures { IsScanOf (J.due f.entry.job.now) f.entry.crew.block f.entry.crew.workers f.entry.exchange.now
+                f.entry.halt.now f.entry.stripes.now number result }
         {
             let _number = number;
             let floor = Floor::new(
@@ -93,9 +95,11 @@ pub(crate) fn start_scanners<'s, E, R: Wait + Clock + Sync, J: Job + Sync, G: Ga
     scanners: Vec<Scanner>,
 ) -> Option<Vec<ScanHandle<'s, J, G>>>
     requires ready { IsReady (J.stripes shared.now.job.now) (J.partitions shared.now.job.now) shared.now }
-    requires scanners { (length scanners.items ≤ 64) × AreNewScanners shared.now.exchange.now shared.now.halt.now shared.now.stripes.now (length scanners.items) scanners.items }
+    requires scanners { (length scanners.items ≤ 64)
+        × AreNewScanners shared.now.exchange.now shared.now.halt.now shared.now.stripes.now (length scanners.items) scanners.items }
     ensures len { IfSome result (λ v. length v.items ≡ length scanners.items) }
-    ensures each { IfSome result (λ v. (s : ℕ) (d : _) → s < length scanners.items → ((slice_index_or v.items s d).promise.shared ≡ shared.now) × ((slice_index_or v.items s d).promise.number ≡ s)) }
+    ensures each { IfSome result (λ v. (s : ℕ) (d : _) → s < length scanners.items →
+        ((slice_index_or v.items s d).promise.shared ≡ shared.now) × ((slice_index_or v.items s d).promise.number ≡ s)) }
 {
     let mut handles = Vec::with_capacity(alloc, scanners.len()).ok()?;
     let mut number = 0;
@@ -126,7 +130,8 @@ fn start_taker<'s, E, B: Room, R: Wait + Clock + Sync, J: Job + Sync, G: Gate + 
     let started = scope.spawn_with(
         TakeOf { shared: f },
         move || -> Taker
-            requires { (J.stripes f.job.now ≡ f.crew.workers) × (limit_of f.tickets.now ≡ length places.now) × IsRoomOf f.exchange.now f.crew B.inboxes B.senders B.block × IsNewTaker f.halt.now f.done.now f.tickets.now me }
+            requires { (J.stripes f.job.now ≡ f.crew.workers) × (limit_of f.tickets.now ≡ length places.now)
+                × IsRoomOf f.exchange.now f.crew B.inboxes B.senders B.block × IsNewTaker f.halt.now f.done.now f.tickets.now me }
             ensures { IsTakeOf (J.joins f.entry.job.now) f.entry.exchange.now f.entry.halt.now f.entry.crew.workers f.entry.crew.block result }
         {
             let floor = Floor::new(

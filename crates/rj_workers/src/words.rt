@@ -27,7 +27,8 @@ impl Words {
         crew: Crew,
     ) -> Floor<'a, J, G>
         ensures shared { (result.exchange ≡ exchange.entry) × (result.job ≡ job.entry) × (result.gate ≡ gate.entry) × (result.crew ≡ crew) }
-        ensures words { (result.halt.now ≡ self.now.halt) × (result.done.now ≡ self.now.done) × (result.stripes.now ≡ self.now.stripes) × (result.tickets.now ≡ self.now.tickets) }
+        ensures words { (result.halt.now ≡ self.now.halt) × (result.done.now ≡ self.now.done)
+            × (result.stripes.now ≡ self.now.stripes) × (result.tickets.now ≡ self.now.tickets) }
     {
         Floor::new(
             exchange,
