@@ -1,5 +1,5 @@
 -- Which fault is the first.
-use Rattle.std.proofs.Common.{◌≡◌, ◌≢◌, ◌∙◌, List, ℕ, Ok, Err, ap, refl, sym, subst}
+use Rattle.std.proofs.Common.{◌≡◌, ◌≢◌, ◌∙◌, List, ℕ, Ok, Err, ap, sym, subst}
 use Rattle.rj_columns.specs.Tables.{TableValue}
 use Rattle.rj_csv_io.specs.Tables.{read_of}
 use Rattle.rj_csv_io.specs.declared.refused.ReadRefused.{ReadRefused}

@@ -1,5 +1,5 @@
 -- What a type list is cut into.
-use Rattle.std.proofs.Common.{◌≡◌, ◌≢◌, ◌∙◌, ◌<◌, ◌+◌, ◌++◌, ℕ, zero, suc, true, false, not, refl, sym, ap, arith, eqb, List, [], ◌∷◌, map, length, get_or}
+use Rattle.std.proofs.Common.{◌≡◌, ◌≢◌, ◌∙◌, ◌<◌, ◌+◌, ℕ, zero, suc, true, false, not, refl, sym, ap, arith, eqb, List, [], ◌∷◌, map, length, get_or}
 use Rattle.std.specs.List.{All, count_by, join_with_byte, list_all, slice_split}
 use Rattle.std.proofs.lemmas.List.{get_or_default, length-map}
 use Rattle.std.proofs.lemmas.List.Splits.{join_with_byte-slice_split, length-slice_split, slice_split_at, slice_split_none}

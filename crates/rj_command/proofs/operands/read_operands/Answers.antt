@@ -1,6 +1,5 @@
-use Rattle.std.proofs.Common.{◌≢◌, ◌∙◌, ap, sym}
+use Rattle.std.proofs.Common.{◌∙◌, ap, sym}
 use Rattle.rj_csv_io.specs.Tables.{read_of}
-use Rattle.rj_command.specs.declared.fault.Fault.TheVariants as fault
 use Rattle.rj_command.proofs.OperandFacts.{right_fault}
 use Rattle.rj_command.proofs.operands.read_operands.Goals as goal
 

@@ -1,5 +1,4 @@
-use Rattle.std.proofs.Common.{◌≡◌, ◌<◌, length, ap, sym, ◌∙◌, arith, rules}
-use Rattle.rj_command.specs.declared.stats.PartitionRows.{PartitionRows}
+use Rattle.std.proofs.Common.{◌<◌, length, rules}
 use Rattle.rj_command.proofs.StatisticsFacts.{counted, numbered}
 use Rattle.rj_command.proofs.running.partition_rows.Goals as goal
 

@@ -1,4 +1,4 @@
-use Rattle.std.proofs.Common.{◌≡◌, ◌∙◌, ◌^◌, ap, sym, subst, map, length, ℕ, List, Bor}
+use Rattle.std.proofs.Common.{◌∙◌, ◌^◌, ap, sym, subst, map, length, ℕ, List, Bor}
 use Rattle.std.specs.List.{range_with_len}
 use Rattle.std.specs.Io.KnownBytes.{Appends}
 use Rattle.std.proofs.lemmas.List.FromFn.{length-map-range_with_len}
@@ -8,7 +8,7 @@ use Rattle.rj_radix.specs.Hashes.{plain}
 use Rattle.rj_engine.specs.Join.{JoinedValue}
 use Rattle.rj_engine.specs.Partitioned.{rows_of_partition}
 use Rattle.std.proofs.lemmas.List.{length-map}
-use Rattle.rj_engine.specs.Cells.{ViewValue, columns_of, header_of, name_of, view_of}
+use Rattle.rj_engine.specs.Cells.{ViewValue, columns_of, header_of, name_of}
 use Rattle.rj_command.proofs.running.write_joined.Goals as goal
 
 pub write_rows-requires-clause-header : goal.write_rows-requires-clause-header

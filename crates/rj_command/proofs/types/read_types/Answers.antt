@@ -1,8 +1,8 @@
 use Rattle.std.proofs.Common.{◌∙◌, ap, length, refl, lit<}
 use Rattle.std.specs.Str.Iter.{split_has_more, split_pattern, split_text}
-use Rattle.std.proofs.lemmas.Iterator.Consumers.{YieldsList-turn, YieldsList-end}
+use Rattle.std.proofs.lemmas.Iterator.Consumers.{YieldsList-turn}
 use Rattle.std.proofs.lemmas.Iterator.Splits.{YieldsList-from_str_split}
-use Rattle.rj_command.proofs.TypeFacts.{no_list, whole_list}
+use Rattle.rj_command.proofs.TypeFacts.{no_list}
 use Rattle.rj_command.proofs.types.read_types.Goals as goal
 
 pub returns-in_default-clause-fault : goal.returns-in_default-clause-fault
