@@ -179,3 +179,6 @@ fn main(rt: HostRuntime) -> ExitCode {
         Err(failure) => ExitCode::from(tell(&rt, &failure)),
     }
 }
+
+#[cfg(test)]
+mod tests;

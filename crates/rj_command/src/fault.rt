@@ -130,3 +130,6 @@ impl Fault {
         }
     }
 }
+
+#[cfg(test)]
+mod tests;

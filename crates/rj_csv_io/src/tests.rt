@@ -405,6 +405,35 @@ fn counted_writer(rt: HostRuntime) {
     assert!(rt; device.into_inner().as_slice() == b"abc".as_slice());
 }
 
+// A writer of std that takes everything, and whose flush fails where it holds something back.
+#[derive(Drop)]
+struct HoldsBack {
+    holds: bool,
+}
+
+impl Write for HoldsBack {
+    fn write(&mut self, bytes: &[u8]) -> io::Result<usize> {
+        self.holds = self.holds || !bytes.is_empty();
+        Ok(bytes.len())
+    }
+
+    fn flush(&mut self) -> io::Result<()> {
+        if self.holds {
+            return Err(io::Error::from(io::ErrorKind::BrokenPipe));
+        }
+        Ok(())
+    }
+}
+
+#[test]
+fn writes_that_are_held_back_and_lost(rt: HostRuntime) {
+    let mut device = Counted::new(HoldsBack { holds: false });
+    assert!(rt; device.put(b"") == Ok(()));
+    assert!(rt; device.failures() == 0);
+    assert!(rt; device.put(b"a") == Err(Failed));
+    assert!(rt; device.failures() == 1);
+}
+
 // A device that gives one byte at a time, so many in all, and fails once after so many calls.
 #[derive(Drop)]
 struct Drips {
@@ -507,7 +536,7 @@ fn trickling_reader_sweep(rt: HostRuntime) {
     }
 }
 
-// A reader of std that a signal breaks off, and that then gives two bytes or fails.
+// A device of std that signals break off, and that then gives two bytes, or takes one and flushes, or fails.
 #[derive(Drop)]
 struct Interrupted {
     signals: u64,
@@ -529,10 +558,40 @@ impl Read for Interrupted {
     }
 }
 
+impl Write for Interrupted {
+    fn write(&mut self, bytes: &[u8]) -> io::Result<usize> {
+        let mut buffer = [0; 2];
+        self.read(&mut buffer)?;
+        Ok(bytes.len().min(1))
+    }
+
+    fn flush(&mut self) -> io::Result<()> {
+        let mut buffer = [0; 2];
+        self.read(&mut buffer)?;
+        Ok(())
+    }
+}
+
+#[test]
+fn interrupted_writers(rt: HostRuntime) {
+    for fails in [false, true] {
+        let mut device = Counted::new(Interrupted {
+            signals: 500,
+            fails,
+        });
+        let done = device.put(b"ok");
+        assert!(rt; done.is_err() == fails);
+        assert!(rt; device.failures() == u64::from(fails));
+    }
+}
+
 #[test]
 fn interrupted_readers(rt: HostRuntime) {
     for fails in [false, true] {
-        let mut device = CountedReader::new(Interrupted { signals: 3, fails });
+        let mut device = CountedReader::new(Interrupted {
+            signals: 500,
+            fails,
+        });
         let mut buffer = [0; 4];
         let got = device.get(&mut buffer);
         if fails {
