@@ -1,5 +1,5 @@
 -- What takers know, and what they hand back.
-use Rattle.std.specs.Prelude.{◌≡◌, ℕ, ◌+◌, List, [], ◌⊎◌, Option, Some, IfSome, slice_get, length, All}
+use Rattle.std.specs.Prelude.{◌≡◌, ℕ, ◌+◌, Bool, true, false, List, [], ◌⊎◌, Option, Some, IfSome, slice_get, length, All}
 use Rattle.rj_ledger.specs.Ledgers.{LedgerValue, IsComplete}
 use Rattle.rj_exchange.specs.declared.boxes.Exchange.{Exchange}
 use Rattle.rj_exchange.specs.declared.halt.Halt.{Halt}
@@ -26,6 +26,18 @@ abbrev pub IsJoining : Joins → LedgerValue → Joining → Type 0
 IsJoining joins v Waiting = Unit {0}
 IsJoining joins v Left = Unit {0}
 IsJoining joins v (Done pairs) = IsComplete v × joins (rows_by_sender v) pairs.items
+
+-- it is joined, or left to the starting thread
+abbrev pub is_settled : Joining → Bool
+is_settled Waiting = false
+is_settled Left = true
+is_settled (Done pairs) = true
+
+-- it waits where its ledger is not complete, and is left where it can't be joined on its rows
+abbrev pub IsTried : (List (List ℕ) → Type 0) → LedgerValue → Joining → Type 0
+IsTried joinable v Waiting = ¬ IsComplete v
+IsTried joinable v Left = ¬ joinable (rows_by_sender v)
+IsTried joinable v (Done pairs) = Unit {0}
 
 -- a partition that a taker owns
 pub record IsHeldOf (joins : Joins) (e : Exchange) (stripes block : ℕ) (h : Held) : Type 0 where

@@ -1,7 +1,9 @@
 //! What becomes of all that the workers hand back.
-ghost use Rattle.std.specs.Prelude.{◌≡◌, ◌<◌, ◌+◌, ◌++◌, ◌∷◌, ℕ, [], All, IfOk, map, length, slice_index_or};
+ghost use Rattle.std.specs.Prelude.{◌≡◌, ◌<◌, ◌+◌, ◌++◌, ◌∷◌, ℕ, [], All, IfOk, IsTrue, map, length, slice_index_or};
 ghost use Rattle.rj_ledger.specs.Ledgers.{standing};
-ghost use Rattle.rj_exchange.specs.Halt.{IsHaltSeatOf};
+ghost use Rattle.rj_exchange.specs.Halt.{AnyRaised, AnySeen, AreAllHaltSeats, IsHaltSeatOf};
+ghost use Rattle.rj_exchange.specs.Stripes.{AreAllStripeSeats, held, stripes_of};
+ghost use Rattle.rj_exchange.specs.Tickets.{EachOnce};
 ghost use Rattle.rj_workers.specs.Arrivals.{IsDelivered, due_lists, rows_by_sender};
 ghost use Rattle.rj_workers.specs.Hands.{AreWords, IsBackOf};
 ghost use Rattle.rj_workers.specs.Takes.{IsHeldOf, IsJoining};
@@ -13,7 +15,7 @@ use crate::job::Job;
 use crate::scan::Scanner;
 use crate::take::{Held, Joining, Taker};
 use crate::words::Words;
-use rj_exchange::{HaltSeat, Outbox, StripeSeat};
+use rj_exchange::{Halt, HaltSeat, Outbox, StripeSeat, Stripes};
 use rj_ledger::{Ledger, contained_suffice};
 use std::alloc::{AllocError, Global};
 use std::sync::Wait;
@@ -130,6 +132,23 @@ fn place_all<J: Job>(
     Ok(slots)
 }
 
+// Whether no worker has raised the word halt, and none has seen it raised.
+fn are_calm(halt: Halt, seats: Vec<HaltSeat>) -> bool
+    requires { AreAllHaltSeats halt seats.items }
+    ensures raised { IsTrue result → AnyRaised seats.items → ⊥ }
+    ensures seen { IsTrue result → AnySeen seats.items → ⊥ }
+{
+    !halt.finish(seats)
+}
+
+// Whether the scanners together hold each stripe once.
+fn are_scanned<R: Wait>(rt: &R, stripes: Stripes, draws: Vec<StripeSeat>) -> bool
+    requires { AreAllStripeSeats stripes draws.items }
+    ensures { IsTrue result → EachOnce (stripes_of stripes) (map held draws.items) }
+{
+    stripes.finish(rt, draws)
+}
+
 /// Ends all partitions once all workers have ended. Where the word halt was raised, or a stripe is held by no scanner,
 /// nothing comes of it.
 pub(crate) fn conclude<R: Wait, J: Job>(
@@ -154,10 +173,10 @@ pub(crate) fn conclude<R: Wait, J: Job>(
     let outboxes = hand_scanned(alloc, back.scanners, &mut seats, &mut draws)?;
     let groups = hand_taken(alloc, back.takers, &mut seats)?;
     add(&mut seats, own)?;
-    if words.halt.finish(seats) {
+    if !are_calm(words.halt, seats) {
         return Err(AllocError);
     }
-    if !words.stripes.finish(rt, draws) {
+    if !are_scanned(rt, words.stripes, draws) {
         return Err(AllocError);
     }
     let slots = place_all(alloc, shared, groups)?;

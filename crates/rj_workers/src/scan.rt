@@ -1,10 +1,10 @@
 //! A scanner: it draws stripes, and posts what their senders have for each partition.
-ghost use Rattle.std.specs.Prelude.{◌≡◌, ◌<◌, ◌≤◌, ◌+◌, ◌∷◌, ◌++◌, [], All, IfOk, MatchOption, MatchResult};
+ghost use Rattle.std.specs.Prelude.{◌≡◌, ◌<◌, ◌≤◌, ◌+◌, ◌∷◌, ◌++◌, [], All, IfOk, IfSome, MatchOption, MatchResult};
 ghost use Rattle.std.specs.List.Sorted.{IsPermutation};
 ghost use Rattle.rj_ledger.specs.Cutting.{plan};
 ghost use Rattle.rj_exchange.specs.Boxes.{sents};
-ghost use Rattle.rj_exchange.specs.Stripes.{held, Holds};
-ghost use Rattle.rj_exchange.specs.Striping.{without};
+ghost use Rattle.rj_exchange.specs.Stripes.{held, Holds, puts};
+ghost use Rattle.rj_exchange.specs.Striping.{stripe as counted, without};
 ghost use Rattle.rj_workers.specs.Crews.{IsReady};
 ghost use Rattle.rj_workers.specs.declared.post.Sending.{Sending};
 ghost use Rattle.rj_workers.specs.Posts.{KeepsPosts, OnlyPlanned, NothingPosted, AreDue, IsCutStripe, to_post};
@@ -139,6 +139,7 @@ fn give_up<R: Wait, J, G>(
     requires stripe { Holds me.old.draws stripe }
     ensures me { IsScanner shared.now me.new × (me.new.outbox ≡ me.old.outbox) }
     ensures back { MatchOption result (Stopped me.new.seat) (λ _. held me.new.draws ≡ without stripe (held me.old.draws)) }
+    ensures count { IfSome result (λ _. (count < shared.now.crew.retries) × (puts me.new.draws ≡ puts me.old.draws ++ counted stripe (count + 1) ∷ [])) }
 {
     if count < shared.crew.retries {
         shared

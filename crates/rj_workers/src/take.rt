@@ -1,8 +1,8 @@
 //! A taker: it draws partitions, offers what arrives to their ledgers, and joins each one that is complete.
-ghost use Rattle.std.specs.Prelude.{◌≡◌, ◌<◌, ◌+◌, All, IfOk, length};
+ghost use Rattle.std.specs.Prelude.{◌≡◌, ◌<◌, ◌+◌, All, IfOk, false, length};
 ghost use Rattle.rj_ledger.specs.Ledgers.{after_offer};
 ghost use Rattle.rj_exchange.specs.Tickets.{limit_of};
-ghost use Rattle.rj_workers.specs.Takes.{IsTaker, IsHeld, IsTake, IsRoom};
+ghost use Rattle.rj_workers.specs.Takes.{IsTaker, IsHeld, IsTake, IsTried, IsRoom, is_settled};
 
 use crate::floor::Floor;
 use crate::gate::{Gate, Place};
@@ -99,7 +99,8 @@ fn join_complete<J: Job, G: Gate>(
 ) -> Result<(), AllocError>
     requires job { J.stripes shared.now.job.now ≡ shared.now.crew.workers }
     requires held { IsHeld (J.joins shared.now.job.now) shared.now held.old }
-    ensures { IfOk result (λ _. IsHeld (J.joins shared.now.job.now) shared.now held.new) }
+    ensures held { IfOk result (λ _. IsHeld (J.joins shared.now.job.now) shared.now held.new) }
+    ensures tried { IfOk result (λ _. is_settled held.old.joining ≡ false → IsTried (J.joinable shared.now.job.now) held.new.ledger held.new.joining) }
 {
     shape_stays();
     if is_settled(held) || !held.ledger.complete() {
@@ -115,7 +116,9 @@ fn join_complete<J: Job, G: Gate>(
 }
 
 // Whether a partition is joined or left to the starting thread.
-fn is_settled(held: &Held) -> bool {
+fn is_settled(held: &Held) -> bool
+    ensures { result ≡ is_settled held.now.joining }
+{
     match held.joining {
         Joining::Waiting => false,
         Joining::Left => true,

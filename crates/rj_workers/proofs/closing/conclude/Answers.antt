@@ -25,16 +25,16 @@ all_seats old a b c rs ts own e f g h = h ∙ ap (λ (l : List HaltSeat). l ++ o
 all_draws : (old a : List StripeSeat) (rs : List Scanner) → old ≡ [] → a ≡ old ++ map (λ (r : Scanner). r.draws) rs → a ≡ map (λ (r : Scanner). r.draws) rs
 all_draws old a rs e f = f ∙ ap (λ (l : List StripeSeat). l ++ map (λ (r : Scanner). r.draws) rs) e
 
-pub finish-requires : goal.finish-requires
-finish-requires g c =
+pub are_calm-requires : goal.are_calm-requires
+are_calm-requires g c =
     let is = all_seats c.new-seats.result.items c.hand_scanned.new.seats.items c.hand_taken.new.seats.items c.add.new.list.items c.args.back.scanners.items c.args.back.takers.items c.args.own c.new-seats.ensures.items c.in_ok-outboxes.ensures.seats c.in_ok-groups.ensures.seats c.in_ok-add.ensures in
     let due : Due = g.J.Job.due c.args.shared.now.job.now in let joins : Joins = g.J.Job.joins c.args.shared.now.job.now in let e : Exchange = c.args.shared.now.exchange.now in let r = c.requires in (
       seats_many due joins c.args.shared.now.crew.workers c.args.shared.now.crew.block e c.args.words.halt c.args.words.stripes c.args.back.scanners.items c.args.back.takers.items c.args.own r.back.scanned r.back.taken r.own c.add.new.list.items is ∙ ap (λ (n : ℕ). n + n + 1) r.words.1 ∙ sym r.words.0.halt_seats,
       seats_are due joins c.args.shared.now.crew.workers c.args.shared.now.crew.block e c.args.words.halt c.args.words.stripes c.args.back.scanners.items c.args.back.takers.items c.args.own r.back.scanned r.back.taken r.own c.add.new.list.items is,
     )
 
-pub finish-requires-2 : goal.finish-requires-2
-finish-requires-2 g c =
+pub are_scanned-requires : goal.are_scanned-requires
+are_scanned-requires g c =
     let rs : List Scanner = c.args.back.scanners.items in let scans = c.requires.back.scanned in let e : Exchange = c.args.shared.now.exchange.now in
     let is = all_draws c.new-draws.result.items c.hand_scanned.new.draws.items rs c.new-draws.ensures.items c.in_ok-outboxes.ensures.draws in
     subst (AreAllStripeSeats c.args.words.stripes) (sym is)
@@ -45,7 +45,7 @@ place_all-requires g c =
     let is = all_seats c.new-seats.result.items c.hand_scanned.new.seats.items c.hand_taken.new.seats.items c.add.new.list.items c.args.back.scanners.items c.args.back.takers.items c.args.own c.new-seats.ensures.items c.in_ok-outboxes.ensures.seats c.in_ok-groups.ensures.seats c.in_ok-add.ensures in
     let due : Due = g.J.Job.due c.args.shared.now.job.now in let joins : Joins = g.J.Job.joins c.args.shared.now.job.now in let e : Exchange = c.args.shared.now.exchange.now in let r = c.requires in
     let count : ℕ = c.args.shared.now.crew.workers in let block : ℕ = c.args.shared.now.crew.block in
-    let calm = all_calm c.add.new.list.items (λ x. let z = c.if-finish.ensures.raised.1 x in cc) (λ x. let z = c.if-finish.ensures.seen x in cc) in
+    let calm = all_calm c.add.new.list.items (c.if-not-are_calm.ensures.raised refl) (c.if-not-are_calm.ensures.seen refl) in
     let held = takes_held due joins count block e c.args.words.halt c.args.words.stripes c.args.back.scanners.items c.args.back.takers.items c.args.own r.back.scanned r.back.taken r.own c.add.new.list.items is calm in
     subst (All (λ (v : Vec Held Global). All (IsHeldOf joins e count block) v.items)) (sym c.in_ok-groups.ensures.groups) (All-map (λ (v : Vec Held Global). All (IsHeldOf joins e count block) v.items) (λ (t : Taker). t.all) c.args.back.takers.items held)
 
@@ -61,10 +61,10 @@ returns-clause-each g c =
     let is = all_seats c.new-seats.result.items c.hand_scanned.new.seats.items c.hand_taken.new.seats.items c.add.new.list.items c.args.back.scanners.items c.args.back.takers.items c.args.own c.new-seats.ensures.items c.in_ok-outboxes.ensures.seats c.in_ok-groups.ensures.seats c.in_ok-add.ensures in
     let due : Due = g.J.Job.due c.args.shared.now.job.now in let joins : Joins = g.J.Job.joins c.args.shared.now.job.now in let e : Exchange = c.args.shared.now.exchange.now in let r = c.requires in
     let count : ℕ = c.args.shared.now.crew.workers in let block : ℕ = c.args.shared.now.crew.block in let rs : List Scanner = c.args.back.scanners.items in
-    let calm = all_calm c.add.new.list.items (λ x. let z = c.if-finish.ensures.raised.1 x in cc) (λ x. let z = c.if-finish.ensures.seen x in cc) in
+    let calm = all_calm c.add.new.list.items (c.if-not-are_calm.ensures.raised refl) (c.if-not-are_calm.ensures.seen refl) in
     let quiet = scans_calm due joins count block e c.args.words.halt c.args.words.stripes rs c.args.back.takers.items c.args.own r.back.scanned r.back.taken r.own c.add.new.list.items is calm in
     let drew = all_draws c.new-draws.result.items c.hand_scanned.new.draws.items rs c.new-draws.ensures.items c.in_ok-outboxes.ensures.draws in
-    let each : EachOnce c.args.words.stripes.limit (map held c.hand_scanned.new.draws.items) = c.if-not-finish.ensures.held.0 refl in
+    let each : EachOnce c.args.words.stripes.limit (map held c.hand_scanned.new.draws.items) = c.if-not-are_scanned.ensures refl in
     let once : EachOnce count (map held (map (λ (z : Scanner). z.draws) rs)) = subst (λ (n : ℕ). EachOnce n (map held (map (λ (z : Scanner). z.draws) rs))) r.words.0.drawn (subst (λ (l : List StripeSeat). EachOnce c.args.words.stripes.limit (map held l)) drew each) in
     λ p d pl. settled_of due count block e c.args.words.halt c.args.words.stripes rs r.back.scanned quiet once (λ q xs. c.contained_suffice.ensures due block q (count + count) r.block xs) joins p (get_or c.in_ok-all.all.items p d) pl
     (subst (λ (l : List Outbox). IsEnded joins (count + count) block e (stub_lists l) p (get_or c.in_ok-all.all.items p d)) c.in_ok-outboxes.ensures.outboxes (c.in_ok-all.ensures.each p d pl))
