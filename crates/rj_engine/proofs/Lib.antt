@@ -1,7 +1,6 @@
 pub mod Pairs
 pub mod Marked
 pub mod Members
-pub mod Meeting
 pub mod Grouped
 pub mod Partitioning
 pub mod Same
