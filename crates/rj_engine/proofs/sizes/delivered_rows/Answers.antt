@@ -1,6 +1,4 @@
-use Rattle.std.proofs.Common.{◌≡◌, ◌≤◌, ◌<◌, ◌+◌, ◌^◌, ◌∙◌, ap, sym, arith, length}
-use Rattle.rj_ledger.specs.Ledgers.{standing}
-use Rattle.rj_engine.specs.Partitioned.{rows_from}
+use Rattle.std.proofs.Common.{◌+◌, ap, arith, length}
 use Rattle.rj_engine.proofs.Stripes.{rows_grow, rows_more}
 use Rattle.rj_engine.proofs.sizes.delivered_rows.Goals as goal
 
