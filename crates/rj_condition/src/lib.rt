@@ -29,12 +29,12 @@ mod typing;
 mod word;
 
 pub use binding::bind;
-pub use bound::{BoundCondition, BoundJoin, BoundOperand, Rule};
+pub use bound::BoundJoin;
 pub use fault::ParseRefused;
 pub use parsing::{one_clause, parse};
 pub use parts::{Remainder, Split};
 pub use refused::BindRefused;
 pub use splitting::split;
-pub use tree::{Clause, ColumnName, Comparison, Condition, JoinKind, Literal, Name, Operand};
+pub use tree::{Clause, JoinKind};
 pub use truth::Truth;
 pub use word::Word;

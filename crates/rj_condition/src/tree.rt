@@ -97,10 +97,17 @@ pub enum Condition {
 }
 
 /// A join clause (SQL-92, 7.5).
+///
+/// Its conditions and names have no name outside this crate, so that `parse` alone makes them: no condition is nested
+/// deeper than 64 levels, whoever hands a clause to `bind`.
 #[derive(Drop)]
 pub enum Clause {
+    /// CROSS JOIN: every pair of rows.
     Cross,
+    /// NATURAL: pairs whose common columns are equal.
     Natural(JoinKind),
+    /// ON: pairs at which the condition is true.
     On(JoinKind, Condition),
+    /// USING: pairs whose named columns are equal.
     Using(JoinKind, Items<Name>),
 }
