@@ -1,4 +1,6 @@
 """What the tests over the built programs share: running a program, and counting what passed."""
+import concurrent.futures
+import os
 import pathlib
 import subprocess
 import tempfile
@@ -23,11 +25,28 @@ class Tally:
         """Counts one test, which passed where it has no faults."""
         if faults:
             self.failed += 1
-            print(f"FAILED {name}")
-            for fault in faults:
-                print(f"    {fault}")
+            print("\n    ".join([f"FAILED {name}", *map(str, faults)]))
         else:
             self.passed += 1
+
+    def add(self, other):
+        """Counts what another has counted, too."""
+        self.passed += other.passed
+        self.failed += other.failed
+
+
+def side_by_side(tally, tasks):
+    """Runs tasks, each of which takes a tally of its own, as many at a time as there are processors. It gives what each gave."""
+
+    def ran(task):
+        own = Tally()
+        return task(own), own
+
+    with concurrent.futures.ThreadPoolExecutor(len(os.sched_getaffinity(0))) as pool:
+        found = list(pool.map(ran, tasks))
+    for _, own in found:
+        tally.add(own)
+    return [gave for gave, _ in found]
 
 
 class Ran:

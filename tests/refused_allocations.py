@@ -1,6 +1,7 @@
 """Refuses each allocation and each start of a thread of the built programs in turn, by a small library that is preloaded.
 
 Each run ends as if nothing had been refused, or with `E18 Memory`, status 5 and nothing on standard output; none hangs."""
+import functools
 import os
 import pathlib
 import subprocess
@@ -21,6 +22,8 @@ NULLS = {"left.csv": b"id,a\n1,x\n,y\n", "right.csv": b"id,b\n,p\n1,q\n3,r\n"}
 NULLS_WORDS = [*WORDS[:-1], "FULL JOIN USING (id)"]
 NUMBERS = {"left.csv": b"k\n-1\n0\n5\n", "right.csv": b"k\n5\n"}
 NUMBERS_WORDS = ["--left", "left.csv", "--left-types", "int", "--right", "right.csv", "--right-types", "int", "--join", "JOIN USING (k)", "--bits1", "2"]
+
+KINDS = {"REFUSE_ALLOCATION": "allocations", "REFUSE_THREAD": "starts of threads"}
 
 # Name, program, its files, its words, its standard input, what it prints.
 JOINS = [
@@ -85,10 +88,9 @@ def run_all(tally):
     with harness.folder() as at:
         refuse = library(pathlib.Path(at))
         runs = [by_workers(run, workers, retries) for run in JOINS for workers in (1, 4) for retries in (0, 3)]
-        for run in [ARRIVALS, *runs]:
-            count = sweep(tally, refuse, "REFUSE_ALLOCATION", run)
-            print(f"{run[0]}: {count} allocations refused in turn")
-        for run in runs:
-            count = sweep(tally, refuse, "REFUSE_THREAD", run)
-            tally.check(f"{run[0]}: threads are started", [] if count >= 2 else [f"only {count}"])
-            print(f"{run[0]}: {count} starts of threads refused in turn")
+        swept = [(run, "REFUSE_ALLOCATION") for run in [ARRIVALS, *runs]] + [(run, "REFUSE_THREAD") for run in runs]
+        counts = harness.side_by_side(tally, [functools.partial(sweep, refuse=refuse, kind=kind, run=run) for run, kind in swept])
+        for (run, kind), count in zip(swept, counts):
+            if kind == "REFUSE_THREAD":
+                tally.check(f"{run[0]}: threads are started", [] if count >= 2 else [f"only {count}"])
+            print(f"{run[0]}: {count} {KINDS[kind]} refused in turn")

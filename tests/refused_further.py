@@ -3,6 +3,7 @@ quoted header, help, faults, a write that fails, and scripts with gaps.
 
 Each run ends as if nothing had been refused, or with `E18 Memory`, status 5. Where it would end by a fault it may end
 by that too; nothing is on standard output then but after a write that failed."""
+import functools
 import os
 import pathlib
 import subprocess
@@ -98,5 +99,6 @@ def run_all(tally):
     """Sweeps each run."""
     with harness.folder() as at:
         refuse = refused_allocations.library(pathlib.Path(at))
-        counts = [f"{run.name} {sweep(tally, refuse, run)}" for run in RUNS]
+        found = harness.side_by_side(tally, [functools.partial(sweep, refuse=refuse, run=run) for run in RUNS])
+        counts = [f"{run.name} {count}" for run, count in zip(RUNS, found)]
     print("allocations refused in turn:", ", ".join(counts))
