@@ -20,7 +20,7 @@ class Option:
         words = re.search(r"\[possible values: ([^\]]*)\]", text)
         self.words = words[1].split(", ") if words else []
         limits = re.search(r"\b(\d[\d,]*) to (\d[\d,]*)", text)
-        default = re.search(r"\[default: (\d+)\]", text)
+        default = re.search(r"\[default: (\w+)\]", text)
         self.numbers = [number.replace(",", "") for number in [*(limits.groups() if limits else ()), *(default.groups() if default else ())]]
 
 
@@ -169,6 +169,13 @@ def document_faults(options):
         yield f"docs/specification.md, --{name}", [] if re.search(rf"--{name}\b(?!-)", specification) else ["it isn't told"]
 
 
+def version_faults(program):
+    """Whether the version that a program prints is the newest of CHANGELOG.md."""
+    ran = harness.run([harness.program(program), "--version"], harness.ROOT)
+    newest = re.search(r"^## ([\w.]+)", (harness.ROOT / "CHANGELOG.md").read_text(), re.MULTILINE)[1]
+    return harness.differences(ran, f"{program} {newest}\n".encode())
+
+
 def run_all(tally):
     """Compares man pages, completions and documents with what help tells."""
     options = {program: options_of(program) for program in PROGRAMS}
@@ -176,6 +183,7 @@ def run_all(tally):
         tally.check(f"help of {program}", [] if len(options[program]) > 4 else ["it tells hardly any options"])
         tally.check(f"man page of {program}", manual_faults(program, options[program]))
         check_completions(program, options[program], tally)
+        tally.check(f"version of {program}", version_faults(program))
     check_bash_details(tally)
     check_lint(tally)
     for name, faults in document_faults(options):
