@@ -110,7 +110,7 @@ fn is_given(matches: &ArgMatches<'_>, name: &str) -> bool
     }
 }
 
-/// Reads the words after the program's name. A line that `clap` refuses, or that asks for help, is
+/// Reads the words after the program's name. A line that `clap` refuses, or that asks for help or the version, is
 /// `Fault::CommandLine`; a bad type list is told after that, the left one before the right one.
 /// `Fault::Memory` comes only where a growth was refused.
 pub fn read_line<'a>(alloc: Global, words: &'a [&'a str]) -> Result<Line<'a>, Fault>

@@ -68,17 +68,17 @@ const OPTIONS: [LineOption; 15] = [
     LineOption {
         name: "bits1",
         takes: BITS,
-        help: "The rows are joined in 2^N partitions, by N bits of their keys' hash; N is 0 to 10 [default: 4]",
+        help: "Bits of the hash of a row's key that choose its partition, 0 to 10 [default: 4]",
     },
     LineOption {
         name: "bits2",
         takes: BITS,
-        help: "Each partition is joined in 2^N parts, by N further bits; N is 0 to 10 [default: 0]",
+        help: "Further bits of the hash that part each partition again, 0 to 10 [default: 0]",
     },
     LineOption {
         name: "hash",
         takes: Takes::Word(&["plain", "mixed"]),
-        help: "Hash of the keys; mixed spreads keys that are alike over all partitions [default: plain]",
+        help: "Hash of the keys; mixed spreads keys that lie close together [default: plain]",
     },
     LineOption {
         name: "workers",
@@ -108,7 +108,7 @@ const OPTIONS: [LineOption; 15] = [
     LineOption {
         name: "stats",
         takes: Takes::Nothing,
-        help: "Tell on standard error how many rows each partition had, and how many were written of each kind",
+        help: "Print on standard error how many rows each partition had, and how many rows of each kind were written",
     },
 ];
 
