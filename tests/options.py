@@ -158,13 +158,21 @@ def check_lint(tally):
         tally.check(f"mandoc's lint of {program}.1", [line for line in told if "referenced manual not found" not in line])
 
 
+def row_faults(text, options):
+    """The limits, defaults and words of help that a table's row of an option lacks."""
+    for name, row in re.findall(r"^\| `--([\w-]+) [^|]*\|(.*)$", text, re.MULTILINE):
+        known = options[name].numbers + options[name].words if name in options else []
+        yield from (f"--{name}: the row doesn't tell {word}" for word in known if not re.search(rf"\b{word}\b", row.replace(",", "")))
+
+
 def document_faults(options):
     """Which options README's table of options and the specification lack."""
     readme = (harness.ROOT / "README.md").read_text().split("## Options")[1].split("## ")[0]
     specification = (harness.ROOT / "docs" / "specification.md").read_text()
     joins = options["radixjoin"]
     table = [name for line in readme.splitlines() if line.startswith("| `--") for name in re.findall(r"--([\w-]+)", line.split("|")[1])]
-    yield "README.md, options", difference(table, set(joins) - {"help", "version"})
+    yield "README.md, options", difference(table, set(joins) - {"help", "version"}) + list(row_faults(readme, joins))
+    yield "docs/specification.md, options", list(row_faults(specification, joins))
     for name in [*joins, *options["arrivals"]]:
         yield f"docs/specification.md, --{name}", [] if re.search(rf"--{name}\b(?!-)", specification) else ["it isn't told"]
 
