@@ -59,14 +59,22 @@ def words_that_are_no_text(folder):
 def help_of_each_option(folder):
     """Help tells every option, on standard output alone."""
     options = {
-        "radixjoin": ["left", "right", "left-types", "right-types", "join", "null", "bits1", "workers", "block", "lanes", "capacity", "retries", "stats", "help"],
-        "arrivals": ["partition", "senders", "block", "gaps", "help"],
+        "radixjoin": ["left", "right", "left-types", "right-types", "join", "null", "bits1", "bits2", "hash", "workers", "block", "lanes", "capacity", "retries", "stats", "help", "version"],
+        "arrivals": ["partition", "senders", "block", "gaps", "help", "version"],
     }
     for name, told in options.items():
         for word in ("--help", "-h"):
             ran = run(name, [word], folder)
             lacking = [f"no --{option}" for option in told if f"--{option}".encode() not in ran.stdout]
             yield f"{name} {word}", lacking + harness.differences(ran, None)
+
+
+def version_of_each_program(folder):
+    """The version is the program's name and number, on standard output alone, whatever follows it."""
+    for name in ("radixjoin", "arrivals"):
+        for words in (["--version"], ["-V"], ["--version", "nonsense"]):
+            ran = run(name, words, folder)
+            yield f"{name} {' '.join(words)}", harness.differences(ran, f"{name} 1.0.0\n".encode())
 
 
 def numbers_of_arrivals(folder):
@@ -215,6 +223,7 @@ def named_pipes(folder):
 PARTS = [
     words_that_are_no_text,
     help_of_each_option,
+    version_of_each_program,
     numbers_of_arrivals,
     longest_blocks,
     scripts_that_cannot_be_read,

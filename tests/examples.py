@@ -1,4 +1,5 @@
 """Runs the worked examples of examples.toml and arrivals.toml over the built programs."""
+import itertools
 import pathlib
 import re
 import tomllib
@@ -58,6 +59,17 @@ def sweep_partitions(case, files, tally):
         tally.check(f"{case['name']}, --bits1={bits}", faults_of(swept, files))
 
 
+def sweep_bits_and_hashes(case, files, tally):
+    """Runs a case that names no partitions with each pair of bits from 0 to 3 and both hashes: what it prints is the same."""
+    options = case.get("options", [])
+    named = ("--bits1", "--bits2", "--hash", "--stats", "--help")
+    if "words" in case or any(word.startswith(named) for word in options):
+        return
+    for bits1, bits2, name in itertools.product(range(4), range(4), ("plain", "mixed")):
+        words = [f"--bits1={bits1}", f"--bits2={bits2}", f"--hash={name}"]
+        tally.check(f"{case['name']}, {' '.join(words)}", faults_of({**case, "options": [*options, *words]}, files))
+
+
 # How a join is done: each number of workers, block size, number of lanes and queue capacity stands beside most others.
 WAYS = [
     {"workers": workers, "block": block, "lanes": lanes, "capacity": capacity}
@@ -88,7 +100,7 @@ def sweep_ways(case, files, tally):
 
 
 def run_all(tally):
-    """Runs every case of both tables, those of joins for each number of partitions and by several workers too."""
+    """Runs every case of both tables, those of joins for each number of partitions, by both hashes and by several workers too."""
     for table in ("examples.toml", "arrivals.toml"):
         with open(harness.ROOT / "tests" / table, "rb") as text:
             found = tomllib.load(text)
@@ -97,4 +109,5 @@ def run_all(tally):
             tally.check(f"{table}: {case['name']}", faults_of(case, files))
             if "join" in case:
                 sweep_partitions(case, files, tally)
+                sweep_bits_and_hashes(case, files, tally)
                 sweep_ways(case, files, tally)

@@ -1,4 +1,9 @@
-"""Runs the tests over the built programs, as many parts side by side as there are processors. The last line is 'N passed, M failed'."""
+"""Runs the tests over the built programs, as many parts side by side as there are processors. The last line is
+'N passed, M failed'.
+
+usage: run.py                 all parts
+       run.py PART ..         these parts alone, as examples or pages
+       run.py --case NAME     the rows of tests/*.toml with this name"""
 import concurrent.futures
 import contextlib
 import importlib
@@ -6,32 +11,70 @@ import io
 import os
 import sys
 import time
+import tomllib
+
+import examples
+import harness
 
 # The longest first, so that none is left alone at the end.
-PARTS = ("refused_allocations", "refused_further", "fuzz", "soak", "examples", "devices", "sizes", "ends", "comparisons")
+PARTS = (
+    "refused_allocations",
+    "refused_further",
+    "fuzz",
+    "soak",
+    "examples",
+    "devices",
+    "sizes",
+    "installation",
+    "pages",
+    "options",
+    "citations",
+    "ends",
+    "comparisons",
+)
+TABLES = ("examples.toml", "arrivals.toml", "ends.toml")
 
 
 def run_part(name):
     """Runs a part in a process of its own. It gives how many passed and failed, and what it told."""
-    from harness import Tally
-
-    tally, told, start = Tally(), io.StringIO(), time.monotonic()
+    tally, told, start = harness.Tally(), io.StringIO(), time.monotonic()
     with contextlib.redirect_stdout(told):
         importlib.import_module(name).run_all(tally)
     print(f"{name}: {time.monotonic() - start:.0f} s", file=told)
     return tally.passed, tally.failed, told.getvalue()
 
 
-def main():
-    passed, failed = 0, 0
+def run_parts(names, tally):
+    """Runs parts side by side, and tells each as it ends."""
     with concurrent.futures.ProcessPoolExecutor(len(os.sched_getaffinity(0))) as pool:
-        for ran in concurrent.futures.as_completed([pool.submit(run_part, name) for name in PARTS]):
-            more_passed, more_failed, told = ran.result()
-            passed, failed = passed + more_passed, failed + more_failed
+        for ran in concurrent.futures.as_completed([pool.submit(run_part, name) for name in names]):
+            passed, failed, told = ran.result()
+            tally.passed += passed
+            tally.failed += failed
             print(told, end="", flush=True)
-    print(f"{passed} passed, {failed} failed")
-    return 1 if failed or not passed else 0
+
+
+def run_case(name, tally):
+    """Runs the rows of the tables that have a name."""
+    for table in TABLES:
+        with open(harness.ROOT / "tests" / table, "rb") as text:
+            found = tomllib.load(text)
+        for case in found["case"]:
+            if case["name"] == name:
+                tally.check(f"{table}: {name}", examples.faults_of(case, found.get("file", {})))
+
+
+def main(words):
+    tally = harness.Tally()
+    if words[:1] == ["--case"] and len(words) == 2:
+        run_case(words[1], tally)
+    elif all(word in PARTS for word in words):
+        run_parts([name for name in PARTS if not words or name in words], tally)
+    else:
+        sys.exit(f"{__doc__}\nParts: {', '.join(PARTS)}")
+    print(f"{tally.passed} passed, {tally.failed} failed")
+    return 1 if tally.failed or not tally.passed else 0
 
 
 if __name__ == "__main__":
-    sys.exit(main())
+    sys.exit(main(sys.argv[1:]))

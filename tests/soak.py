@@ -21,15 +21,17 @@ SECONDS = 60
 
 def random_settings(source):
     """Words for random settings of 2 to 16 workers."""
-    numbers = {
+    settings = {
         "workers": source.randint(2, 16),
         "bits1": source.randint(0, 10),
+        "bits2": source.randint(0, 10),
+        "hash": source.choice(["plain", "mixed"]),
         "block": source.choice([1, 2, 3, 7, 100, 1024, 65536]),
         "capacity": source.choice([1, 2, 3, 64, 4096]),
         "lanes": source.randint(1, 4),
         "retries": source.randint(0, 3),
     }
-    return [f"--{name}={number}" for name, number in numbers.items()]
+    return [f"--{name}={value}" for name, value in settings.items()]
 
 
 def random_joins(tally, count):

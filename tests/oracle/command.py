@@ -20,6 +20,14 @@ class Number:
         self.default = default
 
 
+class Word:
+    """One of a few words."""
+
+    def __init__(self, words, default):
+        self.words = words
+        self.default = default
+
+
 OPTIONS_OF = {
     "radixjoin": {
         "left": NEEDED_TEXT,
@@ -29,6 +37,8 @@ OPTIONS_OF = {
         "join": NEEDED_TEXT,
         "null": TEXT,
         "bits1": Number(0, 10, 4),
+        "bits2": Number(0, 10, 0),
+        "hash": Word(("plain", "mixed"), "plain"),
         "workers": Number(1, 64, 1),
         "block": Number(1, 65536, 1024),
         "lanes": Number(1, 4, 1),
@@ -54,6 +64,8 @@ def put(found, options, name, value):
     """Takes one use of an option."""
     if name in found:
         raise BadLine
+    if isinstance(options[name], Word) and value not in options[name].words:
+        raise BadLine
     found[name] = number(value, options[name]) if isinstance(options[name], Number) else value
 
 
@@ -62,7 +74,7 @@ def take_option(found, options, word, waiting):
     name, has_value, value = word[2:].partition("=")
     if waiting is not None:
         raise BadLine
-    if name == "help" and not has_value:
+    if name in ("help", "version") and not has_value:
         raise Help
     if name not in options or (options[name] == FLAG and has_value):
         raise BadLine
@@ -89,7 +101,7 @@ def read_words(program, words):
                 raise BadLine
         elif word.startswith("--"):
             waiting = take_option(found, options, word, waiting)
-        elif word.startswith("-h") and waiting is None:
+        elif word.startswith(("-h", "-V")) and waiting is None:
             raise Help
         elif waiting is None or (word.startswith("-") and word != "-"):
             raise BadLine
@@ -115,6 +127,7 @@ class Request:
         self.clause = found["join"].encode()
         self.null = found.get("null", "").encode()
         self.bits1 = found.get("bits1", options["bits1"].default)
+        self.hash = found.get("hash", options["hash"].default)
         self.stats = "stats" in found
 
 

@@ -3,7 +3,7 @@
 #![tactic(auto)]
 
 use clap::{Arg, ArgAction, Command, Error, value_parser};
-use rj_command::{Fault, arrivals};
+use rj_command::{Fault, VERSION, arrivals};
 use rj_csv_io::{Counted, CountedReader, ReadRefused, read_all};
 use std::alloc::{AllocError, Global};
 use std::env::{self, Env};
@@ -13,7 +13,7 @@ use std::process::ExitCode;
 // Why nothing, or not all, was printed. The text is the line that is printed, without its line end.
 #[derive(Debug, Drop, thiserror::Error)]
 enum Failure {
-    // `clap` refused the words, or they ask for help.
+    // `clap` refused the words, or they ask for help or for the version.
     #[error("{0}")]
     CommandLine(Error),
     #[error("arrivals: an argument is not text")]
@@ -27,7 +27,7 @@ enum Failure {
 }
 
 impl Failure {
-    // The exit status: 0 help, 2 command line, 5 memory, 6 device.
+    // The exit status: 0 help and version, 2 command line, 5 memory, 6 device.
     fn status(&self) -> u8 {
         match self {
             Failure::CommandLine(error) => { if error.use_stderr() { 2 } else { 0 } }
@@ -67,12 +67,32 @@ fn line_command<'a>(alloc: Global) -> Result<Command<'a>, AllocError> {
     let gaps = Arg::new(alloc, "gaps")
         .long("gaps")
         .action(ArgAction::SetTrue)
-        .help("Print the gap before the held parcels of each sender");
+        .help("Print the gap before the held parcels of each sender that waits");
     Command::new(alloc, "arrivals")
+        .about("Replays a script of arrivals at a partition, read from standard input")
+        .version(VERSION)
         .no_binary_name(true)
-        .arg(number_option(alloc, "partition", 0, 1_023, "Number of the partition"))?
-        .arg(number_option(alloc, "senders", 1, 128, "How many senders it has"))?
-        .arg(number_option(alloc, "block", 1, 65_536, "Most rows of a block"))?
+        .arg(number_option(
+            alloc,
+            "partition",
+            0,
+            1_023,
+            "Number of the partition, 0 to 1023",
+        ))?
+        .arg(number_option(
+            alloc,
+            "senders",
+            1,
+            128,
+            "How many senders it has, 1 to 128",
+        ))?
+        .arg(number_option(
+            alloc,
+            "block",
+            1,
+            65_536,
+            "Most rows of a block, 1 to 65536",
+        ))?
         .arg(gaps)
 }
 
@@ -160,7 +180,7 @@ fn tell_line(rt: &impl Eprint, failure: &Failure) -> u8 {
     failure.status()
 }
 
-// Prints a failure, or help on standard output, and gives the exit status.
+// Prints a failure, or help or the version on standard output, and gives the exit status.
 fn tell<R: Print + Eprint>(rt: &R, failure: &Failure) -> u8 {
     if let Failure::CommandLine(error) = failure {
         let printed = error.print(rt).is_ok();

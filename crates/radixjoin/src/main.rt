@@ -79,7 +79,7 @@ fn tell_line(rt: &impl Eprint, fault: &Fault) -> u8 {
     fault.status()
 }
 
-// Prints why there is no output, or help on standard output, and gives the exit status.
+// Prints why there is no output, or help or the version on standard output, and gives the exit status.
 fn tell<R: Print + Eprint>(rt: &R, fault: &Fault) -> u8 {
     if let Fault::CommandLine(error) = fault {
         let printed = error.print(rt).is_ok();

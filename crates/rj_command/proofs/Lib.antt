@@ -1,4 +1,5 @@
 mod ChainFacts
+mod LineFacts
 mod NumberFacts
 mod OperandFacts
 mod TypeFacts

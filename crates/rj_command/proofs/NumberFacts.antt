@@ -1,9 +1,9 @@
 -- What a parse knows of the numbers that options give.
-use Rattle.std.proofs.Common.{◌≡◌, ◌∙◌, ◌||◌, ◌<◌, ◌++◌, ℕ, Bool, zero, suc, true, false, refl, sym, ap, subst, inl, inr, arith, List, [], ◌∷◌, map, length, Option, Some, None}
+use Rattle.std.proofs.Common.{◌≡◌, ◌∙◌, ◌||◌, ◌<◌, ◌++◌, ℕ, Bool, zero, suc, true, false, refl, sym, ap, subst, inl, inr, arith, List, [], ◌∷◌, map, length, Option, Some, None, codes, true≢false}
 use Rattle.std.specs.Prelude.{option_and_then, option_map, slice_get, unwrap_or, pos}
 use Rattle.std.specs.Borrow.{Bor}
 use Rattle.std.specs.Str.{bytes_eq}
-use Rattle.std.specs.List.{All, list_all, slice_index_or}
+use Rattle.std.specs.List.{All, list_all, list_any, slice_index_or}
 use Rattle.std.proofs.lemmas.Slice.Eq.{bytes_eq-Decides}
 use Rattle.std.proofs.lemmas.List.{append-nil, append_assoc, length-map}
 use Rattle.std.proofs.lemmas.List.Elements.{All-get_or, All-nil}
@@ -21,9 +21,11 @@ use Rattle.clap.specs.declared.builder.value_parser.ValueParser.TheVariants as p
 use Rattle.clap.specs.declared.parser.matches.ArgMatches.{ArgMatches}
 use Rattle.clap.specs.declared.parser.matches.Found.{Found}
 use Rattle.clap.specs.declared.parser.matches.MatchedArg.{MatchedArg}
+use Rattle.clap.proofs.WalkLemmas.{list_any-map}
 use Rattle.clap.proofs.CallerLemmas.{added_plain, entry_by_id, same_rules_by_id}
-use Rattle.rj_command.specs.Line.{IsNumberIn}
-use Rattle.rj_command.specs.Options.{IsBare, IsChain}
+use Rattle.rj_command.specs.Line.{IsHashName, IsNumberIn}
+use Rattle.rj_command.specs.Options.{HashWords, IsBare, IsChain}
+use Rattle.rj_command.specs.declared.request.Hash.TheVariants as hash
 use Rattle.rj_command.proofs.ChainFacts.{all_distinct, all_fit, are_distinct, fits_option, rule_at}
 
 no_value : {X : Type 0} (x : X) → None ≡ Some x → ⊥
@@ -130,23 +132,59 @@ accepted_in_chain start cmd xs k d m bare chain all distinct lt q given p t firs
     let pass = value_passes p.built (found_of m) b.id.now t parsed.values (p.from.plain f.3).1 named found in
     subst (λ (i : Bool). Accepts i q t) case (passes_parser cmd m p k d in-cmd only own q parser t pass)
 
--- the number of a rule of a chain is within the rule's limits in each parse
-pub number_given : (start command : Command) (rules : List Rule) (m : ArgMatches) → IsBare start → IsChain start rules command
-    → list_all fits_option rules ≡ true → are_distinct rules ≡ true → (k least most : ℕ) → k < length rules
-    → (slice_index_or rules k (new_rule [])).parser ≡ Some (parser.Signed (pos least) (pos most)) → IsParsedFrom command m
-    → IsNumberIn least most (first_value (found_of m) (slice_index_or rules k (new_rule [])).id)
-number_given start command rules m bare chain fits distinct k least most lt is p = go chain.0 chain.1 chain.2 (sym (length-map chain.0 rule_of) ∙ ap length chain.2)
+-- a value that a parse found for a rule of a chain passed the rule's parser
+value_given : (start command : Command) (rules : List Rule) (m : ArgMatches) → IsBare start → IsChain start rules command
+    → list_all fits_option rules ≡ true → are_distinct rules ≡ true → (k : ℕ) → k < length rules
+    → (q : ValueParser) → (slice_index_or rules k (new_rule [])).parser ≡ Some q → IsParsedFrom command m
+    → (t : Text) → first_value (found_of m) (slice_index_or rules k (new_rule [])).id ≡ Some t → Accepts (slice_index_or rules k (new_rule [])).ignore_case q t
+value_given start command rules m bare chain fits distinct k lt q is p t first = go chain.0 chain.1 chain.2 (sym (length-map chain.0 rule_of) ∙ ap length chain.2)
   where
-    read : (id : Text) → ((t : Text) → first_value (found_of m) id ≡ Some t → IsSignedIn (pos least) (pos most) t) → (o : Option Text) → first_value (found_of m) id ≡ o → IsNumberIn least most o
-    read id h None e = tt
-    read id h (Some t) e = h t e
-
-    go : (xs : List Arg) → AddsInTurn AddsArg start xs command → map rule_of xs ≡ rules → length xs ≡ length rules → IsNumberIn least most (first_value (found_of m) (slice_index_or rules k (new_rule [])).id)
+    go : (xs : List Arg) → AddsInTurn AddsArg start xs command → map rule_of xs ≡ rules → length xs ≡ length rules → Accepts (slice_index_or rules k (new_rule [])).ignore_case q t
     go [] turns same len = absurd (omega arith)
     go (x ∷ xs) turns same len =
         let low : k < length (x ∷ xs) = omega arith in
         let rule = rule_at (x ∷ xs) rules k x (new_rule []) same low in
         let id : (slice_index_or (x ∷ xs) k x).id.now ≡ (slice_index_or rules k (new_rule [])).id = ap (λ (r : Rule). r.id) rule in
-        let given : (slice_index_or (x ∷ xs) k x).value_parser ≡ Some (parser.Signed (pos least) (pos most)) = ap (λ (r : Rule). r.parser) rule ∙ is in
-        read _ (λ t first. accepted_in_chain start command (x ∷ xs) k x m bare turns (all_fit (x ∷ xs) rules same fits) (all_distinct (x ∷ xs) rules same distinct) low
-        (parser.Signed (pos least) (pos most)) given p t (ap (first_value (found_of m)) id ∙ first)) _ refl
+        let given : (slice_index_or (x ∷ xs) k x).value_parser ≡ Some q = ap (λ (r : Rule). r.parser) rule ∙ is in
+        subst (λ (b : Bool). Accepts b q t) (ap (λ (r : Rule). r.ignore_case) rule)
+        (accepted_in_chain start command (x ∷ xs) k x m bare turns (all_fit (x ∷ xs) rules same fits) (all_distinct (x ∷ xs) rules same distinct) low
+        q given p t (ap (first_value (found_of m)) id ∙ first))
+
+-- the number of a rule of a chain is within the rule's limits in each parse
+pub number_given : (start command : Command) (rules : List Rule) (m : ArgMatches) → IsBare start → IsChain start rules command
+    → list_all fits_option rules ≡ true → are_distinct rules ≡ true → (k least most : ℕ) → k < length rules
+    → (slice_index_or rules k (new_rule [])).parser ≡ Some (parser.Signed (pos least) (pos most)) → IsParsedFrom command m
+    → IsNumberIn least most (first_value (found_of m) (slice_index_or rules k (new_rule [])).id)
+number_given start command rules m bare chain fits distinct k least most lt is p =
+    read _ (value_given start command rules m bare chain fits distinct k lt (parser.Signed (pos least) (pos most)) is p) _ refl
+  where
+    read : (id : Text) → ((t : Text) → first_value (found_of m) id ≡ Some t → IsSignedIn (pos least) (pos most) t) → (o : Option Text) → first_value (found_of m) id ≡ o → IsNumberIn least most o
+    read id h None e = tt
+    read id h (Some t) e = h t e
+
+-- a text that is one of two is the name of a hash
+named : (texts : List (Bor Text)) (t : Text) → map (λ w. w.now) texts ≡ codes "plain" ∷ codes "mixed" ∷ [] → list_any (λ name. bytes_eq name.now t) texts ≡ true → IsHashName (Some t)
+named texts t are among =
+    let any : list_any (λ name. bytes_eq name t) (codes "plain" ∷ codes "mixed" ∷ []) ≡ true = ap (list_any (λ name. bytes_eq name t)) (sym are) ∙ (sym (list_any-map (λ name. bytes_eq name t) (λ (w : Bor Text). w.now) texts) ∙ among) in
+    by_first (bytes_eq (codes "plain") t) refl any
+  where
+    by_second : (b : Bool) → bytes_eq (codes "mixed") t ≡ b → (b || false) ≡ true → IsHashName (Some t)
+    by_second true e any = (hash.Mixed, sym ((bytes_eq-Decides (codes "mixed") t).0 e))
+    by_second false e any = absurd (true≢false (sym any))
+
+    by_first : (b : Bool) → bytes_eq (codes "plain") t ≡ b → (b || (bytes_eq (codes "mixed") t || false)) ≡ true → IsHashName (Some t)
+    by_first true e any = (hash.Plain, sym ((bytes_eq-Decides (codes "plain") t).0 e))
+    by_first false e any = by_second (bytes_eq (codes "mixed") t) refl any
+
+-- the word of a rule of a chain that takes the names of hashes is one of them in each parse
+pub hash_given : (start command : Command) (rules : List Rule) (m : ArgMatches) → IsBare start → IsChain start rules command
+    → list_all fits_option rules ≡ true → are_distinct rules ≡ true → (k : ℕ) → k < length rules → (h : HashWords)
+    → (slice_index_or rules k (new_rule [])).parser ≡ Some (parser.Names h.words) → (slice_index_or rules k (new_rule [])).ignore_case ≡ false → IsParsedFrom command m
+    → IsHashName (first_value (found_of m) (slice_index_or rules k (new_rule [])).id)
+hash_given start command rules m bare chain fits distinct k lt h is case p =
+    read _ (λ t first. subst (λ (b : Bool). Accepts b (parser.Names h.words) t) case
+    (value_given start command rules m bare chain fits distinct k lt (parser.Names h.words) is p t first)) _ refl
+  where
+    read : (id : Text) → ((t : Text) → first_value (found_of m) id ≡ Some t → Accepts false (parser.Names h.words) t) → (o : Option Text) → first_value (found_of m) id ≡ o → IsHashName o
+    read id f None e = tt
+    read id f (Some t) e = named h.words.now t h.are (f t e)

@@ -1,5 +1,6 @@
 -- The options of the command line, as `clap` has them.
 use Rattle.std.specs.Prelude.{◌≡◌, true, false, List, [], ◌∷◌, Some, codes, map, pos}
+use Rattle.std.specs.Borrow.{Bor}
 use Rattle.clap.specs.Words.{App, Rule, Text, AddsArg, app_of, args_of, groups_of, new_app, new_rule, rule_of, with_rule}
 use Rattle.clap.specs.Built.{AddsInTurn}
 use Rattle.clap.specs.Simple.{on_top}
@@ -18,14 +19,21 @@ rule_for name takes.Required = record (new_rule name) { long = Some name; action
 rule_for name takes.Text = record (new_rule name) { long = Some name; action = Some Set }
 rule_for name (takes.Number least most) =
     record (new_rule name) { long = Some name; action = Some Set; parser = Some (parser.Signed (pos least) (pos most)) }
+rule_for name (takes.Word words) =
+    record (new_rule name) { long = Some name; action = Some Set; parser = Some (parser.Names words) }
 rule_for name takes.Nothing = record (new_rule name) { long = Some name; action = Some SetTrue }
 
 abbrev pub rule_of_option : LineOption → Rule
 rule_of_option o = rule_for o.name.now o.takes
 
+-- the words that `--hash` takes, wherever they stand in memory
+pub record HashWords : Type 0 where
+  pub words : Bor (List (Bor Text))
+  pub are : map (λ w. w.now) words.now ≡ codes "plain" ∷ codes "mixed" ∷ []
+
 -- the options, in order
-abbrev pub option_rules : List Rule
-option_rules =
+abbrev pub option_rules : HashWords → List Rule
+option_rules h =
     rule_for (codes "left") takes.Required
     ∷ rule_for (codes "right") takes.Required
     ∷ rule_for (codes "left-types") takes.Required
@@ -33,6 +41,8 @@ option_rules =
     ∷ rule_for (codes "join") takes.Required
     ∷ rule_for (codes "null") takes.Text
     ∷ rule_for (codes "bits1") (takes.Number 0 10)
+    ∷ rule_for (codes "bits2") (takes.Number 0 10)
+    ∷ rule_for (codes "hash") (takes.Word h.words)
     ∷ rule_for (codes "workers") (takes.Number 1 64)
     ∷ rule_for (codes "block") (takes.Number 1 65536)
     ∷ rule_for (codes "capacity") (takes.Number 1 4096)
@@ -46,9 +56,9 @@ abbrev pub with_rules : App → List Rule → App
 with_rules app [] = app
 with_rules app (r ∷ rules) = with_rules (with_rule app r) rules
 
--- the program's command line, whose words begin after its name
-abbrev pub line_app : App
-line_app = with_rules (on_top (λ s. record s { no_binary_name = true }) (new_app (codes "radixjoin"))) option_rules
+-- the program's command line, which has a version, and whose words begin after its name
+abbrev pub line_app : HashWords → App
+line_app h = with_rules (on_top (λ s. record s { has_version = true; no_binary_name = true }) (new_app (codes "radixjoin"))) (option_rules h)
 
 -- a command with the arguments of these rules more, each added in turn
 abbrev pub IsChain : Command → List Rule → Command → Type 0
@@ -64,6 +74,7 @@ pub record IsBare (c : Command) : Type 0 where
 -- a bare command with the program's options in turn
 pub record IsLineCommand (c : Command) : Type 0 where
   pub start : Command
+  pub hash_words : HashWords
   pub bare : IsBare start
-  pub chain : IsChain start option_rules c
-  pub app : app_of c ≡ line_app
+  pub chain : IsChain start (option_rules hash_words) c
+  pub app : app_of c ≡ line_app hash_words

@@ -7,13 +7,16 @@ use Rattle.rj_csv_io.specs.declared.write.WriteRefused.{WriteRefused}
 use Rattle.rj_csv_io.specs.declared.write.WriteRefused.TheVariants as write
 use Rattle.rj_condition.specs.declared.bound.BoundJoin.{BoundJoin}
 use Rattle.rj_condition.specs.Splits.{keys_of}
-use Rattle.rj_radix.specs.Hashes.{plain}
+use Rattle.rj_columns.specs.Contents.{Content}
+use Rattle.rj_radix.specs.Hashes.{mixed, plain}
 use Rattle.rj_engine.specs.Cells.{header_of, view_of}
 use Rattle.rj_engine.specs.Partitioned.{sizes_of}
 use Rattle.rj_engine.specs.Results.{joined_of}
 use Rattle.rj_command.specs.Operands.{AreOperands}
 use Rattle.rj_command.specs.declared.fault.Fault.{Fault}
 use Rattle.rj_command.specs.declared.fault.Fault.TheVariants as fault
+use Rattle.rj_command.specs.declared.request.Hash.{Hash}
+use Rattle.rj_command.specs.declared.request.Hash.TheVariants as hash
 use Rattle.rj_command.specs.declared.request.Request.{Request}
 use Rattle.rj_command.specs.declared.stats.Stats.{Stats}
 
@@ -21,15 +24,20 @@ use Rattle.rj_command.specs.declared.stats.Stats.{Stats}
 abbrev pub joined_text : List ℕ → BoundJoin → TableValue → TableValue → List ℕ
 joined_text null join l r = table_text null (header_of join l r) (view_of join l r).cells
 
--- how many members of each kind the joined table has, and how many rows of each table were delivered to each partition:
--- the rows with a key whose plain hash ends in the partition's bits
-pub record IsCounted (q : Request) (l r : TableValue) (join : BoundJoin) (stats : Stats) : Type 0 where
+-- the hash of a key
+abbrev pub hash_value : Hash → List Content → ℕ
+hash_value hash.Plain key = plain key
+hash_value hash.Mixed key = mixed (plain key)
+
+-- how many members of each kind the joined table has, and how many rows of each table were delivered to each partition of
+-- the first pass: the rows with a key whose hash ends in the partition's bits
+pub record IsCounted (value : List Content → ℕ) (q : Request) (l r : TableValue) (join : BoundJoin) (stats : Stats) : Type 0 where
   pub pairs : stats.pairs ≡ length (joined_of join l r).pairs
   pub lone_left : stats.lone_left ≡ length (joined_of join l r).lone_left
   pub lone_right : stats.lone_right ≡ length (joined_of join l r).lone_right
   pub numbers : map (λ p. p.number) stats.partitions.items ≡ range_with_len 0 (2 ^ q.settings.bits1)
-  pub lefts : map (λ p. p.left) stats.partitions.items ≡ sizes_of plain q.settings.bits1 l (map (λ k. k.0) (keys_of join))
-  pub rights : map (λ p. p.right) stats.partitions.items ≡ sizes_of plain q.settings.bits1 r (map (λ k. k.1) (keys_of join))
+  pub lefts : map (λ p. p.left) stats.partitions.items ≡ sizes_of value q.settings.bits1 l (map (λ k. k.0) (keys_of join))
+  pub rights : map (λ p. p.right) stats.partitions.items ≡ sizes_of value q.settings.bits1 r (map (λ k. k.1) (keys_of join))
 
 -- the text of the joined table of what the bytes denote, and what is counted of it
 pub record IsJoined (left right : List ℕ) (q : Request) (stats : Stats) (text : List ℕ) : Type 0 where
@@ -37,7 +45,7 @@ pub record IsJoined (left right : List ℕ) (q : Request) (stats : Stats) (text 
   pub r : TableValue
   pub join : BoundJoin
   pub operands : AreOperands left right q l r join
-  pub counts : IsCounted q l r join stats
+  pub counts : IsCounted (hash_value q.hash) q l r join stats
   pub shown : text ≡ joined_text q.null.now join l r
 
 -- the bytes denote two tables, and the clause a join of them

@@ -28,7 +28,7 @@ impl fmt::Display for Side {
 /// first row being the record after the header; bytes of a clause count from 0.
 #[derive(Debug, Drop, Error)]
 pub enum Fault {
-    /// `clap` refused the words of the command line, or they ask for help. The text is that of `clap`.
+    /// `clap` refused the words of the command line, or they ask for help or for the version. The text is that of `clap`.
     #[error("{0}")]
     CommandLine(clap::Error),
     /// A word of the command line isn't text.
@@ -100,7 +100,7 @@ pub enum Fault {
 }
 
 impl Fault {
-    /// The exit status of a program that ends by this fault: 0 for help, 2 for the command line, 3 for input, 4 for the clause, 5 for
+    /// The exit status of a program that ends by this fault: 0 for help and the version, 2 for the command line, 3 for input, 4 for the clause, 5 for
     /// memory, 6 for a device. It takes no memory.
     pub fn status(&self) -> u8
         ensures { result ≡ status_of self.now }

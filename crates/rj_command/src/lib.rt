@@ -13,8 +13,11 @@ mod types;
 
 pub use fault::{Fault, Side};
 pub use line::{Line, read_line};
-pub use request::Request;
+pub use request::{Hash, Request};
 pub use rj_engine::Open;
 pub use running::run;
 pub use script::arrivals;
 pub use stats::{PartitionRows, Stats};
+
+/// The version of both programs, which `--version` prints.
+pub const VERSION: &str = "1.0.0";

@@ -1,12 +1,12 @@
 // Reading the words of the command line.
 
-ghost use Rattle.std.specs.Prelude.{◌≡◌, ◌⊎◌, ◌-◌, ◌^◌, IfOk, IfErr, Some, is_some, map, true};
+ghost use Rattle.std.specs.Prelude.{◌≡◌, ◌⊎◌, ◌-◌, ◌^◌, IfOk, IfErr, Some, codes, is_some, map, true};
 ghost use Rattle.clap.specs.Words.{first_value, found_of, kind_of};
-ghost use Rattle.rj_command.specs.Line.{AreNumbersIn, AreSettings, IsLineFault, IsLineOf, IsNumberIn, IsNumberOr, IsParseOf, is_true};
+ghost use Rattle.rj_command.specs.Line.{AreNumbersIn, AreSettings, IsHashName, IsHashOr, IsLineFault, IsLineOf, IsNumberIn, IsNumberOr, IsParseOf, is_true};
 
 use super::fault::{Fault, Side};
 use super::options::line_command;
-use super::request::Request;
+use super::request::{Hash, Request};
 use super::types::read_types;
 use clap::error::ErrorKind;
 use clap::{ArgMatches, Error};
@@ -14,7 +14,7 @@ use rj_engine::Settings;
 use std::alloc::Global;
 
 /// What the words of the command line say.
-#[derive(Debug, Drop)]
+#[derive(Drop)]
 pub struct Line<'a> {
     /// The name of the left table's file.
     pub left: &'a str,
@@ -71,8 +71,8 @@ fn number_or(matches: &ArgMatches<'_>, name: &str, other: u32) -> u32
     }
 }
 
-// The settings of a join: where nothing else is asked, one worker, 16 partitions, blocks of 1,024 rows, one lane of 64
-// parcels, and one retry.
+// The settings of a join: where nothing else is asked, one worker, 16 partitions that are not parted further, blocks of
+// 1,024 rows, one lane of 64 parcels, one retry, and pieces of 65,536 rows.
 fn settings_of(matches: &ArgMatches<'_>) -> Settings
     requires { AreNumbersIn (first_value (found_of matches.now)) }
     ensures { AreSettings (first_value (found_of matches.now)) result }
@@ -80,11 +80,23 @@ fn settings_of(matches: &ArgMatches<'_>) -> Settings
     Settings {
         workers: number_or(matches, "workers", 1),
         bits1: number_or(matches, "bits1", 4),
-        bits2: 0,
+        bits2: number_or(matches, "bits2", 0),
         block: number_or(matches, "block", 1024),
         lanes: number_or(matches, "lanes", 1),
         capacity: number_or(matches, "capacity", 64),
         retries: number_or(matches, "retries", 1),
+        piece: 65_536,
+    }
+}
+
+// The hash that is named, or the plain one where none is.
+fn hash_of(matches: &ArgMatches<'_>) -> Hash
+    requires { IsHashName (first_value (found_of matches.now) (codes "hash")) }
+    ensures { IsHashOr Hash.Plain (first_value (found_of matches.now) (codes "hash")) result }
+{
+    match matches.get_str("hash") {
+        Some("mixed") => Hash::Mixed,
+        _ => Hash::Plain,
     }
 }
 
@@ -98,7 +110,7 @@ fn is_given(matches: &ArgMatches<'_>, name: &str) -> bool
     }
 }
 
-/// Reads the words after the program's name. A line that `clap` refuses, or that asks for help, is
+/// Reads the words after the program's name. A line that `clap` refuses, or that asks for help or the version, is
 /// `Fault::CommandLine`; a bad type list is told after that, the left one before the right one.
 /// `Fault::Memory` comes only where a growth was refused.
 pub fn read_line<'a>(alloc: Global, words: &'a [&'a str]) -> Result<Line<'a>, Fault>
@@ -117,6 +129,7 @@ pub fn read_line<'a>(alloc: Global, words: &'a [&'a str]) -> Result<Line<'a>, Fa
             null: matches.get_str("null").unwrap_or(""),
             clause: given(&matches, "join"),
             settings: settings_of(&matches),
+            hash: hash_of(&matches),
         },
         stats: is_given(&matches, "stats"),
     })

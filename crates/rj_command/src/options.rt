@@ -4,6 +4,7 @@ ghost use Rattle.std.specs.Prelude.{◌≡◌, IfOk, map};
 ghost use Rattle.clap.specs.Words.{rule_of};
 ghost use Rattle.rj_command.specs.Options.{IsChain, IsLineCommand, rule_of_option};
 
+use super::VERSION;
 use clap::{Arg, ArgAction, Command, value_parser};
 use std::alloc::{AllocError, Global};
 
@@ -16,6 +17,8 @@ pub(crate) enum Takes {
     Text,
     // A number, from the first of these to the second.
     Number(u32, u32),
+    // One of these words.
+    Word(&'static [&'static str]),
     // Nothing: the option is given or not.
     Nothing,
 }
@@ -28,41 +31,54 @@ pub(crate) struct LineOption {
     help: &'static str,
 }
 
-const OPTIONS: [LineOption; 13] = [
+// The bits of the hash that a pass partitions by.
+const BITS: Takes = Takes::Number(0, 10);
+
+const OPTIONS: [LineOption; 15] = [
     LineOption {
         name: "left",
         takes: Takes::Required,
-        help: "File of the left table, as CSV",
+        help: "CSV file of the left table, which a clause calls L",
     },
     LineOption {
         name: "right",
         takes: Takes::Required,
-        help: "File of the right table, as CSV",
+        help: "CSV file of the right table, which a clause calls R",
     },
     LineOption {
         name: "left-types",
         takes: Takes::Required,
-        help: "Types of the left columns, as int,text",
+        help: "Types of the left columns, int or text, as int,text,int",
     },
     LineOption {
         name: "right-types",
         takes: Takes::Required,
-        help: "Types of the right columns, as int,text",
+        help: "Types of the right columns, int or text, as int,text,int",
     },
     LineOption {
         name: "join",
         takes: Takes::Required,
-        help: "Clause of the join, as LEFT JOIN USING (id)",
+        help: "How to join, as 'LEFT JOIN USING (id)' or 'JOIN ON L.id = R.id AND L.age > 30'",
     },
     LineOption {
         name: "null",
         takes: Takes::Text,
-        help: "Text that stands for null [default: none]",
+        help: "Text of a field that is null, read and written [default: an empty field]",
     },
     LineOption {
         name: "bits1",
-        takes: Takes::Number(0, 10),
-        help: "Bits of the hash that partition the tables, 0 to 10 [default: 4]",
+        takes: BITS,
+        help: "Bits of the hash of a row's key that choose its partition, 0 to 10 [default: 4]",
+    },
+    LineOption {
+        name: "bits2",
+        takes: BITS,
+        help: "Further bits of the hash that part each partition again, 0 to 10 [default: 0]",
+    },
+    LineOption {
+        name: "hash",
+        takes: Takes::Word(&["plain", "mixed"]),
+        help: "Hash of the keys; mixed spreads keys that lie close together [default: plain]",
     },
     LineOption {
         name: "workers",
@@ -92,7 +108,7 @@ const OPTIONS: [LineOption; 13] = [
     LineOption {
         name: "stats",
         takes: Takes::Nothing,
-        help: "Print how many rows were written of each kind",
+        help: "Print on standard error how many rows each partition had, and how many rows of each kind were written",
     },
 ];
 
@@ -110,6 +126,7 @@ fn argument<'a>(alloc: Global, option: &LineOption) -> Arg<'a>
             let numbers = value_parser!(u32).range(i64::from(least)..=i64::from(most));
             argument.action(ArgAction::Set).value_parser(numbers)
         }
+        Takes::Word(words) => argument.action(ArgAction::Set).value_parser(words),
         Takes::Nothing => argument.action(ArgAction::SetTrue),
     }
 }
@@ -133,9 +150,9 @@ fn with_options<'a>(
 pub(crate) fn line_command<'a>(alloc: Global) -> Result<Command<'a>, AllocError>
     ensures { IfOk result IsLineCommand }
 {
-    with_options(
-        alloc,
-        Command::new(alloc, "radixjoin").no_binary_name(true),
-        &OPTIONS,
-    )
+    let command = Command::new(alloc, "radixjoin")
+        .about("Writes the joined table of two CSV files, as SQL-92 defines it, on standard output")
+        .version(VERSION)
+        .no_binary_name(true);
+    with_options(alloc, command, &OPTIONS)
 }

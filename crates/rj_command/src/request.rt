@@ -3,8 +3,17 @@
 use rj_columns::ColumnType;
 use rj_engine::Settings;
 
+/// The hash of a row's key, whose bits lead the row to its partition. No choice changes the rows of a join.
+#[derive(Clone, Copy)]
+pub enum Hash {
+    /// The digits of the key in base 31, modulo 2^64.
+    Plain,
+    /// The plain hash with its bits mixed, which spreads keys that lie close together.
+    Mixed,
+}
+
 /// What a join of two files is asked to do.
-#[derive(Debug, Drop)]
+#[derive(Drop)]
 pub struct Request<'a> {
     /// The types of the left table's columns.
     pub left_types: Vec<ColumnType>,
@@ -14,6 +23,8 @@ pub struct Request<'a> {
     pub null: &'a str,
     /// The text of the join clause.
     pub clause: &'a str,
-    /// How the join is done. No setting changes its result.
+    /// How the join is done. No setting changes its rows.
     pub settings: Settings,
+    /// The hash that partitions the rows.
+    pub hash: Hash,
 }

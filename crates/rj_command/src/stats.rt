@@ -6,7 +6,7 @@ ghost use Rattle.rj_command.specs.Statistics.{partition_text, stats_text};
 use std::fmt;
 
 /// How many rows of each table were delivered to a partition. The text is its line, without the line end.
-#[derive(Clone, Copy, Debug, PartialEq, Eq)]
+#[derive(Clone, Copy)]
 pub struct PartitionRows {
     /// The partition, counted from 0.
     pub number: u64,
@@ -18,7 +18,7 @@ pub struct PartitionRows {
 
 /// What a join counts. The text is what `--stats` prints, without its last line end: a line for each partition, and
 /// then one that counts the rows written.
-#[derive(Debug, Drop)]
+#[derive(Drop)]
 pub struct Stats {
     /// The rows of each partition, in the order of the partitions.
     pub partitions: Vec<PartitionRows>,

@@ -211,6 +211,7 @@ fn clap_told(alloc: Global, words: &[&str]) -> Result<Option<u8>, Fail> {
 #[test]
 fn lines_of_clap(rt: HostRuntime) -> Result<(), Fail> {
     assert!(rt; clap_told(rt.alloc(), ["--help"].as_slice())? == Some(0));
+    assert!(rt; clap_told(rt.alloc(), ["--version"].as_slice())? == Some(0));
     assert!(rt; clap_told(rt.alloc(), ["--left"].as_slice())? == Some(2));
     Ok(())
 }

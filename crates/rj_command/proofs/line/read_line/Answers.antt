@@ -1,7 +1,9 @@
-use Rattle.std.proofs.Common.{◌≡◌, ◌∙◌, ap, refl, subst, sym, [], Option, Some, None, unwrap_or, codes, option_map, Bor}
+use Rattle.std.proofs.Common.{◌≡◌, ◌∙◌, ap, refl, subst, sym, [], Option, Some, None, unwrap_or, codes, option_map, map, rules, Bor}
 use Rattle.clap.specs.Words.{Text, first_value, found_of}
 use Rattle.rj_engine.specs.declared.settings.Settings.{Settings}
-use Rattle.rj_command.specs.Line.{AreSettings, IsNumberOr, is_true}
+use Rattle.rj_command.specs.Line.{AreSettings, IsHashOr, IsNumberOr, is_true}
+use Rattle.rj_command.specs.declared.request.Hash.TheVariants as hash
+use Rattle.rj_command.proofs.LineFacts.{left_list_fault, right_list_fault}
 use Rattle.rj_command.proofs.line.read_line.Goals as goal
 
 -- the value of an option, or the empty text
@@ -17,17 +19,19 @@ same-settings : (found word : Text → Option Text) (s : Settings) → ((name : 
 same-settings found word s same are = record {
   workers = subst (λ (o : Option Text). IsNumberOr 1 o s.workers) (same (codes "workers")) are.workers;
   bits1 = subst (λ (o : Option Text). IsNumberOr 4 o s.bits1) (same (codes "bits1")) are.bits1;
-  bits2 = are.bits2;
+  bits2 = subst (λ (o : Option Text). IsNumberOr 0 o s.bits2) (same (codes "bits2")) are.bits2;
   block = subst (λ (o : Option Text). IsNumberOr 1024 o s.block) (same (codes "block")) are.block;
   lanes = subst (λ (o : Option Text). IsNumberOr 1 o s.lanes) (same (codes "lanes")) are.lanes;
   capacity = subst (λ (o : Option Text). IsNumberOr 64 o s.capacity) (same (codes "capacity")) are.capacity;
   retries = subst (λ (o : Option Text). IsNumberOr 1 o s.retries) (same (codes "retries")) are.retries;
+  piece = are.piece;
 }
 
 pub returns-clause-line : goal.returns-clause-line
 returns-clause-line c =
     let parse = c.in_ok-matches.ensures.ok in
     record {
+      hash_words = parse.hash_words;
       accepted = parse.accepted;
       left = sym (parse.values (codes "left")) ∙ c.given-3.ensures;
       right = sym (parse.values (codes "right")) ∙ c.given-4.ensures;
@@ -36,5 +40,23 @@ returns-clause-line c =
       join = sym (parse.values (codes "join")) ∙ c.given-5.ensures;
       null = value-or _ c.get_str.result c.unwrap_or.result _ (c.get_str.ensures ∙ parse.values (codes "null")) c.unwrap_or.ensures refl;
       settings = same-settings (first_value (found_of c.in_ok-matches.matches)) _ c.settings_of.result parse.values c.settings_of.ensures;
+      hash = subst (λ (o : Option Text). IsHashOr hash.Plain o c.hash_of.result) (parse.values (codes "hash")) c.hash_of.ensures;
       stats = c.is_given.ensures ∙ ap is_true (parse.values (codes "stats"));
     }
+
+pub returns-in_err-left_types-clause-fault : goal.returns-in_err-left_types-clause-fault
+returns-in_err-left_types-clause-fault c =
+    let parse = c.in_ok-matches.ensures.ok in
+    let left = sym (parse.values (codes "left-types")) ∙ c.given.ensures in
+    let told = left_list_fault (map (λ (w : Bor Text). w.now) c.args.words.now) parse.hash_words c.given.result.now c.in_err-left_types.field-0.0
+    parse.accepted left c.in_err-left_types.ensures.fault in
+    search (rules, told)
+
+pub returns-in_err-right_types-clause-fault : goal.returns-in_err-right_types-clause-fault
+returns-in_err-right_types-clause-fault c =
+    let parse = c.in_ok-matches.ensures.ok in
+    let left = sym (parse.values (codes "left-types")) ∙ c.given.ensures in
+    let right = sym (parse.values (codes "right-types")) ∙ c.given-2.ensures in
+    let told = right_list_fault (map (λ (w : Bor Text). w.now) c.args.words.now) parse.hash_words c.given.result.now c.given-2.result.now
+    c.in_ok-left_types.left_types.items c.in_err-right_types.field-0.0 parse.accepted left c.in_ok-left_types.ensures.types right c.in_err-right_types.ensures.fault in
+    search (rules, told)

@@ -2,7 +2,7 @@ use Rattle.std.proofs.Common.{◌≡◌, ◌⊎◌, inl, inr, ap, refl, List, �
 use Rattle.std.specs.Prelude.{◌≢◌, Result, Ok, Err, IfOk, IfErr}
 use Rattle.std.specs.Io.KnownBytes.{Appends}
 use Rattle.rj_command.specs.Operands.{IsFirstFault}
-use Rattle.rj_command.specs.Runs.{IsCounted, IsJoined, joined_text}
+use Rattle.rj_command.specs.Runs.{IsCounted, IsJoined, hash_value, joined_text}
 use Rattle.rj_command.specs.declared.fault.Fault.{Fault}
 use Rattle.rj_command.specs.declared.fault.Fault.TheVariants as fault
 use Rattle.rj_command.proofs.running.run.Goals as goal
@@ -28,21 +28,21 @@ returns-clause-joined g c =
     let operands = c.in_ok-operands.operands in
     let request = c.args.request.now in
     let text = joined_text request.null.now operands.join operands.left operands.right in
-    let Writes : List ℕ → Type 0 = Appends (g.O.Output.told c.args.writer.now) (g.O.Output.told c.write_joined.new.writer) in
-    if_ok (λ stats. IsCounted request operands.left operands.right operands.join stats × Writes text)
+    let Writes : List ℕ → Type 0 = Appends (g.O.Output.told c.args.writer.now) (g.O.Output.told c.write_by_hash.new.writer) in
+    if_ok (λ stats. IsCounted (hash_value request.hash) request operands.left operands.right operands.join stats × Writes text)
     (λ stats. (x : List ℕ) × IsJoined c.args.left.now c.args.right.now request stats x × Writes x)
     (λ stats h. (
       text,
       record { l = operands.left; r = operands.right; join = operands.join; operands = c.in_ok-operands.ensures.operands; counts = h.0; shown = refl },
       h.1,
     ))
-    c.write_joined.result c.write_joined.ensures.ok
+    c.write_by_hash.result c.write_by_hash.ensures.ok
 
 pub returns-clause-fault : goal.returns-clause-fault
-returns-clause-fault g c = no_other (IsFirstFault c.args.left.now c.args.right.now c.args.request.now) c.write_joined.result c.write_joined.ensures.fault
+returns-clause-fault g c = no_other (IsFirstFault c.args.left.now c.args.right.now c.args.request.now) c.write_by_hash.result c.write_by_hash.ensures.fault
 
 pub returns-clause-unchanged : goal.returns-clause-unchanged
-returns-clause-unchanged g c = after_memory (c.write_joined.new.writer ≡ c.args.writer.now) c.write_joined.result c.write_joined.ensures.fault c.write_joined.ensures.unchanged
+returns-clause-unchanged g c = after_memory (c.write_by_hash.new.writer ≡ c.args.writer.now) c.write_by_hash.result c.write_by_hash.ensures.fault c.write_by_hash.ensures.unchanged
 
 pub returns-clause-failed : goal.returns-clause-failed
 returns-clause-failed g c = λ failed.

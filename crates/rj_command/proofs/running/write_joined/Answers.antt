@@ -4,7 +4,6 @@ use Rattle.std.specs.Io.KnownBytes.{Appends}
 use Rattle.std.proofs.lemmas.List.FromFn.{length-map-range_with_len}
 use Rattle.rj_csv_io.specs.Shown.{table_text}
 use Rattle.rj_condition.specs.Splits.{keys_of}
-use Rattle.rj_radix.specs.Hashes.{plain}
 use Rattle.rj_engine.specs.Join.{JoinedValue}
 use Rattle.rj_engine.specs.Partitioned.{rows_of_partition}
 use Rattle.std.proofs.lemmas.List.{length-map}
@@ -27,10 +26,11 @@ returns-clause-ok g c =
     let r = c.args.operands.now.right in
     let join = c.args.operands.now.join in
     let null = c.args.request.now.null.now in
+    let value = g.H.KeyHash.value c.args.hash.now in
     let bits = c.args.request.now.settings.bits1 in
     let joined = c.in_ok-joined.ensures in
     let rows = c.in_ok-partitions.ensures in
-    let many = ap length joined.left_sizes ∙ length-map-range_with_len (λ p. length (rows_of_partition plain bits l (map (λ (k : ℕ × ℕ). k.0) (keys_of join)) p)) 0 (2 ^ bits) in
+    let many = ap length joined.left_sizes ∙ length-map-range_with_len (λ p. length (rows_of_partition value bits l (map (λ (k : ℕ × ℕ). k.0) (keys_of join)) p)) 0 (2 ^ bits) in
     let names = ap (map (λ (n : Bor (List ℕ)). n.now)) c.as_slice.ensures.value ∙ c.in_ok-names.ensures in
     let text =
     ap (λ header. table_text null header c.in_ok-view.view.cells) names ∙ ap (λ (v : ViewValue). table_text null (header_of join l r) v.cells) c.in_ok-view.ensures in

@@ -1,0 +1,31 @@
+# Completion of radixjoin for bash: options that were not given yet, files, and the words of --hash.
+_radixjoin() {
+    local options="--left --right --left-types --right-types --join --null --stats --workers --bits1 --bits2 --hash
+        --block --capacity --lanes --retries --help --version"
+    local word=${COMP_WORDS[COMP_CWORD]} before=${COMP_WORDS[COMP_CWORD - 1]}
+    # `--left=a` is three words here: --left, = and a.
+    if [[ $word == = ]]; then
+        word=
+    elif [[ $before == = ]]; then
+        before=${COMP_WORDS[COMP_CWORD - 2]}
+    fi
+    COMPREPLY=()
+    case $before in
+        --left | --right)
+            compopt -o filenames 2>/dev/null
+            mapfile -t COMPREPLY < <(compgen -f -- "$word")
+            ;;
+        --hash)
+            mapfile -t COMPREPLY < <(compgen -W "plain mixed" -- "$word")
+            ;;
+        --left-types | --right-types | --join | --null | --workers | --bits1 | --bits2 | --block | --capacity | --lanes | --retries) ;;
+        *)
+            local option left=
+            for option in $options; do
+                [[ " ${COMP_WORDS[*]:1:COMP_CWORD-1} " == *" $option "* ]] || left+=" $option"
+            done
+            mapfile -t COMPREPLY < <(compgen -W "$left" -- "$word")
+            ;;
+    esac
+}
+complete -F _radixjoin radixjoin

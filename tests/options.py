@@ -1,0 +1,198 @@
+"""Compares the options that the programs tell by --help with those of the man pages, the completions and the documents."""
+import os
+import pathlib
+import re
+import shutil
+import subprocess
+
+import harness
+
+PROGRAMS = ("radixjoin", "arrivals")
+SECONDS = 20
+
+
+class Option:
+    """An option: its long name, whether it takes a value, the words that it may take, and the numbers of its limits and default."""
+
+    def __init__(self, name, takes_value, text):
+        self.name = name
+        self.takes_value = takes_value
+        words = re.search(r"\[possible values: ([^\]]*)\]", text)
+        self.words = words[1].split(", ") if words else []
+        limits = re.search(r"\b(\d[\d,]*) to (\d[\d,]*)", text)
+        default = re.search(r"\[default: (\w+)\]", text)
+        self.numbers = [number.replace(",", "") for number in [*(limits.groups() if limits else ()), *(default.groups() if default else ())]]
+
+
+def options_of(program):
+    """The options of a program's own help, by their names."""
+    ran = harness.run([harness.program(program), "--help"], harness.ROOT)
+    found = re.findall(r"^ +(?:-\w, )?--([\w-]+)( <[^>]+>)?(.*(?:\n {10,}\S.*)*)$", ran.stdout.decode(), re.MULTILINE)
+    return {name: Option(name, bool(value), text) for name, value, text in found}
+
+
+def difference(names, options):
+    """How the names of a place differ from the options of help."""
+    lacking, unknown = sorted(set(options) - set(names)), sorted(set(names) - set(options))
+    return [f"lacks --{name}" for name in lacking] + [f"has --{name}, which help hasn't" for name in unknown]
+
+
+def manual_entries(program):
+    """The entries of a program's man page that begin with an option, by its name: each the lines to the next entry."""
+    text = (harness.ROOT / "man" / f"{program}.1").read_text()
+    entries = re.findall(r"^\.It (?:Fl \w , )?Fl Fl ([\w-]+)(.*(?:\n(?!\.It |\.El).*)*)", text, re.MULTILINE)
+    return dict(entries)
+
+
+def manual_faults(program, options):
+    """Where the man page differs from help: options, values, words, limits and defaults."""
+    entries = manual_entries(program)
+    faults = difference(entries, options)
+    for name, option in options.items():
+        entry = entries.get(name, "")
+        if option.takes_value != (" Ar " in entry.split("\n")[0] or " Cm " in entry.split("\n")[0]):
+            faults.append(f"--{name}: help and page differ in whether it takes a value")
+        missing = [word for word in option.words + option.numbers if not re.search(rf"\b{word}\b", entry.replace(",", ""))]
+        faults += [f"--{name}: the page doesn't tell {word}" for word in missing]
+    synopsis = (harness.ROOT / "man" / f"{program}.1").read_text().split(".Sh DESCRIPTION")[0]
+    return faults + [f"--{name} is not in the synopsis" for name in options if not re.search(rf"Fl Fl {name}\b(?!-)", synopsis)]
+
+
+def told_by(words, **how):
+    """What a command prints, as lines."""
+    ran = subprocess.run(words, capture_output=True, timeout=SECONDS, stdin=subprocess.DEVNULL, **how)
+    return (ran.stdout + ran.stderr).decode().splitlines()
+
+
+def completed_by_bash(program, words, folder):
+    """What bash completes the last of the words to."""
+    script = f'source "$0"; COMP_WORDS=({program} "$@"); COMP_CWORD=$#; _{program}; printf "%s\\n" "${{COMPREPLY[@]}}"'
+    return told_by(["bash", "-c", script, harness.ROOT / "completions" / f"{program}.bash", *words], cwd=folder)
+
+
+def completed_by_fish(program, words, folder):
+    """What fish completes the last of the words to."""
+    source = f"source {harness.ROOT / 'completions' / f'{program}.fish'}; complete -C '{program} {' '.join(words)}'"
+    how = {"cwd": folder, "env": {**os.environ, "HOME": str(folder), "XDG_CONFIG_HOME": str(folder / ".config")}}
+    return [line.split("\t")[0] for line in told_by(["fish", "--no-config", "-c", source], **how)]
+
+
+def rules_of_zsh(program, folder):
+    """The rules that zsh's completion of a program gives to _arguments, one a line."""
+    script = '_arguments() { print -rl -- "$@" }; source "$1"'
+    return told_by(["zsh", "-f", "-c", script, "zsh", harness.ROOT / "completions" / f"_{program}"], cwd=folder)
+
+
+def zsh_faults(program, options, folder):
+    """Where zsh's completion differs from help."""
+    rules = rules_of_zsh(program, folder)
+    found = {}
+    for rule in rules:
+        parts = re.fullmatch(r"(?:\(.*?\))?--([\w-]+)(=?)\[.*?\](.*)", rule)
+        if parts:
+            found[parts[1]] = (parts[2], parts[3])
+    faults = difference(found, options)
+    for name, option in options.items():
+        equals, action = found.get(name, ("", ""))
+        if option.takes_value != bool(equals):
+            faults.append(f"--{name}: help and completion differ in whether it takes a value")
+        faults += [f"--{name} doesn't complete {word}" for word in option.words if word not in action]
+        faults += [f"--{name} doesn't tell {number}" for number in option.numbers[:2] if not re.search(rf"\b{number}\b", action)]
+    return faults + [f"--{name} doesn't complete files" for name in ("left", "right") if name in options and "_files" not in found[name][1]]
+
+
+def shell_faults(complete, program, options, folder):
+    """Where the completion of bash or fish, called by `complete`, differs from help."""
+    faults = difference([word[2:] for word in complete(program, ["--"], folder) if word.startswith("--")], options)
+    for name, option in options.items():
+        for word in option.words:
+            if word not in [got.split("=")[-1] for got in complete(program, [f"--{name}", word[:1]], folder)]:
+                faults.append(f"--{name} doesn't complete {word}")
+    for name in {"left", "right"} & set(options):
+        if "left.csv" not in complete(program, [f"--{name}", "le"], folder):
+            faults.append(f"--{name} doesn't complete files")
+    return faults
+
+
+def check_completions(program, options, tally):
+    """The completions of each shell, where it is installed."""
+    with harness.folder() as place:
+        folder = pathlib.Path(place)
+        (folder / "left.csv").write_text("a\n")
+        checks = {
+            "bash": lambda: shell_faults(completed_by_bash, program, options, folder),
+            "fish": lambda: shell_faults(completed_by_fish, program, options, folder),
+            "zsh": lambda: zsh_faults(program, options, folder),
+        }
+        for shell, faults in checks.items():
+            if shutil.which(shell):
+                tally.check(f"{shell}'s completion of {program}", faults())
+            else:
+                print(f"skipped: completion of {program}: {shell} is not installed")
+
+
+def bash_details(folder):
+    """What bash completes in places of its own: after `=`, an option that was given, and a value that isn't completed."""
+    yield "after --left=", ["left.csv"], completed_by_bash("radixjoin", ["--left", "=", "le"], folder)
+    yield "right after --left=", ["left.csv"], completed_by_bash("radixjoin", ["--left", "="], folder)
+    yield "an option that was given", ["--left-types"], completed_by_bash("radixjoin", ["--left", "left.csv", "--lef"], folder)
+    yield "a clause", [""], completed_by_bash("radixjoin", ["--join", ""], folder)
+
+
+def check_bash_details(tally):
+    """Each detail in a folder with one file."""
+    with harness.folder() as place:
+        folder = pathlib.Path(place)
+        (folder / "left.csv").write_text("a\n")
+        for name, wanted, got in bash_details(folder):
+            tally.check(f"bash's completion: {name}", [] if got == wanted else [f"{got}, and not {wanted}"])
+
+
+def check_lint(tally):
+    """mandoc has nothing to say of the man pages, but that pages which they name may not be installed."""
+    if not shutil.which("mandoc"):
+        print("skipped: lint of the man pages: mandoc is not installed")
+        return
+    for program in PROGRAMS:
+        told = told_by(["mandoc", "-Tlint", harness.ROOT / "man" / f"{program}.1"])
+        tally.check(f"mandoc's lint of {program}.1", [line for line in told if "referenced manual not found" not in line])
+
+
+def row_faults(text, options):
+    """The limits, defaults and words of help that a table's row of an option lacks."""
+    for name, row in re.findall(r"^\| `--([\w-]+) [^|]*\|(.*)$", text, re.MULTILINE):
+        known = options[name].numbers + options[name].words if name in options else []
+        yield from (f"--{name}: the row doesn't tell {word}" for word in known if not re.search(rf"\b{word}\b", row.replace(",", "")))
+
+
+def document_faults(options):
+    """Which options README's table of options and the specification lack."""
+    readme = (harness.ROOT / "README.md").read_text().split("## Options")[1].split("## ")[0]
+    specification = (harness.ROOT / "docs" / "specification.md").read_text()
+    joins = options["radixjoin"]
+    table = [name for line in readme.splitlines() if line.startswith("| `--") for name in re.findall(r"--([\w-]+)", line.split("|")[1])]
+    yield "README.md, options", difference(table, set(joins) - {"help", "version"}) + list(row_faults(readme, joins))
+    yield "docs/specification.md, options", list(row_faults(specification, joins))
+    for name in [*joins, *options["arrivals"]]:
+        yield f"docs/specification.md, --{name}", [] if re.search(rf"--{name}\b(?!-)", specification) else ["it isn't told"]
+
+
+def version_faults(program):
+    """Whether the version that a program prints is the newest of CHANGELOG.md."""
+    ran = harness.run([harness.program(program), "--version"], harness.ROOT)
+    newest = re.search(r"^## ([\w.]+)", (harness.ROOT / "CHANGELOG.md").read_text(), re.MULTILINE)[1]
+    return harness.differences(ran, f"{program} {newest}\n".encode())
+
+
+def run_all(tally):
+    """Compares man pages, completions and documents with what help tells."""
+    options = {program: options_of(program) for program in PROGRAMS}
+    for program in PROGRAMS:
+        tally.check(f"help of {program}", [] if len(options[program]) > 4 else ["it tells hardly any options"])
+        tally.check(f"man page of {program}", manual_faults(program, options[program]))
+        check_completions(program, options[program], tally)
+        tally.check(f"version of {program}", version_faults(program))
+    check_bash_details(tally)
+    check_lint(tally)
+    for name, faults in document_faults(options):
+        tally.check(name, faults)
