@@ -1,5 +1,5 @@
 -- A value has one least form.
-use Rattle.std.proofs.Common.{◌≡◌, ℕ, zero, suc, ℤ, pos, negsuc, neg_ℤ, Bool, true, false, cond, ◌+◌, ◌*◌, ◌/◌, ◌%◌, ◌<◌, ◌≤◌, refl, sym, ap, subst, ◌∙◌, arith}
+use Rattle.std.proofs.Common.{◌≡◌, ℕ, zero, suc, ℤ, pos, negsuc, neg_ℤ, Bool, true, false, cond, ◌+◌, ◌*◌, ◌/◌, ◌%◌, ◌-◌, ◌<◌, ◌≤◌, refl, sym, ap, subst, ◌∙◌, arith}
 use Rattle.std.specs.Prelude.{◌↔◌, ◌*ℤ◌, ◌+ℤ◌}
 use Rattle.std.specs.Int.RustNames.{int_div, int_rem}
 use Rattle.std.proofs.lemmas.Int.{ints, quot-rem}
@@ -119,3 +119,21 @@ without_zeros-least u (suc t) =
 
 pub least-least : (x : Number) → IsLeast (least_of x)
 least-least x = without_zeros-least x.units x.scale
+
+-- the steps of the loop that drops zeros, and its ends
+pub zeros-go_on : (u v : ℤ) (s : ℕ) (l : Number) → 0 < s → true ≡ ends_with_zero u → v ≡ int_div u (pos 10) → without_zeros u s ≡ l → without_zeros v (s - 1) ≡ l
+zeros-go_on u v s l p z d e =
+    let n : suc (s - 1) ≡ s = omega arith in
+    ap (λ w. without_zeros w (s - 1)) d ∙ (sym (zero-dropped u (s - 1) (sym z)) ∙ (ap (without_zeros u) n ∙ e))
+
+pub zeros-end : (u : ℤ) (s : ℕ) (l : Number) → 0 < s → false ≡ ends_with_zero u → without_zeros u s ≡ l → record { units = u; scale = s } ≡ l
+zeros-end u s l p z e =
+    let n : suc (s - 1) ≡ s = omega arith in
+    let P : ℕ → Type 0 = λ t. without_zeros u t ≡ record { units = u; scale = t } in
+    sym (subst P n (zero-kept u (s - 1) (sym z))) ∙ e
+
+pub zeros-none : (u : ℤ) (s : ℕ) (l : Number) → s ≡ 0 → without_zeros u s ≡ l → record { units = u; scale = s } ≡ l
+unfolding without_zeros
+zeros-none u s l n e =
+    let P : ℕ → Type 0 = λ t. without_zeros u t ≡ record { units = u; scale = t } in
+    sym (subst P (sym n) refl) ∙ e

@@ -8,9 +8,9 @@
 
 mod comparison;
 mod decimal;
-mod least;
+mod forms;
 mod powers;
 
 pub use comparison::compare;
 pub use decimal::Decimal;
-pub use least::{hash, least};
+pub use forms::{hash, least};

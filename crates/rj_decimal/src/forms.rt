@@ -1,11 +1,41 @@
 // The least form of a decimal, and its hash.
 
-ghost use Rattle.std.specs.Prelude.{◌≡◌, ◌↔◌, true};
+ghost use Rattle.std.specs.Prelude.{◌≡◌, ◌↔◌, true, pos};
+ghost use Rattle.std.specs.Int.RustNames.{int_div};
 ghost use Rattle.rj_decimal.specs.Numbers.{Number, number_of};
 ghost use Rattle.rj_decimal.specs.Order.{are_same};
-ghost use Rattle.rj_decimal.specs.Least.{hash_of, IsLeast, least_of};
+ghost use Rattle.rj_decimal.specs.Least.{ends_with_zero, hash_of, IsLeast, least_of};
 
 use super::decimal::Decimal;
+
+// Whether the units end with a zero.
+#[inline]
+fn has_last_zero(units: i64) -> bool
+    ensures { result ≡ ends_with_zero units }
+{
+    units % 10 == 0
+}
+
+// The units without their last digit.
+#[inline]
+fn tenth(units: i64) -> i64
+    ensures { result ≡ int_div units (pos 10) }
+{
+    units / 10
+}
+
+// Drops the zeros that the digits after the point end with.
+fn drop_zeros(decimal: Decimal) -> Decimal
+    ensures { number_of result ≡ least_of (number_of decimal) }
+{
+    let mut units = decimal.units;
+    let mut scale = decimal.scale;
+    while scale > 0 && has_last_zero(units) {
+        units = tenth(units);
+        scale -= 1;
+    }
+    Decimal { units, scale }
+}
 
 /// The same value in its least scale: without the zeros that its digits after the point end with. Equal values have
 /// one least form, and values with one least form are equal.
@@ -15,13 +45,7 @@ pub fn least(decimal: Decimal) -> Decimal
     ensures least { IsLeast (number_of result) }
     ensures one { (x : Number) → (are_same (number_of decimal) x ≡ true) ↔ (number_of result ≡ least_of x) }
 {
-    let mut units = decimal.units;
-    let mut scale = decimal.scale;
-    while scale > 0 && units % 10 == 0 {
-        units /= 10;
-        scale -= 1;
-    }
-    Decimal { units, scale }
+    drop_zeros(decimal)
 }
 
 /// The hash of a decimal. With u and t the units and the scale of its least form it is u modulo 2^64 where t is 0,
