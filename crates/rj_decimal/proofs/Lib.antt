@@ -1,3 +1,5 @@
 pub mod Shifts
 pub mod Orders
 pub mod Leasts
+pub mod Digits
+pub mod Sizes
