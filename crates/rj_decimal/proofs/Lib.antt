@@ -3,3 +3,4 @@ pub mod Orders
 pub mod Leasts
 pub mod Digits
 pub mod Sizes
+pub mod Texts

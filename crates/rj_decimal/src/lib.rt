@@ -12,9 +12,11 @@ mod forms;
 mod numeric;
 mod powers;
 mod read;
+mod text;
 
 pub use comparison::compare;
 pub use decimal::Decimal;
 pub use forms::{hash, least};
 pub use numeric::NumericType;
 pub use read::read_numeric;
+pub use text::DecimalBuffer;

@@ -1,11 +1,13 @@
 // The powers of ten.
 
-ghost use Rattle.std.specs.Prelude.{◌≡◌, ◌^◌, ◌≤◌};
+ghost use Rattle.std.specs.Prelude.{◌≡◌, ◌^◌, ◌<◌, ◌≤◌};
 
 /// Ten to the power of an exponent of at most 18.
 pub(crate) fn power_of_ten(exponent: u8) -> u64
     requires { exponent ≤ 18 }
-    ensures { result ≡ 10 ^ exponent }
+    ensures value { result ≡ 10 ^ exponent }
+    ensures some { 0 < result }
+    ensures limit { result ≤ 10 ^ 18 }
 {
     match exponent {
         0 => 1,
