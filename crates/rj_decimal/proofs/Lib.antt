@@ -5,3 +5,4 @@ pub mod Digits
 pub mod Sizes
 pub mod Texts
 pub mod Values
+pub mod RoundTrips

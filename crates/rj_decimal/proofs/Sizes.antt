@@ -54,7 +54,7 @@ together xs ys v r d e h =
     value h
 
 
-pow-le : (p : ℕ) → p ≤ 18 → 10 ^ p ≤ 10 ^ 18
+pub pow-le : (p : ℕ) → p ≤ 18 → 10 ^ p ≤ 10 ^ 18
 pow-le p h = pow-le-pow_right (omega arith) h
 
 times-ge : (n m : ℕ) → 0 < m → n ≤ n * m
