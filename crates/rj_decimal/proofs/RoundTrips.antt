@@ -1,5 +1,5 @@
 -- What is written is read back.
-use Rattle.std.proofs.Common.{◌≡◌, ℕ, zero, suc, ℤ, pos, negsuc, neg_ℤ, Bool, true, false, cond, ◌+◌, ◌*◌, ◌-◌, ◌/◌, ◌%◌, ◌^◌, ◌<◌, ◌≤◌, List, [], ◌∷◌, ◌++◌, take, drop, length, Option, None, Some, refl, sym, ap, subst, ◌∙◌, arith}
+use Rattle.std.proofs.Common.{◌≡◌, ℕ, zero, suc, ℤ, pos, negsuc, true, false, cond, ◌+◌, ◌*◌, ◌-◌, ◌/◌, ◌%◌, ◌^◌, ◌<◌, ◌≤◌, List, [], ◌∷◌, ◌++◌, drop, length, Some, refl, sym, ap, subst, ◌∙◌, arith}
 use Rattle.std.specs.Prelude.{◌==◌, ◌&&◌, nat_lt, unsigned_abs}
 use Rattle.std.specs.Char.{digit_value, is_ascii_digit}
 use Rattle.std.specs.Fmt.{decimal}
@@ -12,7 +12,7 @@ use Rattle.std.proofs.lemmas.Fmt.{decimal_nonempty, digits_decimal, digits_value
 use Rattle.std.proofs.lemmas.List.{append-nil, drop_all, length-append, take_all}
 use Rattle.std.proofs.lemmas.Nat.{div-add-mod', pow-add}
 use Rattle.std.proofs.lemmas.Str.Parse.{IsNumeralModel, numerals_by_value, tells_all_ascii_digits}
-use Rattle.rj_decimal.specs.Read.{after_point, are_digits, are_zeros, before_point, fits, has_point, is_numeric_text, is_unsigned_text, numeric_of, signed_size, size_at, units_in}
+use Rattle.rj_decimal.specs.Read.{after_point, are_digits, are_zeros, before_point, fits, has_point, is_unsigned_text, numeric_of, signed_size, size_at}
 use Rattle.rj_decimal.specs.Written.{fraction_text, last_digits, size_text, text_of}
 use Rattle.rj_decimal.proofs.Digits.{value_after-append}
 use Rattle.rj_decimal.proofs.Sizes.{and, both, digits-append, is_below, pow-le}
@@ -142,9 +142,9 @@ size-back s n h =
     let long = last-length s (n % 10 ^ s) in
     let none : s - length rest ≡ 0 = omega (arith, long) in
     let value : digits_value 10 (whole ++ rest) ≡ n =
-        value_after-append 0 whole rest
-        ∙ (ap (λ v. digits_value_after 10 v rest) (digits_value-decimal own (n / 10 ^ s) h)
-        ∙ (last-value s (n % 10 ^ s) (n / 10 ^ s) (mod-lt n (ten_pow_pos s)) ∙ div-add-mod' n (10 ^ s))) in
+    value_after-append 0 whole rest
+    ∙ (ap (λ v. digits_value_after 10 v rest) (digits_value-decimal own (n / 10 ^ s) h)
+    ∙ (last-value s (n % 10 ^ s) (n / 10 ^ s) (mod-lt n (ten_pow_pos s)) ∙ div-add-mod' n (10 ^ s))) in
     ap (λ l. digits_value 10 (whole ++ l) * 10 ^ (s - length rest)) (take_all s rest (omega (arith, long)))
     ∙ (ap (λ m. digits_value 10 (whole ++ rest) * 10 ^ m) none ∙ omega (arith, value))
 

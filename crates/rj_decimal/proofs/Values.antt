@@ -1,14 +1,13 @@
 -- A reading has the value that its text writes.
-use Rattle.std.proofs.Common.{◌≡◌, ℕ, ℤ, pos, neg_ℤ, Bool, true, false, cond, ◌+◌, ◌*◌, ◌-◌, ◌^◌, ◌<◌, ◌≤◌, min, List, [], ◌∷◌, ◌++◌, take, drop, length, Option, None, Some, IfSome, append_assoc, refl, sym, ap, subst, ◌∙◌, arith}
-use Rattle.std.specs.Prelude.{◌==◌, ◌&&◌, nat_lt, option_map}
+use Rattle.std.proofs.Common.{◌≡◌, ℕ, ℤ, pos, neg_ℤ, true, false, cond, ◌+◌, ◌*◌, ◌-◌, ◌^◌, min, List, [], ◌∷◌, ◌++◌, take, drop, length, None, Some, append_assoc, refl, sym, ap, ◌∙◌, arith}
+use Rattle.std.specs.Prelude.{◌==◌, nat_lt}
 use Rattle.std.specs.Char.{digit_value}
 use Rattle.std.specs.Str.Parse.{starts_with_minus, without_leading_sign, digits_value, digits_value_after}
 use Rattle.std.proofs.Math.Nat.{mul_assoc}
 use Rattle.std.proofs.lemmas.List.{take-append-drop, length-drop}
 use Rattle.std.proofs.lemmas.Nat.{pow-add}
 use Rattle.std.proofs.lemmas.Bool.Decides.{nat_tests}
-use Rattle.rj_decimal.specs.declared.decimal.Decimal.{Decimal}
-use Rattle.rj_decimal.specs.Numbers.{Number, finer, number_of}
+use Rattle.rj_decimal.specs.Numbers.{finer}
 use Rattle.rj_decimal.specs.Order.{are_same}
 use Rattle.rj_decimal.specs.Read.{after_point, are_zeros, before_point, fits, is_numeric_text, is_unsigned_text, number_in, numeric_of, signed_size, size_at, units_in}
 use Rattle.rj_decimal.proofs.Shifts.{neg-times}
@@ -41,9 +40,9 @@ size-value s xs ys z =
     let v = digits_value 10 (xs ++ take k ys) in
     let zeros : are_zeros (drop k ys) ≡ true = ap are_zeros (kept-drop s k ys refl) ∙ z in
     let all : digits_value 10 (xs ++ ys) ≡ v * 10 ^ length (drop k ys) =
-        ap (λ l. digits_value 10 (xs ++ l)) (sym (take-append-drop k ys))
-        ∙ (ap (digits_value 10) (sym (append_assoc xs (take k ys) (drop k ys)))
-        ∙ (value_after-append 0 (xs ++ take k ys) (drop k ys) ∙ zeros-value v (drop k ys) zeros)) in
+    ap (λ l. digits_value 10 (xs ++ l)) (sym (take-append-drop k ys))
+    ∙ (ap (digits_value 10) (sym (append_assoc xs (take k ys) (drop k ys)))
+    ∙ (value_after-append 0 (xs ++ take k ys) (drop k ys) ∙ zeros-value v (drop k ys) zeros)) in
     let exponents : length (drop k ys) + s ≡ (s - k) + length ys = omega (arith, length-drop k ys) in
     ap (λ m. m * 10 ^ s) all
     ∙ (mul_assoc v (10 ^ length (drop k ys)) (10 ^ s)
