@@ -6,3 +6,4 @@ pub mod Sizes
 pub mod Texts
 pub mod Values
 pub mod RoundTrips
+pub mod Laws

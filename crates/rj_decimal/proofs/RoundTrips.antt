@@ -172,3 +172,6 @@ pub read_back : (p s : ℕ) (u : ℤ) (text : List ℕ) → text ≡ text_of s u
 read_back p s u text e m l =
     let small : unsigned_abs u / 10 ^ s ≤ unsigned_abs u = div-le_self (unsigned_abs u) (10 ^ s) in
     ap (numeric_of p s) e ∙ back p s u (omega (arith, small, l, pow-le p m)) l
+
+pub written_back : (p s : ℕ) (u : ℤ) → p ≤ 18 → unsigned_abs u < 10 ^ p → numeric_of p s (text_of s u) ≡ Some u
+written_back p s u m l = read_back p s u (text_of s u) refl m l

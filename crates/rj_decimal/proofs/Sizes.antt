@@ -60,7 +60,7 @@ times-ge : (n m : ℕ) → 0 < m → n ≤ n * m
 times-ge n zero p = absurd (omega arith)
 times-ge n (suc m) p = omega (arith, mul-suc n m)
 
-below : (a b : ℕ) → nat_lt a b ≡ true → a < b
+pub below : (a b : ℕ) → nat_lt a b ≡ true → a < b
 below a b e = grind (arith, nat_tests)
 
 pub is_below : (a b : ℕ) → a < b → nat_lt a b ≡ true
