@@ -1,5 +1,5 @@
 -- Equal cells, and the order of equal cells.
-use Rattle.std.proofs.Common.{◌≡◌, ℤ, ℕ, List, Bool, true, false, Some, refl, sym, ap, ◌∙◌}
+use Rattle.std.proofs.Common.{◌≡◌, ℕ, List, true, false, Some, refl, sym, ap, ◌∙◌}
 use Rattle.std.specs.Prelude.{◌↔◌}
 use Rattle.std.specs.Str.{bytes_eq}
 use Rattle.std.specs.Ordering.{nat_cmp, is_eq}
@@ -10,8 +10,7 @@ use Rattle.std.proofs.lemmas.Slice.Eq.{bytes_eq-Decides}
 use Rattle.std.proofs.lemmas.Map.Text.{is_eq-slice_cmp}
 use Rattle.rj_decimal.specs.Numbers.{Number}
 use Rattle.rj_decimal.specs.Order.{ordered, are_same}
-use Rattle.rj_decimal.proofs.Orders.{ordered-equal}
-use Rattle.rj_decimal.proofs.Leasts.{are_same-reflexive, are_same-symmetric}
+use Rattle.rj_decimal.proofs.Orders.{ordered-equal, are_same-reflexive, are_same-symmetric}
 use Rattle.rj_columns.specs.Contents.{Content, nothing, whole, decimal, word}
 use Rattle.rj_columns.specs.Compare.{Comparand, absent, number, text, seen, order_of, are_one, compared, are_equal, is_null}
 
@@ -22,7 +21,7 @@ is_eq-Equal Equal e = refl
 is_eq-Equal Greater e = cc
 
 -- cells are equal exactly where their order says so
-equal_texts : (s t : List ℕ) → (Some (slice_cmp nat_cmp s t) ≡ Some Equal) ↔ (bytes_eq s t ≡ true)
+pub equal_texts : (s t : List ℕ) → (Some (slice_cmp nat_cmp s t) ≡ Some Equal) ↔ (bytes_eq s t ≡ true)
 equal_texts s t =
     let e = is_eq-slice_cmp s t in
     (λ o. let same : slice_cmp nat_cmp s t ≡ Equal = cc in sym e ∙ ap is_eq same, λ b. ap (λ r. Some r) (is_eq-Equal (slice_cmp nat_cmp s t) (e ∙ b)))

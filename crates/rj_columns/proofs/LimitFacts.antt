@@ -1,5 +1,5 @@
 -- Decimals that fit a column's type are within the limits of a comparison, and their units are numbers of 64 bits.
-use Rattle.std.proofs.Common.{◌≡◌, ◌<◌, ◌≤◌, ◌^◌, ℕ, zero, suc, ℤ, List, [], ◌∷◌, arith, lit<, w64, FitsSigned}
+use Rattle.std.proofs.Common.{◌<◌, ◌≤◌, ◌^◌, ℕ, zero, suc, ℤ, List, [], ◌∷◌, arith, lit<, w64, FitsSigned}
 use Rattle.std.specs.Prelude.{unsigned_abs}
 use Rattle.std.proofs.Math.Nat.{pow-le-pow_right}
 use Rattle.std.proofs.lemmas.Int.{fits_signed_from_abs}
@@ -18,7 +18,7 @@ small_units u h = fits_signed_from_abs w64 u (omega (arith, h))
 
 -- a decimal of a numeric type
 pub decimal_limits : (t : NumericType) (units : ℤ) (scale : ℕ) → FitsType (Num t) (decimal units scale) → IsInLimits (decimal units scale)
-decimal_limits t units scale f = (omega (arith, f.0, t.limits.1.0, t.limits.1.1), below_limit units t.precision t.limits.1.0 f.1)
+decimal_limits t units scale f = (omega (arith, f.0, t.limits.1, t.limits.2), below_limit units t.precision t.limits.1 f.1)
 
 pub FitsType-limits : (k : ColumnType) (x : Content) → FitsType k x → IsInLimits x
 FitsType-limits k nothing f = tt
