@@ -52,7 +52,7 @@ same-units : (x y : Number) → are_same x y ≡ true → finer x.units y.scale 
 unfolding are_same
 same-units x y e = (Decides-int_eq (finer x.units y.scale) (finer y.units x.scale)).0 e
 
-same-from : (x y : Number) → finer x.units y.scale ≡ finer y.units x.scale → are_same x y ≡ true
+pub same-from : (x y : Number) → finer x.units y.scale ≡ finer y.units x.scale → are_same x y ≡ true
 unfolding are_same
 same-from x y e = (Decides-int_eq (finer x.units y.scale) (finer y.units x.scale)).1 e
 
