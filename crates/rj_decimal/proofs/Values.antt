@@ -12,7 +12,7 @@ use Rattle.rj_decimal.specs.Numbers.{Number, finer, number_of}
 use Rattle.rj_decimal.specs.Order.{are_same}
 use Rattle.rj_decimal.specs.Read.{after_point, are_zeros, before_point, fits, is_numeric_text, is_unsigned_text, number_in, numeric_of, signed_size, size_at, units_in}
 use Rattle.rj_decimal.proofs.Shifts.{neg-times}
-use Rattle.rj_decimal.proofs.Leasts.{same-from}
+use Rattle.rj_decimal.proofs.Orders.{same-from}
 use Rattle.rj_decimal.proofs.Digits.{value_after-append}
 use Rattle.rj_decimal.proofs.Sizes.{both, kept-drop, size-kept}
 
