@@ -66,7 +66,7 @@ unfolding last_digits
 digits-end start k n at place bytes e f h =
     sym (h ∙ (ap (λ m. last_digits m n ++ drop at bytes) e ∙ ap (λ m. drop m bytes) f))
 
--- 39 digits have room for a number of 127 bits
+-- before the digits after the point there is room for what stands before it, in a number of at most 2^127
 pub whole-room : (n s e : ℕ) → n ≤ 2 ^ 127 → 257 ≤ e + s → 1 ≤ e → n / 10 ^ s < 10 ^ (e - 1)
 whole-room n s e small room some =
     let more : 39 ≤ (e - 1) + s = omega arith in
