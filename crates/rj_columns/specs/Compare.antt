@@ -7,7 +7,7 @@ use Rattle.std.specs.Cmp.Lexicographic.{slice_cmp}
 use Rattle.rj_decimal.specs.Numbers.{Number, number_of, whole_number}
 use Rattle.rj_decimal.specs.Order.{ordered, are_same}
 use Rattle.rj_columns.specs.declared.comparison.Value.{Value}
-use Rattle.rj_columns.specs.declared.comparison.Value.TheVariants.{Null, Number, Text}
+use Rattle.rj_columns.specs.declared.comparison.Value.TheVariants as value
 use Rattle.rj_columns.specs.Contents.{Content, nothing, whole, decimal, word, IsInLimits}
 
 -- a cell as a comparison sees it: no value, a number or a text
@@ -24,9 +24,9 @@ seen (word s) = text s
 
 -- the same of a cell as the code sees it
 abbrev pub comparand_of : Value → Comparand
-comparand_of Null = absent
-comparand_of (Number d) = number (number_of d)
-comparand_of (Text s) = text s.now
+comparand_of value.Null = absent
+comparand_of (value.Number d) = number (number_of d)
+comparand_of (value.Text s) = text s.now
 
 -- the order of two comparands of one kind; none where either is absent
 abbrev pub order_of : Comparand → Comparand → Option Ordering

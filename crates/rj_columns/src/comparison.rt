@@ -4,7 +4,7 @@ ghost use Rattle.std.specs.Prelude.{◌≡◌, ◌↔◌, ◌||◌, Some, IsNone
 ghost use Rattle.rj_columns.specs.Contents.{content_of, IsInLimits};
 ghost use Rattle.rj_columns.specs.Compare.{compared, are_equal, comparand_of, is_null, order_of, seen, AreComparable, AreOneKind};
 
-use super::cell::Cell;
+use super::cell::{Cell, narrow};
 use rj_decimal::Decimal;
 use std::cmp::Ordering;
 
@@ -26,7 +26,7 @@ fn value_of(cell: Cell<'_>) -> Value<'_>
         Cell::Null => Value::Null,
         Cell::Int(n) => Value::Number(Decimal::whole(n)),
         Cell::Num { units, scale } => Value::Number(Decimal {
-            units: units as i64,
+            units: narrow(units),
             scale,
         }),
         Cell::Text(text) => Value::Text(text),
