@@ -33,6 +33,7 @@ numeric-below p s f u e = go (is_numeric_text p s f) refl e
   where
     size : ℕ
     size = size_at s (before_point (without_leading_sign f)) (after_point (without_leading_sign f))
+
     go : (b : Bool) → is_numeric_text p s f ≡ b → (if b then Some (units_in s f) else None) ≡ Some u → unsigned_abs u < 10 ^ p
     go true holds e =
         let q : units_in s f ≡ u = cc in

@@ -140,7 +140,10 @@ fn numeric_forms(rt: HostRuntime) -> Result<(), Fail> {
             units: *wanted,
             scale: 1,
         };
-        assert!(rt; (row as u64) < table.rows() && table.cell(row as u64, 0) == cell, "at {row}");
+        assert!(rt;
+            (row as u64) < table.rows() && table.cell(row as u64, 0) == cell,
+            "at {row}"
+        );
     }
     let want = b"k,a\n1.5,u\n0.0,v\n99.9,w\n-99.9,x\n2.0,y\n-0.5,z\n";
     assert!(rt; is_written(alloc, left, &types, &["k", "a"], "", want));
