@@ -117,7 +117,11 @@ fn size_in(text: &[u8], kind: NumericType) -> Option<u64>
     if point == 0 || point + 1 == text.len() {
         return None;
     }
-    let after = if point < text.len() { &text[point + 1..] } else { &text[point..] };
+    let after = if point < text.len() {
+        &text[point + 1..]
+    } else {
+        &text[point..]
+    };
     size_of(&text[..point], after, kind)
 }
 
