@@ -1,0 +1,48 @@
+-- The order of numbers of any two scales.
+use Rattle.std.proofs.Common.{◌≡◌, ℕ, ℤ, Bool, true, pos, ◌+◌, ◌-◌, ◌≤◌, refl, sym, ap, ◌∙◌, arith}
+use Rattle.std.specs.Prelude.{◌↔◌}
+use Rattle.std.specs.declared.cmp.Ordering.{Ordering}
+use Rattle.std.specs.declared.cmp.Ordering.TheVariants.{Less, Equal, Greater}
+use Rattle.std.specs.Ordering.{int_cmp, int_eq, is_eq}
+use Rattle.std.proofs.lemmas.Bool.Decides.{Decides-int_eq}
+use Rattle.rj_decimal.specs.Numbers.{Number, finer}
+use Rattle.rj_decimal.specs.Order.{ordered, are_same}
+use Rattle.rj_decimal.proofs.Shifts.{finer-finer, finer-cmp, finer-none}
+
+is_eq-Equal : (o : Ordering) → is_eq o ≡ true → o ≡ Equal
+is_eq-Equal Less e = cc
+is_eq-Equal Equal e = refl
+is_eq-Equal Greater e = cc
+
+-- numbers are one value exactly where their order says so
+pub ordered-equal : (x y : Number) → (ordered x y ≡ Equal) ↔ (are_same x y ≡ true)
+unfolding ordered are_same
+ordered-equal x y = (λ e. ap is_eq e, λ t. is_eq-Equal (int_cmp (finer x.units y.scale) (finer y.units x.scale)) t)
+
+-- in a scale that both have or may have, units decide
+pub ordered-in_scale : (x y : Number) (s : ℕ) → x.scale ≤ s → y.scale ≤ s → int_cmp (finer x.units (s - x.scale)) (finer y.units (s - y.scale)) ≡ ordered x y
+unfolding ordered
+ordered-in_scale x y s hx hy =
+    let k = x.scale + y.scale in
+    let up : int_cmp (finer (finer x.units (s - x.scale)) k) (finer (finer y.units (s - y.scale)) k) ≡ int_cmp (finer x.units (s - x.scale)) (finer y.units (s - y.scale)) = finer-cmp (finer x.units (s - x.scale)) (finer y.units (s - y.scale)) k in
+    let down : int_cmp (finer (finer x.units y.scale) s) (finer (finer y.units x.scale) s) ≡ int_cmp (finer x.units y.scale) (finer y.units x.scale) = finer-cmp (finer x.units y.scale) (finer y.units x.scale) s in
+    let left : finer (finer x.units (s - x.scale)) k ≡ finer (finer x.units y.scale) s =
+        finer-finer x.units (s - x.scale) k ∙ (ap (finer x.units) (omega arith) ∙ sym (finer-finer x.units y.scale s)) in
+    let right : finer (finer y.units (s - y.scale)) k ≡ finer (finer y.units x.scale) s =
+        finer-finer y.units (s - y.scale) k ∙ (ap (finer y.units) (omega arith) ∙ sym (finer-finer y.units x.scale s)) in
+    sym up ∙ (ap (λ a. int_cmp a (finer (finer y.units (s - y.scale)) k)) left ∙ (ap (int_cmp (finer (finer x.units y.scale) s)) right ∙ down))
+
+-- numbers of one scale compare by their units
+pub ordered-units : (x y : Number) → x.scale ≡ y.scale → int_cmp x.units y.units ≡ ordered x y
+unfolding ordered
+ordered-units x y e = sym (finer-cmp x.units y.units x.scale) ∙ ap (λ s. int_cmp (finer x.units s) (finer y.units x.scale)) e
+
+-- the units in a finer scale are the same value
+pub same_as_finer : (x : Number) (s : ℕ) (u : ℤ) → x.scale ≤ s → u ≡ finer x.units (s - x.scale) → are_same x (record { units = u; scale = s }) ≡ true
+unfolding are_same
+same_as_finer x s u h e =
+    (Decides-int_eq (finer x.units s) (finer u x.scale)).1
+    (ap (finer x.units) (omega arith) ∙ (sym (finer-finer x.units (s - x.scale) x.scale) ∙ ap (λ a. finer a x.scale) (sym e)))
+
+pub equal-is : (x y : Number) (r : Ordering) → r ≡ ordered x y → (r ≡ Equal) ↔ (are_same x y ≡ true)
+equal-is x y r e = (λ h. (ordered-equal x y).0 (sym e ∙ h), λ t. e ∙ (ordered-equal x y).1 t)

@@ -1,0 +1,13 @@
+use Rattle.std.proofs.Common.{◌≡◌, ◌≤◌, ℕ}
+use Rattle.rj_decimal.specs.Numbers.{Number, number_of}
+use Rattle.rj_decimal.specs.Least.{without_zeros, least_of}
+use Rattle.rj_decimal.proofs.forms.drop_zeros.Given as goal
+
+abbrev pub invariant-loop-scale : goal.invariant-loop-scale
+invariant-loop-scale l = record {
+  form : without_zeros l.units l.scale ≡ least_of (number_of l.fn.decimal);
+  in_range : l.scale ≤ 18;
+}
+
+abbrev pub decreases-loop-scale : goal.decreases-loop-scale
+decreases-loop-scale l = l.scale

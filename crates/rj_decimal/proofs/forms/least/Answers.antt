@@ -1,0 +1,22 @@
+use Rattle.std.proofs.Common.{◌≡◌, ◌∙◌, sym, refl, true, subst}
+use Rattle.std.specs.Prelude.{◌↔◌}
+use Rattle.rj_decimal.specs.Numbers.{Number, number_of}
+use Rattle.rj_decimal.specs.Order.{are_same}
+use Rattle.rj_decimal.specs.Least.{IsLeast, least_of}
+use Rattle.rj_decimal.proofs.Leasts.{least-value, least-least, same-least}
+use Rattle.rj_decimal.proofs.forms.least.Goals as goal
+
+pub returns-clause-value : goal.returns-clause-value
+returns-clause-value c =
+    let P : Number → Type 0 = λ l. are_same (number_of c.args.decimal) l ≡ true in
+    subst P (sym c.drop_zeros.ensures) (least-value (number_of c.args.decimal))
+
+pub returns-clause-least : goal.returns-clause-least
+returns-clause-least c =
+    let P : Number → Type 0 = λ l. IsLeast l in
+    subst P (sym c.drop_zeros.ensures) (least-least (number_of c.args.decimal))
+
+pub returns-clause-one : goal.returns-clause-one
+returns-clause-one c = λ x. (
+    λ e. c.drop_zeros.ensures ∙ (same-least (number_of c.args.decimal) x).0 e,
+    λ e. (same-least (number_of c.args.decimal) x).1 (sym c.drop_zeros.ensures ∙ e))

@@ -1,0 +1,5 @@
+pub mod Numbers
+pub mod Order
+pub mod Least
+pub mod Read
+pub mod Written

@@ -1,0 +1,142 @@
+// The reading of a text as a value of a numeric type.
+
+ghost use Rattle.std.specs.Prelude.{◌≡◌, ◌<◌, ◌≤◌, ◌^◌, ◌-◌, ◌++◌, ◌∷◌, true, false, SomeIff, IfSome, option_map, length, take, drop, nat_lt, ◌+◌, ◌*◌};
+ghost use Rattle.std.specs.Str.{all_ascii_digits};
+ghost use Rattle.std.specs.Str.Parse.{digits_value, digits_value_after, without_leading_sign};
+ghost use Rattle.rj_decimal.specs.Numbers.{number_of};
+ghost use Rattle.rj_decimal.specs.Read.{IsSize, IsUnsigned, after_point, are_zeros, before_point, fits, has_point, is_unsigned_text, numeric_of, size_at};
+
+use super::decimal::Decimal;
+use super::numeric::NumericType;
+use super::powers::power_of_ten;
+
+// A text without its sign.
+fn without_sign(text: &[u8]) -> &[u8]
+    ensures { result.now ≡ without_leading_sign text.now }
+{
+    if !text.is_empty() && (text[0] == b'-' || text[0] == b'+') {
+        &text[1..]
+    } else {
+        text
+    }
+}
+
+// The place of the first point, or the text's length where there is none.
+fn point_of(text: &[u8]) -> usize
+    ensures inside { result ≤ length text.now }
+    ensures before { before_point text.now ≡ take result text.now }
+    ensures after { after_point text.now ≡ drop (result + 1) text.now }
+    ensures point { has_point text.now ≡ nat_lt result (length text.now) }
+{
+    for i in 0..text.len() {
+        if text[i] == b'.' {
+            return i;
+        }
+    }
+    text.len()
+}
+
+// Whether a text is zeros alone.
+fn is_zeros(text: &[u8]) -> bool
+    ensures { result ≡ are_zeros text.now }
+{
+    for i in 0..text.len() {
+        if text[i] != b'0' {
+            return false;
+        }
+    }
+    true
+}
+
+// The number that a text's digits write when they follow those of another number, if it is below 10^18.
+fn digits_after(number: u64, text: &[u8]) -> Option<u64>
+    requires { number < 10 ^ 18 }
+    ensures { SomeIff result ((all_ascii_digits text.now ≡ true) × (digits_value_after 10 number text.now < 10 ^ 18)) (digits_value_after 10 number text.now) }
+{
+    let mut value = number;
+    for i in 0..text.len() {
+        let byte = text[i];
+        if !byte.is_ascii_digit() {
+            return None;
+        }
+        value = value * 10 + u64::from(byte - b'0');
+        if value >= 1_000_000_000_000_000_000 {
+            return None;
+        }
+    }
+    Some(value)
+}
+
+// The number that two texts of digits write one after the other, if it is below 10^18.
+fn digits_together(before: &[u8], after: &[u8]) -> Option<u64>
+    ensures { SomeIff result ((all_ascii_digits (before.now ++ after.now) ≡ true) × (digits_value 10 (before.now ++ after.now) < 10 ^ 18)) (digits_value 10 (before.now ++ after.now)) }
+{
+    let Some(value) = digits_after(0, before) else {
+        return None;
+    };
+    digits_after(value, after)
+}
+
+// A number with more zeros at its end, if it is below a power of ten.
+fn with_zeros(value: u64, zeros: u8, precision: u8) -> Option<u64>
+    requires value { value < 10 ^ 18 }
+    requires zeros { zeros ≤ 18 }
+    requires precision { precision ≤ 18 }
+    ensures { SomeIff result (value * 10 ^ zeros < 10 ^ precision) (value * 10 ^ zeros) }
+{
+    let size = u128::from(value) * u128::from(power_of_ten(zeros));
+    if size < u128::from(power_of_ten(precision)) {
+        Some(size as u64)
+    } else {
+        None
+    }
+}
+
+// The size that digits before and after the point write, if it fits.
+fn size_of(before: &[u8], after: &[u8], kind: NumericType) -> Option<u64>
+    ensures size { SomeIff result (IsSize kind.precision kind.scale before.now after.now) (size_at kind.scale before.now after.now) }
+    ensures small { IfSome result (λ n. n < 10 ^ 18) }
+{
+    let kept = after.len().min(usize::from(kind.scale));
+    if !is_zeros(&after[kept..]) {
+        return None;
+    }
+    let Some(value) = digits_together(before, &after[..kept]) else {
+        return None;
+    };
+    with_zeros(value, kind.scale - kept as u8, kind.precision)
+}
+
+// The size that a text without a sign writes, if it is one and fits.
+fn size_in(text: &[u8], kind: NumericType) -> Option<u64>
+    ensures size { SomeIff result (IsUnsigned kind.precision kind.scale text.now) (size_at kind.scale (before_point text.now) (after_point text.now)) }
+    ensures small { IfSome result (λ n. n < 10 ^ 18) }
+{
+    let point = point_of(text);
+    if point == 0 || point + 1 == text.len() {
+        return None;
+    }
+    let after = if point < text.len() { &text[point + 1..] } else { &text[point..] };
+    size_of(&text[..point], after, kind)
+}
+
+/// The value that a text writes, if it is one of a numeric type: an optional sign, one or more digits, and perhaps a
+/// point and one or more digits, where the digits past the type's scale are zeros and the value times 10^scale is
+/// below 10^precision in size. None exactly where the text is no such value. Zeros may stand before a number.
+pub fn read_numeric(text: &[u8], kind: NumericType) -> Option<Decimal>
+    ensures units { option_map (λ d. d.units) result ≡ numeric_of kind.precision kind.scale text.now }
+    ensures scale { IfSome result (λ d. d.scale ≡ kind.scale) }
+{
+    let Some(size) = size_in(without_sign(text), kind) else {
+        return None;
+    };
+    let units = if !text.is_empty() && text[0] == b'-' {
+        -(size as i64)
+    } else {
+        size as i64
+    };
+    Some(Decimal {
+        units,
+        scale: kind.scale,
+    })
+}
