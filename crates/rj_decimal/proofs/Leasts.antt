@@ -1,13 +1,15 @@
 -- A value has one least form.
 use Rattle.std.proofs.Common.{◌≡◌, ℕ, zero, suc, ℤ, pos, negsuc, neg_ℤ, Bool, true, false, cond, ◌+◌, ◌*◌, ◌/◌, ◌%◌, ◌-◌, ◌<◌, ◌≤◌, refl, sym, ap, subst, ◌∙◌, arith}
 use Rattle.std.specs.Prelude.{◌↔◌, ◌*ℤ◌, ◌+ℤ◌}
+use Rattle.std.specs.Int.{cast_unsigned, w64}
 use Rattle.std.specs.Int.RustNames.{int_div, int_rem}
 use Rattle.std.proofs.lemmas.Int.{ints, quot-rem}
 use Rattle.std.proofs.lemmas.Bool.Decides.{Decides-int_eq}
-use Rattle.rj_decimal.specs.Numbers.{Number, finer}
+use Rattle.rj_decimal.specs.Numbers.{Number, finer, whole_number}
 use Rattle.rj_decimal.specs.Order.{are_same}
-use Rattle.rj_decimal.specs.Least.{ends_with_zero, without_zeros, least_of, IsLeast}
-use Rattle.rj_decimal.proofs.Shifts.{finer-finer, finer-none, finer-injective}
+use Rattle.rj_decimal.specs.Least.{ends_with_zero, hash_of, hash_of_least, without_zeros, least_of, IsLeast}
+use Rattle.rj_decimal.proofs.Shifts.{finer-finer, finer-none}
+use Rattle.rj_decimal.proofs.Orders.{are_same-reflexive, are_same-symmetric, are_same-transitive, same-from, same-units, swap}
 
 -- ten times a number, and back
 tenfold-rem : (u : ℤ) → int_rem (u *ℤ pos 10) (pos 10) ≡ pos 0
@@ -48,14 +50,6 @@ without_zeros-finer u t (suc k) =
     ∙ (zero-dropped (finer u (suc k)) (t + k) e
     ∙ (ap (λ v. without_zeros v (t + k)) d ∙ without_zeros-finer u t k))
 
-same-units : (x y : Number) → are_same x y ≡ true → finer x.units y.scale ≡ finer y.units x.scale
-unfolding are_same
-same-units x y e = (Decides-int_eq (finer x.units y.scale) (finer y.units x.scale)).0 e
-
-same-from : (x y : Number) → finer x.units y.scale ≡ finer y.units x.scale → are_same x y ≡ true
-unfolding are_same
-same-from x y e = (Decides-int_eq (finer x.units y.scale) (finer y.units x.scale)).1 e
-
 -- one value, one least form
 pub least-same : (x y : Number) → are_same x y ≡ true → least_of x ≡ least_of y
 least-same x y e =
@@ -63,24 +57,6 @@ least-same x y e =
     sym (without_zeros-finer x.units x.scale y.scale)
     ∙ (ap (λ v. without_zeros v (x.scale + y.scale)) (same-units x y e)
     ∙ (ap (without_zeros (finer y.units x.scale)) (sym n) ∙ without_zeros-finer y.units y.scale x.scale))
-
--- the order has the laws of equality
-pub are_same-reflexive : (x : Number) → are_same x x ≡ true
-are_same-reflexive x = same-from x x refl
-
-pub are_same-symmetric : (x y : Number) → are_same x y ≡ true → are_same y x ≡ true
-are_same-symmetric x y e = same-from y x (sym (same-units x y e))
-
-swap : (u : ℤ) (j k : ℕ) → finer (finer u j) k ≡ finer (finer u k) j
-swap u j k = finer-finer u j k ∙ (ap (finer u) (omega arith) ∙ sym (finer-finer u k j))
-
-pub are_same-transitive : (x y z : Number) → are_same x y ≡ true → are_same y z ≡ true → are_same x z ≡ true
-are_same-transitive x y z e f =
-    same-from x z (finer-injective (finer x.units z.scale) (finer z.units x.scale) y.scale
-    (swap x.units z.scale y.scale
-    ∙ (ap (λ v. finer v z.scale) (same-units x y e)
-    ∙ (swap y.units x.scale z.scale
-    ∙ (ap (λ v. finer v x.scale) (same-units y z f) ∙ swap z.units y.scale x.scale)))))
 
 -- the least form is the same value
 without_zeros-same : (u : ℤ) (t : ℕ) → are_same (record { units = u; scale = t }) (without_zeros u t) ≡ true
@@ -137,3 +113,12 @@ unfolding without_zeros
 zeros-none u s l n e =
     let P : ℕ → Type 0 = λ t. without_zeros u t ≡ record { units = u; scale = t } in
     sym (subst P (sym n) refl) ∙ e
+
+-- the hash law: one value, one hash, whatever the scales
+pub hash-same : (x y : Number) → are_same x y ≡ true → hash_of x ≡ hash_of y
+hash-same x y e = ap hash_of_least (least-same x y e)
+
+-- the hash of a whole number is the number modulo 2^64
+pub hash-whole : (v : ℤ) → hash_of (whole_number v) ≡ cast_unsigned w64 v
+unfolding without_zeros
+hash-whole v = refl

@@ -4,3 +4,4 @@ pub mod Leasts
 pub mod Digits
 pub mod Sizes
 pub mod Texts
+pub mod Values

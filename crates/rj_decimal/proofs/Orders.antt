@@ -5,9 +5,9 @@ use Rattle.std.specs.declared.cmp.Ordering.{Ordering}
 use Rattle.std.specs.declared.cmp.Ordering.TheVariants.{Less, Equal, Greater}
 use Rattle.std.specs.Ordering.{int_cmp, int_eq, is_eq}
 use Rattle.std.proofs.lemmas.Bool.Decides.{Decides-int_eq}
-use Rattle.rj_decimal.specs.Numbers.{Number, finer}
+use Rattle.rj_decimal.specs.Numbers.{Number, finer, whole_number}
 use Rattle.rj_decimal.specs.Order.{ordered, are_same}
-use Rattle.rj_decimal.proofs.Shifts.{finer-finer, finer-cmp, finer-none}
+use Rattle.rj_decimal.proofs.Shifts.{finer-finer, finer-cmp, finer-injective, finer-none}
 
 is_eq-Equal : (o : Ordering) → is_eq o ≡ true → o ≡ Equal
 is_eq-Equal Less e = cc
@@ -46,3 +46,38 @@ same_as_finer x s u h e =
 
 pub equal-is : (x y : Number) (r : Ordering) → r ≡ ordered x y → (r ≡ Equal) ↔ (are_same x y ≡ true)
 equal-is x y r e = (λ h. (ordered-equal x y).0 (sym e ∙ h), λ t. e ∙ (ordered-equal x y).1 t)
+
+-- numbers are one value exactly where their units in one scale are the same
+pub same-units : (x y : Number) → are_same x y ≡ true → finer x.units y.scale ≡ finer y.units x.scale
+unfolding are_same
+same-units x y e = (Decides-int_eq (finer x.units y.scale) (finer y.units x.scale)).0 e
+
+pub same-from : (x y : Number) → finer x.units y.scale ≡ finer y.units x.scale → are_same x y ≡ true
+unfolding are_same
+same-from x y e = (Decides-int_eq (finer x.units y.scale) (finer y.units x.scale)).1 e
+
+-- to be one value is reflexive, symmetric and transitive
+pub are_same-reflexive : (x : Number) → are_same x x ≡ true
+are_same-reflexive x = same-from x x refl
+
+pub are_same-symmetric : (x y : Number) → are_same x y ≡ true → are_same y x ≡ true
+are_same-symmetric x y e = same-from y x (sym (same-units x y e))
+
+pub swap : (u : ℤ) (j k : ℕ) → finer (finer u j) k ≡ finer (finer u k) j
+swap u j k = finer-finer u j k ∙ (ap (finer u) (omega arith) ∙ sym (finer-finer u k j))
+
+pub are_same-transitive : (x y z : Number) → are_same x y ≡ true → are_same y z ≡ true → are_same x z ≡ true
+are_same-transitive x y z e f =
+    same-from x z (finer-injective (finer x.units z.scale) (finer z.units x.scale) y.scale
+    (swap x.units z.scale y.scale
+    ∙ (ap (λ v. finer v z.scale) (same-units x y e)
+    ∙ (swap y.units x.scale z.scale
+    ∙ (ap (λ v. finer v x.scale) (same-units y z f) ∙ swap z.units y.scale x.scale)))))
+
+-- whole numbers compare as they are
+pub ordered-whole : (m n : ℤ) → ordered (whole_number m) (whole_number n) ≡ int_cmp m n
+ordered-whole m n = sym (ordered-units (whole_number m) (whole_number n) refl)
+
+pub are_same-whole : (m n : ℤ) → are_same (whole_number m) (whole_number n) ≡ int_eq m n
+unfolding are_same
+are_same-whole m n = rw (finer-none m, finer-none n) refl

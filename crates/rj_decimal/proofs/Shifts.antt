@@ -15,7 +15,7 @@ pub ten_pow_pos : (k : ℕ) → 0 < 10 ^ k
 ten_pow_pos zero = omega arith
 ten_pow_pos (suc k) = omega (arith, ten_pow_pos k, pow-add 10 k 1)
 
-neg-times : (n k : ℕ) → neg_ℤ (pos n) *ℤ pos k ≡ neg_ℤ (pos (n * k))
+pub neg-times : (n k : ℕ) → neg_ℤ (pos n) *ℤ pos k ≡ neg_ℤ (pos (n * k))
 neg-times zero k = let e : zero * k ≡ zero = omega arith in ap pos e ∙ sym (ap (λ n. neg_ℤ (pos n)) e)
 neg-times (suc n) k = refl
 

@@ -68,7 +68,7 @@ pub is_below : (a b : ℕ) → a < b → nat_lt a b ≡ true
 is_below a b e = grind (arith, nat_tests)
 
 -- no more than the first digits after the point are kept
-kept-drop : (s k : ℕ) (xs : List ℕ) → k ≡ min (length xs) s → drop k xs ≡ drop s xs
+pub kept-drop : (s k : ℕ) (xs : List ℕ) → k ≡ min (length xs) s → drop k xs ≡ drop s xs
 kept-drop zero k xs e = let z : k ≡ 0 = omega arith in ap (λ n. drop n xs) z
 kept-drop (suc s) k [] e = drop_all k [] (omega arith) ∙ sym (drop_all (suc s) [] (omega arith))
 kept-drop (suc s) zero (x ∷ xs) e = absurd (omega arith)
@@ -77,7 +77,7 @@ kept-drop (suc s) (suc k) (x ∷ xs) e = kept-drop s k xs (omega arith)
 kept-take : (s k : ℕ) (xs : List ℕ) → k ≡ min (length xs) s → take k xs ≡ take s xs
 kept-take s k xs e = let m : k ≡ min s (length xs) = omega arith in ap (λ n. take n xs) m ∙ take_min s xs
 
-size-kept : (s k : ℕ) (xs ys : List ℕ) → k ≡ min (length ys) s → digits_value 10 (xs ++ take k ys) * 10 ^ (s - k) ≡ size_at s xs ys
+pub size-kept : (s k : ℕ) (xs ys : List ℕ) → k ≡ min (length ys) s → digits_value 10 (xs ++ take k ys) * 10 ^ (s - k) ≡ size_at s xs ys
 size-kept s k xs ys e =
     let m : s - k ≡ s - length ys = omega arith in
     ap (λ l. digits_value 10 (xs ++ l) * 10 ^ (s - k)) (kept-take s k ys e) ∙ ap (λ n. digits_value 10 (xs ++ take s ys) * 10 ^ n) m

@@ -4,7 +4,7 @@ use Rattle.std.proofs.lemmas.Bool.Decides.{nat_tests}
 use Rattle.std.specs.Prelude.{◌==◌, cond, false, ◌⊎◌, ℤ, pos, negsuc, ◌≤ℤ◌, ◌<ℤ◌, unsigned_abs}
 use Rattle.std.proofs.lemmas.Int.{ints}
 use Rattle.rj_decimal.proofs.Shifts.{ten_pow_pos}
-use Rattle.std.specs.Fmt.{decimal}
+use Rattle.std.specs.Fmt.{decimal, signed_decimal}
 use Rattle.std.proofs.lemmas.Bool.{cases_lt}
 use Rattle.std.proofs.Math.Nat.{div-lt_iff_lt-mul, pow-le-pow_right}
 use Rattle.std.proofs.lemmas.Nat.{pow-add}
@@ -110,3 +110,8 @@ fraction-some s n at place old bytes some e f l m q h =
     ∙ (drop-set bytes place 46 inside
     ∙ (ap (λ xs. 46 ∷ xs) (ap (λ i. drop i bytes) next ∙ (h ∙ (ap (λ xs. last_digits s n ++ xs) (drop_all 41 old m) ∙ append-nil (last_digits s n))))
     ∙ sym (ap (λ b. cond b [] (46 ∷ last_digits s n)) some_digits)))
+
+-- in scale 0 the text is that of a whole number
+pub text-whole : (u : ℤ) → text_of 0 u ≡ signed_decimal u
+text-whole (pos n) = let same : n / 1 ≡ n = omega arith in ap (λ m. decimal m ++ []) same ∙ append-nil (decimal n)
+text-whole (negsuc n) = let same : suc n / 1 ≡ suc n = omega arith in ap (λ xs. 45 ∷ xs) (ap (λ m. decimal m ++ []) same ∙ append-nil (decimal (suc n)))

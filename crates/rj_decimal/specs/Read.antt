@@ -1,6 +1,7 @@
 -- The reading of a text as a value of a numeric type.
 use Rattle.std.specs.Prelude.{◌≡◌, ℕ, ℤ, pos, neg_ℤ, ◌*◌, ◌-◌, ◌^◌, ◌==◌, nat_lt, Bool, true, false, ◌&&◌, if◌then◌else◌, List, [], ◌∷◌, ◌++◌, length, take, drop, Option, Some, None}
 use Rattle.std.specs.Str.{all_ascii_digits}
+use Rattle.rj_decimal.specs.Numbers.{Number}
 use Rattle.std.specs.Str.Parse.{starts_with_minus, without_leading_sign, digits_value}
 
 -- what stands before the first point, or all where there is none
@@ -52,12 +53,21 @@ abbrev pub is_numeric_text : ℕ → ℕ → List ℕ → Bool
 is_numeric_text precision scale text =
     is_unsigned_text (without_leading_sign text) && fits precision scale (before_point (without_leading_sign text)) (after_point (without_leading_sign text))
 
+-- a size with a text's sign
+abbrev pub signed_size : List ℕ → ℕ → ℤ
+signed_size text size = if starts_with_minus text then neg_ℤ (pos size) else pos size
+
 -- the value that a text writes times 10^scale
 abbrev pub units_in : ℕ → List ℕ → ℤ
-units_in scale text =
-    let size = size_at scale (before_point (without_leading_sign text)) (after_point (without_leading_sign text)) in
-    if starts_with_minus text then neg_ℤ (pos size) else pos size
+units_in scale text = signed_size text (size_at scale (before_point (without_leading_sign text)) (after_point (without_leading_sign text)))
 
 -- the units of a text's reading, if it is a value of the numeric type with this precision and this scale
 abbrev pub numeric_of : ℕ → ℕ → List ℕ → Option ℤ
 numeric_of precision scale text = if is_numeric_text precision scale text then Some (units_in scale text) else None
+
+-- the number that a text writes: all its digits are units, and as many stand after the point as the scale says
+abbrev pub number_in : List ℕ → Number
+number_in text = record {
+  units = signed_size text (digits_value 10 (before_point (without_leading_sign text) ++ after_point (without_leading_sign text)));
+  scale = length (after_point (without_leading_sign text))
+}

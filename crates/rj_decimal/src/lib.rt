@@ -14,9 +14,12 @@ mod powers;
 mod read;
 mod text;
 
-pub use comparison::compare;
+pub use comparison::{compare, rescale};
 pub use decimal::Decimal;
 pub use forms::{hash, least};
 pub use numeric::NumericType;
 pub use read::read_numeric;
 pub use text::DecimalBuffer;
+
+#[cfg(test)]
+mod tests;

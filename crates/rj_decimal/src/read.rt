@@ -4,7 +4,8 @@ ghost use Rattle.std.specs.Prelude.{◌≡◌, ◌<◌, ◌≤◌, ◌^◌, ◌-
 ghost use Rattle.std.specs.Str.{all_ascii_digits};
 ghost use Rattle.std.specs.Str.Parse.{digits_value, digits_value_after, without_leading_sign};
 ghost use Rattle.rj_decimal.specs.Numbers.{number_of};
-ghost use Rattle.rj_decimal.specs.Read.{IsSize, IsUnsigned, after_point, are_zeros, before_point, fits, has_point, is_unsigned_text, numeric_of, size_at};
+ghost use Rattle.rj_decimal.specs.Order.{are_same};
+ghost use Rattle.rj_decimal.specs.Read.{IsSize, IsUnsigned, after_point, are_zeros, before_point, fits, has_point, is_unsigned_text, number_in, numeric_of, size_at};
 
 use super::decimal::Decimal;
 use super::numeric::NumericType;
@@ -120,23 +121,33 @@ fn size_in(text: &[u8], kind: NumericType) -> Option<u64>
     size_of(&text[..point], after, kind)
 }
 
-/// The value that a text writes, if it is one of a numeric type: an optional sign, one or more digits, and perhaps a
+// The units that a text writes in the scale of a numeric type, if it is a value of the type.
+fn units_in_type(text: &[u8], kind: NumericType) -> Option<i64>
+    ensures { result ≡ numeric_of kind.precision kind.scale text.now }
+{
+    let Some(size) = size_in(without_sign(text), kind) else {
+        return None;
+    };
+    if !text.is_empty() && text[0] == b'-' {
+        Some(-(size as i64))
+    } else {
+        Some(size as i64)
+    }
+}
+
+/// The value that a text writes, if it is one of a numeric type, in the type's scale: an optional sign, one or more digits, and perhaps a
 /// point and one or more digits, where the digits past the type's scale are zeros and the value times 10^scale is
 /// below 10^precision in size. None exactly where the text is no such value. Zeros may stand before a number.
 pub fn read_numeric(text: &[u8], kind: NumericType) -> Option<Decimal>
     ensures units { option_map (λ d. d.units) result ≡ numeric_of kind.precision kind.scale text.now }
     ensures scale { IfSome result (λ d. d.scale ≡ kind.scale) }
+    ensures value { IfSome result (λ d. are_same (number_in text.now) (number_of d) ≡ true) }
 {
-    let Some(size) = size_in(without_sign(text), kind) else {
-        return None;
-    };
-    let units = if !text.is_empty() && text[0] == b'-' {
-        -(size as i64)
-    } else {
-        size as i64
-    };
-    Some(Decimal {
-        units,
-        scale: kind.scale,
-    })
+    match units_in_type(text, kind) {
+        Some(units) => Some(Decimal {
+            units,
+            scale: kind.scale,
+        }),
+        None => None,
+    }
 }
