@@ -18,6 +18,7 @@ use Rattle.rj_condition.specs.declared.bound.BoundJoin.{BoundJoin}
 
 abbrev pub literal_type : Literal → ColumnType
 literal_type (literal.Integer n) = kind.Int
+literal_type (literal.Decimal d) = kind.Int
 literal_type (literal.Text text) = kind.Text
 
 -- the type of an operand over these types of columns; None where there is no such column

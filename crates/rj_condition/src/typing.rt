@@ -24,6 +24,7 @@ fn type_of_literal(literal: &Literal) -> ColumnType
 {
     match literal {
         Literal::Integer(_) => ColumnType::Int,
+        Literal::Decimal(_) => ColumnType::Int,
         Literal::Text(_) => ColumnType::Text,
     }
 }
