@@ -75,11 +75,11 @@ cell-fits null k f x e = go (bytes_eq f null) e
     go true e = let q : nothing ≡ x = cc in let P : Content → Type 0 = FitsType k in subst P q (nothing-fits k)
     go false e = typed-fits k f x e
 
-pub FitsAt-from : (types : List ColumnType) (i : ℕ) (d : ColumnType) (x : Content) → i < length types → FitsType (slice_index_or types i d) x → FitsAt types i x
+pub FitsAt-from : (types : List ColumnType) (i : ℕ) (d k : ColumnType) (x : Content) → i < length types → slice_index_or types i d ≡ k → FitsType k x → FitsAt types i x
 unfolding FitsAt
-FitsAt-from [] i d x h f = absurd (omega arith)
-FitsAt-from (t ∷ types) zero d x h f = f
-FitsAt-from (t ∷ types) (suc i) d x h f = FitsAt-from types i d x (omega arith) f
+FitsAt-from [] i d k x h e f = absurd (omega arith)
+FitsAt-from (t ∷ types) zero d k x h e f = let P : ColumnType → Type 0 = λ k. FitsType k x in subst P (sym e) f
+FitsAt-from (t ∷ types) (suc i) d k x h e f = FitsAt-from types i d k x (omega arith) e f
 
 -- one more record
 pub rows-step : (null : List ℕ) (types : List ColumnType) (done : List (List Content)) (n : ℕ) (f : List (List ℕ)) (rest : List (List (List ℕ))) (cells : List Content)
