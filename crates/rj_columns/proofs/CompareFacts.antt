@@ -1,5 +1,5 @@
 -- Equal cells, and the order of equal cells.
-use Rattle.std.proofs.Common.{◌≡◌, ℕ, List, true, false, Some, refl, sym, ap, ◌∙◌}
+use Rattle.std.proofs.Common.{◌≡◌, Bool, ℕ, List, true, false, Some, refl, sym, ap, ◌∙◌}
 use Rattle.std.specs.Prelude.{◌↔◌}
 use Rattle.std.specs.Str.{bytes_eq}
 use Rattle.std.specs.Ordering.{nat_cmp, is_eq}
@@ -63,6 +63,14 @@ are_one-turned (text s) (text t) e = let same = (bytes_eq-Decides s t).0 e in (b
 
 pub are_equal-turned : (x y : Content) → are_equal x y ≡ true → are_equal y x ≡ true
 are_equal-turned x y e = are_one-turned (seen x) (seen y) e
+
+pub are_equal-symmetric : (x y : Content) → are_equal x y ≡ are_equal y x
+are_equal-symmetric x y = by (are_equal x y) (are_equal y x) refl refl
+  where
+    by : (a b : Bool) → are_equal x y ≡ a → are_equal y x ≡ b → are_equal x y ≡ are_equal y x
+    by true b e f = e ∙ sym (are_equal-turned x y e)
+    by false true e f = are_equal-turned y x f ∙ sym f
+    by false false e f = e ∙ sym f
 
 -- equal cells are not null
 pub are_equal-left : (x y : Content) → are_equal x y ≡ true → is_null x ≡ false
