@@ -1,5 +1,5 @@
 -- A value has one least form.
-use Rattle.std.proofs.Common.{◌≡◌, ℕ, zero, suc, ℤ, pos, negsuc, neg_ℤ, Bool, true, false, cond, ◌+◌, ◌*◌, ◌/◌, ◌%◌, ◌-◌, ◌<◌, ◌≤◌, refl, sym, ap, subst, ◌∙◌, arith}
+use Rattle.std.proofs.Common.{◌≡◌, ℕ, zero, suc, ℤ, pos, negsuc, true, false, cond, ◌+◌, ◌-◌, ◌<◌, refl, sym, ap, subst, ◌∙◌, arith}
 use Rattle.std.specs.Prelude.{◌↔◌, ◌*ℤ◌, ◌+ℤ◌}
 use Rattle.std.specs.Int.{cast_unsigned, w64}
 use Rattle.std.specs.Int.RustNames.{int_div, int_rem}
@@ -63,18 +63,19 @@ without_zeros-same : (u : ℤ) (t : ℕ) → are_same (record { units = u; scale
 unfolding without_zeros
 without_zeros-same u zero = are_same-reflexive (record { units = u; scale = 0 })
 without_zeros-same u (suc t) =
-    elim (ends_with_zero u) as (λ b. ends_with_zero u ≡ b → are_same (record { units = u; scale = suc t }) (cond b (without_zeros (int_div u (pos 10)) t) (record { units = u; scale = suc t })) ≡ true)
-    [ true ↦ λ e.
-        let q = int_div u (pos 10) in
-        let l = without_zeros q t in
-        let up : finer q 1 ≡ u = tenth u e in
-        let n : t + 1 ≡ suc t = omega arith in
-        same-from (record { units = u; scale = suc t }) l
-        (ap (λ v. finer v l.scale) (sym up)
-        ∙ (swap q 1 l.scale
-        ∙ (ap (λ v. finer v 1) (same-units (record { units = q; scale = t }) l (without_zeros-same q t))
-        ∙ (finer-finer l.units t 1 ∙ ap (finer l.units) n))))
-    | false ↦ λ e. are_same-reflexive (record { units = u; scale = suc t }) ] refl
+    elim (ends_with_zero u) as (λ b. ends_with_zero u ≡ b → are_same (record { units = u; scale = suc t }) (cond b (without_zeros (int_div u (pos 10)) t) (record { units = u; scale = suc t })) ≡ true) [
+      | true ↦ λ e.
+          let q = int_div u (pos 10) in
+          let l = without_zeros q t in
+          let up : finer q 1 ≡ u = tenth u e in
+          let n : t + 1 ≡ suc t = omega arith in
+          same-from (record { units = u; scale = suc t }) l
+          (ap (λ v. finer v l.scale) (sym up)
+          ∙ (swap q 1 l.scale
+          ∙ (ap (λ v. finer v 1) (same-units (record { units = q; scale = t }) l (without_zeros-same q t))
+          ∙ (finer-finer l.units t 1 ∙ ap (finer l.units) n))))
+      | false ↦ λ e. are_same-reflexive (record { units = u; scale = suc t })
+    ] refl
 
 pub least-value : (x : Number) → are_same x (least_of x) ≡ true
 least-value x = without_zeros-same x.units x.scale

@@ -5,3 +5,5 @@ pub mod Digits
 pub mod Sizes
 pub mod Texts
 pub mod Values
+pub mod RoundTrips
+pub mod Laws

@@ -1,5 +1,5 @@
 -- The order of numbers of any two scales.
-use Rattle.std.proofs.Common.{◌≡◌, ℕ, ℤ, Bool, true, pos, ◌+◌, ◌-◌, ◌≤◌, refl, sym, ap, ◌∙◌, arith}
+use Rattle.std.proofs.Common.{◌≡◌, ℕ, ℤ, true, ◌+◌, ◌-◌, ◌≤◌, refl, sym, ap, ◌∙◌, arith}
 use Rattle.std.specs.Prelude.{◌↔◌}
 use Rattle.std.specs.declared.cmp.Ordering.{Ordering}
 use Rattle.std.specs.declared.cmp.Ordering.TheVariants.{Less, Equal, Greater}
@@ -20,17 +20,21 @@ unfolding ordered are_same
 ordered-equal x y = (λ e. ap is_eq e, λ t. is_eq-Equal (int_cmp (finer x.units y.scale) (finer y.units x.scale)) t)
 
 -- in a scale that both have or may have, units decide
-pub ordered-in_scale : (x y : Number) (s : ℕ) → x.scale ≤ s → y.scale ≤ s → int_cmp (finer x.units (s - x.scale)) (finer y.units (s - y.scale)) ≡ ordered x y
+ordered-in_scale : (x y : Number) (s : ℕ) → x.scale ≤ s → y.scale ≤ s → int_cmp (finer x.units (s - x.scale)) (finer y.units (s - y.scale)) ≡ ordered x y
 unfolding ordered
 ordered-in_scale x y s hx hy =
     let k = x.scale + y.scale in
     let up : int_cmp (finer (finer x.units (s - x.scale)) k) (finer (finer y.units (s - y.scale)) k) ≡ int_cmp (finer x.units (s - x.scale)) (finer y.units (s - y.scale)) = finer-cmp (finer x.units (s - x.scale)) (finer y.units (s - y.scale)) k in
     let down : int_cmp (finer (finer x.units y.scale) s) (finer (finer y.units x.scale) s) ≡ int_cmp (finer x.units y.scale) (finer y.units x.scale) = finer-cmp (finer x.units y.scale) (finer y.units x.scale) s in
     let left : finer (finer x.units (s - x.scale)) k ≡ finer (finer x.units y.scale) s =
-        finer-finer x.units (s - x.scale) k ∙ (ap (finer x.units) (omega arith) ∙ sym (finer-finer x.units y.scale s)) in
+    finer-finer x.units (s - x.scale) k ∙ (ap (finer x.units) (omega arith) ∙ sym (finer-finer x.units y.scale s)) in
     let right : finer (finer y.units (s - y.scale)) k ≡ finer (finer y.units x.scale) s =
-        finer-finer y.units (s - y.scale) k ∙ (ap (finer y.units) (omega arith) ∙ sym (finer-finer y.units x.scale s)) in
+    finer-finer y.units (s - y.scale) k ∙ (ap (finer y.units) (omega arith) ∙ sym (finer-finer y.units x.scale s)) in
     sym up ∙ (ap (λ a. int_cmp a (finer (finer y.units (s - y.scale)) k)) left ∙ (ap (int_cmp (finer (finer x.units y.scale) s)) right ∙ down))
+
+pub ordered-by : (x y : Number) (s : ℕ) (a b : ℤ) (r : Ordering) → x.scale ≤ s → y.scale ≤ s → a ≡ finer x.units (s - x.scale) → b ≡ finer y.units (s - y.scale) → r ≡ int_cmp a b → r ≡ ordered x y
+ordered-by x y s a b r hx hy ea eb e =
+    e ∙ (ap (λ m. int_cmp m b) ea ∙ (ap (int_cmp (finer x.units (s - x.scale))) eb ∙ ordered-in_scale x y s hx hy))
 
 -- numbers of one scale compare by their units
 pub ordered-units : (x y : Number) → x.scale ≡ y.scale → int_cmp x.units y.units ≡ ordered x y

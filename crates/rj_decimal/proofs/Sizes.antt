@@ -1,5 +1,5 @@
 -- The size that the digits before and after a point write.
-use Rattle.std.proofs.Common.{◌≡◌, ℕ, zero, suc, Bool, true, false, cond, ◌+◌, ◌*◌, ◌-◌, ◌^◌, ◌<◌, ◌≤◌, min, List, [], ◌∷◌, ◌++◌, take, drop, length, Option, None, Some, SomeIff, IfSome, refl, sym, ap, subst, ◌∙◌, arith}
+use Rattle.std.proofs.Common.{◌≡◌, ℕ, zero, suc, Bool, true, false, ◌*◌, ◌-◌, ◌^◌, ◌<◌, ◌≤◌, min, List, [], ◌∷◌, ◌++◌, take, drop, length, Option, None, Some, SomeIff, IfSome, refl, sym, ap, ◌∙◌, arith}
 use Rattle.std.specs.Prelude.{◌==◌, ◌&&◌, nat_lt, if◌then◌else◌}
 use Rattle.std.specs.Char.{is_ascii_digit}
 use Rattle.std.specs.Str.{all_ascii_digits}
@@ -7,7 +7,7 @@ use Rattle.std.specs.Str.Parse.{digits_value, digits_value_after}
 use Rattle.std.proofs.lemmas.Bool.Decides.{nat_tests}
 use Rattle.std.proofs.lemmas.List.{take_min, take-append-drop, drop_all}
 use Rattle.std.proofs.Math.Nat.{mul-suc, pow-le-pow_right}
-use Rattle.rj_decimal.specs.Read.{after_point, are_digits, are_zeros, before_point, fits, has_point, is_unsigned_text, size_at, IsSize}
+use Rattle.rj_decimal.specs.Read.{after_point, are_digits, are_zeros, before_point, has_point, is_unsigned_text, size_at, IsSize}
 use Rattle.rj_decimal.proofs.Shifts.{ten_pow_pos}
 use Rattle.rj_decimal.proofs.Digits.{value_after-ge, value_after-append}
 
@@ -53,15 +53,14 @@ together xs ys v r d e h =
     (λ q. ((both (all_ascii_digits xs) (all_ascii_digits ys) (sym (digits-append xs ys) ∙ q.0)).1, omega (arith, q.1, value)))
     value h
 
-
-pow-le : (p : ℕ) → p ≤ 18 → 10 ^ p ≤ 10 ^ 18
+pub pow-le : (p : ℕ) → p ≤ 18 → 10 ^ p ≤ 10 ^ 18
 pow-le p h = pow-le-pow_right (omega arith) h
 
 times-ge : (n m : ℕ) → 0 < m → n ≤ n * m
 times-ge n zero p = absurd (omega arith)
 times-ge n (suc m) p = omega (arith, mul-suc n m)
 
-below : (a b : ℕ) → nat_lt a b ≡ true → a < b
+pub below : (a b : ℕ) → nat_lt a b ≡ true → a < b
 below a b e = grind (arith, nat_tests)
 
 pub is_below : (a b : ℕ) → a < b → nat_lt a b ≡ true
@@ -92,8 +91,9 @@ size-none p s k xs ys l e none h =
     let first = (both (all_ascii_digits (take k ys)) (all_ascii_digits (drop k ys)) (sym (parts k ys) ∙ h.1)).0 in
     let fit = both (are_zeros (drop s ys)) (nat_lt (size_at s xs ys) (10 ^ p)) h.2 in
     none (
-        digits-append xs (take k ys) ∙ and (all_ascii_digits xs) (all_ascii_digits (take k ys)) h.0 first,
-        omega (arith, times-ge (digits_value 10 (xs ++ take k ys)) (10 ^ (s - k)) (ten_pow_pos (s - k)), size-kept s k xs ys e, below (size_at s xs ys) (10 ^ p) fit.1, pow-le p l))
+      digits-append xs (take k ys) ∙ and (all_ascii_digits xs) (all_ascii_digits (take k ys)) h.0 first,
+      omega (arith, times-ge (digits_value 10 (xs ++ take k ys)) (10 ^ (s - k)) (ten_pow_pos (s - k)), size-kept s k xs ys e, below (size_at s xs ys) (10 ^ p) fit.1, pow-le p l),
+    )
 
 pub size-zeros : (p s k : ℕ) (xs ys : List ℕ) → k ≡ min (length ys) s → are_zeros (drop k ys) ≡ false → IsSize p s xs ys → ⊥
 size-zeros p s k xs ys e z h =

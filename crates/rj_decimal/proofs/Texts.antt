@@ -1,5 +1,5 @@
 -- The digits of numbers.
-use Rattle.std.proofs.Common.{◌≡◌, ℕ, zero, suc, ◌+◌, ◌*◌, ◌-◌, ◌/◌, ◌%◌, ◌^◌, ◌<◌, ◌≤◌, List, [], ◌∷◌, ◌++◌, take, drop, length, set, append_assoc, refl, sym, ap, subst, ◌∙◌, inl, inr, arith}
+use Rattle.std.proofs.Common.{◌≡◌, ℕ, zero, suc, ◌+◌, ◌*◌, ◌-◌, ◌/◌, ◌%◌, ◌^◌, ◌<◌, ◌≤◌, List, [], ◌∷◌, ◌++◌, drop, length, set, append_assoc, refl, sym, ap, ◌∙◌, inl, inr, arith}
 use Rattle.std.proofs.lemmas.Bool.Decides.{nat_tests}
 use Rattle.std.specs.Prelude.{◌==◌, cond, false, ◌⊎◌, ℤ, pos, negsuc, ◌≤ℤ◌, ◌<ℤ◌, unsigned_abs}
 use Rattle.std.proofs.lemmas.Int.{ints}
@@ -27,13 +27,14 @@ small-or-more n = cases_lt n 10
 -- the last digit of a number, and those before it
 pub decimal-left : (n : ℕ) → n < 10 ^ 64 → decimal n ≡ digits_left (n / 10) ++ (48 + n % 10) ∷ []
 decimal-left n h = elim (small-or-more n) [
-    inl l ↦
+  | inl l ↦
       let none : n / 10 ≡ 0 = omega arith in
       let same : n % 10 ≡ n = omega arith in
       decimal_digit n l ∙ rw (none, same) refl
   | inr m ↦
       let some : 0 < n / 10 = omega arith in
-      decimal_step_wide n m h ∙ ap (λ ds. ds ++ (48 + n % 10) ∷ []) (sym (left-some (n / 10) some)) ]
+      decimal_step_wide n m h ∙ ap (λ ds. ds ++ (48 + n % 10) ∷ []) (sym (left-some (n / 10) some))
+]
 
 pub digits-left : (n : ℕ) → 0 < n → n < 10 ^ 64 → digits_left n ≡ digits_left (n / 10) ++ (48 + n % 10) ∷ []
 digits-left n p h = left-some n p ∙ decimal-left n h

@@ -1,5 +1,5 @@
 -- Exact numbers (SQL-92 4.4.1): units divided by a power of ten.
-use Rattle.std.specs.Prelude.{◌≡◌, ◌^◌, ℕ, ℤ, pos, ◌*ℤ◌}
+use Rattle.std.specs.Prelude.{◌^◌, ℕ, ℤ, pos, ◌*ℤ◌}
 use Rattle.rj_decimal.specs.declared.decimal.Decimal.{Decimal}
 
 -- the number units / 10^scale

@@ -69,5 +69,5 @@ numeric_of precision scale text = if is_numeric_text precision scale text then S
 abbrev pub number_in : List ℕ → Number
 number_in text = record {
   units = signed_size text (digits_value 10 (before_point (without_leading_sign text) ++ after_point (without_leading_sign text)));
-  scale = length (after_point (without_leading_sign text))
+  scale = length (after_point (without_leading_sign text));
 }

@@ -1,6 +1,6 @@
 // The reading of a text as a value of a numeric type.
 
-ghost use Rattle.std.specs.Prelude.{◌≡◌, ◌<◌, ◌≤◌, ◌^◌, ◌-◌, ◌++◌, ◌∷◌, true, false, SomeIff, IfSome, option_map, length, take, drop, nat_lt, ◌+◌, ◌*◌};
+ghost use Rattle.std.specs.Prelude.{◌≡◌, ◌<◌, ◌≤◌, ◌^◌, ◌-◌, ◌++◌, ◌∷◌, true, false, SomeIff, IfSome, option_map, length, take, drop, nat_lt, unsigned_abs, ◌+◌, ◌*◌};
 ghost use Rattle.std.specs.Str.{all_ascii_digits};
 ghost use Rattle.std.specs.Str.Parse.{digits_value, digits_value_after, without_leading_sign};
 ghost use Rattle.rj_decimal.specs.Numbers.{number_of};
@@ -117,7 +117,11 @@ fn size_in(text: &[u8], kind: NumericType) -> Option<u64>
     if point == 0 || point + 1 == text.len() {
         return None;
     }
-    let after = if point < text.len() { &text[point + 1..] } else { &text[point..] };
+    let after = if point < text.len() {
+        &text[point + 1..]
+    } else {
+        &text[point..]
+    };
     size_of(&text[..point], after, kind)
 }
 
@@ -141,6 +145,7 @@ fn units_in_type(text: &[u8], kind: NumericType) -> Option<i64>
 pub fn read_numeric(text: &[u8], kind: NumericType) -> Option<Decimal>
     ensures units { option_map (λ d. d.units) result ≡ numeric_of kind.precision kind.scale text.now }
     ensures scale { IfSome result (λ d. d.scale ≡ kind.scale) }
+    ensures small { IfSome result (λ d. unsigned_abs d.units < 10 ^ kind.precision) }
     ensures value { IfSome result (λ d. are_same (number_in text.now) (number_of d) ≡ true) }
 {
     match units_in_type(text, kind) {

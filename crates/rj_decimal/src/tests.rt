@@ -1,6 +1,5 @@
 // Values at the limits, and the worked examples of numeric columns.
 
-
 use super::{Decimal, DecimalBuffer, NumericType, compare, hash, least, read_numeric, rescale};
 use std::cmp::Ordering;
 use std::test::Fail;
@@ -38,21 +37,45 @@ fn numeric_types(rt: HostRuntime) {
 fn compares_by_value(rt: HostRuntime) -> Result<(), Fail> {
     let half = decimal(15, 1)?;
     assert_eq!(rt; compare(half, decimal(150, 2)?), Ordering::Equal);
-    assert_eq!(rt; compare(decimal(-5, 1)?, decimal(-500, 3)?), Ordering::Equal);
-    assert_eq!(rt; compare(Decimal::whole(2), decimal(225, 2)?), Ordering::Less);
-    assert_eq!(rt; compare(Decimal::whole(3), decimal(225, 2)?), Ordering::Greater);
-    assert_eq!(rt; compare(decimal(-225, 2)?, Decimal::whole(-2)), Ordering::Less);
+    assert_eq!(rt;
+        compare(decimal(-5, 1)?, decimal(-500, 3)?),
+        Ordering::Equal
+    );
+    assert_eq!(rt;
+        compare(Decimal::whole(2), decimal(225, 2)?),
+        Ordering::Less
+    );
+    assert_eq!(rt;
+        compare(Decimal::whole(3), decimal(225, 2)?),
+        Ordering::Greater
+    );
+    assert_eq!(rt;
+        compare(decimal(-225, 2)?, Decimal::whole(-2)),
+        Ordering::Less
+    );
     let greatest = decimal(999_999_999_999_999_999, 18)?;
     assert_eq!(rt; compare(greatest, Decimal::whole(1)), Ordering::Less);
-    assert_eq!(rt; compare(Decimal::whole(i64::MAX), greatest), Ordering::Greater);
-    assert_eq!(rt; compare(Decimal::whole(i64::MIN), decimal(-999_999_999_999_999_999, 18)?), Ordering::Less);
+    assert_eq!(rt;
+        compare(Decimal::whole(i64::MAX), greatest),
+        Ordering::Greater
+    );
+    assert_eq!(rt;
+        compare(
+            Decimal::whole(i64::MIN),
+            decimal(-999_999_999_999_999_999, 18)?
+        ),
+        Ordering::Less
+    );
     Ok(())
 }
 
 #[test]
 fn rescales(rt: HostRuntime) -> Result<(), Fail> {
     assert_eq!(rt; rescale(Decimal::whole(3), 3), 3_000);
-    assert_eq!(rt; rescale(Decimal::whole(i64::MIN), 18), -9_223_372_036_854_775_808_000_000_000_000_000_000);
+    assert_eq!(rt;
+        rescale(Decimal::whole(i64::MIN), 18),
+        -9_223_372_036_854_775_808_000_000_000_000_000_000
+    );
     Ok(())
 }
 
@@ -86,14 +109,26 @@ fn reads_at_the_limits(rt: HostRuntime) {
     assert_eq!(rt; units_of("2", 4, 1), Some(20));
     assert_eq!(rt; units_of("000099.900", 3, 1), Some(999));
     assert_eq!(rt; units_of("100", 3, 1), None);
-    assert_eq!(rt; units_of("999999999999999999", 18, 0), Some(999_999_999_999_999_999));
-    assert_eq!(rt; units_of("-999999999999999999", 18, 0), Some(-999_999_999_999_999_999));
+    assert_eq!(rt;
+        units_of("999999999999999999", 18, 0),
+        Some(999_999_999_999_999_999)
+    );
+    assert_eq!(rt;
+        units_of("-999999999999999999", 18, 0),
+        Some(-999_999_999_999_999_999)
+    );
     assert_eq!(rt; units_of("1000000000000000000", 18, 0), None);
     assert_eq!(rt; units_of("0000000000000000000001", 18, 0), Some(1));
-    assert_eq!(rt; units_of("0.999999999999999999", 18, 18), Some(999_999_999_999_999_999));
+    assert_eq!(rt;
+        units_of("0.999999999999999999", 18, 18),
+        Some(999_999_999_999_999_999)
+    );
     assert_eq!(rt; units_of("1.000000000000000000", 18, 18), None);
     assert_eq!(rt; units_of("0.0000000000000000010", 18, 18), Some(1));
-    assert_eq!(rt; units_of("99999999999999999999999999999999999999999999999999", 18, 0), None);
+    assert_eq!(rt;
+        units_of("99999999999999999999999999999999999999999999999999", 18, 0),
+        None
+    );
 }
 
 #[test]
@@ -120,11 +155,20 @@ fn writes(rt: HostRuntime) {
     assert_eq!(rt; buffer.format(150, 2), b"1.50".as_slice());
     assert_eq!(rt; buffer.format(3_000, 3), b"3.000".as_slice());
     assert_eq!(rt; buffer.format(-7, 0), b"-7".as_slice());
-    assert_eq!(rt; buffer.format(999_999_999_999_999_999, 18), b"0.999999999999999999".as_slice());
+    assert_eq!(rt;
+        buffer.format(999_999_999_999_999_999, 18),
+        b"0.999999999999999999".as_slice()
+    );
     assert_eq!(rt;
         buffer.format(-9_223_372_036_854_775_808_000_000_000_000_000_000, 18),
         b"-9223372036854775808.000000000000000000".as_slice()
     );
-    assert_eq!(rt; buffer.format(i128::MIN, 0), b"-170141183460469231731687303715884105728".as_slice());
-    assert_eq!(rt; buffer.format(i128::MAX, 18), b"170141183460469231731.687303715884105727".as_slice());
+    assert_eq!(rt;
+        buffer.format(i128::MIN, 0),
+        b"-170141183460469231731687303715884105728".as_slice()
+    );
+    assert_eq!(rt;
+        buffer.format(i128::MAX, 18),
+        b"170141183460469231731.687303715884105727".as_slice()
+    );
 }

@@ -1,7 +1,8 @@
 // The text of a number in a scale.
 
-ghost use Rattle.std.specs.Prelude.{◌≡◌, ◌<◌, ◌≤◌, ◌^◌, ◌+◌, ◌-◌, ◌/◌, ◌%◌, ◌++◌, ◌∷◌, length, drop};
+ghost use Rattle.std.specs.Prelude.{◌≡◌, ◌<◌, ◌≤◌, ◌^◌, ◌+◌, ◌-◌, ◌/◌, ◌%◌, ◌++◌, ◌∷◌, ℕ, unsigned_abs, length, drop};
 ghost use Rattle.std.specs.Fmt.{decimal};
+ghost use Rattle.rj_decimal.specs.Read.{numeric_of};
 ghost use Rattle.rj_decimal.specs.Written.{fraction_text, last_digits, text_of};
 
 use super::powers::power_of_ten;
@@ -122,10 +123,12 @@ impl DecimalBuffer {
     }
 
     /// The text of the number units / 10^scale, for a scale of at most 18: `-` where it is below zero, no leading
-    /// zeros but for one before the point, and exactly `scale` digits after it; scale 0 has no point.
+    /// zeros but for one before the point, and exactly `scale` digits after it; scale 0 has no point. A numeric type
+    /// of this scale that has room for the value reads it back.
     pub fn format(&mut self, units: i128, scale: u8) -> &[u8]
         requires { scale ≤ 18 }
-        ensures { result.now ≡ text_of scale units }
+        ensures text { result.now ≡ text_of scale units }
+        ensures back { (p : ℕ) → p ≤ 18 → unsigned_abs units < 10 ^ p → numeric_of p scale result.now ≡ Some units }
     {
         let start = put_text(&mut self.bytes, units, scale);
         &self.bytes[start..]

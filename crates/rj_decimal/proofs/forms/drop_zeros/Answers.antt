@@ -1,4 +1,4 @@
-use Rattle.std.proofs.Common.{◌≡◌, ◌∙◌, ◌-◌, ◌<◌, ◌≤◌, sym, arith, rules}
+use Rattle.std.proofs.Common.{◌∙◌, sym, arith, rules}
 use mir.Val.{SFits}
 use mir.Syntax.{w64}
 use Rattle.std.proofs.Math.Facts.{to_z-of_z}
@@ -16,5 +16,6 @@ loop-scale-preserved c =
 
 pub returns : goal.returns
 returns c = elim c.loop-scale-test.branch [
-    then-loop-scale-test+else-has_last_zero w ↦ zeros-end _ c.loop-scale.scale _ w.loop-scale-test.true (sym w.if-has_last_zero.false ∙ w.has_last_zero.ensures) c.loop-scale.invariant.form
-  | else-loop-scale-test w ↦ zeros-none _ c.loop-scale.scale _ (omega (arith, w.loop-scale-test.false)) c.loop-scale.invariant.form ]
+  | then-loop-scale-test+else-has_last_zero w ↦ zeros-end _ c.loop-scale.scale _ w.loop-scale-test.true (sym w.if-has_last_zero.false ∙ w.has_last_zero.ensures) c.loop-scale.invariant.form
+  | else-loop-scale-test w ↦ zeros-none _ c.loop-scale.scale _ (omega (arith, w.loop-scale-test.false)) c.loop-scale.invariant.form
+]

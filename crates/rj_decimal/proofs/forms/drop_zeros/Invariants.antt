@@ -1,5 +1,5 @@
-use Rattle.std.proofs.Common.{◌≡◌, ◌≤◌, ℕ}
-use Rattle.rj_decimal.specs.Numbers.{Number, number_of}
+use Rattle.std.proofs.Common.{◌≡◌, ◌≤◌}
+use Rattle.rj_decimal.specs.Numbers.{number_of}
 use Rattle.rj_decimal.specs.Least.{without_zeros, least_of}
 use Rattle.rj_decimal.proofs.forms.drop_zeros.Given as goal
 

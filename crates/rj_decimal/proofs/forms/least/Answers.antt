@@ -1,8 +1,7 @@
-use Rattle.std.proofs.Common.{◌≡◌, ◌∙◌, sym, refl, true, subst}
-use Rattle.std.specs.Prelude.{◌↔◌}
+use Rattle.std.proofs.Common.{◌≡◌, ◌∙◌, sym, true, subst}
 use Rattle.rj_decimal.specs.Numbers.{Number, number_of}
 use Rattle.rj_decimal.specs.Order.{are_same}
-use Rattle.rj_decimal.specs.Least.{IsLeast, least_of}
+use Rattle.rj_decimal.specs.Least.{IsLeast}
 use Rattle.rj_decimal.proofs.Leasts.{least-value, least-least, same-least}
 use Rattle.rj_decimal.proofs.forms.least.Goals as goal
 
@@ -18,5 +17,6 @@ returns-clause-least c =
 
 pub returns-clause-one : goal.returns-clause-one
 returns-clause-one c = λ x. (
-    λ e. c.drop_zeros.ensures ∙ (same-least (number_of c.args.decimal) x).0 e,
-    λ e. (same-least (number_of c.args.decimal) x).1 (sym c.drop_zeros.ensures ∙ e))
+  λ e. c.drop_zeros.ensures ∙ (same-least (number_of c.args.decimal) x).0 e,
+  λ e. (same-least (number_of c.args.decimal) x).1 (sym c.drop_zeros.ensures ∙ e),
+)

@@ -1,4 +1,3 @@
-use Rattle.std.proofs.Common.{◌≡◌, ◌∙◌, sym, rules}
 use Rattle.rj_decimal.proofs.Sizes.{together, together-none}
 use Rattle.rj_decimal.proofs.read.digits_together.Goals as goal
 

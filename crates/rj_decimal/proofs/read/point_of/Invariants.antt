@@ -1,4 +1,4 @@
-use Rattle.std.proofs.Common.{◌≡◌, ◌<◌, ◌++◌, take, drop, length}
+use Rattle.std.proofs.Common.{◌≡◌, ◌++◌, take, drop, length}
 use Rattle.rj_decimal.specs.Read.{before_point, after_point, has_point}
 use Rattle.rj_decimal.proofs.read.point_of.Given as goal
 

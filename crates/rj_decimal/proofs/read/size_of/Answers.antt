@@ -1,4 +1,4 @@
-use Rattle.std.proofs.Common.{◌≡◌, ◌∙◌, ◌-◌, drop, length, ap, sym, arith, rules}
+use Rattle.std.proofs.Common.{◌∙◌, ◌-◌, drop, length, ap, sym, arith}
 use Rattle.std.proofs.lemmas.List.{take_all, length-drop}
 use Rattle.rj_decimal.specs.Read.{are_zeros}
 use Rattle.rj_decimal.proofs.Sizes.{size-none, size-small, size-some}

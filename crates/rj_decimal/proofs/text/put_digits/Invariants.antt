@@ -1,4 +1,4 @@
-use Rattle.std.proofs.Common.{◌≡◌, ◌++◌, ◌-◌, ◌≤◌, drop, length}
+use Rattle.std.proofs.Common.{◌≡◌, ◌++◌, ◌-◌, drop}
 use Rattle.rj_decimal.specs.Written.{last_digits}
 use Rattle.rj_decimal.proofs.text.put_digits.Given as goal
 

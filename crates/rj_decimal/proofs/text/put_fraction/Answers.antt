@@ -1,5 +1,4 @@
-use Rattle.std.proofs.Common.{◌≡◌, ◌+◌, ◌-◌, ◌≤◌, ap, sym, ◌∙◌, length, refl, arith}
-use Rattle.rj_decimal.specs.Written.{last_digits}
+use Rattle.std.proofs.Common.{arith}
 use Rattle.rj_decimal.proofs.Texts.{fraction-none, fraction-some}
 use Rattle.rj_decimal.proofs.text.put_fraction.Goals as goal
 

@@ -1,4 +1,4 @@
-use Rattle.std.proofs.Common.{◌≡◌, ◌+◌, ◌-◌, ◌%◌, length, refl, ℕ, arith}
+use Rattle.std.proofs.Common.{◌+◌, ◌-◌, ◌%◌, refl, ℕ, arith}
 use Rattle.std.proofs.Math.ListN.{length-set}
 use Rattle.rj_decimal.proofs.Texts.{decimal-left, digits-left, more-room, tenth-room, written}
 use Rattle.rj_decimal.proofs.text.put_number.Goals as goal

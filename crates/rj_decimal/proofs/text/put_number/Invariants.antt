@@ -1,4 +1,4 @@
-use Rattle.std.proofs.Common.{◌≡◌, ◌++◌, ◌-◌, ◌<◌, ◌≤◌, ◌^◌, drop, length}
+use Rattle.std.proofs.Common.{◌≡◌, ◌++◌, ◌-◌, ◌<◌, ◌≤◌, ◌^◌, drop}
 use Rattle.std.specs.Fmt.{decimal}
 use Rattle.rj_decimal.proofs.Texts.{digits_left}
 use Rattle.rj_decimal.proofs.text.put_number.Given as goal

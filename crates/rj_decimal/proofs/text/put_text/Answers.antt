@@ -1,4 +1,4 @@
-use Rattle.std.proofs.Common.{◌≡◌, ◌<◌, ◌-◌, ◌^◌, arith, rules}
+use Rattle.std.proofs.Common.{arith}
 use Rattle.rj_decimal.proofs.Texts.{whole-room}
 use Rattle.rj_decimal.proofs.text.put_text.Goals as goal
 

@@ -1,4 +1,4 @@
-use Rattle.std.proofs.Common.{◌≡◌, ◌+◌, ◌-◌, ◌%◌, length, refl, arith}
+use Rattle.std.proofs.Common.{◌+◌, ◌-◌, ◌%◌, refl, arith}
 use Rattle.std.proofs.lemmas.Fmt.{decimal_step_wide}
 use Rattle.rj_decimal.proofs.Texts.{tenth-room, two-room, written}
 use Rattle.rj_decimal.proofs.text.put_wide.Goals as goal
