@@ -1,8 +1,8 @@
 -- Equal cells, and the order of equal cells.
-use Rattle.std.proofs.Common.{◌≡◌, ℕ, List, true, false, Some, refl, sym, ap, ◌∙◌}
+use Rattle.std.proofs.Common.{◌≡◌, Bool, ℕ, ℤ, List, true, false, Some, refl, sym, ap, ◌∙◌}
 use Rattle.std.specs.Prelude.{◌↔◌}
 use Rattle.std.specs.Str.{bytes_eq}
-use Rattle.std.specs.Ordering.{nat_cmp, is_eq}
+use Rattle.std.specs.Ordering.{int_eq, nat_cmp, is_eq}
 use Rattle.std.specs.Cmp.Lexicographic.{slice_cmp}
 use Rattle.std.specs.declared.cmp.Ordering.{Ordering}
 use Rattle.std.specs.declared.cmp.Ordering.TheVariants.{Less, Equal, Greater}
@@ -10,7 +10,7 @@ use Rattle.std.proofs.lemmas.Slice.Eq.{bytes_eq-Decides}
 use Rattle.std.proofs.lemmas.Map.Text.{is_eq-slice_cmp}
 use Rattle.rj_decimal.specs.Numbers.{Number}
 use Rattle.rj_decimal.specs.Order.{ordered, are_same}
-use Rattle.rj_decimal.proofs.Orders.{ordered-equal, are_same-reflexive, are_same-symmetric}
+use Rattle.rj_decimal.proofs.Laws.{ordered-equal, same-reflexive, same-symmetric, same-whole}
 use Rattle.rj_columns.specs.Contents.{Content, nothing, whole, decimal, word}
 use Rattle.rj_columns.specs.Compare.{Comparand, absent, number, text, seen, order_of, are_one, compared, are_equal, is_null}
 
@@ -47,15 +47,19 @@ same_text s = (bytes_eq-Decides s s).1 refl
 
 pub are_equal-self : (x : Content) → is_null x ≡ false → are_equal x x ≡ true
 are_equal-self nothing n = cc
-are_equal-self (whole n) e = are_same-reflexive (record { units = n; scale = 0 })
-are_equal-self (decimal units scale) e = are_same-reflexive (record { units = units; scale = scale })
+are_equal-self (whole n) e = same-reflexive (record { units = n; scale = 0 })
+are_equal-self (decimal units scale) e = same-reflexive (record { units = units; scale = scale })
 are_equal-self (word s) e = same_text s
+
+-- whole numbers are equal by themselves
+pub are_equal-whole : (m n : ℤ) → are_equal (whole m) (whole n) ≡ int_eq m n
+are_equal-whole m n = same-whole m n
 
 -- equal cells are equal either way
 are_one-turned : (x y : Comparand) → are_one x y ≡ true → are_one y x ≡ true
 are_one-turned absent y e = cc
 are_one-turned (number m) absent e = cc
-are_one-turned (number m) (number n) e = are_same-symmetric m n e
+are_one-turned (number m) (number n) e = same-symmetric m n e
 are_one-turned (number m) (text t) e = cc
 are_one-turned (text s) absent e = cc
 are_one-turned (text s) (number n) e = cc
@@ -63,6 +67,14 @@ are_one-turned (text s) (text t) e = let same = (bytes_eq-Decides s t).0 e in (b
 
 pub are_equal-turned : (x y : Content) → are_equal x y ≡ true → are_equal y x ≡ true
 are_equal-turned x y e = are_one-turned (seen x) (seen y) e
+
+pub are_equal-symmetric : (x y : Content) → are_equal x y ≡ are_equal y x
+are_equal-symmetric x y = by (are_equal x y) (are_equal y x) refl refl
+  where
+    by : (a b : Bool) → are_equal x y ≡ a → are_equal y x ≡ b → are_equal x y ≡ are_equal y x
+    by true b e f = e ∙ sym (are_equal-turned x y e)
+    by false true e f = are_equal-turned y x f ∙ sym f
+    by false false e f = e ∙ sym f
 
 -- equal cells are not null
 pub are_equal-left : (x y : Content) → are_equal x y ≡ true → is_null x ≡ false
