@@ -29,6 +29,7 @@ fn is_typed(kind: ColumnType, cell: Cell<'_>) -> bool
     match cell {
         Cell::Null => true,
         Cell::Int(_) => matches!(kind, ColumnType::Int),
+        Cell::Num { .. } => false,
         Cell::Text(_) => matches!(kind, ColumnType::Text),
     }
 }
