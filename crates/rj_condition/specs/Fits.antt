@@ -68,8 +68,10 @@ FitsFamily (Some f) x = IsInLimits x × IsOfFamily f x
 -- the comparisons of BETWEEN and IN are those of their meaning; IS NULL takes any type
 abbrev pub fits_at : List ColumnType → List ColumnType → BoundCondition-F Bool → Bool
 fits_at left right (BoundCondition-F.Compare a op b) = are_one_family (family_of left right a) (family_of left right b)
-fits_at left right (BoundCondition-F.Between x a b negated) = are_one_family (family_of left right x) (family_of left right a) && are_one_family (family_of left right x) (family_of left right b)
-fits_at left right (BoundCondition-F.In x members negated) = has_family (family_of left right x) && list_all (λ m. are_one_family (family_of left right x) (family_of left right m)) members
+fits_at left right (BoundCondition-F.Between x a b negated) =
+    are_one_family (family_of left right x) (family_of left right a) && are_one_family (family_of left right x) (family_of left right b)
+fits_at left right (BoundCondition-F.In x members negated) =
+    has_family (family_of left right x) && list_all (λ m. are_one_family (family_of left right x) (family_of left right m)) members
 fits_at left right (BoundCondition-F.IsNull x negated) = has_family (family_of left right x)
 fits_at left right (BoundCondition-F.Is b truth negated) = b
 fits_at left right (BoundCondition-F.Not b) = b
