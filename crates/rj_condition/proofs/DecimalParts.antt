@@ -1,14 +1,17 @@
 -- When the digits before and behind a point are a decimal.
-use Rattle.std.proofs.Common.{◌≡◌, ◌<◌, ◌≤◌, ◌+◌, ◌^◌, ℕ, ℤ, pos, negsuc, suc, List, [], ◌∷◌, ◌++◌, length, drop, true, false, Bool, cond, Option, Some, None, refl, ap, sym, ◌∙◌, arith, inl, inr, w64, subst}
-use Rattle.std.specs.Prelude.{nat_lt, ◌&&◌, ◌==◌}
+use Rattle.std.proofs.Common.{◌≡◌, ◌<◌, ◌≤◌, ◌+◌, ◌^◌, ℕ, ℤ, pos, negsuc, suc, List, [], ◌∷◌, ◌++◌, length, take, drop, true, false, Bool, cond, Option, Some, None, refl, ap, sym, ◌∙◌, arith, w64, subst}
+use Rattle.std.proofs.Math.Bool.{Bool-set}
+use Rattle.std.specs.Prelude.{unsigned_abs, nat_lt, ◌&&◌, ◌==◌}
+use Rattle.std.specs.Char.{is_ascii_digit}
+use Rattle.std.specs.List.{prefix_len}
 use Rattle.std.specs.Str.Parse.{IsNumeral, AllDigits, without_leading_sign, signed_digits_value}
 use Rattle.std.proofs.lemmas.Bool.Decides.{nat_tests}
 use mir.Val.{SFits}
 use Rattle.rj_condition.specs.declared.decimal.DecimalLiteral.{DecimalLiteral}
-use Rattle.rj_condition.specs.Sizes.{is_below, is_short}
+use Rattle.rj_condition.specs.Sizes.{is_short}
 use Rattle.rj_condition.specs.Decimals.{checked, decimal_of}
-use Rattle.rj_condition.specs.Tokens.{IsDecimal}
-use Rattle.rj_condition.specs.Scanning.{fits_word, is_integer, decimal_parts}
+use Rattle.rj_condition.specs.Tokens.{begins, is_name_byte, IsDecimal}
+use Rattle.rj_condition.specs.Scanning.{fits_word, is_integer, decimal_parts, with_rest, judged_decimal, fraction_at}
 use Rattle.rj_condition.proofs.Runs.{both_true}
 use Rattle.rj_condition.proofs.Quotes.{some_same}
 use Rattle.rj_condition.proofs.Integers.{integer-Decides, fits-Decides}
@@ -19,7 +22,7 @@ pub checked_is : (units : ℤ) (scale : ℕ) (b : Bool) (h : is_short units scal
 checked_is units scale true h p = ap (λ (q : is_short units scale ≡ true). Some record { units = units; scale = scale; short = q }) (one_proof h p)
   where
     one_proof : {b c : Bool} (h p : b ≡ c) → h ≡ p
-    one_proof h p = let set : IsSet Bool = hlevel in set _ _ h p
+    one_proof h p = Bool-set _ _ h p
 checked_is units scale false h p = cc
 
 pub checked_not : (units : ℤ) (scale : ℕ) (b : Bool) (h : is_short units scale ≡ b) → is_short units scale ≡ false → checked units scale b h ≡ None
@@ -67,7 +70,7 @@ is_less : (a b : ℕ) → a < b → nat_lt a b ≡ true
 is_less a b e = grind (arith, nat_tests)
 
 -- a decimal's units are a number of 64 bits
-below_fits : (z : ℤ) → is_below z ≡ true → fits_word z ≡ true
+below_fits : (z : ℤ) → nat_lt (unsigned_abs z) (10 ^ 18) ≡ true → fits_word z ≡ true
 below_fits (pos n) e = is_less n (2 ^ 63) (omega (arith, below n (10 ^ 18) e))
 below_fits (negsuc n) e = is_less n (2 ^ 63) (omega (arith, below (suc n) (10 ^ 18) e))
 
@@ -105,3 +108,28 @@ parts_found before after d m n few scale units =
     ∙ ap (λ z. decimal_of z (length after)) (sym units)
     ∙ ap (decimal_of d.units) (sym scale)
     ∙ own d
+
+-- what the lexer makes of the digits of both parts
+pub made : (units u : ℤ) (scale : ℕ) (p : is_short u scale ≡ true) → u ≡ units → Some record { units = u; scale = scale; short = p } ≡ decimal_of units scale
+made units u scale p e = sym (checked_is u scale (is_short u scale) refl p) ∙ ap (λ z. decimal_of z scale) e
+
+pub parts_ok : (before after : List ℕ) (units : ℤ) (scale : ℕ) → is_integer (before ++ after) ≡ true → 0 < length (without_leading_sign before) → length (without_leading_sign before) + length after ≤ 18 →
+    units ≡ signed_digits_value 10 (before ++ after) → scale ≡ length after → decimal_of units scale ≡ decimal_parts before after
+parts_ok before after units scale is some few e f =
+    ap (λ z. decimal_of z scale) e
+    ∙ ap (decimal_of (signed_digits_value 10 (before ++ after))) f
+    ∙ sym (all_three (is_integer (before ++ after)) (nat_lt 0 (length (without_leading_sign before))) (nat_lt (length (without_leading_sign before) + length after) 19) _ is (is_less _ _ some) (is_less _ _ (omega (arith, few))))
+
+pub parts_err : (before after : List ℕ) → is_integer (before ++ after) ≡ false → None ≡ decimal_parts before after
+parts_err before after is =
+    sym (ap (λ c. cond (c && nat_lt 0 (length (without_leading_sign before)) && nat_lt (length (without_leading_sign before) + length after) 19) (decimal_of (signed_digits_value 10 (before ++ after)) (length after)) None) is)
+
+pub fraction_some : (before bs text after rest : List ℕ) (n : ℕ) (d : DecimalLiteral) → bs ≡ text → n ≡ prefix_len is_ascii_digit bs → after ≡ take n text → rest ≡ drop n text →
+    begins is_name_byte rest ≡ false → Some d ≡ decimal_parts before after → Some (d, rest) ≡ fraction_at before text
+unfolding fraction_at
+fraction_some before bs text after rest n d same len f r ends is =
+    let k : n ≡ prefix_len is_ascii_digit text = len ∙ ap (prefix_len is_ascii_digit) same in
+    ap (λ o. with_rest o rest) is
+    ∙ sym (ap (λ c. cond c None (with_rest (decimal_parts before after) rest)) ends)
+    ∙ ap (λ z. judged_decimal before z rest) (f ∙ ap (λ i. take i text) k)
+    ∙ ap (judged_decimal before (take (prefix_len is_ascii_digit text) text)) (r ∙ ap (λ i. drop i text) k)

@@ -132,9 +132,9 @@ measured (b ∷ ds) rest n e = elim (either (is_sign_of_number b)) [
     digit b e = grind (arith, nat_tests)
 
 -- a number, by its digits and what stands behind them
-cut_number : (w rest : List ℕ) → number_len (w ++ rest) ≡ length w → number_at (w ++ rest) ≡ number_behind w rest
+cut_behind_digits : (w rest : List ℕ) → number_len (w ++ rest) ≡ length w → number_at (w ++ rest) ≡ number_behind w rest
 unfolding number_at
-cut_number w rest len =
+cut_behind_digits w rest len =
     ap (λ i. number_behind (take i (w ++ rest)) (drop i (w ++ rest))) len
     ∙ ap (λ y. number_behind y (drop (length w) (w ++ rest))) (take_seam w rest)
     ∙ ap (number_behind w) (drop-append_seam w rest)
@@ -144,7 +144,7 @@ number_found w rest n e = by_length w (measured w rest n e)
   where
     by_length : (w : List ℕ) → Measured w rest → token_at (w ++ rest) ≡ number_behind w rest
     by_length [] m = absurd m
-    by_length (b ∷ ds) m = number_first b (ds ++ rest) m.0 ∙ cut_number (b ∷ ds) rest m.1
+    by_length (b ∷ ds) m = number_first b (ds ++ rest) m.0 ∙ cut_behind_digits (b ∷ ds) rest m.1
 
 integer_found : (w rest : List ℕ) (z : ℤ) → IsNumeral 10 (without_leading_sign w) → FitsSigned w64 z → z ≡ signed_digits_value 10 w → begins is_name_byte rest ≡ false → begins_fraction rest ≡ false →
     token_at (w ++ rest) ≡ Some (token.Integer z, rest)

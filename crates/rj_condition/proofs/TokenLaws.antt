@@ -151,8 +151,7 @@ decimal_token w bs (Some r) p n q e =
     let rest = drop (prefix_len is_ascii_digit bs) bs in
     let a = not_first (begins is_name_byte rest) _ r q in
     let d = with_rest_some (decimal_parts w after) rest r a.1 in
-    subst (TokenAt (w ++ 46 ∷ bs)) (ap (λ (z : DecimalLiteral × List ℕ). (token.Decimal z.0, z.1)) d.2 ∙ some_same _ _ e)
-    (
+    subst (TokenAt (w ++ 46 ∷ bs)) (ap (λ (z : DecimalLiteral × List ℕ). (token.Decimal z.0, z.1)) d.2 ∙ some_same _ _ e) (
       w ++ 46 ∷ after,
       ap (λ z. w ++ 46 ∷ z) (sym (take-append-drop (prefix_len is_ascii_digit bs) bs)) ∙ sym (append_assoc w (46 ∷ after) rest),
       parts_sound w after d.0 (some_digits bs n) d.1,

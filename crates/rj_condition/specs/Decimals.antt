@@ -1,5 +1,5 @@
 -- Decimals of a clause: at most 18 digits, as NUMERIC(18, scale) has (SQL-92, 5.3).
-use Rattle.std.specs.Prelude.{◌≡◌, ◌^◌, ◌&&◌, ℕ, suc, ℤ, pos, negsuc, nat_lt, Bool, true, false, Option, Some, None, refl}
+use Rattle.std.specs.Prelude.{◌≡◌, ℕ, ℤ, Bool, true, false, Option, Some, None, refl}
 use Rattle.rj_condition.specs.Sizes.{is_short}
 use Rattle.rj_condition.specs.declared.decimal.DecimalLiteral.{DecimalLiteral}
 
