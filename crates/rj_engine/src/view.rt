@@ -92,7 +92,13 @@ impl<'a> RowSource for View<'a> {
 
     fn cell(&self, row: u64, col: usize) -> Cell<'_> {
         let member = self.joined.row(row as usize);
-        cell_at(self.left, self.right, member, self.origins[col], self.scales[col])
+        cell_at(
+            self.left,
+            self.right,
+            member,
+            self.origins[col],
+            self.scales[col],
+        )
     }
 }
 
