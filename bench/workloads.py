@@ -59,13 +59,16 @@ WORKLOADS = [
     Workload("zipf_1.00", "int", "inner", LEFT_ROWS, RIGHT_ROWS, zipf(1.0)),
     Workload("zipf_1.25", "int", "inner", LEFT_ROWS, RIGHT_ROWS, zipf(1.25)),
     Workload("text_key", "text", "inner", LEFT_ROWS, RIGHT_ROWS, uniform),
+    Workload("numeric_key", "num(12,2)", "inner", LEFT_ROWS, RIGHT_ROWS, uniform),
     Workload("full_half", "int", "full", LEFT_ROWS, RIGHT_ROWS, half),
     Workload("small", "int", "inner", SMALL_ROWS, SMALL_ROWS, uniform),
 ]
 
 
 def spelled(workload, key):
-    """A key as it stands in the file; a text key has 16 bytes."""
+    """A key as it stands in the file; a text key has 16 bytes, a numeric one two digits after the point."""
+    if workload.keys == "num(12,2)":
+        return f"{key // 100}.{key % 100:02}"
     return str(key) if workload.keys == "int" else f"{key * 0x9E3779B97F4A7C15 % 2**64:016x}"
 
 

@@ -1,5 +1,7 @@
-"""Compares radixjoin's rows and their order with a plain nested loop, and with sqlite3 where it is installed."""
+"""Compares radixjoin's rows and their order with a plain nested loop, whose decimals are Python's, and with sqlite3 where it
+is installed. sqlite3 has no exact decimals, so it is given each number times a thousand, as an integer."""
 import csv
+import decimal
 import io
 import pathlib
 import random
@@ -29,28 +31,55 @@ def as_text(rows):
     return [[None if cell is None else str(cell) for cell in row] for row in rows]
 
 
-def quoted(cell):
+def quoted(cell, times):
     if cell is None:
         return "NULL"
-    return str(cell) if isinstance(cell, int) else "'" + cell.replace("'", "''") + "'"
+    return "'" + cell.replace("'", "''") + "'" if isinstance(cell, str) else str(int(cell * times))
+
+
+def has_decimals(*tables):
+    """Whether a column of the tables has digits after the point."""
+    return any(reference.scale_of(kind) for table in tables for kind in table.types)
+
+
+def times_in(condition, times):
+    """A condition with its numbers that many times as large."""
+    if isinstance(condition, (list, tuple)):
+        if condition and condition[0] == "literal" and not isinstance(condition[1], str):
+            return ("literal", int(condition[1] * times))
+        return type(condition)(times_in(part, times) for part in condition)
+    return condition
 
 
 def sqlite_script(left, right, join):
     """The same join for sqlite3: each table with its row numbers, the result in the order of radixjoin's rows."""
     lines = [".mode csv", ".headers off"]
+    times = 1000 if has_decimals(left, right) else 1
     for side, table in (("L", left), ("R", right)):
-        types = [f"{name} {'INTEGER' if kind == 'int' else 'TEXT'}" for name, kind in zip(table.names, table.types)]
+        types = [f"{name} {'TEXT' if kind == 'text' else 'INTEGER'}" for name, kind in zip(table.names, table.types)]
         lines.append(f"CREATE TABLE {side} ({', '.join(types)}, row_{side} INTEGER);")
         for at, row in enumerate(table.rows):
-            lines.append(f"INSERT INTO {side} VALUES ({', '.join(quoted(cell) for cell in row)}, {at});")
+            lines.append(f"INSERT INTO {side} VALUES ({', '.join(quoted(cell, times) for cell in row)}, {at});")
     cells = join.row([f"L.{name}" for name in left.names], [f"R.{name}" for name in right.names])
     for i, j in join.partners or []:
         cells[cells.index(f"L.{left.names[i]}")] = f"COALESCE(L.{left.names[i]}, R.{right.names[j]})"
     lines.append(f"CREATE INDEX R_by_key ON R ({right.names[0]});")
-    clause = join.clause.replace("IS UNKNOWN", "IS NULL").replace("IS NOT UNKNOWN", "IS NOT NULL").replace(" JOIN", " JOIN R", 1)
+    clause = join.clause
+    if join.condition is not None and times > 1:
+        clause = f"{join.kind} JOIN ON {reference.spelled(times_in(join.condition, times), left, right)}"
+    clause = clause.replace("IS UNKNOWN", "IS NULL").replace("IS NOT UNKNOWN", "IS NOT NULL").replace(" JOIN", " JOIN R", 1)
     lone = "CASE WHEN row_L IS NULL THEN 2 WHEN row_R IS NULL THEN 1 ELSE 0 END"
     lines.append(f"SELECT {', '.join(cells)} FROM L {clause} ORDER BY {lone}, row_L, row_R;")
     return "\n".join(lines) + "\n"
+
+
+def in_units(rows, left, right, join):
+    """Rows with each number a thousand times as large, where the tables have digits after the point."""
+    if not has_decimals(left, right):
+        return rows
+    kinds = join.row(left.types, right.types)
+    times = lambda cell, kind: cell if cell is None or kind == "text" else str(int(decimal.Decimal(cell) * 1000))
+    return [[times(cell, kind) for cell, kind in zip(row, kinds)] for row in rows]
 
 
 def sqlite_rows(left, right, join):
@@ -73,7 +102,7 @@ def faults_of(left, right, join, with_sqlite, with_reference=True):
         faults.append(f"{join.clause}: the header is {header}")
     if with_reference and rows != as_text(reference.joined(left, right, join)):
         faults.append(f"{join.clause}: not the rows of the plain nested loop, over {left.csv()!r} and {right.csv()!r}")
-    if with_sqlite and rows != sqlite_rows(left, right, join):
+    if with_sqlite and in_units(rows, left, right, join) != sqlite_rows(left, right, join):
         faults.append(f"{join.clause}: not the rows of sqlite3, over {left.csv()!r} and {right.csv()!r}")
     return [harness.shorten(fault) for fault in faults]
 
@@ -86,6 +115,18 @@ def random_tables(tally, with_sqlite):
         right = reference.random_table(source, ["b", "c", "t"], ["int", "int", "text"], 8)
         join = reference.random_join(source, left, right)
         tally.check(f"random join {n}: {join.clause}", faults_of(left, right, join, with_sqlite))
+
+
+def random_decimals(tally, with_sqlite):
+    """The same with columns of several numeric types, which meet each other and whole numbers."""
+    source = random.Random("radixjoin: random decimals")
+    kinds = ["int", "num(2,0)", "num(4,1)", "num(5,2)", "num(18,2)"]
+    for n in range(CASES):
+        types = [[source.choice(kinds), "text", source.choice(kinds)], [source.choice(kinds), source.choice(kinds), "text"]]
+        left = reference.random_table(source, ["a", "t", "b"], types[0], 8)
+        right = reference.random_table(source, ["b", "c", "t"], types[1], 8)
+        join = reference.random_join(source, left, right)
+        tally.check(f"random decimals {n}: {join.clause}", faults_of(left, right, join, with_sqlite))
 
 
 def large_tables(tally, with_sqlite):
@@ -111,4 +152,5 @@ def run_all(tally):
     if not with_sqlite:
         print("sqlite3 is not installed: compared with the plain nested loop alone")
     random_tables(tally, with_sqlite)
+    random_decimals(tally, with_sqlite)
     large_tables(tally, with_sqlite)

@@ -1,43 +1,78 @@
--- How two cells compare (SQL-92 8.2): whole numbers by value, texts by their UTF-8 bytes; a null compares with nothing.
-use Rattle.std.specs.Prelude.{Bool, true, false, Option, None, Some}
+-- How two cells compare (SQL-92 8.2): numbers by their exact values, whatever their types and scales, texts by their UTF-8 bytes; a null compares with nothing.
+use Rattle.std.specs.Prelude.{ℕ, List, Bool, true, false, Option, None, Some}
 use Rattle.std.specs.Str.{bytes_eq}
 use Rattle.std.specs.declared.cmp.Ordering.{Ordering}
-use Rattle.std.specs.Ordering.{int_cmp, int_eq, nat_cmp}
+use Rattle.std.specs.Ordering.{nat_cmp}
 use Rattle.std.specs.Cmp.Lexicographic.{slice_cmp}
-use Rattle.rj_columns.specs.Contents.{Content, nothing, whole, word}
+use Rattle.rj_decimal.specs.Numbers.{Number, number_of, whole_number}
+use Rattle.rj_decimal.specs.Order.{ordered, are_same}
+use Rattle.rj_columns.specs.declared.comparison.Value.{Value}
+use Rattle.rj_columns.specs.declared.comparison.Value.TheVariants as value
+use Rattle.rj_columns.specs.Contents.{Content, nothing, whole, decimal, word, IsInLimits}
 
--- the order of two cells of one kind; none where either is null
+-- a cell as a comparison sees it: no value, a number or a text
+pub data Comparand : Type 0 where
+  absent : Comparand
+  number : Number → Comparand
+  text : List ℕ → Comparand
+
+abbrev pub seen : Content → Comparand
+seen nothing = absent
+seen (whole n) = number (whole_number n)
+seen (decimal units scale) = number (record { units = units; scale = scale })
+seen (word s) = text s
+
+-- the same of a cell as the code sees it
+abbrev pub comparand_of : Value → Comparand
+comparand_of value.Null = absent
+comparand_of (value.Number d) = number (number_of d)
+comparand_of (value.Text s) = text s.now
+
+-- the order of two comparands of one kind; none where either is absent
+abbrev pub order_of : Comparand → Comparand → Option Ordering
+order_of absent y = None
+order_of (number m) absent = None
+order_of (number m) (number n) = Some (ordered m n)
+order_of (number m) (text t) = None
+order_of (text s) absent = None
+order_of (text s) (number n) = None
+order_of (text s) (text t) = Some (slice_cmp nat_cmp s t)
+
+-- both present, of one kind, and equal
+abbrev pub are_one : Comparand → Comparand → Bool
+are_one absent y = false
+are_one (number m) absent = false
+are_one (number m) (number n) = are_same m n
+are_one (number m) (text t) = false
+are_one (text s) absent = false
+are_one (text s) (number n) = false
+are_one (text s) (text t) = bytes_eq s t
+
+-- either is absent, or both are numbers or both texts
+abbrev pub AreOneKind : Comparand → Comparand → Type 0
+AreOneKind absent y = Unit {0}
+AreOneKind (number m) absent = Unit {0}
+AreOneKind (number m) (number n) = Unit {0}
+AreOneKind (number m) (text t) = ⊥
+AreOneKind (text s) absent = Unit {0}
+AreOneKind (text s) (number n) = ⊥
+AreOneKind (text s) (text t) = Unit {0}
+
+-- the order of two cells, both numbers or both texts; none where either is null
 abbrev pub compared : Content → Content → Option Ordering
-compared nothing y = None
-compared (whole m) nothing = None
-compared (whole m) (whole n) = Some (int_cmp m n)
-compared (whole m) (word t) = None
-compared (word s) nothing = None
-compared (word s) (whole n) = None
-compared (word s) (word t) = Some (slice_cmp nat_cmp s t)
+compared x y = order_of (seen x) (seen y)
 
--- both non-null, of one kind, and equal
+-- both non-null, both numbers or both texts, and equal
 abbrev pub are_equal : Content → Content → Bool
-are_equal nothing y = false
-are_equal (whole m) nothing = false
-are_equal (whole m) (whole n) = int_eq m n
-are_equal (whole m) (word t) = false
-are_equal (word s) nothing = false
-are_equal (word s) (whole n) = false
-are_equal (word s) (word t) = bytes_eq s t
+are_equal x y = are_one (seen x) (seen y)
 
--- either is null, or both are of one kind
+-- either is null, or both are numbers or both texts; decimals are within their limits
 abbrev pub AreComparable : Content → Content → Type 0
-AreComparable nothing y = Unit {0}
-AreComparable (whole m) nothing = Unit {0}
-AreComparable (whole m) (whole n) = Unit {0}
-AreComparable (whole m) (word t) = ⊥
-AreComparable (word s) nothing = Unit {0}
-AreComparable (word s) (whole n) = ⊥
-AreComparable (word s) (word t) = Unit {0}
+AreComparable x y = IsInLimits x × IsInLimits y × AreOneKind (seen x) (seen y)
 
 -- a cell that is null
 abbrev pub is_null : Content → Bool
 is_null nothing = true
 is_null (whole n) = false
+is_null (decimal units scale) = false
 is_null (word s) = false

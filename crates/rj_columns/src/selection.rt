@@ -1,7 +1,8 @@
 // Cells of some rows of a table at some of its columns, packed.
 
 ghost use Rattle.std.specs.Prelude.{◌≡◌, ◌<◌, All, IfOk, [], length, map, slice_index_or};
-ghost use Rattle.rj_columns.specs.Contents.{content_of, nothing};
+ghost use Rattle.rj_columns.specs.Contents.{content_of, nothing, IsInLimits};
+ghost use Rattle.rj_columns.specs.Columns.{IsTyped};
 ghost use Rattle.rj_columns.specs.Tables.{cell_of};
 
 use super::cell::Cell;
@@ -24,6 +25,11 @@ impl Model for Selection {
     ghost Value = { List (List Content) };
 
     ghost view = { λ a. map (λ c. c.cells) a.columns.items };
+
+    ghost use Rattle.std.specs.Prelude.{All};
+    ghost use Rattle.rj_columns.specs.Columns.{IsTyped};
+
+    ghost invariant = { λ a. All IsTyped a.columns.items };
 }
 
 impl Selection {
@@ -31,7 +37,8 @@ impl Selection {
     pub fn cell(&self, place: usize, col: usize) -> Cell<'_>
         requires col { col < length self.now }
         requires place { place < length (slice_index_or self.now col []) }
-        ensures { content_of result ≡ slice_index_or (slice_index_or self.now col []) place nothing }
+        ensures content { content_of result ≡ slice_index_or (slice_index_or self.now col []) place nothing }
+        ensures limits { IsInLimits (content_of result) }
     {
         self.columns[col].get(place)
     }
@@ -42,7 +49,8 @@ impl Table {
     fn select_column(&self, alloc: Global, rows: &[u32], col: usize) -> Result<Column, AllocError>
         requires rows { All (λ r. r < length self.now.rows) rows.now }
         requires col { col < length self.now.types }
-        ensures { IfOk result (λ c. c.cells ≡ map (λ r. cell_of self.now r col) rows.now) }
+        ensures cells { IfOk result (λ c. c.cells ≡ map (λ r. cell_of self.now r col) rows.now) }
+        ensures typed { IfOk result IsTyped }
     {
         let mut column = Column::new(alloc, self.column_type(col));
         column.reserve(rows.len())?;

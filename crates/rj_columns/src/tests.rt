@@ -1,6 +1,10 @@
 ghost use Rattle.std.specs.Prelude.{◌≡◌, length, IfOk};
+ghost use Rattle.rj_columns.specs.Contents.{content_of, decimal};
 
-use super::{BuildRefused, Cell, ColumnType, RowSource, Table, TableBuilder, compare};
+use super::{
+    BuildRefused, Cell, ColumnType, NumericType, RowSource, Table, TableBuilder, are_equal_cells,
+    coalesce, compare, in_scale,
+};
 use std::alloc::{AllocError, Global};
 use std::cmp::Ordering;
 use std::test::Fail;
@@ -150,4 +154,75 @@ fn order_of_cells(rt: HostRuntime) {
     assert!(rt; compare(Cell::Text("a"), Cell::Text("a")) == Some(Ordering::Equal));
     assert!(rt; compare(Cell::Null, Cell::Null).is_none());
     assert!(rt; compare(Cell::Int(1), Cell::Null).is_none());
+}
+
+// A cell of a num column.
+fn num(units: i128, scale: u8) -> Cell<'static>
+    ensures { content_of result ≡ decimal units scale }
+{
+    Cell::Num { units, scale }
+}
+
+#[test]
+fn order_of_numbers(rt: HostRuntime) {
+    assert!(rt; compare(num(15, 1), num(150, 2)) == Some(Ordering::Equal));
+    assert!(rt; compare(num(-5, 1), num(-500, 3)) == Some(Ordering::Equal));
+    assert!(rt; compare(Cell::Int(2), num(225, 2)) == Some(Ordering::Less));
+    assert!(rt; compare(Cell::Int(3), num(225, 2)) == Some(Ordering::Greater));
+    assert!(rt; compare(num(-1, 18), Cell::Int(0)) == Some(Ordering::Less));
+    assert!(rt; compare(Cell::Null, num(0, 0)).is_none());
+    assert!(rt;
+        compare(Cell::Int(i64::MAX), num(999_999_999_999_999_999, 18)) == Some(Ordering::Greater)
+    );
+}
+
+#[test]
+fn equal_cells(rt: HostRuntime) {
+    assert!(rt; are_equal_cells(num(20, 1), num(200, 2)));
+    assert!(rt; are_equal_cells(Cell::Int(2), num(2_000, 3)));
+    assert!(rt; !are_equal_cells(Cell::Int(2), num(2, 1)));
+    assert!(rt; are_equal_cells(Cell::Text("2"), Cell::Text("2")));
+    assert!(rt; !are_equal_cells(Cell::Text("2"), Cell::Int(2)));
+    assert!(rt; !are_equal_cells(Cell::Null, Cell::Null));
+    assert!(rt; Cell::Null.is_null() && !num(0, 0).is_null());
+}
+
+#[test]
+fn numbers_in_a_scale(rt: HostRuntime) {
+    assert!(rt; in_scale(num(15, 1), 2) == num(150, 2));
+    assert!(rt; in_scale(num(-5, 1), 2) == num(-50, 2));
+    assert!(rt; in_scale(Cell::Int(3), 3) == num(3_000, 3));
+    assert!(rt; in_scale(Cell::Int(3), 0) == Cell::Int(3));
+    assert!(rt; in_scale(Cell::Null, 3) == Cell::Null);
+    assert!(rt;
+        in_scale(Cell::Int(i64::MIN), 18)
+            == num(-9_223_372_036_854_775_808_000_000_000_000_000_000, 18)
+    );
+    assert!(rt; coalesce(num(15, 1), Cell::Null) == num(15, 1));
+    assert!(rt; coalesce(Cell::Null, num(25, 1)) == num(25, 1));
+}
+
+#[tactic(auto, unfolding(crate::specs::Tables::FitsTypes, crate::specs::Tables::FitsAt))]
+#[test]
+fn numeric_columns(rt: HostRuntime) -> Result<(), Fail> {
+    let short = ColumnType::Num(NumericType {
+        precision: 4,
+        scale: 1,
+    });
+    let long = ColumnType::Num(NumericType {
+        precision: 18,
+        scale: 18,
+    });
+    let names = [b"k".as_slice(), b"m".as_slice()];
+    let mut builder = TableBuilder::new(rt.alloc(), names.as_slice(), [short, long].as_slice())?;
+    builder.push_row([num(9_999, 1), num(-999_999_999_999_999_999, 18)].as_slice())?;
+    builder.push_row([Cell::Null, num(1, 18)].as_slice())?;
+    builder.push_row([num(-5, 1), Cell::Null].as_slice())?;
+    let table = builder.finish();
+    assert!(rt; table.column_type(0) == short && table.column_type(1) == long);
+    assert!(rt; table.cell(0, 0) == num(9_999, 1));
+    assert!(rt; table.cell(0, 1) == num(-999_999_999_999_999_999, 18));
+    assert!(rt; table.cell(1, 0).is_null() && table.cell(1, 1) == num(1, 18));
+    assert!(rt; table.cell(2, 0) == num(-5, 1) && table.cell(2, 1).is_null());
+    Ok(())
 }

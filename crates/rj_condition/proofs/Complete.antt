@@ -11,7 +11,7 @@ use Rattle.rj_condition.specs.declared.tree.Operand.{Operand}
 use Rattle.rj_condition.specs.declared.tree.Comparison.{Comparison}
 use Rattle.rj_condition.specs.declared.tree.Condition.{Condition}
 use Rattle.rj_condition.specs.declared.tree.Condition.TheVariants as tree
-use Rattle.rj_condition.specs.Grammar.{optional, sign_of, keyword_of_truth, any_of, all_of, IsOperand, plain_name, qualified_name, integer, text, IsOperands, last_operand, more_operands, IsNames, last_name, more_names, IsPredicate, compare, is_null, between, among, IsFactor, not, test, IsTest, plain, is_truth, IsPrimary, predicate, group, IsFactors, last_factor, and_factors, IsTerms, last_term, or_terms}
+use Rattle.rj_condition.specs.Grammar.{optional, sign_of, keyword_of_truth, any_of, all_of, IsOperand, plain_name, qualified_name, integer, decimal, text, IsOperands, last_operand, more_operands, IsNames, last_name, more_names, IsPredicate, compare, is_null, between, among, IsFactor, not, test, IsTest, plain, is_truth, IsPrimary, predicate, group, IsFactors, last_factor, and_factors, IsTerms, last_term, or_terms}
 use Rattle.rj_condition.specs.Reading.{Read, ◌>>=◌, go_on, separated, after, behind, name_at, column_of, column_at, operand_at, operands_at, names_at, operator_at, null_at, bounds_at, members_at, range_at, by_operator, test_of, predicate_at, negated, factor_of, factor_at, factors_at, term_at, terms_at, cond_at, term_with, cond_with, group_with, truth_at, truth_test_at, suffix_of, suffix, primary_of, primary_with, test_with, primary_at, test_at}
 use Rattle.rj_condition.proofs.Turns.{turn_of}
 use Rattle.rj_condition.proofs.Behind.{operator_here, operator_no_point}
@@ -21,6 +21,7 @@ operand_shorter : (ts : List Token) (x : Operand) (us : List Token) → IsOperan
 operand_shorter _ _ _ (plain_name n us) = omega arith
 operand_shorter _ _ _ (qualified_name q n us) = omega arith
 operand_shorter _ _ _ (integer z us) = omega arith
+operand_shorter _ _ _ (decimal d us) = omega arith
 operand_shorter _ _ _ (text w us) = omega arith
 
 operands_shorter : (ts : List Token) (xs : List Operand) (us : List Token) → IsOperands ts xs us → length us < length ts
@@ -97,6 +98,7 @@ unfolding operand_at column_at name_at behind
 operand_complete _ _ _ (plain_name n us) p = ap (column_of n us) p
 operand_complete _ _ _ (qualified_name q n us) p = refl
 operand_complete _ _ _ (integer z us) p = refl
+operand_complete _ _ _ (decimal d us) p = refl
 operand_complete _ _ _ (text w us) p = refl
 
 comma_no_point : (us : List Token) → behind sign.Point (token.Sign sign.Comma ∷ us) ≡ None
@@ -225,6 +227,7 @@ unfolding behind after
 operand_first _ _ _ (plain_name n us) = (refl, refl)
 operand_first _ _ _ (qualified_name q n us) = (refl, refl)
 operand_first _ _ _ (integer z us) = (refl, refl)
+operand_first _ _ _ (decimal d us) = (refl, refl)
 operand_first _ _ _ (text w us) = (refl, refl)
 
 predicate_first : (ts : List Token) (c : Condition) (us : List Token) → IsPredicate ts c us → (behind sign.Open ts ≡ None) × (after keyword.Not ts ≡ None)

@@ -1,5 +1,5 @@
 -- When a text is an integer, and where a number ends.
-use Rattle.std.proofs.Common.{◌≡◌, ◌<◌, ◌≤◌, ◌+◌, ℕ, ℤ, pos, negsuc, zero, suc, List, [], ◌∷◌, length, take, drop, true, false, Bool, cond, Some, None, Result, Ok, Err, ap, sym, ◌∙◌, arith, inl, inr, w64, subst, ◌^◌}
+use Rattle.std.proofs.Common.{◌≡◌, ◌<◌, ◌≤◌, ◌+◌, ℕ, ℤ, pos, negsuc, zero, suc, List, [], ◌∷◌, length, take, true, false, Bool, cond, Some, None, Result, Ok, Err, ap, sym, ◌∙◌, arith, inl, inr, w64, subst, ◌^◌}
 use Rattle.std.specs.Prelude.{nat_lt, ◌&&◌, IsUtf8}
 use Rattle.std.specs.Bool.{Decides}
 use Rattle.std.specs.List.{prefix_len}
@@ -15,10 +15,10 @@ use mir.Val.{SFits}
 use Rattle.std.proofs.Math.Facts.{to_z-of_z}
 use mir.Val.{to_z, of_z}
 use Rattle.rj_condition.specs.Tokens.{begins, is_name_byte}
-use Rattle.rj_condition.specs.Scanning.{fits_word, is_integer, judged, integer_at, number_len, is_sign_of_number}
+use Rattle.rj_condition.specs.Scanning.{fits_word, is_integer, judged, number_len, is_sign_of_number}
 use Rattle.rj_condition.proofs.Runs.{either, run_ascii, cut_behind}
 
-fits-Decides : (z : ℤ) → Decides (fits_word z) (SFits w64 z)
+pub fits-Decides : (z : ℤ) → Decides (fits_word z) (SFits w64 z)
 fits-Decides (pos n) = (λ e. record { sfits = ltb-true n (2 ^ 63) e }, λ h. lt-ltb n (2 ^ 63) h.sfits)
 fits-Decides (negsuc n) = (λ e. record { sfits = ltb-true n (2 ^ 63) e }, λ h. lt-ltb n (2 ^ 63) h.sfits)
 
@@ -36,13 +36,13 @@ integer-Decides w =
     (fits-Decides (signed_digits_value 10 w))
 
 -- what `parse` says at a number and at an error
-parsed-ok : {E : Type 0} → (w : List ℕ) (r : Result ℤ E) (n : ℤ) → ParsesSigned w64 10 w r → r ≡ Ok n → (is_integer w ≡ true) × (n ≡ signed_digits_value 10 w) × SFits w64 n
+pub parsed-ok : {E : Type 0} → (w : List ℕ) (r : Result ℤ E) (n : ℤ) → ParsesSigned w64 10 w r → r ≡ Ok n → (is_integer w ≡ true) × (n ≡ signed_digits_value 10 w) × SFits w64 n
 parsed-ok {E} w r n h e =
     let P : Result ℤ E → Type 0 = λ r. OkIff r (IsNumeral 10 (without_leading_sign w) × SFits w64 (signed_digits_value 10 w)) (signed_digits_value 10 w) in
     let at = subst P e h in
     ((integer-Decides w).1 at.0, at.1, rw at.1 at.0.1)
 
-parsed-err : {E : Type 0} → (w : List ℕ) (r : Result ℤ E) (x : E) → ParsesSigned w64 10 w r → r ≡ Err x → is_integer w ≡ false
+pub parsed-err : {E : Type 0} → (w : List ℕ) (r : Result ℤ E) (x : E) → ParsesSigned w64 10 w r → r ≡ Err x → is_integer w ≡ false
 parsed-err {E} w r x h e =
     let P : Result ℤ E → Type 0 = λ r. OkIff r (IsNumeral 10 (without_leading_sign w) × SFits w64 (signed_digits_value 10 w)) (signed_digits_value 10 w) in
     let at = subst P e h in
@@ -95,9 +95,9 @@ cut_number bs text n same len u =
     let P : ℕ → Type 0 = IsCharBoundary text in
     subst P (sym (len ∙ ap number_len same)) (cut_behind text (number_len text) u (number_ascii text).1 (number_ascii text).0)
 
--- a text that was cut behind its number
-pub at_number : (bs text front rest : List ℕ) (n : ℕ) → bs ≡ text → n ≡ number_len bs → front ≡ take n text → rest ≡ drop n text → judged front rest ≡ integer_at text
-unfolding integer_at
-at_number bs text front rest n same len f r =
-    let k : n ≡ number_len text = len ∙ ap number_len same in
-    ap (λ z. judged z rest) (f ∙ ap (λ i. take i text) k) ∙ ap (judged (take (number_len text) text)) (r ∙ ap (λ i. drop i text) k)
+-- and behind the digits of a fraction
+pub cut_digits : (bs text : List ℕ) (n : ℕ) → bs ≡ text → n ≡ prefix_len is_ascii_digit bs → IsUtf8 text → IsCharBoundary text n
+cut_digits bs text n same len u =
+    let P : ℕ → Type 0 = IsCharBoundary text in
+    subst P (sym (len ∙ ap (prefix_len is_ascii_digit) same))
+    (cut_behind text (prefix_len is_ascii_digit text) u (prefix_len-le-length is_ascii_digit text) (run_ascii is_ascii_digit digit_low text))

@@ -8,24 +8,26 @@ use Rattle.std.specs.Str.{all_ascii_digits}
 use Rattle.std.specs.Str.Parse.{IsNumeral, AllDigits, without_leading_sign, signed_digits_value}
 use Rattle.std.proofs.lemmas.Bool.Decides.{nat_tests}
 use Rattle.std.proofs.Math.Seq.{drop-append_seam}
+use Rattle.rj_condition.specs.declared.decimal.DecimalLiteral.{DecimalLiteral}
 use Rattle.rj_condition.specs.declared.token.Sign.{Sign}
 use Rattle.rj_condition.specs.declared.token.Sign.TheVariants as sign
 use Rattle.rj_condition.specs.declared.token.Token.{Token}
 use Rattle.rj_condition.specs.declared.token.Token.TheVariants as token
-use Rattle.rj_condition.specs.Tokens.{is_blank, is_name_byte, begins, doubled, in_quotes, sign_text, IsIdentifier, IsNamed, IsSpelled, EndsSign, Ends, IsToken}
+use Rattle.rj_condition.specs.Tokens.{is_blank, is_name_byte, begins, begins_fraction, doubled, in_quotes, sign_text, IsIdentifier, IsNamed, IsDecimal, IsSpelled, EndsSign, Ends, IsToken}
 use Rattle.rj_condition.specs.Lexing.{Lexes, nothing, blank, next, unreadable}
-use Rattle.rj_condition.specs.Scanning.{quoted, text_at, delimited_at, word_at, named, number_len, is_sign_of_number, is_integer, judged, integer_at, as_integer, less_at, greater_at, mark_of, sign_at, as_sign, begins_number, token_at}
+use Rattle.rj_condition.specs.Scanning.{quoted, text_at, delimited_at, word_at, named, number_len, is_sign_of_number, is_integer, judged, as_integer, decimal_parts, with_rest, judged_decimal, fraction_at, as_decimal, number_behind, number_at, less_at, greater_at, mark_of, sign_at, as_sign, begins_number, token_at}
 use Rattle.rj_condition.proofs.Runs.{either, both_true, run_is}
 use Rattle.rj_condition.proofs.Words.{keyword_word, name_word, take_seam}
 use Rattle.rj_condition.proofs.Quotes.{some_same, quoted_complete}
 use Rattle.rj_condition.proofs.Integers.{integer-Decides, digits-Decides}
+use Rattle.rj_condition.proofs.DecimalParts.{parts_found}
 use Rattle.rj_condition.proofs.TokenLaws.{is_byte, token_sound}
 
 -- words
 letter_at : (b : ℕ) (bs : List ℕ) → is_ascii_alphabetic b ≡ true → token_at (b ∷ bs) ≡ Some (word_at (b ∷ bs))
 unfolding token_at
 letter_at b bs e = ap (λ c. cond c (Some (word_at (b ∷ bs)))
-    (cond (b == 39) (text_at (quoted 39 bs)) (cond (b == 34) (delimited_at (quoted 34 bs)) (cond (begins_number b) (as_integer (integer_at (b ∷ bs))) (as_sign (sign_at (b ∷ bs))))))) e
+    (cond (b == 39) (text_at (quoted 39 bs)) (cond (b == 34) (delimited_at (quoted 34 bs)) (cond (begins_number b) (number_at (b ∷ bs)) (as_sign (sign_at (b ∷ bs))))))) e
 
 word_found : (w rest : List ℕ) (t : Token) → IsIdentifier w → word_at (w ++ rest) ≡ (t, rest) → token_at (w ++ rest) ≡ Some (t, rest)
 word_found [] rest t name e = absurd name
@@ -51,15 +53,15 @@ delimited_found t rest n e =
 not_letter : (b : ℕ) → begins_number b ≡ true → (is_ascii_alphabetic b ≡ false) × ((b == 39) ≡ false) × ((b == 34) ≡ false)
 not_letter b e = (grind (arith, nat_tests), grind (arith, nat_tests), grind (arith, nat_tests))
 
-number_at : (b : ℕ) (bs : List ℕ) → begins_number b ≡ true → token_at (b ∷ bs) ≡ as_integer (integer_at (b ∷ bs))
+number_first : (b : ℕ) (bs : List ℕ) → begins_number b ≡ true → token_at (b ∷ bs) ≡ number_at (b ∷ bs)
 unfolding token_at
-number_at b bs e =
+number_first b bs e =
     let n = not_letter b e in
     ap (λ c. cond c (Some (word_at (b ∷ bs)))
-    (cond (b == 39) (text_at (quoted 39 bs)) (cond (b == 34) (delimited_at (quoted 34 bs)) (cond (begins_number b) (as_integer (integer_at (b ∷ bs))) (as_sign (sign_at (b ∷ bs))))))) n.0
-    ∙ ap (λ c. cond c (text_at (quoted 39 bs)) (cond (b == 34) (delimited_at (quoted 34 bs)) (cond (begins_number b) (as_integer (integer_at (b ∷ bs))) (as_sign (sign_at (b ∷ bs)))))) n.1
-    ∙ ap (λ c. cond c (delimited_at (quoted 34 bs)) (cond (begins_number b) (as_integer (integer_at (b ∷ bs))) (as_sign (sign_at (b ∷ bs))))) n.2
-    ∙ ap (λ c. cond c (as_integer (integer_at (b ∷ bs))) (as_sign (sign_at (b ∷ bs)))) e
+    (cond (b == 39) (text_at (quoted 39 bs)) (cond (b == 34) (delimited_at (quoted 34 bs)) (cond (begins_number b) (number_at (b ∷ bs)) (as_sign (sign_at (b ∷ bs))))))) n.0
+    ∙ ap (λ c. cond c (text_at (quoted 39 bs)) (cond (b == 34) (delimited_at (quoted 34 bs)) (cond (begins_number b) (number_at (b ∷ bs)) (as_sign (sign_at (b ∷ bs)))))) n.1
+    ∙ ap (λ c. cond c (delimited_at (quoted 34 bs)) (cond (begins_number b) (number_at (b ∷ bs)) (as_sign (sign_at (b ∷ bs))))) n.2
+    ∙ ap (λ c. cond c (number_at (b ∷ bs)) (as_sign (sign_at (b ∷ bs)))) e
 
 digits_all : (ds : List ℕ) → all_ascii_digits ds ≡ true → list_all is_ascii_digit ds ≡ true
 digits_all [] e = refl
@@ -129,25 +131,57 @@ measured (b ∷ ds) rest n e = elim (either (is_sign_of_number b)) [
     digit : (b : ℕ) → is_ascii_digit b ≡ true → begins_number b ≡ true
     digit b e = grind (arith, nat_tests)
 
-integer_read : (w rest : List ℕ) (z : ℤ) → IsNumeral 10 (without_leading_sign w) → FitsSigned w64 z → z ≡ signed_digits_value 10 w → begins is_name_byte rest ≡ false → number_len (w ++ rest) ≡ length w →
-    integer_at (w ++ rest) ≡ Some (z, rest)
-unfolding integer_at
-integer_read w rest z n fits value ends len =
+-- a number, by its digits and what stands behind them
+cut_behind_digits : (w rest : List ℕ) → number_len (w ++ rest) ≡ length w → number_at (w ++ rest) ≡ number_behind w rest
+unfolding number_at
+cut_behind_digits w rest len =
+    ap (λ i. number_behind (take i (w ++ rest)) (drop i (w ++ rest))) len
+    ∙ ap (λ y. number_behind y (drop (length w) (w ++ rest))) (take_seam w rest)
+    ∙ ap (number_behind w) (drop-append_seam w rest)
+
+number_found : (w rest : List ℕ) → IsNumeral 10 (without_leading_sign w) → begins is_ascii_digit rest ≡ false → token_at (w ++ rest) ≡ number_behind w rest
+number_found w rest n e = by_length w (measured w rest n e)
+  where
+    by_length : (w : List ℕ) → Measured w rest → token_at (w ++ rest) ≡ number_behind w rest
+    by_length [] m = absurd m
+    by_length (b ∷ ds) m = number_first b (ds ++ rest) m.0 ∙ cut_behind_digits (b ∷ ds) rest m.1
+
+integer_found : (w rest : List ℕ) (z : ℤ) → IsNumeral 10 (without_leading_sign w) → FitsSigned w64 z → z ≡ signed_digits_value 10 w → begins is_name_byte rest ≡ false → begins_fraction rest ≡ false →
+    token_at (w ++ rest) ≡ Some (token.Integer z, rest)
+integer_found w rest z n fits value ends point =
     let P : ℤ → Type 0 = FitsSigned w64 in
     let is : is_integer w ≡ true = (integer-Decides w).1 (n, subst P value fits) in
-    ap (λ i. judged (take i (w ++ rest)) (drop i (w ++ rest))) len
-    ∙ ap (λ y. judged y (drop (length w) (w ++ rest))) (take_seam w rest)
-    ∙ ap (judged w) (drop-append_seam w rest)
-    ∙ ap (λ c. cond c None (cond (is_integer w) (Some (signed_digits_value 10 w, rest)) None)) ends
-    ∙ ap (λ c. cond c (Some (signed_digits_value 10 w, rest)) None) is
-    ∙ ap (λ (y : ℤ). Some (y, rest)) (sym value)
+    number_found w rest n (no_digit rest ends)
+    ∙ ap (λ c. cond c (as_decimal (fraction_at w (drop 1 rest))) (as_integer (judged w rest))) point
+    ∙ ap (λ c. as_integer (cond c None (cond (is_integer w) (Some (signed_digits_value 10 w, rest)) None))) ends
+    ∙ ap (λ c. as_integer (cond c (Some (signed_digits_value 10 w, rest)) None)) is
+    ∙ ap (λ (y : ℤ). Some (token.Integer y, rest)) (sym value)
 
-integer_found : (w rest : List ℕ) (z : ℤ) → IsNumeral 10 (without_leading_sign w) → FitsSigned w64 z → z ≡ signed_digits_value 10 w → begins is_name_byte rest ≡ false → token_at (w ++ rest) ≡ Some (token.Integer z, rest)
-integer_found w rest z n fits value ends = by_length w n fits value (measured w rest n (no_digit rest ends))
-  where
-    by_length : (w : List ℕ) → IsNumeral 10 (without_leading_sign w) → FitsSigned w64 z → z ≡ signed_digits_value 10 w → Measured w rest → token_at (w ++ rest) ≡ Some (token.Integer z, rest)
-    by_length [] n fits value m = absurd m
-    by_length (b ∷ ds) n fits value m = number_at b (ds ++ rest) m.0 ∙ ap as_integer (integer_read (b ∷ ds) rest z n fits value ends m.1)
+-- the digits behind a point
+first_digit : (after rest : List ℕ) → 0 < length after → list_all is_ascii_digit after ≡ true → begins is_ascii_digit (after ++ rest) ≡ true
+first_digit [] rest lt e = absurd (omega (arith, lt))
+first_digit (b ∷ after) rest lt e = (both_true (is_ascii_digit b) (list_all is_ascii_digit after) e).0
+
+fraction_found : (before after rest : List ℕ) (d : DecimalLiteral) → list_all is_ascii_digit after ≡ true → begins is_name_byte rest ≡ false → decimal_parts before after ≡ Some d →
+    fraction_at before (after ++ rest) ≡ Some (d, rest)
+unfolding fraction_at
+fraction_found before after rest d digits ends is =
+    ap (λ i. judged_decimal before (take i (after ++ rest)) (drop i (after ++ rest))) (run_is is_ascii_digit after rest digits (no_digit rest ends))
+    ∙ ap (λ y. judged_decimal before y (drop (length after) (after ++ rest))) (take_seam after rest)
+    ∙ ap (judged_decimal before after) (drop-append_seam after rest)
+    ∙ ap (λ c. cond c None (with_rest (decimal_parts before after) rest)) ends
+    ∙ ap (λ o. with_rest o rest) is
+
+decimal_found : (d : DecimalLiteral) (w rest : List ℕ) → IsDecimal d w → begins is_name_byte rest ≡ false → token_at (w ++ rest) ≡ Some (token.Decimal d, rest)
+decimal_found d w rest h ends =
+    let before = h.0 in
+    let after = h.1 in
+    let digits = digits_all after ((digits-Decides after).1 h.4.1) in
+    ap (λ z. token_at (z ++ rest)) h.2
+    ∙ ap token_at (append_assoc before (46 ∷ after) rest)
+    ∙ number_found before (46 ∷ (after ++ rest)) h.3 refl
+    ∙ ap (λ c. cond c (as_decimal (fraction_at before (after ++ rest))) (as_integer (judged before (46 ∷ (after ++ rest))))) (first_digit after rest h.4.0 digits)
+    ∙ ap as_decimal (fraction_found before after rest d digits ends (parts_found before after d h.3 h.4 h.5 h.6 h.7))
 
 -- signs
 sign_found : (s : Sign) (rest : List ℕ) → EndsSign s rest → token_at (sign_text s ++ rest) ≡ Some (token.Sign s, rest)
@@ -181,7 +215,8 @@ name_found false text w rest s e = word_found w rest (named false w) s.1 (name_w
 spelled_found : (t : Token) (w rest : List ℕ) → IsSpelled t w → Ends t rest → token_at (w ++ rest) ≡ Some (t, rest)
 spelled_found (token.Keyword k) w rest s e = word_found w rest (token.Keyword k) s.0 (keyword_word w rest k s.0 s.1 e)
 spelled_found (token.Name n) w rest s e = name_found n.delimited n.text w rest s e
-spelled_found (token.Integer z) w rest s e = integer_found w rest z s.0 s.1 s.2 e
+spelled_found (token.Integer z) w rest s e = integer_found w rest z s.0 s.1 s.2 e.0 e.1
+spelled_found (token.Decimal d) w rest s e = decimal_found d w rest s e
 spelled_found (token.Text t) w rest s e = ap (λ z. token_at (z ++ rest)) s ∙ literal_found t rest e
 spelled_found (token.Sign k) w rest s e = ap (λ z. token_at (z ++ rest)) s ∙ sign_found k rest e
 spelled_found token.Unreadable w rest s e = absurd s
@@ -283,6 +318,9 @@ shorter rest more t e = let h = token_sound rest (t, more) e in spelled_shorter 
     number_taken [] n = absurd (omega (arith, n.0))
     number_taken (b ∷ w) n = omega arith
 
+    decimal_taken : (w before after : List ℕ) → w ≡ before ++ 46 ∷ after → 0 < length w
+    decimal_taken w before after e = omega (arith, ap length e, length-append before (46 ∷ after))
+
     sign_taken : (s : Sign) → 0 < length (sign_text s)
     sign_taken sign.Equal = omega arith
     sign_taken sign.NotEqual = omega arith
@@ -299,6 +337,7 @@ shorter rest more t e = let h = token_sound rest (t, more) e in spelled_shorter 
     spelled_shorter (token.Keyword k) w s rest more e = taken w rest more (word_taken w s.0) e
     spelled_shorter (token.Name n) w s rest more e = taken w rest more (name_taken n.delimited n.text w s) e
     spelled_shorter (token.Integer z) w s rest more e = taken w rest more (number_taken w s.0) e
+    spelled_shorter (token.Decimal d) w s rest more e = taken w rest more (decimal_taken w s.0 s.1 s.2) e
     spelled_shorter (token.Text l) w s rest more e = taken w rest more (quotes_taken 39 l w s) e
     spelled_shorter (token.Sign k) w s rest more e = taken w rest more (let P : List ℕ → Type 0 = λ z. 0 < length z in subst P (sym s) (sign_taken k)) e
     spelled_shorter token.Unreadable w s rest more e = absurd s

@@ -10,6 +10,7 @@ pub mod Runs
 pub mod Words
 pub mod Quotes
 pub mod Integers
+pub mod DecimalParts
 pub mod TokenLaws
 pub mod Lexemes
 pub mod FlatFacts

@@ -8,7 +8,7 @@ use Rattle.rj_condition.specs.declared.tree.Name.{Name}
 use Rattle.rj_condition.specs.declared.tree.Operand.{Operand}
 use Rattle.rj_condition.specs.declared.tree.Comparison.{Comparison}
 use Rattle.rj_condition.specs.declared.tree.Condition.{Condition}
-use Rattle.rj_condition.specs.Grammar.{optional, any_of, all_of, IsOperand, plain_name, qualified_name, integer, text, IsOperands, last_operand, more_operands, IsNames, last_name, more_names, IsPredicate, compare, is_null, between, among, IsFactor, not, test, IsTest, plain, is_truth, IsPrimary, predicate, group, IsFactors, last_factor, and_factors, IsTerms, last_term, or_terms}
+use Rattle.rj_condition.specs.Grammar.{optional, any_of, all_of, IsOperand, plain_name, qualified_name, integer, decimal, text, IsOperands, last_operand, more_operands, IsNames, last_name, more_names, IsPredicate, compare, is_null, between, among, IsFactor, not, test, IsTest, plain, is_truth, IsPrimary, predicate, group, IsFactors, last_factor, and_factors, IsTerms, last_term, or_terms}
 use Rattle.rj_condition.specs.Reading.{Read, go_on, separated, after, behind, opt, name_at, column_of, column_at, operand_at, operands_at, names_at, operator_at, null_at, bounds_at, members_at, by_in, by_between, range_at, by_is, by_operator, test_of, predicate_at, factor_of, factor_at, factors_at, term_at, terms_at, cond_at, term_with, cond_with, group_with, group_at, truth_at, truth_test_at, suffix_of, suffix, primary_of, primary_with, test_with, primary_at, test_at}
 use Rattle.rj_condition.proofs.Behind.{some_same, bind_some, after_next, behind_next, opt_is, name_next, operator_next, truth_next}
 
@@ -50,6 +50,7 @@ column_sound n us (Some vs) p f e =
 pub operand_sound : (ts : List Token) (p : Operand × List Token) → operand_at ts ≡ Some p → IsOperand ts p.0 p.1
 unfolding operand_at column_at name_at
 operand_sound (token.Integer z ∷ ts) p e = subst (λ (y : Operand × List Token). IsOperand (token.Integer z ∷ ts) y.0 y.1) (some_same _ _ e) (integer z ts)
+operand_sound (token.Decimal d ∷ ts) p e = subst (λ (y : Operand × List Token). IsOperand (token.Decimal d ∷ ts) y.0 y.1) (some_same _ _ e) (decimal d ts)
 operand_sound (token.Text w ∷ ts) p e = subst (λ (y : Operand × List Token). IsOperand (token.Text w ∷ ts) y.0 y.1) (some_same _ _ e) (text w ts)
 operand_sound (token.Name n ∷ ts) p e = column_sound n ts (behind sign.Point ts) p refl e
 operand_sound _ p e = cc

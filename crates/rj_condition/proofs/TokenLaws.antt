@@ -1,19 +1,22 @@
 -- What the lexer finds is a token, and each token is found.
-use Rattle.std.proofs.Common.{◌≡◌, ◌≢◌, ◌⊎◌, inl, inr, ℕ, ℤ, List, [], ◌∷◌, ◌++◌, Bool, true, false, cond, take, drop, length, Option, Some, None, refl, sym, ap, ◌∙◌, subst, arith, append_assoc}
+use Rattle.std.proofs.Common.{◌<◌, ◌≡◌, ◌≢◌, ◌⊎◌, inl, inr, ℕ, ℤ, List, [], ◌∷◌, ◌++◌, Bool, true, false, cond, take, drop, length, Option, Some, None, refl, sym, ap, ◌∙◌, subst, arith, append_assoc}
 use Rattle.std.specs.Prelude.{◌==◌, ◌||◌, nat_lt}
-use Rattle.std.specs.Char.{is_ascii_alphabetic}
+use Rattle.std.specs.Char.{is_ascii_alphabetic, is_ascii_digit}
+use Rattle.std.specs.List.{prefix_len}
 use Rattle.std.proofs.lemmas.Bool.Decides.{nat_tests}
 use Rattle.std.proofs.lemmas.List.{take-append-drop}
+use Rattle.rj_condition.specs.declared.decimal.DecimalLiteral.{DecimalLiteral}
 use Rattle.rj_condition.specs.declared.token.Sign.{Sign}
 use Rattle.rj_condition.specs.declared.token.Sign.TheVariants as sign
 use Rattle.rj_condition.specs.declared.token.Token.{Token}
 use Rattle.rj_condition.specs.declared.token.Token.TheVariants as token
-use Rattle.rj_condition.specs.Tokens.{is_name_byte, begins, doubled, in_quotes, sign_text, EndsSign, IsToken}
-use Rattle.rj_condition.specs.Scanning.{quoted, text_at, delimited_at, number_len, is_integer, integer_at, as_integer, less_at, greater_at, mark_of, as_mark, sign_at, as_sign, begins_number, token_at}
-use Rattle.rj_condition.proofs.Runs.{either}
+use Rattle.rj_condition.specs.Tokens.{is_name_byte, begins, begins_fraction, doubled, in_quotes, sign_text, EndsSign, IsToken}
+use Rattle.rj_condition.specs.Scanning.{quoted, text_at, delimited_at, number_len, is_integer, judged, as_integer, decimal_parts, with_rest, fraction_at, as_decimal, number_at, less_at, greater_at, mark_of, as_mark, sign_at, as_sign, begins_number, token_at}
+use Rattle.rj_condition.proofs.Runs.{either, both_true, len_in}
 use Rattle.rj_condition.proofs.Words.{word_token}
 use Rattle.rj_condition.proofs.Quotes.{some_same, quoted_sound}
 use Rattle.rj_condition.proofs.Integers.{integer-Decides}
+use Rattle.rj_condition.proofs.DecimalParts.{parts_sound}
 
 -- which way a choice went
 pub chosen : {A : Type 0} (b : Bool) (x y : Option A) (p : A) → cond b x y ≡ Some p → ((b ≡ true) × (x ≡ Some p)) ⊎ ((b ≡ false) × (y ≡ Some p))
@@ -116,24 +119,61 @@ delimited_token bs (Some r) p q e = elim (chosen (nat_lt 0 (length r.0)) _ _ p e
   | inr h ↦ let e = h.1 in cc
 ]
 
-integer_token : (bytes : List ℕ) (o : Option (ℤ × List ℕ)) (p : Token × List ℕ) → integer_at bytes ≡ o → as_integer o ≡ Some p → TokenAt bytes p
-unfolding integer_at
-integer_token bytes None p q e = cc
-integer_token bytes (Some r) p q e =
-    let w = take (number_len bytes) bytes in
-    let rest = drop (number_len bytes) bytes in
+not_first : {A : Type 0} (b : Bool) (y : Option A) (p : A) → cond b None y ≡ Some p → (b ≡ false) × (y ≡ Some p)
+not_first true y p e = cc
+not_first false y p e = (refl, e)
+
+integer_token : (w rest : List ℕ) (o : Option (ℤ × List ℕ)) (p : Token × List ℕ) → begins_fraction rest ≡ false → judged w rest ≡ o → as_integer o ≡ Some p → TokenAt (w ++ rest) p
+integer_token w rest None p n q e = cc
+integer_token w rest (Some r) p n q e =
     let a = not_first (begins is_name_byte rest) _ r q in
     elim (chosen (is_integer w) _ _ r a.1) [
       | inl h ↦
           let d = (integer-Decides w).0 h.0 in
-          subst (TokenAt bytes) (ap (λ (z : ℤ × List ℕ). (token.Integer z.0, z.1)) (some_same _ _ h.1) ∙ some_same _ _ e)
-          (w, sym (take-append-drop (number_len bytes) bytes), (d.0, d.1, refl), a.0)
+          subst (TokenAt (w ++ rest)) (ap (λ (z : ℤ × List ℕ). (token.Integer z.0, z.1)) (some_same _ _ h.1) ∙ some_same _ _ e)
+          (w, refl, (d.0, d.1, refl), (a.0, n))
       | inr h ↦ let e = h.1 in cc
     ]
-  where
-    not_first : {A : Type 0} (b : Bool) (y : Option A) (p : A) → cond b None y ≡ Some p → (b ≡ false) × (y ≡ Some p)
-    not_first true y p e = cc
-    not_first false y p e = (refl, e)
+
+with_rest_some : (o : Option DecimalLiteral) (rest : List ℕ) (r : DecimalLiteral × List ℕ) → with_rest o rest ≡ Some r → (d : DecimalLiteral) × (o ≡ Some d) × ((d, rest) ≡ r)
+with_rest_some (Some d) rest r e = (d, refl, some_same _ _ e)
+with_rest_some None rest r e = cc
+
+some_digits : (bs : List ℕ) → begins is_ascii_digit bs ≡ true → 0 < length (take (prefix_len is_ascii_digit bs) bs)
+some_digits [] e = cc
+some_digits (b ∷ bs) e = omega (arith, ap (λ n. length (take n (b ∷ bs))) (len_in is_ascii_digit b bs e))
+
+decimal_token : (w bs : List ℕ) (o : Option (DecimalLiteral × List ℕ)) (p : Token × List ℕ) → begins is_ascii_digit bs ≡ true → fraction_at w bs ≡ o → as_decimal o ≡ Some p → TokenAt (w ++ 46 ∷ bs) p
+unfolding fraction_at
+decimal_token w bs None p n q e = cc
+decimal_token w bs (Some r) p n q e =
+    let after = take (prefix_len is_ascii_digit bs) bs in
+    let rest = drop (prefix_len is_ascii_digit bs) bs in
+    let a = not_first (begins is_name_byte rest) _ r q in
+    let d = with_rest_some (decimal_parts w after) rest r a.1 in
+    subst (TokenAt (w ++ 46 ∷ bs)) (ap (λ (z : DecimalLiteral × List ℕ). (token.Decimal z.0, z.1)) d.2 ∙ some_same _ _ e) (
+      w ++ 46 ∷ after,
+      ap (λ z. w ++ 46 ∷ z) (sym (take-append-drop (prefix_len is_ascii_digit bs) bs)) ∙ sym (append_assoc w (46 ∷ after) rest),
+      parts_sound w after d.0 (some_digits bs n) d.1,
+      a.0,
+    )
+
+fraction_first : (rest : List ℕ) → begins_fraction rest ≡ true → (rest ≡ 46 ∷ drop 1 rest) × (begins is_ascii_digit (drop 1 rest) ≡ true)
+fraction_first [] e = cc
+fraction_first (b ∷ bs) e = let h = both_true (b == 46) (begins is_ascii_digit bs) e in (ap (λ z. z ∷ bs) (is_byte b 46 h.0), h.1)
+
+number_token : (bytes : List ℕ) (p : Token × List ℕ) → number_at bytes ≡ Some p → TokenAt bytes p
+unfolding number_at
+number_token bytes p e =
+    let w = take (number_len bytes) bytes in
+    let rest = drop (number_len bytes) bytes in
+    subst (λ z. TokenAt z p) (take-append-drop (number_len bytes) bytes)
+    (elim (chosen (begins_fraction rest) _ _ p e) [
+      | inl h ↦
+          let f = fraction_first rest h.0 in
+          subst (λ z. TokenAt (w ++ z) p) (sym f.0) (decimal_token w (drop 1 rest) (fraction_at w (drop 1 rest)) p f.1 refl h.1)
+      | inr h ↦ integer_token w rest (judged w rest) p h.0 refl h.1
+    ])
 
 pub token_sound : (bytes : List ℕ) (p : Token × List ℕ) → token_at bytes ≡ Some p → TokenAt bytes p
 unfolding token_at
@@ -145,7 +185,7 @@ token_sound (b ∷ bs) p e = elim (chosen (is_ascii_alphabetic b) _ _ p e) [
     | inr h ↦ elim (chosen (b == 34) _ _ p h.1) [
       | inl h ↦ subst (λ z. TokenAt (z ∷ bs) p) (sym (is_byte b 34 h.0)) (delimited_token bs (quoted 34 bs) p refl h.1)
       | inr h ↦ elim (chosen (begins_number b) _ _ p h.1) [
-        | inl h ↦ integer_token (b ∷ bs) (integer_at (b ∷ bs)) p refl h.1
+        | inl h ↦ number_token (b ∷ bs) p h.1
         | inr h ↦ as_sign_token (b ∷ bs) (sign_at (b ∷ bs)) p refl h.1
       ]
     ]

@@ -1,7 +1,7 @@
--- Whether a bound join fits the types of two tables: each column is there, and what is compared is of one type.
+-- Whether a bound join fits the types of two tables: each column is there, and what is compared is of one family, numbers or texts.
 use Rattle.std.specs.Prelude.{ℕ, ◌==◌, Bool, true, false, ◌&&◌, List, map, length, Option, None, Some, slice_get}
 use Rattle.std.specs.List.{list_all}
-use Rattle.rj_columns.specs.Contents.{Content, FitsType}
+use Rattle.rj_columns.specs.Contents.{Content, whole, decimal, word, IsInLimits}
 use Rattle.rj_columns.specs.declared.cell.ColumnType.{ColumnType}
 use Rattle.rj_columns.specs.declared.cell.ColumnType.TheVariants as kind
 use Rattle.rj_condition.specs.Joins.{pairs_of}
@@ -12,41 +12,67 @@ use Rattle.rj_condition.specs.declared.bound.BoundOperand.TheVariants as operand
 use Rattle.rj_condition.specs.declared.bound.BoundCondition.{BoundCondition}
 use Rattle.rj_condition.specs.declared.bound.BoundCondition.TheFolds.{fold-BoundCondition}
 use Rattle.rj_condition.specs.declared.bound.BoundCondition.TheOpen.{BoundCondition-F}
+use Rattle.rj_condition.specs.declared.typing.TypeFamily.{TypeFamily}
+use Rattle.rj_condition.specs.declared.typing.TypeFamily.TheVariants as family
 use Rattle.rj_condition.specs.declared.bound.Rule.{Rule}
 use Rattle.rj_condition.specs.declared.bound.Rule.TheVariants as rule
 use Rattle.rj_condition.specs.declared.bound.BoundJoin.{BoundJoin}
 
-abbrev pub literal_type : Literal → ColumnType
-literal_type (literal.Integer n) = kind.Int
-literal_type (literal.Text text) = kind.Text
+abbrev pub family_of_type : ColumnType → TypeFamily
+family_of_type kind.Int = family.Number
+family_of_type (kind.Num t) = family.Number
+family_of_type kind.Text = family.Text
 
--- the type of an operand over these types of columns; None where there is no such column
-abbrev pub type_of : List ColumnType → List ColumnType → BoundOperand → Option ColumnType
-type_of left right (operand.Left col) = slice_get left col
-type_of left right (operand.Right col) = slice_get right col
-type_of left right (operand.Literal x) = Some (literal_type x)
+abbrev pub family_in : Option ColumnType → Option TypeFamily
+family_in (Some t) = Some (family_of_type t)
+family_in None = None
 
--- an int with a text is refused
+abbrev pub literal_family : Literal → TypeFamily
+literal_family (literal.Integer n) = family.Number
+literal_family (literal.Decimal d) = family.Number
+literal_family (literal.Text text) = family.Text
+
+-- the family of an operand over these types of columns; None where there is no such column
+abbrev pub family_of : List ColumnType → List ColumnType → BoundOperand → Option TypeFamily
+family_of left right (operand.Left col) = family_in (slice_get left col)
+family_of left right (operand.Right col) = family_in (slice_get right col)
+family_of left right (operand.Literal x) = Some (literal_family x)
+
+-- a number with a text is refused
+abbrev pub are_one_family : Option TypeFamily → Option TypeFamily → Bool
+are_one_family (Some family.Number) (Some family.Number) = true
+are_one_family (Some family.Text) (Some family.Text) = true
+are_one_family a b = false
+
+-- types differ where one is text and the other is not
 abbrev pub are_one_type : Option ColumnType → Option ColumnType → Bool
-are_one_type (Some kind.Int) (Some kind.Int) = true
-are_one_type (Some kind.Text) (Some kind.Text) = true
-are_one_type a b = false
+are_one_type a b = are_one_family (family_in a) (family_in b)
 
-abbrev pub has_type : Option ColumnType → Bool
-has_type (Some t) = true
-has_type None = false
+abbrev pub has_family : Option TypeFamily → Bool
+has_family (Some f) = true
+has_family None = false
 
--- null, or of this type
-abbrev pub FitsKind : Option ColumnType → Content → Type 0
-FitsKind None x = ⊥
-FitsKind (Some t) x = FitsType t x
+-- null, or of this family
+abbrev pub IsOfFamily : TypeFamily → Content → Type 0
+IsOfFamily family.Number (word s) = ⊥
+IsOfFamily family.Number x = Unit {0}
+IsOfFamily family.Text (whole n) = ⊥
+IsOfFamily family.Text (decimal units scale) = ⊥
+IsOfFamily family.Text x = Unit {0}
+
+-- the same of what may be compared
+abbrev pub FitsFamily : Option TypeFamily → Content → Type 0
+FitsFamily None x = ⊥
+FitsFamily (Some f) x = IsInLimits x × IsOfFamily f x
 
 -- the comparisons of BETWEEN and IN are those of their meaning; IS NULL takes any type
 abbrev pub fits_at : List ColumnType → List ColumnType → BoundCondition-F Bool → Bool
-fits_at left right (BoundCondition-F.Compare a op b) = are_one_type (type_of left right a) (type_of left right b)
-fits_at left right (BoundCondition-F.Between x a b negated) = are_one_type (type_of left right x) (type_of left right a) && are_one_type (type_of left right x) (type_of left right b)
-fits_at left right (BoundCondition-F.In x members negated) = has_type (type_of left right x) && list_all (λ m. are_one_type (type_of left right x) (type_of left right m)) members
-fits_at left right (BoundCondition-F.IsNull x negated) = has_type (type_of left right x)
+fits_at left right (BoundCondition-F.Compare a op b) = are_one_family (family_of left right a) (family_of left right b)
+fits_at left right (BoundCondition-F.Between x a b negated) =
+    are_one_family (family_of left right x) (family_of left right a) && are_one_family (family_of left right x) (family_of left right b)
+fits_at left right (BoundCondition-F.In x members negated) =
+    has_family (family_of left right x) && list_all (λ m. are_one_family (family_of left right x) (family_of left right m)) members
+fits_at left right (BoundCondition-F.IsNull x negated) = has_family (family_of left right x)
 fits_at left right (BoundCondition-F.Is b truth negated) = b
 fits_at left right (BoundCondition-F.Not b) = b
 fits_at left right (BoundCondition-F.All bs) = list_all (λ b. b) bs
@@ -61,7 +87,7 @@ all_fit left right cs = list_all (λ b. b) (map (condition_fits left right) cs)
 abbrev pub pair_fits : List ColumnType → List ColumnType → ℕ × ℕ → Bool
 pair_fits left right p = are_one_type (slice_get left p.0) (slice_get right p.1)
 
--- each join column and its partner are there and of one type
+-- each join column and its partner are there and of one family
 abbrev pub pairs_fit : List ColumnType → List ColumnType → List (Option ℕ) → Bool
 pairs_fit left right partners = list_all (pair_fits left right) (pairs_of partners)
 

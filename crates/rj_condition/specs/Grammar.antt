@@ -8,10 +8,11 @@
 --     primary   = ( cond ) | predicate
 --     predicate = operand op operand | operand IS [NOT] NULL | operand [NOT] BETWEEN operand AND operand
 --               | operand [NOT] IN ( operand {, operand} )
---     operand   = column | integer | text
+--     operand   = column | integer | decimal | text
 --     column    = name | name . name
 -- `IsX ts x us`: ts are the tokens of x, and then us.
 use Rattle.std.specs.Prelude.{ℤ, ℕ, List, [], ◌∷◌, Some, None, Bool, true, false}
+use Rattle.rj_condition.specs.declared.decimal.DecimalLiteral.{DecimalLiteral}
 use Rattle.rj_condition.specs.declared.token.Keyword.{Keyword}
 use Rattle.rj_condition.specs.declared.token.Keyword.TheVariants as keyword
 use Rattle.rj_condition.specs.declared.token.Sign.{Sign}
@@ -49,6 +50,7 @@ pub data IsOperand : List Token → Operand → List Token → Type 0 where
   plain_name : (n : Name) (us : List Token) → IsOperand (token.Name n ∷ us) (operand.Column (plain_column n)) us
   qualified_name : (q n : Name) (us : List Token) → IsOperand (token.Name q ∷ token.Sign sign.Point ∷ token.Name n ∷ us) (operand.Column (qualified_column q n)) us
   integer : (z : ℤ) (us : List Token) → IsOperand (token.Integer z ∷ us) (operand.Literal (literal.Integer z)) us
+  decimal : (d : DecimalLiteral) (us : List Token) → IsOperand (token.Decimal d ∷ us) (operand.Literal (literal.Decimal d)) us
   text : (w : List ℕ) (us : List Token) → IsOperand (token.Text w ∷ us) (operand.Literal (literal.Text w)) us
 
 -- one operand or more, with commas between

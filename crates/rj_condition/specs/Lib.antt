@@ -7,6 +7,8 @@ pub mod Resolved
 pub mod Partners
 pub mod Bound
 pub mod Splits
+pub mod Sizes
+pub mod Decimals
 pub mod Tokens
 pub mod Lexing
 pub mod Scanning

@@ -105,6 +105,7 @@ column_at ts = name_at ts >>= λ n. column_of n.0 n.1 (behind sign.Point n.1)
 
 unfoldable pub operand_at : List Token → Read Operand
 operand_at (token.Integer z ∷ ts) = Some (operand.Literal (literal.Integer z), ts)
+operand_at (token.Decimal d ∷ ts) = Some (operand.Literal (literal.Decimal d), ts)
 operand_at (token.Text w ∷ ts) = Some (operand.Literal (literal.Text w), ts)
 operand_at ts = column_at ts
 

@@ -11,7 +11,9 @@ use Rattle.rj_condition.specs.declared.token.Sign.{Sign}
 use Rattle.rj_condition.specs.declared.token.Sign.TheVariants as sign
 use Rattle.rj_condition.specs.declared.token.Token.{Token}
 use Rattle.rj_condition.specs.declared.token.Token.TheVariants as token
-use Rattle.rj_condition.specs.Tokens.{is_name_byte, spells, begins}
+use Rattle.rj_condition.specs.Tokens.{is_name_byte, spells, begins, begins_fraction}
+use Rattle.rj_condition.specs.Decimals.{decimal_of}
+use Rattle.rj_condition.specs.declared.decimal.DecimalLiteral.{DecimalLiteral}
 
 -- a value found and what stands behind it
 abbrev pub view : {A : Type 0} → Option (A × Bor (List ℕ)) → Option (A × List ℕ)
@@ -79,16 +81,41 @@ fits_word (negsuc n) = nat_lt n (2 ^ 63)
 unfoldable pub is_integer : List ℕ → Bool
 is_integer w = nat_lt 0 (length (without_leading_sign w)) && all_ascii_digits (without_leading_sign w) && fits_word (signed_digits_value 10 w)
 
+-- an integer, where it is in range and does not run into a word
 abbrev pub judged : List ℕ → List ℕ → Option (ℤ × List ℕ)
 judged w rest = if begins is_name_byte rest then None else if is_integer w then Some (signed_digits_value 10 w, rest) else None
-
--- a number, where it is in range and does not run into a word
-unfoldable pub integer_at : List ℕ → Option (ℤ × List ℕ)
-integer_at bs = judged (take (number_len bs) bs) (drop (number_len bs) bs)
 
 abbrev pub as_integer : Option (ℤ × List ℕ) → Option (Token × List ℕ)
 as_integer (Some p) = Some (token.Integer p.0, p.1)
 as_integer None = None
+
+-- a decimal, of the digits before and behind its point
+abbrev pub decimal_parts : List ℕ → List ℕ → Option DecimalLiteral
+decimal_parts before after =
+    if is_integer (before ++ after) && nat_lt 0 (length (without_leading_sign before)) && nat_lt (length (without_leading_sign before) + length after) 19
+    then decimal_of (signed_digits_value 10 (before ++ after)) (length after) else None
+
+abbrev pub with_rest : {A : Type 0} → Option A → List ℕ → Option (A × List ℕ)
+with_rest (Some x) rest = Some (x, rest)
+with_rest None rest = None
+
+-- what stands before a point, and a text behind it
+abbrev pub judged_decimal : List ℕ → List ℕ → List ℕ → Option (DecimalLiteral × List ℕ)
+judged_decimal before after rest = if begins is_name_byte rest then None else with_rest (decimal_parts before after) rest
+
+unfoldable pub fraction_at : List ℕ → List ℕ → Option (DecimalLiteral × List ℕ)
+fraction_at before bs = judged_decimal before (take (prefix_len is_ascii_digit bs) bs) (drop (prefix_len is_ascii_digit bs) bs)
+
+abbrev pub as_decimal : Option (DecimalLiteral × List ℕ) → Option (Token × List ℕ)
+as_decimal (Some p) = Some (token.Decimal p.0, p.1)
+as_decimal None = None
+
+-- a number, by what stands behind its first digits
+abbrev pub number_behind : List ℕ → List ℕ → Option (Token × List ℕ)
+number_behind w rest = if begins_fraction rest then as_decimal (fraction_at w (drop 1 rest)) else as_integer (judged w rest)
+
+unfoldable pub number_at : List ℕ → Option (Token × List ℕ)
+number_at bs = number_behind (take (number_len bs) bs) (drop (number_len bs) bs)
 
 -- the sign that stands behind `<`, and behind `>`
 unfoldable pub less_at : List ℕ → Sign × List ℕ
@@ -132,5 +159,5 @@ token_at (b ∷ bs) =
     if is_ascii_alphabetic b then Some (word_at (b ∷ bs))
     else if b == 39 then text_at (quoted 39 bs)
     else if b == 34 then delimited_at (quoted 34 bs)
-    else if begins_number b then as_integer (integer_at (b ∷ bs))
+    else if begins_number b then number_at (b ∷ bs)
     else as_sign (sign_at (b ∷ bs))

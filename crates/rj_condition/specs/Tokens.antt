@@ -1,10 +1,11 @@
 -- The form of each token (SQL-92, 5.2 to 5.4).
-use Rattle.std.specs.Prelude.{◌≡◌, ◌≢◌, ℕ, ◌==◌, ◌||◌, Bool, true, false, List, [], ◌∷◌, ◌++◌, codes, if◌then◌else◌, FitsSigned}
+use Rattle.std.specs.Prelude.{◌≡◌, ◌≢◌, ℕ, ◌==◌, ◌||◌, ◌&&◌, ◌+◌, ◌≤◌, length, Bool, true, false, List, [], ◌∷◌, ◌++◌, codes, if◌then◌else◌, FitsSigned}
 use Rattle.std.specs.Int.{w64}
-use Rattle.std.specs.Char.{is_ascii_alphabetic, is_ascii_alphanumeric}
+use Rattle.std.specs.Char.{is_ascii_alphabetic, is_ascii_alphanumeric, is_ascii_digit}
 use Rattle.std.specs.List.{list_all}
 use Rattle.std.specs.Str.{str_eq_ignore_ascii_case}
 use Rattle.std.specs.Str.Parse.{IsNumeral, without_leading_sign, signed_digits_value}
+use Rattle.rj_condition.specs.declared.decimal.DecimalLiteral.{DecimalLiteral}
 use Rattle.rj_condition.specs.declared.token.Keyword.{Keyword}
 use Rattle.rj_condition.specs.declared.token.Keyword.TheVariants as keyword
 use Rattle.rj_condition.specs.declared.token.Sign.{Sign}
@@ -78,11 +79,19 @@ abbrev pub IsNamed : Bool → List ℕ → List ℕ → Type 0
 IsNamed true t w = (w ≡ in_quotes 34 t) × (t ≢ [])
 IsNamed false t w = (w ≡ t) × IsIdentifier w × ((k : Keyword) → spells w k ≡ false)
 
+-- An optional sign, digits, a point and digits, of which there are at most 18 in all. The scale is the count of those behind the point; the
+-- units are the number that the digits write without it.
+abbrev pub IsDecimal : DecimalLiteral → List ℕ → Type 0
+IsDecimal d w =
+    (before after : List ℕ) × (w ≡ before ++ 46 ∷ after) × IsNumeral 10 (without_leading_sign before) × IsNumeral 10 after
+    × (length (without_leading_sign before) + length after ≤ 18) × (d.scale ≡ length after) × (d.units ≡ signed_digits_value 10 (before ++ after))
+
 -- the form of a token
 abbrev pub IsSpelled : Token → List ℕ → Type 0
 IsSpelled (token.Keyword k) w = IsIdentifier w × (spells w k ≡ true)
 IsSpelled (token.Name n) w = IsNamed n.delimited n.text w
 IsSpelled (token.Integer z) w = IsNumeral 10 (without_leading_sign w) × FitsSigned w64 z × (z ≡ signed_digits_value 10 w)
+IsSpelled (token.Decimal d) w = IsDecimal d w
 IsSpelled (token.Text t) w = w ≡ in_quotes 39 t
 IsSpelled (token.Sign s) w = w ≡ sign_text s
 IsSpelled token.Unreadable w = ⊥
@@ -91,17 +100,24 @@ abbrev pub begins : (ℕ → Bool) → List ℕ → Bool
 begins p [] = false
 begins p (b ∷ bs) = p b
 
+-- a point and a digit
+abbrev pub begins_fraction : List ℕ → Bool
+begins_fraction [] = false
+begins_fraction (b ∷ bs) = b == 46 && begins is_ascii_digit bs
+
 -- a longer sign does not stand there
 abbrev pub EndsSign : Sign → List ℕ → Type 0
 EndsSign sign.Less rest = begins (λ b. b == 61 || b == 62) rest ≡ false
 EndsSign sign.Greater rest = begins (λ b. b == 61) rest ≡ false
 EndsSign _ rest = Unit {0}
 
--- Longest match: what stands behind a token does not carry it on. A number does not run into a letter or an underscore.
+-- Longest match: what stands behind a token does not carry it on. A number does not run into a letter or an underscore, and an integer not
+-- into a point and a digit.
 abbrev pub Ends : Token → List ℕ → Type 0
 Ends (token.Keyword k) rest = begins is_name_byte rest ≡ false
 Ends (token.Name n) rest = begins (if n.delimited then (λ b. b == 34) else is_name_byte) rest ≡ false
-Ends (token.Integer z) rest = begins is_name_byte rest ≡ false
+Ends (token.Integer z) rest = (begins is_name_byte rest ≡ false) × (begins_fraction rest ≡ false)
+Ends (token.Decimal d) rest = begins is_name_byte rest ≡ false
 Ends (token.Text t) rest = begins (λ b. b == 39) rest ≡ false
 Ends (token.Sign s) rest = EndsSign s rest
 Ends token.Unreadable rest = Unit {0}

@@ -1,12 +1,15 @@
 // The tokens of a text, each as long as its form allows (SQL-92, 5.2).
 
-ghost use Rattle.std.specs.Prelude.{◌≡◌, ◌<◌, ◌≤◌, ◌∷◌, ◌==◌, [], IfOk, IsSome, length, slice_index, take, drop};
+ghost use Rattle.std.specs.Prelude.{◌≡◌, ◌<◌, ◌≤◌, ◌+◌, ◌∷◌, ◌==◌, [], IfOk, IsSome, length, slice_index, take, drop};
 ghost use Rattle.std.specs.Char.{is_ascii_digit};
 ghost use Rattle.std.specs.List.{prefix_len, find};
-ghost use Rattle.rj_condition.specs.Tokens.{is_blank, is_name_byte, begins, spells};
+ghost use Rattle.std.specs.Str.Parse.{without_leading_sign};
+ghost use Rattle.rj_condition.specs.Tokens.{is_blank, is_name_byte, begins, begins_fraction, spells};
 ghost use Rattle.rj_condition.specs.Lexing.{Lexes};
+ghost use Rattle.rj_condition.specs.Decimals as decimals;
 ghost use Rattle.rj_condition.specs.Scanning as scanning;
 
+use crate::decimal::DecimalLiteral;
 use crate::token::{Keyword, Sign, Token};
 use crate::tree::Name;
 use crate::word::Word;
@@ -180,18 +183,87 @@ fn number_len(text: &[u8]) -> usize
     }
 }
 
-// The number that the text begins with, where it is in range and does not run into a word.
-#[tactic(auto, unfolding(crate::specs::Scanning::integer_at))]
-fn integer(text: &str) -> Option<(i64, &str)>
-    ensures { scanning.view result ≡ scanning.integer_at text.now }
+// Whether the text begins with a point and a digit.
+fn begins_with_fraction(text: &[u8]) -> bool
+    ensures { result ≡ begins_fraction text.now }
 {
-    let (front, rest) = text.split_at(number_len(text.as_bytes()));
+    match text {
+        [b'.', digit, ..] => digit.is_ascii_digit(),
+        _ => false,
+    }
+}
+
+// The integer that a text is, where it is in range and does not run into a word.
+fn integer<'a>(front: &str, rest: &'a str) -> Option<(i64, &'a str)>
+    ensures { scanning.view result ≡ scanning.judged front.now rest.now }
+{
     if begins_with_name_byte(rest.as_bytes()) {
         return None;
     }
     match front.parse::<i64>() {
         Ok(value) => Some((value, rest)),
         Err(_) => None,
+    }
+}
+
+// How many bytes of a sign a text begins with.
+fn sign_len(text: &[u8]) -> usize
+    ensures { result + length (without_leading_sign text.now) ≡ length text.now }
+{
+    match text {
+        [b'+' | b'-', ..] => 1,
+        _ => 0,
+    }
+}
+
+// The decimal with these units and this scale, if it has no more than 18 digits.
+fn decimal_of(units: i64, scale: u8) -> Option<DecimalLiteral>
+    ensures { result ≡ decimals.decimal_of units scale }
+{
+    if scale < 19 && units.unsigned_abs() < 1_000_000_000_000_000_000 {
+        Some(DecimalLiteral { units, scale })
+    } else {
+        None
+    }
+}
+
+// The decimal of a sign and digits before its point and digits behind it, if there are some and no more than 18.
+fn decimal_of_parts(
+    alloc: Global,
+    before: &str,
+    after: &str,
+) -> Result<Option<DecimalLiteral>, AllocError>
+    ensures { IfOk result (λ x. x ≡ scanning.decimal_parts before.now after.now) }
+{
+    let whole = before.len() - sign_len(before.as_bytes());
+    if whole == 0 || after.len() > 18 || whole > 18 - after.len() {
+        return Ok(None);
+    }
+    let mut digits = String::from_str(alloc, before)?;
+    digits.push_str(after)?;
+    match digits.as_str().parse::<i64>() {
+        Ok(units) => Ok(decimal_of(units, after.len() as u8)),
+        Err(_) => Ok(None),
+    }
+}
+
+// The decimal with these digits before its point, whose digits behind it the text begins with, where it does not run
+// into a word.
+#[tactic(auto, unfolding(crate::specs::Scanning::fraction_at))]
+fn fraction<'a>(
+    alloc: Global,
+    before: &str,
+    text: &'a str,
+) -> Result<Option<(DecimalLiteral, &'a str)>, AllocError>
+    ensures { IfOk result (λ x. scanning.view x ≡ scanning.fraction_at before.now text.now) }
+{
+    let (after, rest) = text.split_at(digits_len(text.as_bytes()));
+    if begins_with_name_byte(rest.as_bytes()) {
+        return Ok(None);
+    }
+    match decimal_of_parts(alloc, before, after)? {
+        Some(decimal) => Ok(Some((decimal, rest))),
+        None => Ok(None),
     }
 }
 
@@ -285,11 +357,37 @@ fn begins_number(byte: u8) -> bool
     byte == b'+' || byte == b'-' || byte.is_ascii_digit()
 }
 
-fn integer_token(text: &str) -> Option<(Token, &str)>
-    ensures { scanning.view result ≡ scanning.as_integer (scanning.integer_at text.now) }
+fn integer_token<'a>(front: &str, rest: &'a str) -> Option<(Token, &'a str)>
+    ensures { scanning.view result ≡ scanning.as_integer (scanning.judged front.now rest.now) }
 {
-    let (value, rest) = integer(text)?;
+    let (value, rest) = integer(front, rest)?;
     Some((Token::Integer(value), rest))
+}
+
+fn decimal_token<'a>(
+    alloc: Global,
+    before: &str,
+    text: &'a str,
+) -> Result<Option<(Token, &'a str)>, AllocError>
+    ensures { IfOk result (λ x. scanning.view x ≡ scanning.as_decimal (scanning.fraction_at before.now text.now)) }
+{
+    match fraction(alloc, before, text)? {
+        Some((decimal, rest)) => Ok(Some((Token::Decimal(decimal), rest))),
+        None => Ok(None),
+    }
+}
+
+// The integer or the decimal that the text begins with.
+#[tactic(auto, unfolding(crate::specs::Scanning::number_at))]
+fn number(alloc: Global, text: &str) -> Result<Option<(Token, &str)>, AllocError>
+    ensures { IfOk result (λ x. scanning.view x ≡ scanning.number_at text.now) }
+{
+    let (front, rest) = text.split_at(number_len(text.as_bytes()));
+    if begins_with_fraction(rest.as_bytes()) {
+        decimal_token(alloc, front, tail(rest))
+    } else {
+        Ok(integer_token(front, rest))
+    }
 }
 
 fn sign_token(text: &str) -> Option<(Token, &str)>
@@ -314,7 +412,7 @@ fn next_token(alloc: Global, text: &str) -> Result<Option<(Token, &str)>, AllocE
             } else if *first == b'"' {
                 delimited_name(alloc, tail(text))
             } else if begins_number(*first) {
-                Ok(integer_token(text))
+                number(alloc, text)
             } else {
                 Ok(sign_token(text))
             }

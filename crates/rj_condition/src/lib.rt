@@ -7,6 +7,7 @@ mod bound;
 mod clauses;
 mod conditions;
 mod deciding;
+mod decimal;
 mod fault;
 mod joining;
 mod lexer;

@@ -125,6 +125,7 @@ fn copy_of(alloc: Global, literal: &Literal) -> Result<Literal, BindRefused>
 {
     match literal {
         Literal::Integer(n) => Ok(Literal::Integer(*n)),
+        Literal::Decimal(decimal) => Ok(Literal::Decimal(*decimal)),
         Literal::Text(text) => match Word::new(alloc, text.as_str()) {
             Ok(copy) => Ok(Literal::Text(copy)),
             Err(_) => Err(BindRefused::Memory),

@@ -10,7 +10,7 @@ ghost use Rattle.rj_condition.specs.Fits.{are_one_type, pair_fits, pairs_fit};
 use crate::names::{column_called, column_named};
 use crate::refused::BindRefused;
 use crate::tree::Name;
-use crate::typing::{agree, column_type_of};
+use crate::typing::{agree, column_family};
 use rj_columns::Table;
 use std::alloc::{AllocError, Global};
 
@@ -33,7 +33,7 @@ fn pair_named(
             Some(j) => {
                 if partners[i].is_some() {
                     Err(BindRefused::RepeatedUsing)
-                } else if agree(column_type_of(left, i), column_type_of(right, j)) {
+                } else if agree(column_family(left, i), column_family(right, j)) {
                     Ok((i, j))
                 } else {
                     Err(BindRefused::TypeMismatch)
@@ -92,7 +92,7 @@ fn common_column(
     match partner {
         None => Ok(None),
         Some(j) => {
-            if agree(column_type_of(left, i), column_type_of(right, j)) {
+            if agree(column_family(left, i), column_family(right, j)) {
                 Ok(Some(j))
             } else {
                 Err(BindRefused::TypeMismatch)

@@ -47,6 +47,10 @@ fn operand(alloc: Global, tokens: &[Token]) -> Result<(Operand, &[Token]), Fault
             Operand::Literal(Literal::Integer(*value)),
             rest,
         )),
+        [Token::Decimal(decimal), rest @ ..] => Ok((
+            Operand::Literal(Literal::Decimal(*decimal)),
+            rest,
+        )),
         [Token::Text(text), rest @ ..] => Ok((
             Operand::Literal(Literal::Text(Word::new(alloc, text.as_str())?)),
             rest,

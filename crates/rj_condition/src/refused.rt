@@ -5,7 +5,7 @@ pub enum BindRefused {
     UnknownColumn,
     /// A name without qualifier that a column of each table has.
     AmbiguousColumn,
-    /// A comparison of an int with a text.
+    /// A comparison of a number with a text.
     TypeMismatch,
     /// A left column that USING names twice.
     RepeatedUsing,

@@ -3,6 +3,7 @@
 ghost use Rattle.std.specs.Prelude.{◌≡◌};
 ghost use Rattle.rj_condition.specs.Tokens.{spelling_of};
 
+use crate::decimal::DecimalLiteral;
 use crate::tree::Name;
 use crate::word::Word;
 
@@ -82,6 +83,7 @@ pub enum Token {
     Keyword(Keyword),
     Name(Name),
     Integer(i64),
+    Decimal(DecimalLiteral),
     Text(Word),
     Sign(Sign),
     /// Where no token begins. No token stands behind it.

@@ -1,5 +1,6 @@
 // The syntax tree of a join clause, before its names are resolved.
 
+use crate::decimal::DecimalLiteral;
 use crate::truth::Truth;
 use crate::word::Word;
 use sqlite_items::{Boxed, Items};
@@ -33,6 +34,7 @@ pub struct ColumnName {
 #[derive(Drop)]
 pub enum Literal {
     Integer(i64),
+    Decimal(DecimalLiteral),
     Text(Word),
 }
 

@@ -1,17 +1,49 @@
 -- The rows of records, one more at a time.
-use Rattle.std.proofs.Common.{◌≡◌, ◌<◌, ◌≤◌, ◌+◌, ◌-◌, ◌^◌, ℕ, List, [], ◌∷◌, ◌++◌, length, true, false, Bool, Some, None, Ok, Err, refl, ap, ◌∙◌, arith, subst, zero, suc}
-use Rattle.std.specs.Prelude.{if◌then◌else◌, slice_index_or}
+use Rattle.std.proofs.Common.{◌≡◌, ◌<◌, ◌≤◌, ◌+◌, ◌-◌, ◌^◌, ℕ, List, [], ◌∷◌, ◌++◌, length, true, false, Bool, Some, None, Ok, Err, refl, ap, sym, ◌∙◌, arith, drop, subst, zero, suc}
+use Rattle.std.specs.Prelude.{◌&&◌, if◌then◌else◌, nat_lt, ℤ, pos, neg_ℤ, Option, option_map, slice_index_or, unsigned_abs}
 use Rattle.std.specs.Str.{bytes_eq, is_utf8}
-use Rattle.std.specs.Str.Parse.{signed_digits_value}
-use Rattle.std.proofs.lemmas.Bool.{le-leb, lt-leb, eq-eqb, ne_eqb}
+use Rattle.std.specs.Str.Parse.{signed_digits_value, starts_with_minus, without_leading_sign}
+use Rattle.std.proofs.lemmas.Bool.{le-leb, lt-leb, ltb-true, eq-eqb, ne_eqb}
+use Rattle.rj_decimal.specs.Read.{after_point, are_zeros, before_point, fits, is_numeric_text, is_unsigned_text, numeric_of, signed_size, size_at, units_in}
 use Rattle.rj_columns.specs.declared.cell.ColumnType.{ColumnType}
 use Rattle.rj_columns.specs.declared.cell.ColumnType.TheVariants as kind
-use Rattle.rj_columns.specs.Contents.{Content, nothing, whole, word, FitsType}
+use Rattle.rj_columns.specs.Contents.{Content, nothing, whole, decimal, word, FitsType}
 use Rattle.rj_columns.specs.Tables.{FitsAt, BuilderValue}
 use Rattle.rj_csv_io.specs.declared.refused.ReadRefused.{ReadRefused}
 use Rattle.rj_csv_io.specs.declared.refused.ReadRefused.TheVariants as refused
 use Rattle.rj_csv_io.specs.Typed.{read_cell, typed_cell, read_cells, is_int_text}
 use Rattle.rj_csv_io.specs.Rows.{read_row, read_rows}
+
+both : (a b : Bool) → a && b ≡ true → (a ≡ true) × (b ≡ true)
+both true b e = (refl, e)
+both false b e = cc
+
+-- a sign leaves the size
+size-signed : (f : List ℕ) (n : ℕ) → unsigned_abs (signed_size f n) ≡ n
+size-signed f n = go (starts_with_minus f) n
+  where
+    go : (b : Bool) (n : ℕ) → unsigned_abs (if b then neg_ℤ (pos n) else pos n) ≡ n
+    go true zero = refl
+    go true (suc n) = refl
+    go false n = refl
+
+-- the units of a numeric type's value are below 10^precision in size
+numeric-below : (p s : ℕ) (f : List ℕ) (u : ℤ) → numeric_of p s f ≡ Some u → unsigned_abs u < 10 ^ p
+numeric-below p s f u e = go (is_numeric_text p s f) refl e
+  where
+    size : ℕ
+    size = size_at s (before_point (without_leading_sign f)) (after_point (without_leading_sign f))
+
+    go : (b : Bool) → is_numeric_text p s f ≡ b → (if b then Some (units_in s f) else None) ≡ Some u → unsigned_abs u < 10 ^ p
+    go true holds e =
+        let q : units_in s f ≡ u = cc in
+        let text = without_leading_sign f in
+        let fit = both (is_unsigned_text text) (fits p s (before_point text) (after_point text)) holds in
+        let small = both (are_zeros (drop s (after_point text))) (nat_lt size (10 ^ p)) fit.1 in
+        let below : size < 10 ^ p = ltb-true size (10 ^ p) small.1 in
+        let same : unsigned_abs u ≡ size = ap unsigned_abs (sym q) ∙ size-signed f size in
+        omega (arith, below, same)
+    go false holds e = absurd (cc)
 
 -- a field's reading has its column's type
 typed-fits : (k : ColumnType) (f : List ℕ) (x : Content) → typed_cell k f ≡ Some x → FitsType k x
@@ -20,6 +52,11 @@ typed-fits kind.Int f x e = go (is_int_text f) e
     go : (b : Bool) → (if b then Some (whole (signed_digits_value 10 f)) else None) ≡ Some x → FitsType kind.Int x
     go true e = let q : whole (signed_digits_value 10 f) ≡ x = cc in let P : Content → Type 0 = FitsType kind.Int in subst P q tt
     go false e = absurd (cc)
+typed-fits (kind.Num t) f x e = go (numeric_of t.precision t.scale f) refl e
+  where
+    go : (r : Option ℤ) → numeric_of t.precision t.scale f ≡ r → option_map (λ units. decimal units t.scale) r ≡ Some x → FitsType (kind.Num t) x
+    go (Some u) h e = let q : decimal u t.scale ≡ x = cc in let P : Content → Type 0 = FitsType (kind.Num t) in subst P q (refl, numeric-below t.precision t.scale f u h)
+    go None h e = absurd (cc)
 typed-fits kind.Text f x e = go (is_utf8 f) e
   where
     go : (b : Bool) → (if b then Some (word f) else None) ≡ Some x → FitsType kind.Text x
@@ -28,6 +65,7 @@ typed-fits kind.Text f x e = go (is_utf8 f) e
 
 nothing-fits : (k : ColumnType) → FitsType k nothing
 nothing-fits kind.Int = tt
+nothing-fits (kind.Num t) = tt
 nothing-fits kind.Text = tt
 
 pub cell-fits : (null : List ℕ) (k : ColumnType) (f : List ℕ) (x : Content) → read_cell null k f ≡ Some x → FitsType k x
@@ -37,11 +75,11 @@ cell-fits null k f x e = go (bytes_eq f null) e
     go true e = let q : nothing ≡ x = cc in let P : Content → Type 0 = FitsType k in subst P q (nothing-fits k)
     go false e = typed-fits k f x e
 
-pub FitsAt-from : (types : List ColumnType) (i : ℕ) (d : ColumnType) (x : Content) → i < length types → FitsType (slice_index_or types i d) x → FitsAt types i x
+pub FitsAt-from : (types : List ColumnType) (i : ℕ) (d k : ColumnType) (x : Content) → i < length types → slice_index_or types i d ≡ k → FitsType k x → FitsAt types i x
 unfolding FitsAt
-FitsAt-from [] i d x h f = absurd (omega arith)
-FitsAt-from (t ∷ types) zero d x h f = f
-FitsAt-from (t ∷ types) (suc i) d x h f = FitsAt-from types i d x (omega arith) f
+FitsAt-from [] i d k x h e f = absurd (omega arith)
+FitsAt-from (t ∷ types) zero d k x h e f = let P : ColumnType → Type 0 = λ k. FitsType k x in subst P (sym e) f
+FitsAt-from (t ∷ types) (suc i) d k x h e f = FitsAt-from types i d k x (omega arith) e f
 
 -- one more record
 pub rows-step : (null : List ℕ) (types : List ColumnType) (done : List (List Content)) (n : ℕ) (f : List (List ℕ)) (rest : List (List (List ℕ))) (cells : List Content)

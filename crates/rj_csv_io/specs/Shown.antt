@@ -2,12 +2,14 @@
 use Rattle.std.specs.Prelude.{ℕ, List, [], ◌∷◌, ◌++◌, map}
 use Rattle.std.specs.Fmt.{signed_decimal}
 use Rattle.csv.specs.Writing.{default_writer, row_text}
-use Rattle.rj_columns.specs.Contents.{Content, nothing, whole, word}
+use Rattle.rj_decimal.specs.Written.{text_of}
+use Rattle.rj_columns.specs.Contents.{Content, nothing, whole, decimal, word}
 
--- the text of a cell: null is the null text, and a number has neither `+` nor leading zeros
+-- the text of a cell: null is the null text, a whole number has neither `+` nor leading zeros, and a decimal has its scale's digits after the point
 abbrev pub shown : List ℕ → Content → List ℕ
 shown null nothing = null
 shown null (whole n) = signed_decimal n
+shown null (decimal units scale) = text_of scale units
 shown null (word s) = s
 
 -- the texts of records, one after the other

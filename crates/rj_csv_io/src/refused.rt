@@ -11,7 +11,8 @@ pub enum ReadRefused {
     TypeCount,
     /// This row has more or fewer fields than the header.
     RaggedRow(u64),
-    /// The cell at this row and column is no integer, or one past 64 bits with a sign.
+    /// The cell at this row and column is no integer or one past 64 bits with a sign, or in a numeric column no
+    /// number or none of its type.
     BadInteger(u64, u64),
     /// The cell at this row and column is no UTF-8.
     BadText(u64, u64),

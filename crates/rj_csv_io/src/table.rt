@@ -123,7 +123,9 @@ fn begin(
 ///
 /// Records are those that `csv` reads with comma, double quote, no trimming and its default line ends, after one
 /// byte order mark. The first is the header. A cell whose bytes equal the null text is null; another is read as
-/// its column's type: an optional sign and decimal digits in the range of i64, or UTF-8 as it stands.
+/// its column's type: an optional sign and decimal digits in the range of i64; a number of the numeric type, with
+/// an optional sign, digits, and perhaps a point and digits, of which those past the scale are zeros; or UTF-8 as
+/// it stands.
 ///
 /// Faults are tested in this order: the null text, no header, too many columns, the names from left to right, the
 /// count of types; then record by record too many rows, the record's length, and its cells from left to right.

@@ -1,10 +1,13 @@
 // Worked examples of files, of what is written, and devices that fail.
 
+ghost use Rattle.std.specs.Prelude.{[], ◌∷◌};
+ghost use Rattle.rj_columns.specs.Contents.{decimal};
+
 use crate::{
     Counted, CountedReader, Failed, Input, Output, ReadRefused, WriteRefused, is_lawful_null,
     read_all, read_table, write_rows,
 };
-use rj_columns::{Cell, ColumnType, Table};
+use rj_columns::{Cell, ColumnType, NumericType, RowSource, Table};
 use std::alloc::{AllocError, Global};
 use std::fmt::Write as Format;
 use std::io;
@@ -108,6 +111,159 @@ fn integer_too_large(rt: HostRuntime) {
         assert!(rt; file.extend_from_slice(form.as_bytes()).is_ok());
         assert!(rt; fault(alloc, file.as_slice(), &[INT]) == bad, "at {form}");
     }
+}
+
+// The type of numeric columns with this precision and this scale, where there is one.
+fn num(precision: u8, scale: u8) -> Result<ColumnType, Fail> {
+    match NumericType::new(precision, scale) {
+        Some(numeric) => Ok(ColumnType::Num(numeric)),
+        None => Err(Fail::from("no numeric type")),
+    }
+}
+
+// A file of one column with this cell.
+fn file_of(alloc: Global, cell: &str) -> Result<String, AllocError> {
+    format!(in alloc; "k\n{cell}\n")
+}
+
+#[test]
+fn numeric_forms(rt: HostRuntime) -> Result<(), Fail> {
+    let alloc = rt.alloc();
+    let types = [num(3, 1)?, TEXT];
+    let left = b"k,a\n+1.50,u\n-0.00,v\n99.9,w\n-99.9,x\n0002,y\n-0.5,z\n";
+    let table = read_table(alloc, left, &types, "")?;
+    assert!(rt; table.rows() == 6);
+    assert!(rt; table.columns() == 2);
+    let units = [15, 0, 999, -999, 20, -5];
+    for (row, wanted) in units.iter().enumerate() {
+        let cell = Cell::Num {
+            units: *wanted,
+            scale: 1,
+        };
+        assert!(rt;
+            (row as u64) < table.rows() && table.cell(row as u64, 0) == cell,
+            "at {row}"
+        );
+    }
+    let want = b"k,a\n1.5,u\n0.0,v\n99.9,w\n-99.9,x\n2.0,y\n-0.5,z\n";
+    assert!(rt; is_written(alloc, left, &types, &["k", "a"], "", want));
+    Ok(())
+}
+
+#[test]
+fn no_number_of_the_type(rt: HostRuntime) -> Result<(), Fail> {
+    let alloc = rt.alloc();
+    let bad = Some(ReadRefused::BadInteger(1, 1));
+    assert!(rt; fault(alloc, b"k\n1.55\n", &[num(3, 1)?]) == bad);
+    for form in [
+        "1.25", "1000", "-1000", ".5", "5.", "1e3", "+", "-", "1.0.0", "+-1", " 1", "1 ", "x",
+    ] {
+        let file = file_of(alloc, form)?;
+        let told = fault(alloc, file.as_bytes(), &[num(4, 1)?]);
+        assert!(rt; told == bad, "at {form}");
+    }
+    let second = fault(alloc, b"a,k\nx,1\ny,\xFF\n", &[TEXT, num(4, 1)?]);
+    assert!(rt; second == Some(ReadRefused::BadInteger(2, 2)));
+    Ok(())
+}
+
+// Whether a cell of such a column is read, and written as this text.
+fn is_number_written(
+    alloc: Global,
+    cell: &str,
+    precision: u8,
+    scale: u8,
+    want: &str,
+) -> Result<bool, Fail> {
+    let file = file_of(alloc, cell)?;
+    let shown = file_of(alloc, want)?;
+    let types = [num(precision, scale)?];
+    Ok(is_written(alloc, file.as_bytes(), &types, &["k"], "", shown.as_bytes()))
+}
+
+#[test]
+fn numbers_at_the_limits(rt: HostRuntime) -> Result<(), Fail> {
+    let alloc = rt.alloc();
+    let nines = "999999999999999999";
+    assert!(rt; is_number_written(alloc, nines, 18, 0, nines)?);
+    let least = "-999999999999999999";
+    assert!(rt; is_number_written(alloc, least, 18, 0, least)?);
+    let part = "0.999999999999999999";
+    assert!(rt; is_number_written(alloc, part, 18, 18, part)?);
+    let below = "-0.999999999999999999";
+    assert!(rt; is_number_written(alloc, below, 18, 18, below)?);
+    assert!(rt; is_number_written(alloc, "0", 18, 18, "0.000000000000000000")?);
+    assert!(rt; is_number_written(alloc, "0000000000000000001", 18, 0, "1")?);
+    assert!(rt; is_number_written(alloc, "-7.000", 1, 0, "-7")?);
+    assert!(rt; !is_number_written(alloc, "1000000000000000000", 18, 0, "1000000000000000000")?);
+    assert!(rt; !is_number_written(alloc, "-1000000000000000000", 18, 0, "-1000000000000000000")?);
+    assert!(rt; !is_number_written(alloc, "1", 18, 18, "1.000000000000000000")?);
+    assert!(rt; !is_number_written(alloc, "10", 1, 0, "10")?);
+    Ok(())
+}
+
+#[test]
+fn null_text_in_numeric_columns(rt: HostRuntime) -> Result<(), Fail> {
+    let alloc = rt.alloc();
+    let types = [num(5, 2)?, TEXT];
+    let named = b"k,a\nNULL,x\n\"NULL\",y\n1.50,NULL\n";
+    let want = b"k,a\nNULL,x\nNULL,y\n1.50,NULL\n";
+    assert!(rt; is_written(alloc, named, &types, &["k", "a"], "NULL", want));
+    let empty = b"k,a\n,x\n2.00,\n";
+    assert!(rt; is_written(alloc, empty, &types, &["k", "a"], "", empty));
+    let read = read_table(alloc, empty, &types, "")?;
+    assert!(rt; read.rows() == 2 && read.columns() == 2 && read.cell(0, 0) == Cell::Null);
+    let told = fault_under(alloc, empty, &types, "NULL");
+    assert!(rt; told == Some(ReadRefused::BadInteger(1, 1)));
+    Ok(())
+}
+
+// A row of one decimal.
+#[derive(Drop)]
+struct OneDecimal {
+    units: i128,
+    scale: u8,
+}
+
+impl RowSource for OneDecimal {
+    ghost contents = { λ d. (decimal d.units d.scale ∷ []) ∷ [] };
+
+    ghost width = { λ d. 1 };
+
+    fn rows(&self) -> u64 {
+        1
+    }
+
+    fn columns(&self) -> usize {
+        1
+    }
+
+    fn cell(&self, _row: u64, _col: usize) -> Cell<'_> {
+        Cell::Num {
+            units: self.units,
+            scale: self.scale,
+        }
+    }
+}
+
+// Whether a decimal is written as this text.
+fn is_decimal_written(alloc: Global, units: i128, scale: u8, want: &str) -> Result<bool, Fail> {
+    let mut output = Counted::new(Vec::new(alloc));
+    write_rows(alloc, &mut output, &["k"], &OneDecimal { units, scale }, "")?;
+    Ok(output.into_inner().as_slice() == file_of(alloc, want)?.as_bytes())
+}
+
+#[test]
+fn decimals_of_64_bits_and_18_digits_more(rt: HostRuntime) -> Result<(), Fail> {
+    let alloc = rt.alloc();
+    let power = 1_000_000_000_000_000_000;
+    let most = i128::from(i64::MAX) * power;
+    assert!(rt; is_decimal_written(alloc, most, 18, "9223372036854775807.000000000000000000")?);
+    let least = i128::from(i64::MIN) * power;
+    assert!(rt; is_decimal_written(alloc, least, 18, "-9223372036854775808.000000000000000000")?);
+    assert!(rt; is_decimal_written(alloc, 3_000, 3, "3.000")?);
+    assert!(rt; is_decimal_written(alloc, -50, 2, "-0.50")?);
+    Ok(())
 }
 
 #[test]
@@ -227,7 +383,7 @@ fn ends_with(table: &Table, text: &str) -> bool {
     match table.cell(table.rows() - 1, 1) {
         Cell::Text(last) => last == text,
         Cell::Null => text.is_empty(),
-        Cell::Int(_) => false,
+        Cell::Int(_) | Cell::Num { .. } => false,
     }
 }
 

@@ -9,6 +9,7 @@ ghost use Rattle.rj_csv_io.specs.Written.{HasWritten};
 use csv::{Writer, WriterBuilder};
 use itoa::Buffer;
 use rj_columns::Cell;
+use rj_decimal::DecimalBuffer;
 use std::alloc::{AllocError, Global};
 
 /// A writer that has written nothing.
@@ -44,6 +45,10 @@ pub(crate) fn write_cell(
         Cell::Int(n) => {
             let mut digits = Buffer::new();
             write_field(writer, digits.format(n).as_bytes())
+        }
+        Cell::Num { units, scale } => {
+            let mut text = DecimalBuffer::new();
+            write_field(writer, text.format(units, scale))
         }
     }
 }

@@ -81,7 +81,8 @@ fn text_of_rows<S: RowSource>(
 }
 
 /// Writes a header and the rows of a source as CSV (RFC 4180): a field with a comma, a double quote, CR or LF
-/// stands in double quotes, null is the null text, and each record ends with LF.
+/// stands in double quotes, null is the null text, a decimal has exactly its scale's digits after the point, and
+/// each record ends with LF.
 ///
 /// The whole text is made before it is put, by one call of the device. After `Memory` the device is as it was;
 /// after `WriteDevice` nothing is known of how much it took.

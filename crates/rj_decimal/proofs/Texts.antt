@@ -6,7 +6,8 @@ use Rattle.std.proofs.lemmas.Int.{ints}
 use Rattle.rj_decimal.proofs.Shifts.{ten_pow_pos}
 use Rattle.std.specs.Fmt.{decimal, signed_decimal}
 use Rattle.std.proofs.lemmas.Bool.{cases_lt}
-use Rattle.std.proofs.Math.Nat.{div-lt_iff_lt-mul, pow-le-pow_right}
+use Rattle.std.proofs.Math.Arith.{mod-mul}
+use Rattle.std.proofs.Math.Nat.{div-div-eq-div-mul, div-lt_iff_lt-mul, pow-le-pow_right}
 use Rattle.std.proofs.lemmas.Nat.{pow-add}
 use Rattle.std.proofs.lemmas.List.{append-nil, drop-set, drop_all}
 use Rattle.std.proofs.lemmas.Fmt.{decimal_digit, decimal_step_wide}
@@ -65,8 +66,8 @@ unfolding last_digits
 digits-end start k n at place bytes e f h =
     sym (h ∙ (ap (λ m. last_digits m n ++ drop at bytes) e ∙ ap (λ m. drop m bytes) f))
 
--- 39 digits have room for a number of 127 bits
-pub whole-room : (n s e : ℕ) → n ≤ 2 ^ 127 → 40 ≤ e + s → 1 ≤ e → n / 10 ^ s < 10 ^ (e - 1)
+-- before the digits after the point there is room for what stands before it, in a number of at most 2^127
+pub whole-room : (n s e : ℕ) → n ≤ 2 ^ 127 → 257 ≤ e + s → 1 ≤ e → n / 10 ^ s < 10 ^ (e - 1)
 whole-room n s e small room some =
     let more : 39 ≤ (e - 1) + s = omega arith in
     let ten : 0 < 10 = omega arith in
@@ -92,24 +93,41 @@ two-room n zero p h = absurd (omega arith)
 two-room n (suc zero) p h = absurd (omega arith)
 two-room n (suc (suc k)) p h = omega arith
 
--- the point and what follows it, at the end of the bytes
-pub fraction-none : (s n : ℕ) (bytes : List ℕ) → s ≡ 0 → length bytes ≤ 41 → drop 41 bytes ≡ fraction_text s n
-fraction-none s n bytes e h = rw e (drop_all 41 bytes h)
+-- the last digits are those of the number that they write
+pub digits-rest : (k n : ℕ) → last_digits k (n % 10 ^ k) ≡ last_digits k n
+unfolding last_digits
+digits-rest zero n = refl
+digits-rest (suc k) n =
+    let more : 10 ^ suc k ≡ 10 ^ k * 10 = (let s : suc k ≡ k + 1 = omega arith in ap (λ m. 10 ^ m) s ∙ pow-add 10 k 1) in
+    let split : n % 10 ^ suc k ≡ ((n / 10) % 10 ^ k) * 10 + n % 10 = ap (λ m. n % m) more ∙ mod-mul n (ten_pow_pos k) (omega arith) in
+    let tenth : (n % 10 ^ suc k) / 10 ≡ (n / 10) % 10 ^ k = omega (arith, split) in
+    let last : (n % 10 ^ suc k) % 10 ≡ n % 10 = omega (arith, split) in
+    ap (λ m. last_digits k m ++ (48 + (n % 10 ^ suc k) % 10) ∷ []) tenth
+    ∙ (ap (λ ds. ds ++ (48 + (n % 10 ^ suc k) % 10) ∷ []) (digits-rest k (n / 10))
+    ∙ ap (λ m. last_digits k (n / 10) ++ (48 + m) ∷ []) last)
 
-positive-next : (s place : ℕ) → (s ≡ 0 → ⊥) → place ≡ 40 - s → s ≤ 40 → place + 1 ≡ 41 - s
+-- a number without one digit more
+pub tenth-more : (n k : ℕ) → (n / 10 ^ k) / 10 ≡ n / 10 ^ (k + 1)
+tenth-more n k = div-div-eq-div-mul n (10 ^ k) 10 ∙ ap (λ m. n / m) (sym (pow-add 10 k 1))
+
+-- the point and what follows it, at the end of the bytes
+pub fraction-none : (s n : ℕ) (bytes : List ℕ) → s ≡ 0 → length bytes ≤ 258 → drop 258 bytes ≡ fraction_text s n
+fraction-none s n bytes e h = rw e (drop_all 258 bytes h)
+
+positive-next : (s place : ℕ) → (s ≡ 0 → ⊥) → place ≡ 257 - s → s ≤ 255 → place + 1 ≡ 258 - s
 positive-next zero place some f l = absurd (some refl)
 positive-next (suc s) place some f l = omega arith
 
-pub fraction-some : (s n at place : ℕ) (old bytes : List ℕ) → (s ≡ 0 → ⊥) → at ≡ 40 - s → place ≡ 40 - s → s ≤ 40 → length old ≤ 41 → length bytes ≡ 41
-    → drop (41 - s) bytes ≡ last_digits s n ++ drop 41 old → drop at (set bytes place 46) ≡ fraction_text s n
+pub fraction-some : (s n at place : ℕ) (old bytes : List ℕ) → (s ≡ 0 → ⊥) → at ≡ 257 - s → place ≡ 257 - s → s ≤ 255 → length old ≤ 258 → length bytes ≡ 258
+    → drop (258 - s) bytes ≡ last_digits s n ++ drop 258 old → drop at (set bytes place 46) ≡ fraction_text s n
 fraction-some s n at place old bytes some e f l m q h =
     let some_digits : s == 0 ≡ false = grind (arith, nat_tests) in
-    let next : place + 1 ≡ 41 - s = positive-next s place some f l in
+    let next : place + 1 ≡ 258 - s = positive-next s place some f l in
     let same : at ≡ place = omega arith in
     let inside : place < length bytes = omega arith in
     ap (λ i. drop i (set bytes place 46)) same
     ∙ (drop-set bytes place 46 inside
-    ∙ (ap (λ xs. 46 ∷ xs) (ap (λ i. drop i bytes) next ∙ (h ∙ (ap (λ xs. last_digits s n ++ xs) (drop_all 41 old m) ∙ append-nil (last_digits s n))))
+    ∙ (ap (λ xs. 46 ∷ xs) (ap (λ i. drop i bytes) next ∙ (h ∙ (ap (λ xs. last_digits s n ++ xs) (drop_all 258 old m) ∙ append-nil (last_digits s n))))
     ∙ sym (ap (λ b. cond b [] (46 ∷ last_digits s n)) some_digits)))
 
 -- in scale 0 the text is that of a whole number

@@ -172,3 +172,20 @@ fn writes(rt: HostRuntime) {
         b"170141183460469231731.687303715884105727".as_slice()
     );
 }
+
+#[test]
+fn writes_in_any_scale(rt: HostRuntime) {
+    let mut buffer = DecimalBuffer::new();
+    assert_eq!(rt; buffer.format(5, 19), b"0.0000000000000000005".as_slice());
+    assert_eq!(rt;
+        buffer.format(i128::MIN, 38),
+        b"-1.70141183460469231731687303715884105728".as_slice()
+    );
+    assert_eq!(rt;
+        buffer.format(i128::MAX, 39),
+        b"0.170141183460469231731687303715884105727".as_slice()
+    );
+    assert_eq!(rt; buffer.format(-1, 255).len(), 258);
+    assert!(rt; buffer.format(-1, 255).starts_with(b"-0.00"));
+    assert!(rt; buffer.format(-1, 255).ends_with(b"001"));
+}

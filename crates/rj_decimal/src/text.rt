@@ -5,10 +5,8 @@ ghost use Rattle.std.specs.Fmt.{decimal};
 ghost use Rattle.rj_decimal.specs.Read.{numeric_of};
 ghost use Rattle.rj_decimal.specs.Written.{fraction_text, last_digits, text_of};
 
-use super::powers::power_of_ten;
-
-// A sign, 39 digits and a point.
-const LONGEST: usize = 41;
+// A sign, a digit, a point and the 255 digits of the largest scale: no text is longer.
+const LONGEST: usize = 258;
 
 /// Room for the text of one number, to be used again for the next.
 #[derive(Drop)]
@@ -16,30 +14,32 @@ pub struct DecimalBuffer {
     bytes: [u8; LONGEST],
 }
 
-// The whole part of a number in a scale, and the units that are left.
-fn split_point(size: u128, scale: u8) -> (u128, u64)
-    requires { scale ≤ 18 }
-    ensures whole { result.0 ≡ size / 10 ^ scale }
-    ensures rest { result.1 ≡ size % 10 ^ scale }
+// A number without its last digit, and the text of that digit.
+#[inline]
+fn split_digit(number: u128) -> (u128, u8)
+    ensures rest { result.0 ≡ number / 10 }
+    ensures digit { result.1 ≡ 48 + number % 10 }
 {
-    let power = power_of_ten(scale);
-    match u64::try_from(size) {
-        Ok(small) => (u128::from(small / power), small % power),
-        Err(_) => (size / u128::from(power), (size % u128::from(power)) as u64),
+    match u64::try_from(number) {
+        Ok(small) => (u128::from(small / 10), b'0' + (small % 10) as u8),
+        Err(_) => (number / 10, b'0' + (number % 10) as u8),
     }
 }
 
-// Writes the last digits of a number before a place.
-fn put_digits(bytes: &mut [u8], end: usize, count: usize, number: u64)
+// Writes the last digits of a number before a place, and tells the number without them.
+fn put_digits(bytes: &mut [u8], end: usize, count: usize, number: u128) -> u128
     requires room { count ≤ end }
     requires end { end ≤ length bytes.old }
-    ensures { drop (end - count) bytes.new ≡ last_digits count number ++ drop end bytes.old }
+    ensures rest { result ≡ number / 10 ^ count }
+    ensures text { drop (end - count) bytes.new ≡ last_digits count number ++ drop end bytes.old }
 {
     let mut rest = number;
     for i in 0..count {
-        bytes[end - 1 - i] = b'0' + (rest % 10) as u8;
-        rest /= 10;
+        let (tenth, digit) = split_digit(rest);
+        bytes[end - 1 - i] = digit;
+        rest = tenth;
     }
+    rest
 }
 
 // Writes the digits of a number before a place, and tells where they begin.
@@ -81,31 +81,29 @@ fn put_wide(bytes: &mut [u8], end: usize, number: u128) -> usize
     put_number(bytes, at, rest as u64)
 }
 
-// Writes the point and the digits after it to the end of the bytes, and tells where they begin.
-fn put_fraction(bytes: &mut [u8; LONGEST], scale: u8, rest: u64) -> usize
-    requires { scale ≤ 18 }
-    ensures inside { result ≤ 41 }
-    ensures room { 40 ≤ result + scale }
-    ensures text { drop result bytes.new ≡ fraction_text scale rest }
+// Writes the point and the digits after it to the end of the bytes, and tells where they begin and the whole part.
+fn put_fraction(bytes: &mut [u8; LONGEST], scale: u8, size: u128) -> (usize, u128)
+    ensures inside { result.0 ≤ 258 }
+    ensures room { 257 ≤ result.0 + scale }
+    ensures text { drop result.0 bytes.new ≡ fraction_text scale (size % 10 ^ scale) }
+    ensures whole { result.1 ≡ size / 10 ^ scale }
 {
     if scale == 0 {
-        return LONGEST;
+        return (LONGEST, size);
     }
     let digits = usize::from(scale);
-    put_digits(bytes, LONGEST, digits, rest);
+    let whole = put_digits(bytes, LONGEST, digits, size);
     let point = LONGEST - 1 - digits;
     bytes[point] = b'.';
-    point
+    (point, whole)
 }
 
 // Writes the text of a number to the end of the bytes, and tells where it begins.
 fn put_text(bytes: &mut [u8; LONGEST], units: i128, scale: u8) -> usize
-    requires { scale ≤ 18 }
-    ensures inside { result ≤ 41 }
+    ensures inside { result ≤ 258 }
     ensures text { drop result bytes.new ≡ text_of scale units }
 {
-    let (whole, rest) = split_point(units.unsigned_abs(), scale);
-    let point = put_fraction(bytes, scale, rest);
+    let (point, whole) = put_fraction(bytes, scale, units.unsigned_abs());
     let start = put_wide(bytes, point, whole);
     if units >= 0 {
         return start;
@@ -122,11 +120,10 @@ impl DecimalBuffer {
         }
     }
 
-    /// The text of the number units / 10^scale, for a scale of at most 18: `-` where it is below zero, no leading
-    /// zeros but for one before the point, and exactly `scale` digits after it; scale 0 has no point. A numeric type
-    /// of this scale that has room for the value reads it back.
+    /// The text of the number units / 10^scale: `-` where it is below zero, no leading zeros but for one before the
+    /// point, and exactly `scale` digits after it; scale 0 has no point. A numeric type of this scale that has room
+    /// for the value reads it back.
     pub fn format(&mut self, units: i128, scale: u8) -> &[u8]
-        requires { scale ≤ 18 }
         ensures text { result.now ≡ text_of scale units }
         ensures back { (p : ℕ) → p ≤ 18 → unsigned_abs units < 10 ^ p → numeric_of p scale result.now ≡ Some units }
     {

@@ -7,6 +7,7 @@ pub mod Same
 pub mod Rising
 pub mod Parts
 pub mod Sources
+pub mod Scaled
 pub mod Grown
 pub mod Stripes
 pub mod Starts

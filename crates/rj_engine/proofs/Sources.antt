@@ -79,6 +79,7 @@ both false b e = cc
 none_right : (a : Option ColumnType) → are_one_type a None ≡ true → ⊥
 none_right None h = cc
 none_right (Some kind.Int) h = cc
+none_right (Some (kind.Num t)) h = cc
 none_right (Some kind.Text) h = cc
 
 none_left : (b : Option ColumnType) → are_one_type None b ≡ true → ⊥

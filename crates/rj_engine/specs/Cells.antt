@@ -1,7 +1,10 @@
 -- The header and the cells of a joined table (SQL-92, 7.5 and 6.9).
-use Rattle.std.specs.Prelude.{ℕ, ◌<◌, List, [], map, length, slice_index_or}
-use Rattle.rj_columns.specs.Contents.{Content, nothing, whole, word}
+use Rattle.std.specs.Prelude.{ℕ, ◌<◌, List, [], map, length, max, Option, None, Some, slice_get, slice_index_or}
+use Rattle.rj_columns.specs.Contents.{Content, nothing, IsInLimits}
+use Rattle.rj_columns.specs.Scales.{in_scale, coalesced, HasScaleWithin}
 use Rattle.rj_columns.specs.Tables.{TableValue, cell_of}
+use Rattle.rj_columns.specs.declared.cell.ColumnType.{ColumnType}
+use Rattle.rj_columns.specs.declared.cell.ColumnType.TheVariants as kind
 use Rattle.rj_condition.specs.Joins.{partners_of}
 use Rattle.rj_condition.specs.declared.bound.BoundJoin.{BoundJoin}
 use Rattle.rj_engine.specs.declared.joined.JoinedRow.{JoinedRow}
@@ -11,11 +14,16 @@ use Rattle.rj_engine.specs.declared.origin.Origin.TheVariants.{Coalesced, Left, 
 use Rattle.rj_engine.specs.Origins.{origins_of}
 use Rattle.rj_engine.specs.Results.{result_of}
 
--- the first, or where it is null the second (6.9)
-abbrev pub coalesced : Content → Content → Content
-coalesced nothing b = b
-coalesced (whole n) b = whole n
-coalesced (word s) b = word s
+-- how many digits stand after the point in the values of a type: none in a whole number, and none where there is no such column
+abbrev pub scale_of : Option ColumnType → ℕ
+scale_of None = 0
+scale_of (Some kind.Int) = 0
+scale_of (Some (kind.Num t)) = t.scale
+scale_of (Some kind.Text) = 0
+
+-- the scale of a coalesced column: the greater one of the two columns
+abbrev pub coalesced_scale : TableValue → TableValue → ℕ → ℕ → ℕ
+coalesced_scale l r a b = max (scale_of (slice_get l.types a)) (scale_of (slice_get r.types b))
 
 -- the cell of the left row, null where that is missing
 abbrev pub left_cell : TableValue → JoinedRow → ℕ → Content
@@ -29,10 +37,17 @@ right_cell t (Both i j) col = cell_of t j col
 right_cell t (LeftOnly i) col = nothing
 right_cell t (RightOnly j) col = cell_of t j col
 
+-- the cell of a member in a column: a coalesced one is the first that is not null, in the greater scale
 abbrev pub joined_cell : TableValue → TableValue → JoinedRow → Origin → Content
-joined_cell l r row (Coalesced a b) = coalesced (left_cell l row a) (right_cell r row b)
+joined_cell l r row (Coalesced a b) = in_scale (coalesced_scale l r a b) (coalesced (left_cell l row a) (right_cell r row b))
 joined_cell l r row (Left a) = left_cell l row a
 joined_cell l r row (Right b) = right_cell r row b
+
+-- the scale in which a column's cells are given, which only a coalesced one asks
+abbrev pub shown_scale : TableValue → TableValue → Origin → ℕ
+shown_scale l r (Coalesced a b) = coalesced_scale l r a b
+shown_scale l r (Left a) = 0
+shown_scale l r (Right b) = 0
 
 -- the cells of one member
 abbrev pub joined_cells : TableValue → TableValue → List Origin → JoinedRow → List Content
@@ -63,6 +78,10 @@ view_of join l r = record {
   cells = map (joined_cells l r (columns_of join r)) (result_of join l r);
   width = length (columns_of join r);
 }
+
+-- a cell that can be given in this scale: it has no more digits after the point, and is within the limits of a comparison
+abbrev pub IsScaledWithin : ℕ → Content → Type 0
+IsScaledWithin scale x = IsInLimits x × HasScaleWithin scale x
 
 -- the left row is there
 abbrev pub IsLeftRow : TableValue → JoinedRow → Type 0

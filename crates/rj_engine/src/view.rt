@@ -1,14 +1,14 @@
 // The header and the cells of a joined table, lent by its two tables.
 
-ghost use Rattle.std.specs.Prelude.{◌≡◌, ◌<◌, map, length, true, IfOk, All};
+ghost use Rattle.std.specs.Prelude.{◌≡◌, ◌<◌, map, length, true, Some, slice_get, IfOk, All};
 ghost use Rattle.rj_columns.specs.Contents.{content_of};
 ghost use Rattle.rj_condition.specs.Fits.{fits};
 ghost use Rattle.rj_engine.specs.Results.{joined_of};
-ghost use Rattle.rj_engine.specs.Cells.{header_of, view_of, columns_of, name_of, joined_cell, left_cell, right_cell, coalesced, IsLeftRow, IsRightRow, IsMemberOf, IsColumnOf};
+ghost use Rattle.rj_engine.specs.Cells.{header_of, view_of, columns_of, name_of, joined_cell, left_cell, right_cell, scale_of, shown_scale, IsScaledWithin, IsLeftRow, IsRightRow, IsMemberOf, IsColumnOf};
 
 use super::joined::{Joined, JoinedRow};
 use super::origin::{Origin, origins};
-use rj_columns::{Cell, RowSource, Table};
+use rj_columns::{Cell, ColumnType, RowSource, Table, coalesce, in_scale};
 use rj_condition::BoundJoin;
 use std::alloc::{AllocError, Global};
 use std::marker::Model;
@@ -19,18 +19,21 @@ pub struct View<'a> {
     right: &'a Table,
     joined: &'a Joined,
     origins: Vec<Origin>,
+    // The scale of each column that is coalesced.
+    scales: Vec<u8>,
 }
 
 impl<'a> Model for View<'a> {
-    ghost use Rattle.std.specs.Prelude.{map, length, All};
-    ghost use Rattle.rj_engine.specs.Cells.{ViewValue, joined_cells, IsMemberOf, IsColumnOf};
+    ghost use Rattle.std.specs.Prelude.{◌≡◌, map, length, All};
+    ghost use Rattle.rj_engine.specs.Cells.{ViewValue, joined_cells, shown_scale, IsMemberOf, IsColumnOf};
     ghost use Rattle.rj_engine.specs.Join.{rows_in};
 
     ghost Value = { ViewValue };
 
     ghost view = { λ a. record { cells = map (joined_cells a.left.now a.right.now a.origins.items) (rows_in a.joined.now.members); width = length a.origins.items } };
 
-    ghost invariant = { λ a. All (IsMemberOf a.left.now a.right.now) (rows_in a.joined.now.members) × All (IsColumnOf a.left.now a.right.now) a.origins.items };
+    ghost invariant = { λ a. All (IsMemberOf a.left.now a.right.now) (rows_in a.joined.now.members) × All (IsColumnOf a.left.now a.right.now) a.origins.items
+        × (a.scales.items ≡ map (shown_scale a.left.now a.right.now) a.origins.items) };
 }
 
 impl<'a> Drop for View<'a> {
@@ -40,6 +43,7 @@ impl<'a> Drop for View<'a> {
             right: _,
             joined: _,
             origins: _,
+            scales: _,
         } = self;
     }
 }
@@ -62,11 +66,13 @@ impl<'a> View<'a> {
         ensures { IfOk result (λ v. v ≡ view_of join.now left.now right.now) }
     {
         let origins = origins(alloc, join.partners(), right.columns())?;
+        let scales = scales_of(alloc, left, right, &origins)?;
         Ok(View {
             left,
             right,
             joined,
             origins,
+            scales,
         })
     }
 }
@@ -86,21 +92,35 @@ impl<'a> RowSource for View<'a> {
 
     fn cell(&self, row: u64, col: usize) -> Cell<'_> {
         let member = self.joined.row(row as usize);
-        cell_at(self.left, self.right, member, self.origins[col])
+        cell_at(
+            self.left,
+            self.right,
+            member,
+            self.origins[col],
+            self.scales[col],
+        )
     }
 }
 
-// The cell of a member in a column.
-fn cell_at<'a>(left: &'a Table, right: &'a Table, row: JoinedRow, origin: Origin) -> Cell<'a>
+// The cell of a member in a column that is given in this scale.
+#[tactic(auto, using(crate::proofs::Scaled::coalesced_scaled, crate::proofs::Scaled::small_coalesced))]
+fn cell_at<'a>(
+    left: &'a Table,
+    right: &'a Table,
+    row: JoinedRow,
+    origin: Origin,
+    scale: u8,
+) -> Cell<'a>
     requires row { IsMemberOf left.now right.now row }
     requires column { IsColumnOf left.now right.now origin }
+    requires scale { scale ≡ shown_scale left.now right.now origin }
     ensures { content_of result ≡ joined_cell left.now right.now row origin }
 {
     match origin {
         Origin::Coalesced(a, b) => {
             let first = cell_of_left(left, row, a);
             let second = cell_of_right(right, row, b);
-            coalesce(first, second)
+            in_scale(coalesce(first, second), scale)
         }
         Origin::Left(a) => cell_of_left(left, row, a),
         Origin::Right(b) => cell_of_right(right, row, b),
@@ -108,10 +128,12 @@ fn cell_at<'a>(left: &'a Table, right: &'a Table, row: JoinedRow, origin: Origin
 }
 
 // The cell of the left row, null where that is missing.
+#[tactic(auto, using(crate::proofs::Scaled::fits_scaled))]
 fn cell_of_left<'a>(left: &'a Table, row: JoinedRow, col: usize) -> Cell<'a>
     requires row { IsLeftRow left.now row }
     requires col { col < length left.now.types }
-    ensures { content_of result ≡ left_cell left.now row col }
+    ensures content { content_of result ≡ left_cell left.now row col }
+    ensures scaled { IsScaledWithin (scale_of (slice_get left.now.types col)) (content_of result) }
 {
     match row {
         JoinedRow::Both(i, _) => left.cell(u64::from(i), col),
@@ -121,10 +143,12 @@ fn cell_of_left<'a>(left: &'a Table, row: JoinedRow, col: usize) -> Cell<'a>
 }
 
 // The cell of the right row, null where that is missing.
+#[tactic(auto, using(crate::proofs::Scaled::fits_scaled))]
 fn cell_of_right<'a>(right: &'a Table, row: JoinedRow, col: usize) -> Cell<'a>
     requires row { IsRightRow right.now row }
     requires col { col < length right.now.types }
-    ensures { content_of result ≡ right_cell right.now row col }
+    ensures content { content_of result ≡ right_cell right.now row col }
+    ensures scaled { IsScaledWithin (scale_of (slice_get right.now.types col)) (content_of result) }
 {
     match row {
         JoinedRow::Both(_, j) => right.cell(u64::from(j), col),
@@ -133,14 +157,46 @@ fn cell_of_right<'a>(right: &'a Table, row: JoinedRow, col: usize) -> Cell<'a>
     }
 }
 
-// The first, or where it is null the second (SQL-92, 6.9).
-fn coalesce<'a>(first: Cell<'a>, second: Cell<'a>) -> Cell<'a>
-    ensures { content_of result ≡ coalesced (content_of first.entry) (content_of second.entry) }
+// The scales of the columns with these origins.
+fn scales_of(
+    alloc: Global,
+    left: &Table,
+    right: &Table,
+    columns: &[Origin],
+) -> Result<Vec<u8>, AllocError>
+    requires { All (IsColumnOf left.now right.now) columns.now }
+    ensures { IfOk result (λ v. v.items ≡ map (shown_scale left.now right.now) columns.now) }
 {
-    match first {
-        Cell::Null => second,
-        Cell::Int(n) => Cell::Int(n),
-        Cell::Text(text) => Cell::Text(text),
+    let mut scales = Vec::new(alloc);
+    for origin in columns {
+        scales.push(scale_at(left, right, *origin))?;
+    }
+    Ok(scales)
+}
+
+// The greater scale of two coalesced columns.
+#[tactic(auto, using(crate::proofs::Scaled::greater_right, crate::proofs::Scaled::greater_left))]
+fn scale_at(left: &Table, right: &Table, origin: Origin) -> u8
+    requires { IsColumnOf left.now right.now origin }
+    ensures { result ≡ shown_scale left.now right.now origin }
+{
+    match origin {
+        Origin::Coalesced(a, b) => {
+            let first = scale_of_type(left.column_type(a));
+            let second = scale_of_type(right.column_type(b));
+            if first < second { second } else { first }
+        }
+        Origin::Left(_) | Origin::Right(_) => 0,
+    }
+}
+
+// How many digits stand after the point in the values of a type.
+fn scale_of_type(column_type: ColumnType) -> u8
+    ensures { result ≡ scale_of (Some column_type) }
+{
+    match column_type {
+        ColumnType::Int | ColumnType::Text => 0,
+        ColumnType::Num(numeric) => numeric.scale,
     }
 }
 

@@ -42,10 +42,17 @@ const NAMES: Sample<'static> = (&[b"id", b"name"], &[INT, TEXT], &[]);
 
 const CITIES: Sample<'static> = (&[b"id", b"city"], &[INT, TEXT], &[]);
 
-const CLAUSE_FAULTS: [Case<'static>; 9] = [
+const CLAUSE_FAULTS: [Case<'static>; 13] = [
     ("JOIN USING (zip)", Some(BindRefused::UnknownColumn)),
     ("JOIN ON id = 1", Some(BindRefused::AmbiguousColumn)),
     ("JOIN ON L.id = 'x'", Some(BindRefused::TypeMismatch)),
+    ("JOIN ON L.id = 1.0", None),
+    ("JOIN ON 1.5 = 'x'", Some(BindRefused::TypeMismatch)),
+    ("JOIN ON name > 1.5", Some(BindRefused::TypeMismatch)),
+    (
+        "JOIN ON L.id IN (1, 1.5, 'a')",
+        Some(BindRefused::TypeMismatch),
+    ),
     ("JOIN USING (id, ID)", Some(BindRefused::RepeatedUsing)),
     ("JOIN USING (name)", Some(BindRefused::UnknownColumn)),
     ("JOIN ON T.id = 1", Some(BindRefused::UnknownColumn)),

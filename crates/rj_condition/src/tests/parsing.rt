@@ -21,7 +21,7 @@ fn first_wrong<'a>(alloc: Global, rows: &[(&'a str, u64)]) -> &'a str {
     "-"
 }
 
-const SYNTAX_FAULTS: [(&str, u64); 22] = [
+const SYNTAX_FAULTS: [(&str, u64); 32] = [
     ("JOIN", 4),
     ("JOIN USING id", 11),
     ("JOIN ON L.a != 1", 12),
@@ -34,6 +34,16 @@ const SYNTAX_FAULTS: [(&str, u64); 22] = [
     ("JOIN ON 1 = 1 IS NULL", 17),
     ("", 0),
     ("JOIN ON L.n = 1.", 15),
+    ("JOIN ON L.n = .5", 14),
+    ("JOIN ON L.n = 1.5x", 14),
+    ("JOIN ON L.n = 1.5_", 14),
+    ("JOIN ON L.n = -.5", 14),
+    ("JOIN ON L.n = 1.x", 15),
+    ("JOIN ON L.n = 1.5.2", 17),
+    ("JOIN ON L.n = 1. 5", 15),
+    ("JOIN ON L.n = 1.234567890123456789", 14),
+    ("JOIN ON L.n = 000000000000000001.5", 14),
+    ("JOIN ON L.n = + 1.5", 14),
     ("JOIN ON \"\" = 1", 8),
     ("JOIN ON a = 9223372036854775808", 12),
     ("JOIN ON a = 12b", 12),
@@ -61,7 +71,7 @@ fn first_refused<'a>(alloc: Global, texts: &[&'a str]) -> &'a str {
     "-"
 }
 
-const CLAUSES: [&str; 15] = [
+const CLAUSES: [&str; 20] = [
     "CROSS JOIN",
     "natural join",
     "NATURAL FULL OUTER JOIN",
@@ -73,6 +83,11 @@ const CLAUSES: [&str; 15] = [
     "JOIN ON NOT a IS NOT NULL",
     "JOIN ON a NOT BETWEEN 1 AND +9223372036854775807",
     "JOIN ON a IN (-9223372036854775808, 'it''s', '')",
+    "JOIN ON 1.25 = -0.5 OR +1.50 < a",
+    "JOIN ON a IN (1.5,2,-3.25)",
+    "JOIN ON a = 123456789012345.678",
+    "JOIN ON a = -99999999999999999.9",
+    "JOIN ON a BETWEEN 0.00000000000000001 AND 1.0",
     "JOIN ON (a = 1) IS NOT UNKNOWN",
     "JOIN ON a = 1 IS TRUE",
     "JOIN ON select = order",

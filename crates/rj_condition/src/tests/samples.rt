@@ -10,16 +10,23 @@ use crate::bound::BoundJoin;
 use crate::parsing::parse;
 use crate::refused::BindRefused;
 use rj_columns::{Cell, ColumnType, Table, TableBuilder};
-use std::alloc::Global;
+use std::alloc::{AllocError, Global};
+
+/// A type of a sample's column.
+#[derive(Clone, Copy)]
+pub enum SampleType {
+    Int,
+    Text,
+}
 
 /// The names, the types and the rows of a table.
-pub type Sample<'a> = (&'a [&'a [u8]], &'a [ColumnType], &'a [&'a [Cell<'a>]]);
+pub type Sample<'a> = (&'a [&'a [u8]], &'a [SampleType], &'a [&'a [Cell<'a>]]);
 
 /// A column of numbers.
-pub const INT: ColumnType = ColumnType::Int;
+pub const INT: SampleType = SampleType::Int;
 
 /// A column of texts.
-pub const TEXT: ColumnType = ColumnType::Text;
+pub const TEXT: SampleType = SampleType::Text;
 
 const FEW: u64 = 9;
 
@@ -29,6 +36,7 @@ fn is_typed(kind: ColumnType, cell: Cell<'_>) -> bool
     match cell {
         Cell::Null => true,
         Cell::Int(_) => matches!(kind, ColumnType::Int),
+        Cell::Num { .. } => false,
         Cell::Text(_) => matches!(kind, ColumnType::Text),
     }
 }
@@ -55,7 +63,27 @@ fn push(builder: &mut TableBuilder, types: &[ColumnType], cells: &[Cell<'_>]) ->
     builder.rows() < FEW && are_typed(types, cells) && builder.push_row(cells).is_ok()
 }
 
-fn table(alloc: Global, (names, types, rows): Sample<'_>) -> Option<Table> {
+fn column_type(kind: SampleType) -> ColumnType {
+    match kind {
+        SampleType::Int => ColumnType::Int,
+        SampleType::Text => ColumnType::Text,
+    }
+}
+
+fn column_types(alloc: Global, kinds: &[SampleType]) -> Result<Vec<ColumnType>, AllocError> {
+    let mut types = Vec::new(alloc);
+    for kind in kinds {
+        types.push(column_type(*kind))?;
+    }
+    Ok(types)
+}
+
+fn filled(
+    alloc: Global,
+    names: &[&[u8]],
+    types: &[ColumnType],
+    rows: &[&[Cell<'_>]],
+) -> Option<Table> {
     let Ok(mut builder) = TableBuilder::new(alloc, names, types) else {
         return None;
     };
@@ -65,6 +93,13 @@ fn table(alloc: Global, (names, types, rows): Sample<'_>) -> Option<Table> {
         }
     }
     Some(builder.finish())
+}
+
+fn table(alloc: Global, (names, kinds, rows): Sample<'_>) -> Option<Table> {
+    let Ok(types) = column_types(alloc, kinds) else {
+        return None;
+    };
+    filled(alloc, names, types.as_slice(), rows)
 }
 
 /// Both tables.

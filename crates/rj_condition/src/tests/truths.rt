@@ -161,6 +161,26 @@ fn on_predicates(rt: HostRuntime) {
     );
 }
 
+const DECIMALS: [Case<'static>; 6] = [
+    ("JOIN ON 1.5 = 1.50", &[b"T", b"T", b"T"]),
+    ("JOIN ON L.x = 5.00", &[b"F", b"T", b"U"]),
+    ("JOIN ON L.x BETWEEN 0.5 AND 1.25", &[b"T", b"F", b"U"]),
+    ("JOIN ON L.x > 4.99999999999999999", &[b"F", b"T", b"U"]),
+    (
+        "JOIN ON -0.5 < R.b AND L.k IN (2.0, 3)",
+        &[b"F", b"T", b"T"],
+    ),
+    ("JOIN ON -1.50 = -1.05", &[b"F", b"F", b"F"]),
+];
+
+#[test]
+fn decimal_literals(rt: HostRuntime) {
+    assert_eq!(rt;
+        first_wrong(rt.alloc(), THREE_ROWS, ZERO, DECIMALS.as_slice()),
+        ""
+    );
+}
+
 const NAMES: Sample<'static> = (
     &[b"id", b"name"],
     &[INT, TEXT],

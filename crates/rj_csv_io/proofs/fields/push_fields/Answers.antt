@@ -2,7 +2,6 @@ use Rattle.std.proofs.Common.{◌<◌, ◌∷◌, [], length, refl, sym, ◌∙�
 use Rattle.std.proofs.lemmas.List.{length-append}
 use Rattle.csv.specs.Records.{fields_of}
 use Rattle.csv.proofs.RecordFacts.{field-get, field-there}
-use Rattle.rj_columns.specs.declared.cell.ColumnType.TheVariants as kind
 use Rattle.rj_columns.specs.Contents.{content_of}
 use Rattle.rj_csv_io.proofs.RowsFacts.{cell-fits, FitsAt-from, grows-same}
 use Rattle.rj_csv_io.proofs.TypedFacts.{cells-step, cells-fault, cells-end}
@@ -16,13 +15,13 @@ pub returns-in-None-clause-fault : goal.returns-in-None-clause-fault
 returns-in-None-clause-fault c = λ _.
     let at : c.loop-i.i < length (fields_of c.args.fields.now) = omega (arith, c.requires.fields, c.loop-i-test.true) in
     let field = field-get (fields_of c.args.fields.now) c.loop-i.i c.in-Some.field.now (sym c.in-Some.ensures.value) in
-    c.loop-i.invariant.state ∙ rw c.fault_at.ensures (cells-fault c.args.null.now c.args.row c.loop-i.builder.row c.args.types.now (fields_of c.args.fields.now) c.loop-i.i kind.Int _ c.in-Some.field.now
-    c.loop-i-test.true at refl field (sym c.in-None.ensures) c.loop-i.invariant.size)
+    c.loop-i.invariant.state ∙ rw c.fault_at.ensures (cells-fault c.args.null.now c.args.row c.loop-i.builder.row c.args.types.now (fields_of c.args.fields.now) c.loop-i.i _ c.index-types-i.result c.in-Some.field.now
+    c.loop-i-test.true at (sym c.index-types-i.is) field (sym c.in-None.ensures) c.loop-i.invariant.size)
 
 pub push_cell-requires : goal.push_cell-requires
 push_cell-requires c =
     let fit = cell-fits c.args.null.now _ c.in-Some.field.now (content_of c.in-Some-cell_of_field.cell) (sym c.in-Some-cell_of_field.ensures) in
-    let place = FitsAt-from c.args.types.now c.loop-i.i kind.Int (content_of c.in-Some-cell_of_field.cell) c.loop-i-test.true fit in
+    let place = FitsAt-from c.args.types.now c.loop-i.i _ c.index-types-i.result (content_of c.in-Some-cell_of_field.cell) c.loop-i-test.true (sym c.index-types-i.is) fit in
     rw (c.loop-i.invariant.same, c.requires.types, c.loop-i.invariant.size) place
 
 pub loop-i-preserved : goal.loop-i-preserved
@@ -31,8 +30,8 @@ loop-i-preserved c =
     let field = field-get (fields_of c.args.fields.now) c.loop-i.i c.in-Some.field.now (sym c.in-Some.ensures.value) in
     let pushed = c.in-Ok.ensures.ok in
     record {
-      state = c.loop-i.invariant.state ∙ rw pushed (cells-step c.args.null.now c.args.row c.loop-i.builder.row c.args.types.now (fields_of c.args.fields.now) c.loop-i.i kind.Int _ c.in-Some.field.now (content_of c.in-Some-cell_of_field.cell)
-          c.loop-i-test.true at refl field (sym c.in-Some-cell_of_field.ensures));
+      state = c.loop-i.invariant.state ∙ rw pushed (cells-step c.args.null.now c.args.row c.loop-i.builder.row c.args.types.now (fields_of c.args.fields.now) c.loop-i.i _ c.index-types-i.result c.in-Some.field.now (content_of c.in-Some-cell_of_field.cell)
+          c.loop-i-test.true at (sym c.index-types-i.is) field (sym c.in-Some-cell_of_field.ensures));
       size = rw pushed (omega (arith, length-append c.loop-i.builder.row (content_of c.in-Some-cell_of_field.cell ∷ []), c.loop-i.invariant.size));
       same = grows-same c.args.builder.now c.loop-i.builder c.push_cell.new.self _ c.loop-i.invariant.same pushed;
       end = refl;

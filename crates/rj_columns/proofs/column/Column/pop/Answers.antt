@@ -1,11 +1,13 @@
 use Rattle.std.proofs.Common.{refl}
 use Rattle.std.proofs.lemmas.List.{length-map, take-map}
 use Rattle.rj_columns.proofs.column.Column.pop.Goals as goal
-use Rattle.rj_columns.proofs.column.Column.pop.Goals.{in-Ints, in-Texts}
+use Rattle.rj_columns.proofs.column.Column.pop.Goals.{in-Ints, in-Nums, in-Texts}
 
 pub returns : goal.returns
 returns c = elim c.match-self.branch [
   | in-Ints w ↦ let e = w.self-inside-is in let s = w.in-Ints.is in let t = w.truncate.ensures in let n = w.saturating_sub.ensures in let l = w.len-rows.ensures in
+      rw (e, t, n, l, ← c.self.view_is, s, length-map, take-map) refl
+  | in-Nums w ↦ let e = w.self-inside-is in let s = w.in-Nums.is in let t = w.truncate-in-Nums.ensures in let n = w.saturating_sub-in-Nums.ensures in let l = w.len-rows-in-Nums.ensures in
       rw (e, t, n, l, ← c.self.view_is, s, length-map, take-map) refl
   | in-Texts w ↦ let e = w.self-inside-is in let s = w.in-Texts.is in let t = w.truncate-in-Texts.ensures in let n = w.saturating_sub-in-Texts.ensures in let l = w.len-rows-in-Texts.ensures in
       rw (e, t, n, l, ← c.self.view_is, s, length-map, take-map) refl

@@ -10,7 +10,7 @@ pub returns : goal.returns
 returns c =
     let start = c.put_text-start.result in
     let bytes = c.put_text-start.new.bytes in
-    let text : mid_of start (41 - start) bytes ≡ text_of c.args.scale c.args.units =
-    take_all (41 - start) (drop start bytes) (omega (arith, length-drop start bytes))
+    let text : mid_of start (258 - start) bytes ≡ text_of c.args.scale c.args.units =
+    take_all (258 - start) (drop start bytes) (omega (arith, length-drop start bytes))
     ∙ (c.put_text-start.ensures.text ∙ ap (text_of c.args.scale) (to_z-of_z c.ranges.units)) in
-    record { text = text; back = λ p m l. read_back p c.args.scale c.args.units (mid_of start (41 - start) bytes) text m l }
+    record { text = text; back = λ p m l. read_back p c.args.scale c.args.units (mid_of start (258 - start) bytes) text m l }
