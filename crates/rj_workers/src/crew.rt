@@ -47,8 +47,8 @@ pub(crate) struct Back<T> {
     pub(crate) takers: Vec<Taker<T>>,
 }
 
-// The next of the seats.
-fn next_seat(halt: &Halt, seats: &mut IntoIter<HaltSeat, Global>) -> Option<HaltSeat>
+/// The next of the seats.
+pub(crate) fn next_seat(halt: &Halt, seats: &mut IntoIter<HaltSeat, Global>) -> Option<HaltSeat>
     requires { All (IsHaltSeatOf halt.now) (into_iter_items seats.old) }
     ensures seats { All (IsHaltSeatOf halt.now) (into_iter_items seats.new) }
     ensures seat { IfSome result (IsHaltSeatOf halt.now) }
