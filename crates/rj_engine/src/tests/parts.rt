@@ -49,5 +49,9 @@ fn settings_within_limits(rt: HostRuntime) -> Result<(), Fail> {
     assert!(rt; Settings::new(1, 4, 0, 1024, 5, 64, 1).is_none());
     assert!(rt; Settings::new(1, 4, 0, 1024, 1, 4_097, 1).is_none());
     assert!(rt; Settings::new(1, 4, 0, 1024, 1, 64, 4).is_none());
+    let settings = Settings::new(1, 4, 0, 1024, 1, 64, 1).unwrap();
+    assert_eq!(rt; settings.piece, 65_536);
+    assert!(rt; settings.with_piece(1).is_some() && settings.with_piece(1_048_576).is_some());
+    assert!(rt; settings.with_piece(0).is_none() && settings.with_piece(1_048_577).is_none());
     Ok(())
 }
