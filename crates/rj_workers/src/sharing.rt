@@ -102,21 +102,21 @@ fn all_made<S: Shares>(
     alloc: Global,
     shares: &S,
     results: Vec<Result<Vec<S::Done>, AllocError>>,
-) -> Result<Vec<Vec<S::Done>>, AllocError>
+) -> Result<Vec<S::Done>, AllocError>
     requires { All (λ r. IfOk r (λ v. AreMade (S.makes shares.now) (S.shares shares.now) v.items)) results.items }
-    ensures { IfOk result (λ v. All (λ l. AreMade (S.makes shares.now) (S.shares shares.now) l.items) v.items) }
+    ensures { IfOk result (λ v. AreMade (S.makes shares.now) (S.shares shares.now) v.items) }
 {
     let _shared = shares;
-    let mut lists = Vec::with_capacity(alloc, results.len())?;
+    let mut all = Vec::new(alloc);
     for result in results {
-        let list = result?;
-        lists.push(list)?;
+        let mut made = result?;
+        all.append(&mut made)?;
     }
-    Ok(lists)
+    Ok(all)
 }
 
 /// Does shares by so many workers at the same time, which draw them by ticket, each once. All of them are lent the shares. It
-/// answers what each worker made.
+/// answers what all of them made.
 ///
 /// # Errors
 ///
@@ -128,13 +128,13 @@ pub fn run_shares<R: Threads + Sync, S: Shares + Sync, G: Gate + Sync>(
     shares: &S,
     gate: &G,
     workers: u32,
-) -> Result<Vec<Vec<S::Done>>, AllocError>
+) -> Result<Vec<S::Done>, AllocError>
 where
     S::Done: Send,
     requires workers { (1 ≤ workers) × (workers ≤ 64) }
 
     // each result is what some share makes
-    ensures { IfOk result (λ v. All (λ l. AreMade (S.makes shares.now) (S.shares shares.now) l.items) v.items) }
+    ensures { IfOk result (λ v. AreMade (S.makes shares.now) (S.shares shares.now) v.items) }
 {
     let (tickets, draws) = Tickets::open(alloc, shares.count().min(MOST_DRAWN), workers)?;
     let (halt, seats) = Halt::open(alloc, workers)?;

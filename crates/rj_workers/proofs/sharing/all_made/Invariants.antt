@@ -1,5 +1,4 @@
 use Rattle.std.proofs.Common.{◌≡◌, ◌++◌, length}
-use Rattle.std.specs.Prelude.{All}
 use Rattle.std.specs.Vec.Iter.{into_iter_items, into_iter_len}
 use Rattle.rj_workers.specs.Sharing.{AreMade}
 use Rattle.rj_workers.proofs.sharing.all_made.Given as goal
@@ -8,5 +7,5 @@ abbrev pub invariant-loop-result : goal.invariant-loop-result
 invariant-loop-result g l = record {
   rest : l.yielded ++ into_iter_items l.result-iterator ≡ l.fn.results.items;
   rest_len : into_iter_len l.result-iterator ≡ length (into_iter_items l.result-iterator);
-  lists : All (λ v. AreMade (g.S.Shares.makes l.shares) (g.S.Shares.shares l.shares) v.items) l.lists.items;
+  all : AreMade (g.S.Shares.makes l.shares) (g.S.Shares.shares l.shares) l.all.items;
 }
