@@ -13,7 +13,7 @@ use crate::crew::Back;
 use crate::ending::{EndShared, Ended, finish_all};
 use crate::job::Job;
 use crate::scan::Scanner;
-use crate::take::{Held, Building, Taker};
+use crate::take::{Building, Held, Taker};
 use crate::words::Words;
 use rj_exchange::{Halt, HaltSeat, Outbox, StripeSeat, Stripes};
 use rj_ledger::{Ledger, contained_suffice};

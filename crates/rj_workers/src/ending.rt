@@ -9,7 +9,7 @@ ghost use Rattle.rj_workers.specs.Ends.{AreSlots, IsEnded};
 
 use crate::crew::Crew;
 use crate::job::Job;
-use crate::take::{Held, Building, offer};
+use crate::take::{Building, Held, offer};
 use rj_exchange::{Exchange, Outbox, Posted, Stub};
 use rj_ledger::{Ledger, complete_stays};
 use std::alloc::{AllocError, Global};

@@ -7,7 +7,7 @@ ghost use Rattle.rj_workers.specs.Scans.{AreNewOutboxes};
 ghost use Rattle.rj_workers.specs.Takes.{AreFresh, IsRoomOf};
 ghost use Rattle.rj_exchange.specs.declared.boxes.Inbox.{Inbox};
 
-use crate::closing::{Delivered, conclude, build_rest};
+use crate::closing::{Delivered, build_rest, conclude};
 use crate::crew::{Crew, make_hands};
 use crate::ending::{EndShared, Ended};
 use crate::floor::Floor;

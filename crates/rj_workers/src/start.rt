@@ -41,8 +41,7 @@ impl<'a, J: Job, G> Promise<Taker<J::Built>> for TakeOf<'a, J, G> {
 }
 
 /// A taker that was started.
-pub(crate) type TakeHandle<'a, J, G> =
-    PromisedHandle<Taker<<J as Job>::Built>, TakeOf<'a, J, G>>;
+pub(crate) type TakeHandle<'a, J, G> = PromisedHandle<Taker<<J as Job>::Built>, TakeOf<'a, J, G>>;
 
 // Puts a handle behind others. None where there is no room for it.
 fn keep<T: Drop>(list: &mut Vec<T>, handle: T) -> Option<()>

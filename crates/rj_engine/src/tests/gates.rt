@@ -151,7 +151,11 @@ fn stripe_gate_test(rt: HostRuntime) -> Result<(), Fail> {
         settings,
         &gate,
     )?;
-    assert_eq!(rt; gate.stripes.in_vain(), 0, "a stripe waited in vain for the other");
+    assert_eq!(rt;
+        gate.stripes.in_vain(),
+        0,
+        "a stripe waited in vain for the other"
+    );
     assert_eq!(rt; gate.stripes.count(), 2);
     assert_eq!(rt; rows, Some(3));
     Ok(())
@@ -241,7 +245,11 @@ fn drawn_partitions_gate(rt: HostRuntime) -> Result<(), Fail> {
         settings,
         &gate,
     )?;
-    assert_eq!(rt; gate.partitions.in_vain(), 0, "a partition waited in vain for the others");
+    assert_eq!(rt;
+        gate.partitions.in_vain(),
+        0,
+        "a partition waited in vain for the others"
+    );
     assert_eq!(rt; gate.partitions.count(), 4);
     assert_eq!(rt; rows, Some(1));
     Ok(())
@@ -282,7 +290,11 @@ fn piece_gate_test(rt: HostRuntime) -> Result<(), Fail> {
         settings,
         &gate,
     )?;
-    assert_eq!(rt; gate.pieces.in_vain(), 0, "a piece waited in vain for the next");
+    assert_eq!(rt;
+        gate.pieces.in_vain(),
+        0,
+        "a piece waited in vain for the next"
+    );
     assert_eq!(rt; gate.pieces.count(), 1);
     assert_eq!(rt; rows, Some(30));
     Ok(())

@@ -95,7 +95,11 @@ fn is_joined(alloc: Global, pairs: &[(u32, u32)], partition: u32) -> Result<bool
 }
 
 // Whether each partition has what all senders have for it, and its pairs.
-fn is_whole(alloc: Global, delivered: &Delivered<Vec<(u32, u32)>>, senders: u32) -> Result<bool, AllocError>
+fn is_whole(
+    alloc: Global,
+    delivered: &Delivered<Vec<(u32, u32)>>,
+    senders: u32,
+) -> Result<bool, AllocError>
     requires len { (length delivered.now.ledgers.items ≡ 3) × (length delivered.now.built.items ≡ 3) }
     requires senders { (senders ≤ 128) × ((p : ℕ) (d : _) → p < 3 → length (slice_index_or delivered.now.ledgers.items p d).senders ≡ senders) }
 {
