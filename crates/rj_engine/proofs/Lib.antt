@@ -14,3 +14,6 @@ pub mod Starts
 pub mod Within
 pub mod Whole
 pub mod Delivered
+pub mod Books
+pub mod Pools
+pub mod Crosses

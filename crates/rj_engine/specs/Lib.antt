@@ -6,3 +6,4 @@ pub mod Cells
 pub mod Limits
 pub mod Partitioned
 pub mod Stripes
+pub mod Pools

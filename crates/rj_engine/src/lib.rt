@@ -1,12 +1,14 @@
 //! The joined table of SQL-92 (7.5) over two tables: its rows by their numbers, its header and its cells.
 #![tactic(auto)]
 
+mod collecting;
 mod dealing;
 mod gathering;
 mod joined;
 mod marks;
 mod origin;
 mod partitions;
+mod pieces;
 mod plain;
 mod scattering;
 mod settings;

@@ -6,9 +6,9 @@ use Rattle.rj_ledger.specs.Ledgers.{LedgerValue, IsComplete, IsSameShape, opened
 use Rattle.rj_exchange.specs.declared.posted.Posted.{Posted}
 use Rattle.rj_exchange.specs.Boxes.{PostedVec}
 use Rattle.rj_workers.specs.Arrivals.{rows_by_sender, parcel_of, parcels_of}
-use Rattle.rj_workers.specs.Takes.{Joins, IsJoining}
-use Rattle.rj_workers.specs.declared.take.Joining.{Joining}
-use Rattle.rj_workers.specs.declared.take.Joining.TheVariants.{Waiting, Left, Done}
+use Rattle.rj_workers.specs.Takes.{Builds, IsBuilding}
+use Rattle.rj_workers.specs.declared.take.Building.{Building}
+use Rattle.rj_workers.specs.declared.take.Building.TheVariants.{Waiting, Left, Done}
 
 pub after_append : (v : LedgerValue) (xs ys : List Parcel) → after_all v (xs ++ ys) ≡ after_all (after_all v xs) ys
 after_append v [] ys = refl
@@ -21,12 +21,12 @@ length-replicate (suc n) a = ap suc (length-replicate n a)
 pub senders_opened : ((v : LedgerValue) (xs : List Parcel) → IsSameShape v (after_all v xs)) → (v : LedgerValue) (p n block : ℕ) (xs : List Parcel) → v ≡ after_all (opened p n block) xs → length v.senders ≡ n
 senders_opened stays v p n block xs is = ap (λ (u : LedgerValue). length u.senders) is ∙ (stays (opened p n block) xs).senders ∙ length-replicate n nothing_yet
 
--- what was joined stays joined
-module _ (joins : Joins) (v w : LedgerValue) (stays : IsComplete v → w ≡ v) where
-  pub joining_kept : (j : Joining) → IsJoining joins v j → IsJoining joins w j
-  joining_kept Waiting h = tt
-  joining_kept Left h = tt
-  joining_kept (Done pairs) h = subst (λ (u : LedgerValue). IsComplete u × joins (rows_by_sender u) pairs.items) (sym (stays h.0)) h
+-- what was built stays built
+module _ {T : Type 0} (builds : Builds T) (p : ℕ) (v w : LedgerValue) (stays : IsComplete v → w ≡ v) where
+  pub building_kept : (b : Building T) → IsBuilding builds p v b → IsBuilding builds p w b
+  building_kept Waiting h = tt
+  building_kept Left h = tt
+  building_kept (Done built) h = subst (λ (u : LedgerValue). IsComplete u × builds p (rows_by_sender u) built) (sym (stays h.0)) h
 
 -- the parcels of a list that has one more
 pub parcels_snoc : (xs : List Posted) (x : Posted) → map parcel_of (xs ++ x ∷ []) ≡ map parcel_of xs ++ x.parcel ∷ []

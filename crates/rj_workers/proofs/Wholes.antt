@@ -31,7 +31,7 @@ use Rattle.rj_workers.specs.declared.ending.Ended.{Ended}
 use Rattle.rj_workers.specs.Posts.{Due, Posts, posts_at, AreAllAt}
 use Rattle.rj_workers.specs.Arrivals.{IsPartition, IsDelivered, AreOutboxes, stub_lists, rows_by_sender, due_lists}
 use Rattle.rj_workers.specs.Scans.{Stopped, AreScans, HasPostedStripe}
-use Rattle.rj_workers.specs.Takes.{Joins, IsHeldOf, AreTakes}
+use Rattle.rj_workers.specs.Takes.{Builds, IsHeldOf, AreTakes}
 use Rattle.rj_workers.specs.Ends.{IsEnded, IsSettled}
 use Rattle.rj_workers.proofs.Parts.{lists_at}
 
@@ -65,31 +65,31 @@ all_calm ss raised seen = λ i d lt stopped. elim stopped [
 ]
 
 -- the halt seats of all: of scanners, of takers, and the starting thread's
-abbrev pub seats_of_all : List Scanner → List Taker → HaltSeat → List HaltSeat
-seats_of_all rs ts own = ([] ++ map (λ (r : Scanner). r.seat) rs ++ map (λ (t : Taker). t.seat) ts) ++ own ∷ []
+abbrev pub seats_of_all : {T : Type 0} → List Scanner → List (Taker T) → HaltSeat → List HaltSeat
+seats_of_all rs ts own = ([] ++ map (λ (r : Scanner). r.seat) rs ++ map (λ (t : Taker _). t.seat) ts) ++ own ∷ []
 
-module _ (due : Due) (joins : Joins) (stripes block : ℕ) (e : Exchange) (h : Halt) (st : Stripes) (rs : List Scanner) (ts : List Taker) (own : HaltSeat)
-    (scans : AreScans due block stripes e h st rs) (takes : AreTakes joins e h stripes block e.outboxes ts) (mine : IsHaltSeatOf h own) where
+module _ {T : Type 0} (due : Due) (builds : Builds T) (stripes block : ℕ) (e : Exchange) (h : Halt) (st : Stripes) (rs : List Scanner) (ts : List (Taker T)) (own : HaltSeat)
+    (scans : AreScans due block stripes e h st rs) (takes : AreTakes builds e h stripes block e.outboxes ts) (mine : IsHaltSeatOf h own) where
   pub seats_are : (ss : List HaltSeat) → ss ≡ seats_of_all rs ts own → All (IsHaltSeatOf h) ss
   seats_are ss is = subst (All (IsHaltSeatOf h)) (sym is)
-      (All-push (IsHaltSeatOf h) (map (λ (r : Scanner). r.seat) rs ++ map (λ (t : Taker). t.seat) ts) own
-      (All-append (IsHaltSeatOf h) (map (λ (r : Scanner). r.seat) rs) (map (λ (t : Taker). t.seat) ts)
+      (All-push (IsHaltSeatOf h) (map (λ (r : Scanner). r.seat) rs ++ map (λ (t : Taker T). t.seat) ts) own
+      (All-append (IsHaltSeatOf h) (map (λ (r : Scanner). r.seat) rs) (map (λ (t : Taker T). t.seat) ts)
       (All-map (IsHaltSeatOf h) (λ (r : Scanner). r.seat) rs (λ i d lt. (scans.1 i d (let n = scans.0 in omega arith)).scanner.seat))
-      (All-map (IsHaltSeatOf h) (λ (t : Taker). t.seat) ts (λ i d lt. (takes.1 i d lt).seat)))
+      (All-map (IsHaltSeatOf h) (λ (t : Taker T). t.seat) ts (λ i d lt. (takes.1 i d lt).seat)))
       mine)
 
   pub seats_many : (ss : List HaltSeat) → ss ≡ seats_of_all rs ts own → length ss ≡ e.outboxes + e.outboxes + 1
   seats_many ss is =
-      let a = ap length is in let b = length-append (map (λ (r : Scanner). r.seat) rs ++ map (λ (t : Taker). t.seat) ts) (own ∷ []) in let c = length-append (map (λ (r : Scanner). r.seat) rs) (map (λ (t : Taker). t.seat) ts) in
-      let m = length-map rs (λ (r : Scanner). r.seat) in let n = length-map ts (λ (t : Taker). t.seat) in let p = scans.0 in let q = takes.0 in omega arith
+      let a = ap length is in let b = length-append (map (λ (r : Scanner). r.seat) rs ++ map (λ (t : Taker T). t.seat) ts) (own ∷ []) in let c = length-append (map (λ (r : Scanner). r.seat) rs) (map (λ (t : Taker T). t.seat) ts) in
+      let m = length-map rs (λ (r : Scanner). r.seat) in let n = length-map ts (λ (t : Taker T). t.seat) in let p = scans.0 in let q = takes.0 in omega arith
 
   pub scans_calm : (ss : List HaltSeat) → ss ≡ seats_of_all rs ts own → All IsCalm ss → (o : ℕ) (d : Scanner) → o < e.outboxes → IsCalm (get_or rs o d).seat
   scans_calm ss is calm o d lt = All_of_map rs (λ (r : Scanner). r.seat) IsCalm
-      (All_left IsCalm (map (λ (r : Scanner). r.seat) rs) (map (λ (t : Taker). t.seat) ts) (All_left IsCalm (map (λ (r : Scanner). r.seat) rs ++ map (λ (t : Taker). t.seat) ts) (own ∷ []) (subst (All IsCalm) is calm))) o d (let n = scans.0 in omega arith)
+      (All_left IsCalm (map (λ (r : Scanner). r.seat) rs) (map (λ (t : Taker T). t.seat) ts) (All_left IsCalm (map (λ (r : Scanner). r.seat) rs ++ map (λ (t : Taker T). t.seat) ts) (own ∷ []) (subst (All IsCalm) is calm))) o d (let n = scans.0 in omega arith)
 
-  pub takes_held : (ss : List HaltSeat) → ss ≡ seats_of_all rs ts own → All IsCalm ss → All (λ (t : Taker). All (IsHeldOf joins e stripes block) t.all.items) ts
+  pub takes_held : (ss : List HaltSeat) → ss ≡ seats_of_all rs ts own → All IsCalm ss → All (λ (t : Taker T). All (IsHeldOf builds e stripes block) t.all.items) ts
   takes_held ss is calm i d lt =
-      let quiet = All_of_map ts (λ (t : Taker). t.seat) IsCalm (All_right IsCalm (map (λ (r : Scanner). r.seat) rs) (map (λ (t : Taker). t.seat) ts) (All_left IsCalm (map (λ (r : Scanner). r.seat) rs ++ map (λ (t : Taker). t.seat) ts) (own ∷ []) (subst (All IsCalm) is calm))) i d lt in
+      let quiet = All_of_map ts (λ (t : Taker T). t.seat) IsCalm (All_right IsCalm (map (λ (r : Scanner). r.seat) rs) (map (λ (t : Taker T). t.seat) ts) (All_left IsCalm (map (λ (r : Scanner). r.seat) rs ++ map (λ (t : Taker T). t.seat) ts) (own ∷ []) (subst (All IsCalm) is calm))) i d lt in
       elim (takes.1 i d lt).held [ inl s ↦ absurd (quiet s) | inr a ↦ a ]
 
 -- a stripe that is held is some scanner's
@@ -154,8 +154,8 @@ module _ (due : Due) (stripes block : ℕ) (e : Exchange) (h : Halt) (st : Strip
         let d = suffice p xs all_planned among in
         (ap (λ (u : LedgerValue). length u.senders) is ∙ d.senders, λ s sl. ap (λ (u : LedgerValue). (standing u s).rows) is ∙ d.rows s sl)
 
-  pub settled_of : (joins : Joins) (p : ℕ) (d : Ended) → p < e.partitions → IsEnded joins (stripes + stripes) block e (stub_lists (map (λ (z : Scanner). z.outbox) rs)) p d → IsSettled joins due (stripes + stripes) p d
-  settled_of joins p d pl is = let f = is.filled in record { delivered = delivered_of p f.0 pl f.1 d.ledger f.2; joined = is.joined }
+  pub settled_of : {T : Type 0} (builds : Builds T) (p : ℕ) (d : Ended T) → p < e.partitions → IsEnded builds (stripes + stripes) block e (stub_lists (map (λ (z : Scanner). z.outbox) rs)) p d → IsSettled builds due (stripes + stripes) p d
+  settled_of builds p d pl is = let f = is.filled in record { delivered = delivered_of p f.0 pl f.1 d.ledger f.2; number = is.number; built = is.built }
 
 -- the delivered rows of all senders
 rows_from : (ss : List Standing) (f : ℕ → List ℕ) (n from : ℕ) → length ss ≡ n → ((s : ℕ) → s < n → (get_or ss s nothing_yet).rows ≡ f (from + s)) → map (λ (t : Standing). t.rows) ss ≡ map f (range_with_len from n)

@@ -15,7 +15,7 @@ use Rattle.rj_workers.specs.declared.words.Words.{Words}
 use Rattle.rj_workers.specs.declared.words.Seats.{Seats}
 use Rattle.rj_workers.specs.Posts.{Due}
 use Rattle.rj_workers.specs.Scans.{AreNewScanners, AreScans, IsFreshDraws}
-use Rattle.rj_workers.specs.Takes.{Joins, AreTakes, IsNewTaker}
+use Rattle.rj_workers.specs.Takes.{Builds, AreTakes, IsNewTaker}
 
 -- words, stripes and tickets for this crew: a seat at the word halt for each scanner, each taker and the starting thread
 pub record AreWords (crew : Crew) (w : Words) : Type 0 where
@@ -33,18 +33,18 @@ pub record AreSeats (w : Words) (n : ℕ) (s : Seats) : Type 0 where
   pub takers : length s.tickets.items ≡ n
 
 -- a scanner for each outbox and as many takers, as they start
-pub record AreHandsOf (e : Exchange) (h o : Halt) (st : Stripes) (t : Tickets) (x : Hands) : Type 0 where
+pub record AreHandsOf {T : Type 0} (e : Exchange) (h o : Halt) (st : Stripes) (t : Tickets) (x : Hands T) : Type 0 where
   pub scanning : AreNewScanners e h st e.outboxes x.scanners.items
   pub taking : All (IsNewTaker h o t) x.takers.items
   pub many : length x.takers.items ≡ e.outboxes
   pub looking : IsHaltSeatOf o x.over
 
-abbrev pub AreHands : {J G : Type 0} → Floor J G → Hands → Type 0
+abbrev pub AreHands : {J G T : Type 0} → Floor J G → Hands T → Type 0
 AreHands f x = AreHandsOf f.exchange.now f.halt.now f.done.now f.stripes.now f.tickets.now x
 
-pub record IsBackOf (due : Due) (joins : Joins) (e : Exchange) (h : Halt) (st : Stripes) (crew : Crew) (b : Back) : Type 0 where
+pub record IsBackOf {T : Type 0} (due : Due) (builds : Builds T) (e : Exchange) (h : Halt) (st : Stripes) (crew : Crew) (b : Back T) : Type 0 where
   pub scanned : AreScans due crew.block crew.workers e h st b.scanners.items
-  pub taken : AreTakes joins e h crew.workers crew.block e.outboxes b.takers.items
+  pub taken : AreTakes builds e h crew.workers crew.block e.outboxes b.takers.items
 
-abbrev pub IsBack : {J G : Type 0} → Due → Joins → Floor J G → Back → Type 0
-IsBack due joins f b = IsBackOf due joins f.exchange.now f.halt.now f.stripes.now f.crew b
+abbrev pub IsBack : {J G T : Type 0} → Due → Builds T → Floor J G → Back T → Type 0
+IsBack due builds f b = IsBackOf due builds f.exchange.now f.halt.now f.stripes.now f.crew b

@@ -5,3 +5,4 @@ pub mod Takes
 pub mod Ends
 pub mod Crews
 pub mod Hands
+pub mod Sharing

@@ -6,27 +6,27 @@ ghost use Rattle.rj_exchange.specs.Stripes.{AreAllStripeSeats, held, stripes_of}
 ghost use Rattle.rj_exchange.specs.Tickets.{EachOnce};
 ghost use Rattle.rj_workers.specs.Arrivals.{IsDelivered, due_lists, rows_by_sender};
 ghost use Rattle.rj_workers.specs.Hands.{AreWords, IsBackOf};
-ghost use Rattle.rj_workers.specs.Takes.{IsHeldOf, IsJoining};
+ghost use Rattle.rj_workers.specs.Takes.{IsHeldOf, IsBuilding};
 ghost use Rattle.rj_workers.specs.Ends.{AreSettled, AreSlots};
 
 use crate::crew::Back;
 use crate::ending::{EndShared, Ended, finish_all};
 use crate::job::Job;
 use crate::scan::Scanner;
-use crate::take::{Held, Joining, Taker};
+use crate::take::{Building, Held, Taker};
 use crate::words::Words;
 use rj_exchange::{Halt, HaltSeat, Outbox, StripeSeat, Stripes};
 use rj_ledger::{Ledger, contained_suffice};
 use std::alloc::{AllocError, Global};
 use std::sync::Wait;
 
-/// What all partitions were delivered, and what they keep, in their order.
+/// What all partitions were delivered, and what they were built into, in their order.
 #[derive(Drop)]
-pub struct Delivered {
+pub struct Delivered<T> {
     /// The ledgers, each with all that was due to its partition.
     pub ledgers: Vec<Ledger>,
-    /// The pairs that each partition keeps.
-    pub pairs: Vec<Vec<(u32, u32)>>,
+    /// What each partition was built into.
+    pub built: Vec<T>,
 }
 
 // Puts an item behind others.
@@ -63,11 +63,11 @@ fn hand_scanned(
 }
 
 // The partitions of all takers; their seats go behind the others.
-fn hand_taken(
+fn hand_taken<T: Drop>(
     alloc: Global,
-    taken: Vec<Taker>,
+    taken: Vec<Taker<T>>,
     seats: &mut Vec<HaltSeat>,
-) -> Result<Vec<Vec<Held>>, AllocError>
+) -> Result<Vec<Vec<Held<T>>>, AllocError>
     ensures groups { IfOk result (λ v. v.items ≡ map (λ t. t.all) taken.items) }
     ensures seats { IfOk result (λ _. seats.new.items ≡ seats.old.items ++ map (λ t. t.seat) taken.items) }
 {
@@ -86,7 +86,7 @@ fn hand_taken(
 }
 
 // So many empty places.
-fn no_slots(alloc: Global, partitions: u32) -> Result<Vec<Option<Held>>, AllocError>
+fn no_slots<T: Drop>(alloc: Global, partitions: u32) -> Result<Vec<Option<Held<T>>>, AllocError>
     ensures { IfOk result (λ v. (length v.items ≡ partitions) × All (λ s. s ≡ None) v.items) }
 {
     let mut slots = Vec::new(alloc);
@@ -96,17 +96,21 @@ fn no_slots(alloc: Global, partitions: u32) -> Result<Vec<Option<Held>>, AllocEr
     Ok(slots)
 }
 
-fn place(slot: &mut Option<Held>, held: Held)
+fn place<T: Drop>(slot: &mut Option<Held<T>>, held: Held<T>)
     ensures { slot.new ≡ Some held }
 {
     *slot = Some(held);
 }
 
 // Puts the partitions of one taker into their places.
-fn place_group<J: Job>(shared: &EndShared<'_, J>, slots: &mut Vec<Option<Held>>, group: Vec<Held>)
-    requires slots { AreSlots (J.joins shared.now.job.now) shared.now slots.old.items }
-    requires group { All (IsHeldOf (J.joins shared.now.job.now) shared.now.exchange.now shared.now.crew.workers shared.now.crew.block) group.items }
-    ensures { AreSlots (J.joins shared.now.job.now) shared.now slots.new.items }
+fn place_group<J: Job>(
+    shared: &EndShared<'_, J>,
+    slots: &mut Vec<Option<Held<J::Built>>>,
+    group: Vec<Held<J::Built>>,
+)
+    requires slots { AreSlots (J.builds shared.now.job.now) shared.now slots.old.items }
+    requires group { All (IsHeldOf (J.builds shared.now.job.now) shared.now.exchange.now shared.now.crew.workers shared.now.crew.block) group.items }
+    ensures { AreSlots (J.builds shared.now.job.now) shared.now slots.new.items }
 {
     let _shared = shared;
     for held in group {
@@ -119,11 +123,11 @@ fn place_group<J: Job>(shared: &EndShared<'_, J>, slots: &mut Vec<Option<Held>>,
 fn place_all<J: Job>(
     alloc: Global,
     shared: &EndShared<'_, J>,
-    groups: Vec<Vec<Held>>,
-) -> Result<Vec<Option<Held>>, AllocError>
+    groups: Vec<Vec<Held<J::Built>>>,
+) -> Result<Vec<Option<Held<J::Built>>>, AllocError>
     requires { All
-        (λ g. All (IsHeldOf (J.joins shared.now.job.now) shared.now.exchange.now shared.now.crew.workers shared.now.crew.block) g.items) groups.items }
-    ensures { IfOk result (λ v. AreSlots (J.joins shared.now.job.now) shared.now v.items) }
+        (λ g. All (IsHeldOf (J.builds shared.now.job.now) shared.now.exchange.now shared.now.crew.workers shared.now.crew.block) g.items) groups.items }
+    ensures { IfOk result (λ v. AreSlots (J.builds shared.now.job.now) shared.now v.items) }
 {
     let mut slots = no_slots(alloc, shared.exchange.partitions())?;
     for group in groups {
@@ -156,16 +160,16 @@ pub(crate) fn conclude<R: Wait, J: Job>(
     alloc: Global,
     shared: &EndShared<'_, J>,
     words: Words,
-    back: Back,
+    back: Back<J::Built>,
     own: HaltSeat,
-) -> Result<Vec<Ended>, AllocError>
+) -> Result<Vec<Ended<J::Built>>, AllocError>
     requires block { 0 < shared.now.crew.block }
     requires words { AreWords shared.now.crew words × (shared.now.exchange.now.outboxes ≡ shared.now.crew.workers) }
-    requires back { IsBackOf (J.due shared.now.job.now) (J.joins shared.now.job.now) shared.now.exchange.now words.halt words.stripes shared.now.crew back }
+    requires back { IsBackOf (J.due shared.now.job.now) (J.builds shared.now.job.now) shared.now.exchange.now words.halt words.stripes shared.now.crew back }
     requires own { IsHaltSeatOf words.halt own }
     ensures len { IfOk result (λ v. length v.items ≡ shared.now.exchange.now.partitions) }
     ensures each { let senders = shared.now.crew.workers + shared.now.crew.workers in
-        IfOk result (λ v. AreSettled (J.joins shared.now.job.now) (J.due shared.now.job.now) senders shared.now.exchange.now.partitions v.items) }
+        IfOk result (λ v. AreSettled (J.builds shared.now.job.now) (J.due shared.now.job.now) senders shared.now.exchange.now.partitions v.items) }
 {
     contained_suffice();
     let mut seats = Vec::new(alloc);
@@ -184,48 +188,52 @@ pub(crate) fn conclude<R: Wait, J: Job>(
     Ok(all)
 }
 
-// The pairs of a partition, joined here where no taker has joined it.
-fn join_one<J: Job>(
+// What a partition is built into, built here where no taker has built it.
+fn build_one<J: Job>(
     alloc: Global,
     job: &J,
-    ended: Ended,
-) -> Result<(Ledger, Vec<(u32, u32)>), AllocError>
+    ended: Ended<J::Built>,
+) -> Result<(Ledger, J::Built), AllocError>
     requires senders { length ended.ledger.senders ≡ J.stripes job.now + J.stripes job.now }
     requires rows { J.joinable job.now (rows_by_sender ended.ledger) }
-    requires joined { IsJoining (J.joins job.now) ended.ledger ended.joining }
+    requires built { IsBuilding (J.builds job.now) ended.partition ended.ledger ended.building }
     ensures ledger { IfOk result (λ r. r.0 ≡ ended.ledger) }
-    ensures pairs { IfOk result (λ r. J.joins job.now (rows_by_sender ended.ledger) r.1.items) }
+    ensures built { IfOk result (λ r. J.builds job.now ended.partition (rows_by_sender ended.ledger) r.1) }
 {
-    let Ended { ledger, joining } = ended;
-    let pairs = match joining {
-        Joining::Done(pairs) => pairs,
-        Joining::Waiting => job.join(alloc, &ledger)?,
-        Joining::Left => job.join(alloc, &ledger)?,
+    let Ended {
+        partition,
+        ledger,
+        building,
+    } = ended;
+    let built = match building {
+        Building::Done(built) => built,
+        Building::Waiting => job.build(alloc, partition, &ledger)?,
+        Building::Left => job.build(alloc, partition, &ledger)?,
     };
-    Ok((ledger, pairs))
+    Ok((ledger, built))
 }
 
-/// Joins what no taker has joined.
-pub(crate) fn join_rest<J: Job>(
+/// Builds what no taker has built.
+pub(crate) fn build_rest<J: Job>(
     alloc: Global,
     job: &J,
-    all: Vec<Ended>,
-) -> Result<Delivered, AllocError>
+    all: Vec<Ended<J::Built>>,
+) -> Result<Delivered<J::Built>, AllocError>
     requires due { (p : ℕ) → p < J.partitions job.now → J.joinable job.now (due_lists (J.due job.now) (J.stripes job.now + J.stripes job.now) p) }
     requires len { length all.items ≡ J.partitions job.now }
-    requires each { AreSettled (J.joins job.now) (J.due job.now) (J.stripes job.now + J.stripes job.now) (J.partitions job.now) all.items }
-    ensures len { IfOk result (λ r. (length r.ledgers.items ≡ J.partitions job.now) × (length r.pairs.items ≡ J.partitions job.now)) }
+    requires each { AreSettled (J.builds job.now) (J.due job.now) (J.stripes job.now + J.stripes job.now) (J.partitions job.now) all.items }
+    ensures len { IfOk result (λ r. (length r.ledgers.items ≡ J.partitions job.now) × (length r.built.items ≡ J.partitions job.now)) }
     ensures delivered { IfOk result (λ r. (p : ℕ) (d : _) → p < J.partitions job.now →
         IsDelivered (J.due job.now) (J.stripes job.now + J.stripes job.now) p (slice_index_or r.ledgers.items p d)) }
-    ensures pairs { IfOk result (λ r. (p : ℕ) (d : _) → p < J.partitions job.now →
-        J.joins job.now (due_lists (J.due job.now) (J.stripes job.now + J.stripes job.now) p) (slice_index_or r.pairs.items p d).items) }
+    ensures built { IfOk result (λ r. (p : ℕ) (d : _) → p < J.partitions job.now →
+        J.builds job.now p (due_lists (J.due job.now) (J.stripes job.now + J.stripes job.now) p) (slice_index_or r.built.items p d)) }
 {
     let mut ledgers = Vec::with_capacity(alloc, all.len())?;
-    let mut pairs = Vec::with_capacity(alloc, all.len())?;
+    let mut built = Vec::with_capacity(alloc, all.len())?;
     for ended in all {
-        let (ledger, kept) = join_one(alloc, job, ended)?;
+        let (ledger, one) = build_one(alloc, job, ended)?;
         ledgers.push(ledger)?;
-        pairs.push(kept)?;
+        built.push(one)?;
     }
-    Ok(Delivered { ledgers, pairs })
+    Ok(Delivered { ledgers, built })
 }

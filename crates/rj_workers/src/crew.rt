@@ -33,22 +33,22 @@ pub struct Crew {
 
 /// What the workers of a run start with.
 #[derive(Drop)]
-pub(crate) struct Hands {
+pub(crate) struct Hands<T> {
     pub(crate) scanners: Vec<Scanner>,
-    pub(crate) takers: Vec<Taker>,
+    pub(crate) takers: Vec<Taker<T>>,
     // The starting thread's seat at the word done.
     pub(crate) over: HaltSeat,
 }
 
 /// What the workers of a run hand back.
 #[derive(Drop)]
-pub(crate) struct Back {
+pub(crate) struct Back<T> {
     pub(crate) scanners: Vec<Scanner>,
-    pub(crate) takers: Vec<Taker>,
+    pub(crate) takers: Vec<Taker<T>>,
 }
 
-// The next of the seats.
-fn next_seat(halt: &Halt, seats: &mut IntoIter<HaltSeat, Global>) -> Option<HaltSeat>
+/// The next of the seats.
+pub(crate) fn next_seat(halt: &Halt, seats: &mut IntoIter<HaltSeat, Global>) -> Option<HaltSeat>
     requires { All (IsHaltSeatOf halt.now) (into_iter_items seats.old) }
     ensures seats { All (IsHaltSeatOf halt.now) (into_iter_items seats.new) }
     ensures seat { IfSome result (IsHaltSeatOf halt.now) }
@@ -120,13 +120,13 @@ fn make_scanners(
 }
 
 // A taker for each seat at the tickets.
-fn make_takers(
+fn make_takers<T: Drop>(
     alloc: Global,
     words: &Words,
     seats: &mut IntoIter<HaltSeat, Global>,
     looks: &mut IntoIter<HaltSeat, Global>,
     draws: Vec<Seat>,
-) -> Result<Vec<Taker>, AllocError>
+) -> Result<Vec<Taker<T>>, AllocError>
     requires seats { All (IsHaltSeatOf words.now.halt) (into_iter_items seats.old) }
     requires looks { All (IsHaltSeatOf words.now.done) (into_iter_items looks.old) }
     requires draws { All (IsSeatOf words.now.tickets) draws.items }
@@ -152,13 +152,13 @@ fn make_takers(
 }
 
 /// What all workers start with, and the starting thread's seat at the word halt.
-pub(crate) fn make_hands(
+pub(crate) fn make_hands<T: Drop>(
     alloc: Global,
     exchange: &Exchange,
     words: &Words,
     outboxes: Vec<Outbox>,
     seats: Seats,
-) -> Result<(Hands, HaltSeat), AllocError>
+) -> Result<(Hands<T>, HaltSeat), AllocError>
     requires outboxes { AreNewOutboxes exchange.now exchange.now.outboxes outboxes.items }
     requires seats { AreSeats words.now exchange.now.outboxes seats }
     ensures hands { IfOk result (λ r. AreHandsOf exchange.now words.now.halt words.now.done words.now.stripes words.now.tickets r.0) }

@@ -1,15 +1,15 @@
-//! The end of an exchange: what is left in the queues goes to the ledgers, and what is not joined yet is joined.
+//! The end of an exchange: what is left in the queues goes to the ledgers, and what is not built yet is built.
 ghost use Rattle.std.specs.Prelude.{◌≡◌, ◌<◌, ◌≤◌, ◌+◌, ◌*◌, ◌++◌, ℕ, [], All, IfOk, map, length, take, drop, slice_index_or};
 ghost use Rattle.std.specs.Vec.Iter.{into_iter_items};
 ghost use Rattle.rj_ledger.specs.Ledgers.{after_all, standing};
 ghost use Rattle.rj_exchange.specs.Boxes.{sent_of, AreStubsOf};
 ghost use Rattle.rj_workers.specs.Arrivals.{AreFirstOf, AreOutboxes, HasArrived, due_lists, parcel_of, parcels_of, rows_by_sender, stub_lists};
-ghost use Rattle.rj_workers.specs.Takes.{IsHeldOf, IsJoining};
+ghost use Rattle.rj_workers.specs.Takes.{IsHeldOf, IsBuilding};
 ghost use Rattle.rj_workers.specs.Ends.{AreSlots, IsEnded};
 
 use crate::crew::Crew;
 use crate::job::Job;
-use crate::take::{Held, Joining, offer};
+use crate::take::{Building, Held, offer};
 use rj_exchange::{Exchange, Outbox, Posted, Stub};
 use rj_ledger::{Ledger, complete_stays};
 use std::alloc::{AllocError, Global};
@@ -33,9 +33,10 @@ impl<J> Copy for EndShared<'_, J> {}
 
 /// A partition with all that was posted for it.
 #[derive(Drop)]
-pub(crate) struct Ended {
+pub(crate) struct Ended<T> {
+    pub(crate) partition: u32,
     pub(crate) ledger: Ledger,
-    pub(crate) joining: Joining,
+    pub(crate) building: Building<T>,
 }
 
 // Offers what is left of one lane.
@@ -64,27 +65,33 @@ fn finish_one<R: Wait, J: Job>(
     rt: &R,
     alloc: Global,
     shared: &EndShared<'_, J>,
-    held: Held,
+    held: Held<J::Built>,
     stubs: Vec<Stub>,
-) -> Result<Ended, AllocError>
-    requires held { IsHeldOf (J.joins shared.now.job.now) shared.now.exchange.now shared.now.crew.workers shared.now.crew.block held }
+) -> Result<Ended<J::Built>, AllocError>
+    requires held { IsHeldOf (J.builds shared.now.job.now) shared.now.exchange.now shared.now.crew.workers shared.now.crew.block held }
     requires stubs { AreStubsOf shared.now.exchange.now held.inbox.partition stubs.items }
     ensures arrived { let senders = shared.now.crew.workers + shared.now.crew.workers in IfOk result (λ d. HasArrived senders shared.now.crew.block
         shared.now.exchange.now.outboxes shared.now.exchange.now.lanes (map sent_of stubs.items) held.inbox.partition d.ledger) }
-    ensures joined { IfOk result (λ d. IsJoining (J.joins shared.now.job.now) d.ledger d.joining) }
+    ensures number { IfOk result (λ d. d.partition ≡ held.inbox.partition) }
+    ensures built { IfOk result (λ d. IsBuilding (J.builds shared.now.job.now) held.inbox.partition d.ledger d.building) }
 {
     complete_stays();
     let Held {
         inbox,
         ledger,
-        joining,
+        building,
     } = held;
+    let partition = inbox.partition();
     let Ok(finished) = inbox.finish(rt, alloc, shared.exchange, stubs) else {
         return Err(AllocError);
     };
     let mut ledger = ledger;
     offer_rests(&mut ledger, finished.rest)?;
-    Ok(Ended { ledger, joining })
+    Ok(Ended {
+        partition,
+        ledger,
+        building,
+    })
 }
 
 // Moves so many stubs from the front of one outbox's.
@@ -141,15 +148,15 @@ pub(crate) fn finish_all<R: Wait, J: Job>(
     rt: &R,
     alloc: Global,
     shared: &EndShared<'_, J>,
-    slots: Vec<Option<Held>>,
+    slots: Vec<Option<Held<J::Built>>>,
     outboxes: Vec<Outbox>,
-) -> Result<Vec<Ended>, AllocError>
-    requires slots { AreSlots (J.joins shared.now.job.now) shared.now slots.items }
+) -> Result<Vec<Ended<J::Built>>, AllocError>
+    requires slots { AreSlots (J.builds shared.now.job.now) shared.now slots.items }
     requires outboxes { AreOutboxes shared.now.exchange.now outboxes.items }
     ensures len { IfOk result (λ v. length v.items ≡ shared.now.exchange.now.partitions) }
     ensures each { let senders = shared.now.crew.workers + shared.now.crew.workers in
         IfOk result (λ v. (p : ℕ) (d : _) → p < shared.now.exchange.now.partitions →
-        IsEnded (J.joins shared.now.job.now) senders shared.now.crew.block shared.now.exchange.now (stub_lists outboxes.items) p (slice_index_or v.items p d)) }
+        IsEnded (J.builds shared.now.job.now) senders shared.now.crew.block shared.now.exchange.now (stub_lists outboxes.items) p (slice_index_or v.items p d)) }
 {
     let mut lists = lists_of(alloc, outboxes)?;
     let mut all = Vec::new(alloc);

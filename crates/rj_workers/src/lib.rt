@@ -1,8 +1,8 @@
 //! The workers of a partitioned join: scanners that post the rows of stripes, takers that keep the ledgers of partitions
-//! and join them, and the starting thread, which ends the exchange.
+//! and build them, and the starting thread, which ends the exchange. Then workers draw shares of what was built.
 //!
-//! What is scanned and joined is a [`Job`]. Whatever the schedule of the threads, each ledger has in the end delivered what
-//! was due to its partition, or memory was refused.
+//! What is scanned and built is a [`Job`]. Whatever the schedule of the threads, each ledger has in the end delivered what
+//! was due to its partition, or memory was refused. What is drawn then are [`Shares`].
 #![tactic(auto)]
 
 mod closing;
@@ -17,6 +17,8 @@ mod post;
 mod run;
 mod scan;
 mod scope;
+mod shares;
+mod sharing;
 mod start;
 mod take;
 #[cfg(test)]
@@ -28,3 +30,5 @@ pub use crew::Crew;
 pub use gate::{Gate, Open, Place};
 pub use job::Job;
 pub use run::run_workers;
+pub use shares::Shares;
+pub use sharing::run_shares;

@@ -1,4 +1,4 @@
-//! A whole run: the exchange is opened, the workers run, and what they hand back is ended and joined.
+//! A whole run: the exchange is opened, the workers run, and what they hand back is ended and built.
 ghost use Rattle.std.specs.Prelude.{◌≡◌, ◌<◌, ◌≤◌, ◌+◌, ℕ, IfOk, length, slice_index_or};
 ghost use Rattle.rj_workers.specs.Arrivals.{IsDelivered, due_lists};
 ghost use Rattle.rj_workers.specs.Crews.{InLimits};
@@ -7,7 +7,7 @@ ghost use Rattle.rj_workers.specs.Scans.{AreNewOutboxes};
 ghost use Rattle.rj_workers.specs.Takes.{AreFresh, IsRoomOf};
 ghost use Rattle.rj_exchange.specs.declared.boxes.Inbox.{Inbox};
 
-use crate::closing::{Delivered, conclude, join_rest};
+use crate::closing::{Delivered, build_rest, conclude};
 use crate::crew::{Crew, make_hands};
 use crate::ending::{EndShared, Ended};
 use crate::floor::Floor;
@@ -33,7 +33,9 @@ fn run_in_room<B: Room, R: Threads + Wait + Clock + Sync, J: Job + Sync, G: Gate
     exchange: &Exchange,
     outboxes: Vec<Outbox>,
     inboxes: Vec<Inbox>,
-) -> Result<Vec<Ended>, AllocError>
+) -> Result<Vec<Ended<J::Built>>, AllocError>
+where
+    J::Built: Send,
     requires limits { InLimits crew.workers crew.partitions crew.block crew.lanes crew.capacity }
     requires job { (J.stripes job.now ≡ crew.workers) × (J.partitions job.now ≡ crew.partitions) }
     requires exchange { (exchange.now.outboxes ≡ crew.workers) × (exchange.now.partitions ≡ crew.partitions) }
@@ -42,7 +44,7 @@ fn run_in_room<B: Room, R: Threads + Wait + Clock + Sync, J: Job + Sync, G: Gate
     requires fresh { AreFresh exchange.now inboxes.items }
     requires room { IsRoomOf exchange.now crew B.inboxes B.senders B.block }
     ensures len { IfOk result (λ v. length v.items ≡ crew.partitions) }
-    ensures each { IfOk result (λ v. AreSettled (J.joins job.now) (J.due job.now) (crew.workers + crew.workers) crew.partitions v.items) }
+    ensures each { IfOk result (λ v. AreSettled (J.builds job.now) (J.due job.now) (crew.workers + crew.workers) crew.partitions v.items) }
 {
     let places = open_places::<B>(alloc, inboxes, crew.workers + crew.workers, crew.block)?;
     let (words, seats) = open_words(rt, alloc, crew)?;
@@ -60,7 +62,7 @@ fn run_in_room<B: Room, R: Threads + Wait + Clock + Sync, J: Job + Sync, G: Gate
     Ok(all)
 }
 
-/// Scans the stripes of both tables and joins their partitions, with so many scanners and takers at the same time. Whatever
+/// Scans the stripes of both tables and builds their partitions, with so many scanners and takers at the same time. Whatever
 /// the schedule of the threads, each ledger has delivered what was due to its partition, and the pairs of each partition are
 /// those of its rows.
 ///
@@ -73,15 +75,17 @@ pub fn run_workers<R: Threads + Wait + Clock + Sync, J: Job + Sync, G: Gate + Sy
     job: &J,
     gate: &G,
     crew: Crew,
-) -> Result<Delivered, AllocError>
+) -> Result<Delivered<J::Built>, AllocError>
+where
+    J::Built: Send,
     requires limits { InLimits crew.workers crew.partitions crew.block crew.lanes crew.capacity }
     requires job { (J.stripes job.now ≡ crew.workers) × (J.partitions job.now ≡ crew.partitions) }
     requires due { (p : ℕ) → p < J.partitions job.now → J.joinable job.now (due_lists (J.due job.now) (J.stripes job.now + J.stripes job.now) p) }
-    ensures len { IfOk result (λ r. (length r.ledgers.items ≡ crew.partitions) × (length r.pairs.items ≡ crew.partitions)) }
+    ensures len { IfOk result (λ r. (length r.ledgers.items ≡ crew.partitions) × (length r.built.items ≡ crew.partitions)) }
     ensures delivered { IfOk result (λ r. (p : ℕ) (d : _) → p < crew.partitions →
         IsDelivered (J.due job.now) (crew.workers + crew.workers) p (slice_index_or r.ledgers.items p d)) }
-    ensures pairs { IfOk result (λ r. (p : ℕ) (d : _) → p < crew.partitions →
-        J.joins job.now (due_lists (J.due job.now) (crew.workers + crew.workers) p) (slice_index_or r.pairs.items p d).items) }
+    ensures built { IfOk result (λ r. (p : ℕ) (d : _) → p < crew.partitions →
+        J.builds job.now p (due_lists (J.due job.now) (crew.workers + crew.workers) p) (slice_index_or r.built.items p d)) }
 {
     let (exchange, outboxes, inboxes) = Exchange::open(
         alloc,
@@ -93,6 +97,6 @@ pub fn run_workers<R: Threads + Wait + Clock + Sync, J: Job + Sync, G: Gate + Sy
     let all = run_in_room::<Brand, R, J, G>(
         rt, alloc, job, gate, crew, &exchange, outboxes, inboxes,
     )?;
-    let delivered = join_rest(alloc, job, all)?;
+    let delivered = build_rest(alloc, job, all)?;
     Ok(delivered)
 }

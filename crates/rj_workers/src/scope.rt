@@ -41,13 +41,15 @@ fn run_in<'s, E, B: Room, R: Threads + Wait + Clock + Sync, J: Job + Sync, G: Ga
     alloc: Global,
     floor: &Floor<'s, J, G>,
     places: &'s [Place<B>],
-    hands: Hands,
-) -> Option<Back>
+    hands: Hands<J::Built>,
+) -> Option<Back<J::Built>>
+where
+    J::Built: Send,
     requires ready { IsReady (J.stripes floor.now.job.now) (J.partitions floor.now.job.now) floor.now }
     requires places { limit_of floor.now.tickets.now ≡ length places.now }
     requires room { IsRoom floor.now B.inboxes B.senders B.block }
     requires hands { AreHands floor.now hands }
-    ensures { IfSome result (IsBack (J.due floor.now.job.now) (J.joins floor.now.job.now) floor.now) }
+    ensures { IfSome result (IsBack (J.due floor.now.job.now) (J.builds floor.now.job.now) floor.now) }
 {
     let Hands {
         scanners,
@@ -73,15 +75,17 @@ fn run_or_halt<'s, E, B: Room, R: Threads + Wait + Clock + Sync, J: Job + Sync, 
     alloc: Global,
     floor: &Floor<'s, J, G>,
     places: &'s [Place<B>],
-    hands: Hands,
+    hands: Hands<J::Built>,
     own: HaltSeat,
-) -> Result<(Back, HaltSeat), AllocError>
+) -> Result<(Back<J::Built>, HaltSeat), AllocError>
+where
+    J::Built: Send,
     requires ready { IsReady (J.stripes floor.now.job.now) (J.partitions floor.now.job.now) floor.now }
     requires places { limit_of floor.now.tickets.now ≡ length places.now }
     requires room { IsRoom floor.now B.inboxes B.senders B.block }
     requires hands { AreHands floor.now hands }
     requires own { IsHaltSeatOf floor.now.halt.now own }
-    ensures back { IfOk result (λ r. IsBack (J.due floor.now.job.now) (J.joins floor.now.job.now) floor.now r.0) }
+    ensures back { IfOk result (λ r. IsBack (J.due floor.now.job.now) (J.builds floor.now.job.now) floor.now r.0) }
     ensures own { IfOk result (λ r. IsHaltSeatOf floor.now.halt.now r.1) }
 {
     let mut own = own;
@@ -101,26 +105,28 @@ pub(crate) fn work<B: Room, R: Threads + Wait + Clock + Sync, J: Job + Sync, G: 
     alloc: Global,
     floor: &Floor<'_, J, G>,
     places: &[Place<B>],
-    hands: Hands,
+    hands: Hands<J::Built>,
     own: HaltSeat,
-) -> Result<(Back, HaltSeat), AllocError>
+) -> Result<(Back<J::Built>, HaltSeat), AllocError>
+where
+    J::Built: Send,
     requires ready { IsReady (J.stripes floor.now.job.now) (J.partitions floor.now.job.now) floor.now }
     requires places { limit_of floor.now.tickets.now ≡ length places.now }
     requires room { IsRoom floor.now B.inboxes B.senders B.block }
     requires hands { AreHands floor.now hands }
     requires own { IsHaltSeatOf floor.now.halt.now own }
-    ensures back { IfOk result (λ r. IsBack (J.due floor.now.job.now) (J.joins floor.now.job.now) floor.now r.0) }
+    ensures back { IfOk result (λ r. IsBack (J.due floor.now.job.now) (J.builds floor.now.job.now) floor.now r.0) }
     ensures own { IfOk result (λ r. IsHaltSeatOf floor.now.halt.now r.1) }
 {
     let f = *floor;
     thread::scope(
         thread::scope_env(),
         rt,
-        move |scope| -> Result<(Back, HaltSeat), AllocError>
+        move |scope| -> Result<(Back<J::Built>, HaltSeat), AllocError>
             requires { IsReadyOf (J.stripes f.job.now) (J.partitions f.job.now) f.exchange.now f.stripes.now f.crew
                 × (limit_of f.tickets.now ≡ length places.now) × IsRoomOf f.exchange.now f.crew B.inboxes B.senders B.block
                 × AreHandsOf f.exchange.now f.halt.now f.done.now f.stripes.now f.tickets.now hands × IsHaltSeatOf f.halt.now own }
-            ensures back { IfOk result (λ r. IsBackOf (J.due f.entry.job.now) (J.joins f.entry.job.now) f.entry.exchange.now
+            ensures back { IfOk result (λ r. IsBackOf (J.due f.entry.job.now) (J.builds f.entry.job.now) f.entry.exchange.now
                 f.entry.halt.now f.entry.stripes.now f.entry.crew r.0) }
             ensures own { IfOk result (λ r. IsHaltSeatOf f.entry.halt.now r.1) }
         {

@@ -36,12 +36,12 @@ pub(crate) struct TakeOf<'a, J, G> {
     shared: Floor<'a, J, G>,
 }
 
-impl<'a, J: Job, G> Promise<Taker> for TakeOf<'a, J, G> {
-    ghost kept_by = { λ p r. IsTake (J.joins p.shared.job.now) p.shared r };
+impl<'a, J: Job, G> Promise<Taker<J::Built>> for TakeOf<'a, J, G> {
+    ghost kept_by = { λ p r. IsTake (J.builds p.shared.job.now) p.shared r };
 }
 
 /// A taker that was started.
-pub(crate) type TakeHandle<'a, J, G> = PromisedHandle<Taker, TakeOf<'a, J, G>>;
+pub(crate) type TakeHandle<'a, J, G> = PromisedHandle<Taker<<J as Job>::Built>, TakeOf<'a, J, G>>;
 
 // Puts a handle behind others. None where there is no room for it.
 fn keep<T: Drop>(list: &mut Vec<T>, handle: T) -> Option<()>
@@ -62,6 +62,8 @@ fn start_scanner<'s, E, R: Wait + Clock + Sync, J: Job + Sync, G: Gate + Sync>(
     number: u32,
     me: Scanner,
 ) -> Option<ScanHandle<'s, J, G>>
+where
+    J::Built: Send,
     requires ready { IsReady (J.stripes shared.now.job.now) (J.partitions shared.now.job.now) shared.now }
     requires me { IsNewScanner shared.now.exchange.now shared.now.halt.now shared.now.stripes.now number me }
     ensures { IfSome result (λ h. (h.promise.shared ≡ shared.now) × (h.promise.number ≡ number)) }
@@ -94,6 +96,8 @@ pub(crate) fn start_scanners<'s, E, R: Wait + Clock + Sync, J: Job + Sync, G: Ga
     shared: &Floor<'s, J, G>,
     scanners: Vec<Scanner>,
 ) -> Option<Vec<ScanHandle<'s, J, G>>>
+where
+    J::Built: Send,
     requires ready { IsReady (J.stripes shared.now.job.now) (J.partitions shared.now.job.now) shared.now }
     requires scanners { (length scanners.items ≤ 64)
         × AreNewScanners shared.now.exchange.now shared.now.halt.now shared.now.stripes.now (length scanners.items) scanners.items }
@@ -118,8 +122,10 @@ fn start_taker<'s, E, B: Room, R: Wait + Clock + Sync, J: Job + Sync, G: Gate + 
     alloc: Global,
     shared: &Floor<'s, J, G>,
     places: &'s [Place<B>],
-    me: Taker,
+    me: Taker<J::Built>,
 ) -> Option<TakeHandle<'s, J, G>>
+where
+    J::Built: Send,
     requires job { J.stripes shared.now.job.now ≡ shared.now.crew.workers }
     requires places { limit_of shared.now.tickets.now ≡ length places.now }
     requires room { IsRoom shared.now B.inboxes B.senders B.block }
@@ -129,10 +135,10 @@ fn start_taker<'s, E, B: Room, R: Wait + Clock + Sync, J: Job + Sync, G: Gate + 
     let f = *shared;
     let started = scope.spawn_with(
         TakeOf { shared: f },
-        move || -> Taker
+        move || -> Taker<J::Built>
             requires { (J.stripes f.job.now ≡ f.crew.workers) × (limit_of f.tickets.now ≡ length places.now)
                 × IsRoomOf f.exchange.now f.crew B.inboxes B.senders B.block × IsNewTaker f.halt.now f.done.now f.tickets.now me }
-            ensures { IsTakeOf (J.joins f.entry.job.now) f.entry.exchange.now f.entry.halt.now f.entry.crew.workers f.entry.crew.block result }
+            ensures { IsTakeOf (J.builds f.entry.job.now) f.entry.exchange.now f.entry.halt.now f.entry.crew.workers f.entry.crew.block result }
         {
             let floor = Floor::new(
                 f.exchange, f.halt, f.done, f.stripes, f.tickets, f.job, f.gate, f.crew,
@@ -150,8 +156,10 @@ pub(crate) fn start_takers<'s, E, B: Room, R: Wait + Clock + Sync, J: Job + Sync
     alloc: Global,
     shared: &Floor<'s, J, G>,
     places: &'s [Place<B>],
-    takers: Vec<Taker>,
+    takers: Vec<Taker<J::Built>>,
 ) -> Option<Vec<TakeHandle<'s, J, G>>>
+where
+    J::Built: Send,
     requires job { J.stripes shared.now.job.now ≡ shared.now.crew.workers }
     requires places { limit_of shared.now.tickets.now ≡ length places.now }
     requires room { IsRoom shared.now B.inboxes B.senders B.block }

@@ -1,4 +1,4 @@
-//! A taker: it draws partitions, offers what arrives to their ledgers, and joins each one that is complete.
+//! A taker: it draws partitions, offers what arrives to their ledgers, and builds each one that is complete.
 ghost use Rattle.std.specs.Prelude.{◌≡◌, ◌<◌, ◌+◌, All, IfOk, false, length};
 ghost use Rattle.rj_ledger.specs.Ledgers.{after_offer};
 ghost use Rattle.rj_exchange.specs.Tickets.{limit_of};
@@ -16,29 +16,29 @@ use std::alloc::{AllocError, Global};
 use std::sync::Wait;
 use std::time::Clock;
 
-/// How far a partition is joined.
+/// How far a partition is built.
 #[derive(Drop)]
-pub(crate) enum Joining {
+pub(crate) enum Building<T> {
     /// Its ledger is not complete yet.
     Waiting,
     /// It is left to the starting thread.
     Left,
-    /// These are its pairs.
-    Done(Vec<(u32, u32)>),
+    /// It is built.
+    Done(T),
 }
 
 /// A partition that a taker owns.
 #[derive(Drop)]
-pub(crate) struct Held {
+pub(crate) struct Held<T> {
     pub(crate) inbox: Inbox,
     pub(crate) ledger: Ledger,
-    pub(crate) joining: Joining,
+    pub(crate) building: Building<T>,
 }
 
 /// What one taker has of its own, and hands back.
 #[derive(Drop)]
-pub(crate) struct Taker {
-    pub(crate) all: Vec<Held>,
+pub(crate) struct Taker<T> {
+    pub(crate) all: Vec<Held<T>>,
     pub(crate) seat: HaltSeat,
     pub(crate) look: HaltSeat,
     pub(crate) draws: Seat,
@@ -58,12 +58,12 @@ pub(crate) fn offer(ledger: &mut Ledger, parcel: Parcel) -> Result<(), AllocErro
 fn take_once<R: Wait, J: Job, G>(
     rt: &R,
     shared: &Floor<'_, J, G>,
-    held: &mut Held,
+    held: &mut Held<J::Built>,
     lane: u32,
 ) -> Result<bool, AllocError>
     requires lane { lane < shared.now.exchange.now.lanes }
-    requires held { IsHeld (J.joins shared.now.job.now) shared.now held.old }
-    ensures { IfOk result (λ _. IsHeld (J.joins shared.now.job.now) shared.now held.new) }
+    requires held { IsHeld (J.builds shared.now.job.now) shared.now held.old }
+    ensures { IfOk result (λ _. IsHeld (J.builds shared.now.job.now) shared.now held.new) }
 {
     complete_stays();
     let Some(parcel) = held.inbox.take(rt, shared.exchange, lane) else {
@@ -77,10 +77,10 @@ fn take_once<R: Wait, J: Job, G>(
 fn take_lanes<R: Wait, J: Job, G>(
     rt: &R,
     shared: &Floor<'_, J, G>,
-    held: &mut Held,
+    held: &mut Held<J::Built>,
 ) -> Result<bool, AllocError>
-    requires { IsHeld (J.joins shared.now.job.now) shared.now held.old }
-    ensures { IfOk result (λ _. IsHeld (J.joins shared.now.job.now) shared.now held.new) }
+    requires { IsHeld (J.builds shared.now.job.now) shared.now held.old }
+    ensures { IfOk result (λ _. IsHeld (J.builds shared.now.job.now) shared.now held.new) }
 {
     let mut found = false;
     for lane in 0..shared.exchange.lanes() {
@@ -91,38 +91,38 @@ fn take_lanes<R: Wait, J: Job, G>(
     Ok(found)
 }
 
-// Joins a partition that is complete, where its rows pass the test of the job.
-fn join_complete<J: Job, G: Gate>(
+// Builds a partition that is complete, where its rows pass the test of the job.
+fn build_complete<J: Job, G: Gate>(
     alloc: Global,
     shared: &Floor<'_, J, G>,
-    held: &mut Held,
+    held: &mut Held<J::Built>,
 ) -> Result<(), AllocError>
     requires job { J.stripes shared.now.job.now ≡ shared.now.crew.workers }
-    requires held { IsHeld (J.joins shared.now.job.now) shared.now held.old }
-    ensures held { IfOk result (λ _. IsHeld (J.joins shared.now.job.now) shared.now held.new) }
-    ensures tried { IfOk result (λ _. is_settled held.old.joining ≡ false → IsTried (J.joinable shared.now.job.now) held.new.ledger held.new.joining) }
+    requires held { IsHeld (J.builds shared.now.job.now) shared.now held.old }
+    ensures held { IfOk result (λ _. IsHeld (J.builds shared.now.job.now) shared.now held.new) }
+    ensures tried { IfOk result (λ _. is_settled held.old.building ≡ false → IsTried (J.joinable shared.now.job.now) held.new.ledger held.new.building) }
 {
     shape_stays();
     if is_settled(held) || !held.ledger.complete() {
         return Ok(());
     }
-    let place = Place::Partition(held.inbox.partition());
-    shared.gate.pass(place);
-    held.joining = match shared.job.try_join(alloc, &held.ledger)? {
-        Some(pairs) => Joining::Done(pairs),
-        None => Joining::Left,
+    let partition = held.inbox.partition();
+    shared.gate.pass(Place::Partition(partition));
+    held.building = match shared.job.try_build(alloc, partition, &held.ledger)? {
+        Some(built) => Building::Done(built),
+        None => Building::Left,
     };
     Ok(())
 }
 
-// Whether a partition is joined or left to the starting thread.
-fn is_settled(held: &Held) -> bool
-    ensures { result ≡ is_settled held.now.joining }
+// Whether a partition is built or left to the starting thread.
+fn is_settled<T>(held: &Held<T>) -> bool
+    ensures { result ≡ is_settled held.now.building }
 {
-    match held.joining {
-        Joining::Waiting => false,
-        Joining::Left => true,
-        Joining::Done(_) => true,
+    match held.building {
+        Building::Waiting => false,
+        Building::Left => true,
+        Building::Done(_) => true,
     }
 }
 
@@ -131,11 +131,11 @@ fn take_round<R: Wait, J: Job, G: Gate>(
     rt: &R,
     alloc: Global,
     shared: &Floor<'_, J, G>,
-    all: &mut Vec<Held>,
+    all: &mut Vec<Held<J::Built>>,
 ) -> Result<bool, AllocError>
     requires job { J.stripes shared.now.job.now ≡ shared.now.crew.workers }
-    requires all { All (IsHeld (J.joins shared.now.job.now) shared.now) all.old.items }
-    ensures { IfOk result (λ _. All (IsHeld (J.joins shared.now.job.now) shared.now) all.new.items) }
+    requires all { All (IsHeld (J.builds shared.now.job.now) shared.now) all.old.items }
+    ensures { IfOk result (λ _. All (IsHeld (J.builds shared.now.job.now) shared.now) all.new.items) }
 {
     let mut found = false;
     for at in 0..all.len() {
@@ -146,21 +146,21 @@ fn take_round<R: Wait, J: Job, G: Gate>(
     Ok(found)
 }
 
-// Takes once at each lane of a partition, and joins it where it is complete then.
+// Takes once at each lane of a partition, and builds it where it is complete then.
 fn take_at<R: Wait, J: Job, G: Gate>(
     rt: &R,
     alloc: Global,
     shared: &Floor<'_, J, G>,
-    held: &mut Held,
+    held: &mut Held<J::Built>,
 ) -> Result<bool, AllocError>
     requires job { J.stripes shared.now.job.now ≡ shared.now.crew.workers }
-    requires held { IsHeld (J.joins shared.now.job.now) shared.now held.old }
-    ensures { IfOk result (λ _. IsHeld (J.joins shared.now.job.now) shared.now held.new) }
+    requires held { IsHeld (J.builds shared.now.job.now) shared.now held.old }
+    ensures { IfOk result (λ _. IsHeld (J.builds shared.now.job.now) shared.now held.new) }
 {
     if !take_lanes(rt, shared, held)? {
         return Ok(false);
     }
-    join_complete(alloc, shared, held)?;
+    build_complete(alloc, shared, held)?;
     Ok(true)
 }
 
@@ -169,14 +169,14 @@ fn draw<B: Room, R: Wait, J: Job, G: Gate>(
     rt: &R,
     shared: &Floor<'_, J, G>,
     places: &[places::Place<B>],
-    me: &mut Taker,
+    me: &mut Taker<J::Built>,
 ) -> Result<bool, AllocError>
     requires places { limit_of shared.now.tickets.now ≡ length places.now }
     requires room { IsRoom shared.now B.inboxes B.senders B.block }
     requires me { IsTaker shared.now me.old }
-    requires all { All (IsHeld (J.joins shared.now.job.now) shared.now) me.old.all.items }
+    requires all { All (IsHeld (J.builds shared.now.job.now) shared.now) me.old.all.items }
     ensures me { IsTaker shared.now me.new }
-    ensures all { IfOk result (λ _. All (IsHeld (J.joins shared.now.job.now) shared.now) me.new.all.items) }
+    ensures all { IfOk result (λ _. All (IsHeld (J.builds shared.now.job.now) shared.now) me.new.all.items) }
 {
     let Some(partition) = shared.tickets.claim(&mut me.draws) else {
         return Ok(false);
@@ -188,13 +188,13 @@ fn draw<B: Room, R: Wait, J: Job, G: Gate>(
     me.all.push(Held {
         inbox,
         ledger,
-        joining: Joining::Waiting,
+        building: Building::Waiting,
     })?;
     Ok(true)
 }
 
 // Whether the newest partition is not settled yet. All others are.
-fn is_waiting(all: &[Held]) -> bool {
+fn is_waiting<T>(all: &[Held<T>]) -> bool {
     match all.last() {
         Some(held) => !is_settled(held),
         None => false,
@@ -206,15 +206,15 @@ fn draw_next<B: Room, R: Wait, J: Job, G: Gate>(
     rt: &R,
     shared: &Floor<'_, J, G>,
     places: &[places::Place<B>],
-    me: &mut Taker,
+    me: &mut Taker<J::Built>,
     spent: &mut bool,
 ) -> Result<(), AllocError>
     requires places { limit_of shared.now.tickets.now ≡ length places.now }
     requires room { IsRoom shared.now B.inboxes B.senders B.block }
     requires me { IsTaker shared.now me.old }
-    requires all { All (IsHeld (J.joins shared.now.job.now) shared.now) me.old.all.items }
+    requires all { All (IsHeld (J.builds shared.now.job.now) shared.now) me.old.all.items }
     ensures me { IsTaker shared.now me.new }
-    ensures all { IfOk result (λ _. All (IsHeld (J.joins shared.now.job.now) shared.now) me.new.all.items) }
+    ensures all { IfOk result (λ _. All (IsHeld (J.builds shared.now.job.now) shared.now) me.new.all.items) }
 {
     if *spent || is_waiting(&me.all) {
         return Ok(());
@@ -229,11 +229,11 @@ fn take_newest<R: Wait, J: Job, G: Gate>(
     rt: &R,
     alloc: Global,
     shared: &Floor<'_, J, G>,
-    all: &mut Vec<Held>,
+    all: &mut Vec<Held<J::Built>>,
 ) -> Result<bool, AllocError>
     requires job { J.stripes shared.now.job.now ≡ shared.now.crew.workers }
-    requires all { All (IsHeld (J.joins shared.now.job.now) shared.now) all.old.items }
-    ensures { IfOk result (λ _. All (IsHeld (J.joins shared.now.job.now) shared.now) all.new.items) }
+    requires all { All (IsHeld (J.builds shared.now.job.now) shared.now) all.old.items }
+    ensures { IfOk result (λ _. All (IsHeld (J.builds shared.now.job.now) shared.now) all.new.items) }
 {
     let count = all.len();
     if count == 0 {
@@ -249,16 +249,16 @@ fn step<B: Room, R: Wait, J: Job, G: Gate>(
     alloc: Global,
     shared: &Floor<'_, J, G>,
     places: &[places::Place<B>],
-    me: &mut Taker,
+    me: &mut Taker<J::Built>,
     spent: &mut bool,
 ) -> Result<bool, AllocError>
     requires job { J.stripes shared.now.job.now ≡ shared.now.crew.workers }
     requires places { limit_of shared.now.tickets.now ≡ length places.now }
     requires room { IsRoom shared.now B.inboxes B.senders B.block }
     requires me { IsTaker shared.now me.old }
-    requires all { All (IsHeld (J.joins shared.now.job.now) shared.now) me.old.all.items }
+    requires all { All (IsHeld (J.builds shared.now.job.now) shared.now) me.old.all.items }
     ensures me { IsTaker shared.now me.new }
-    ensures all { IfOk result (λ _. All (IsHeld (J.joins shared.now.job.now) shared.now) me.new.all.items) }
+    ensures all { IfOk result (λ _. All (IsHeld (J.builds shared.now.job.now) shared.now) me.new.all.items) }
 {
     draw_next(rt, shared, places, me, spent)?;
     if take_newest(rt, alloc, shared, &mut me.all)? {
@@ -274,14 +274,14 @@ pub(crate) fn take_all<B: Room, R: Wait + Clock, J: Job, G: Gate>(
     alloc: Global,
     shared: &Floor<'_, J, G>,
     places: &[places::Place<B>],
-    mut me: Taker,
-) -> Taker
+    mut me: Taker<J::Built>,
+) -> Taker<J::Built>
     requires job { J.stripes shared.now.job.now ≡ shared.now.crew.workers }
     requires places { limit_of shared.now.tickets.now ≡ length places.now }
     requires room { IsRoom shared.now B.inboxes B.senders B.block }
     requires me { IsTaker shared.now me }
-    requires all { All (IsHeld (J.joins shared.now.job.now) shared.now) me.all.items }
-    ensures { IsTake (J.joins shared.now.job.now) shared.now result }
+    requires all { All (IsHeld (J.builds shared.now.job.now) shared.now) me.all.items }
+    ensures { IsTake (J.builds shared.now.job.now) shared.now result }
 {
     let mut spent = false;
     let mut over = false;

@@ -87,20 +87,52 @@ fn join_keys<R: Threads + Wait + Clock + Sync, G: Gate + Sync>(
     Ok(rows)
 }
 
+// Counts who has come to a place, and holds others until so many have.
+#[derive(Drop)]
+struct Meeting {
+    least: u64,
+    came: AtomicU64,
+    alone: AtomicU64,
+}
+
+impl Meeting {
+    fn of(least: u64) -> Meeting {
+        Meeting {
+            least,
+            came: AtomicU64::new(0),
+            alone: AtomicU64::new(0),
+        }
+    }
+
+    // Waits for the others, and counts a wait in vain.
+    fn wait(&self) {
+        if !wait_for(&self.came, self.least) {
+            self.alone.fetch_add(1, Ordering::SeqCst);
+        }
+    }
+
+    // How many have come.
+    fn count(&self) -> u64 {
+        self.came.load(Ordering::SeqCst)
+    }
+
+    // How many waited in vain.
+    fn in_vain(&self) -> u64 {
+        self.alone.load(Ordering::SeqCst)
+    }
+}
+
 // Holds each scanner at its stripe until two stripes have been come to.
 #[derive(Drop)]
 struct StripeGate {
-    came: AtomicU64,
-    alone: AtomicU64,
+    stripes: Meeting,
 }
 
 impl Gate for StripeGate {
     fn pass(&self, place: Place) {
         if let Place::Stripe(_) = place {
-            self.came.fetch_add(1, Ordering::SeqCst);
-            if !wait_for(&self.came, 2) {
-                self.alone.fetch_add(1, Ordering::SeqCst);
-            }
+            self.stripes.came.fetch_add(1, Ordering::SeqCst);
+            self.stripes.wait();
         }
     }
 }
@@ -108,8 +140,7 @@ impl Gate for StripeGate {
 #[test]
 fn stripe_gate_test(rt: HostRuntime) -> Result<(), Fail> {
     let gate = StripeGate {
-        came: AtomicU64::new(0),
-        alone: AtomicU64::new(0),
+        stripes: Meeting::of(2),
     };
     let settings = Settings::new(2, 4, 0, 1024, 1, 64, 1);
     let rows = join_keys(
@@ -121,11 +152,11 @@ fn stripe_gate_test(rt: HostRuntime) -> Result<(), Fail> {
         &gate,
     )?;
     assert_eq!(rt;
-        gate.alone.load(Ordering::SeqCst),
+        gate.stripes.in_vain(),
         0,
         "a stripe waited in vain for the other"
     );
-    assert_eq!(rt; gate.came.load(Ordering::SeqCst), 2);
+    assert_eq!(rt; gate.stripes.count(), 2);
     assert_eq!(rt; rows, Some(3));
     Ok(())
 }
@@ -151,7 +182,7 @@ impl Gate for QueueGate {
                 self.meanwhile
                     .store(self.posted.load(Ordering::SeqCst), Ordering::SeqCst);
             }
-            Place::Stripe(_) | Place::Partition(_) => {}
+            Place::Stripe(_) | Place::Partition(_) | Place::Piece(_, _) => {}
         }
     }
 }
@@ -185,16 +216,15 @@ fn queue_test(rt: HostRuntime) -> Result<(), Fail> {
 // Holds whichever of four partitions is come to first until the other three have been come to.
 #[derive(Drop)]
 struct PartitionGate {
-    came: AtomicU64,
-    alone: AtomicU64,
+    partitions: Meeting,
 }
 
 impl Gate for PartitionGate {
     fn pass(&self, place: Place) {
         if let Place::Partition(_) = place {
-            let before = self.came.fetch_add(1, Ordering::SeqCst);
-            if before == 0 && !wait_for(&self.came, 4) {
-                self.alone.fetch_add(1, Ordering::SeqCst);
+            let before = self.partitions.came.fetch_add(1, Ordering::SeqCst);
+            if before == 0 {
+                self.partitions.wait();
             }
         }
     }
@@ -204,8 +234,7 @@ impl Gate for PartitionGate {
 #[test]
 fn drawn_partitions_gate(rt: HostRuntime) -> Result<(), Fail> {
     let gate = PartitionGate {
-        came: AtomicU64::new(0),
-        alone: AtomicU64::new(0),
+        partitions: Meeting::of(4),
     };
     let settings = Settings::new(2, 2, 0, 1024, 1, 64, 1);
     let rows = join_keys(
@@ -217,11 +246,56 @@ fn drawn_partitions_gate(rt: HostRuntime) -> Result<(), Fail> {
         &gate,
     )?;
     assert_eq!(rt;
-        gate.alone.load(Ordering::SeqCst),
+        gate.partitions.in_vain(),
         0,
         "a partition waited in vain for the others"
     );
-    assert_eq!(rt; gate.came.load(Ordering::SeqCst), 4);
+    assert_eq!(rt; gate.partitions.count(), 4);
     assert_eq!(rt; rows, Some(1));
+    Ok(())
+}
+
+// Holds piece 0 of partition 7 until a worker has come to its piece 1.
+#[derive(Drop)]
+struct PieceGate {
+    pieces: Meeting,
+}
+
+impl Gate for PieceGate {
+    fn pass(&self, place: Place) {
+        if place == Place::Piece(7, 1) {
+            self.pieces.came.fetch_add(1, Ordering::SeqCst);
+        }
+        if place == Place::Piece(7, 0) {
+            self.pieces.wait();
+        }
+    }
+}
+
+// Ten left and three right rows of one key, which all go to partition 7 of 16, in pieces of 4, 4 and 2 probed rows.
+#[test]
+fn piece_gate_test(rt: HostRuntime) -> Result<(), Fail> {
+    let gate = PieceGate {
+        pieces: Meeting::of(1),
+    };
+    let settings = match Settings::new(2, 4, 0, 1024, 1, 64, 1) {
+        Some(settings) => settings.with_piece(4),
+        None => None,
+    };
+    let rows = join_keys(
+        &rt,
+        rt.alloc(),
+        [7, 7, 7, 7, 7, 7, 7, 7, 7, 7].as_slice(),
+        [7, 7, 7].as_slice(),
+        settings,
+        &gate,
+    )?;
+    assert_eq!(rt;
+        gate.pieces.in_vain(),
+        0,
+        "a piece waited in vain for the next"
+    );
+    assert_eq!(rt; gate.pieces.count(), 1);
+    assert_eq!(rt; rows, Some(30));
     Ok(())
 }

@@ -73,7 +73,9 @@ impl Job for Dealt {
 
     ghost joinable = { λ s lists. Unit {0} };
 
-    ghost joins = { λ s lists pairs. pairs ≡ map (λ r. (r, r)) (slice_index_or lists 0 []) };
+    type Built = Vec<(u32, u32)>;
+
+    ghost builds = { λ s p lists pairs. pairs.items ≡ map (λ r. (r, r)) (slice_index_or lists 0 []) };
 
     fn scatter(&self, alloc: Global, stripe: u32) -> Result<(Scattered, Scattered), AllocError> {
         let lefts = scatter_rows(alloc, &self.senders[stripe as usize])?;
@@ -81,17 +83,24 @@ impl Job for Dealt {
         Ok((lefts, rights))
     }
 
-    fn try_join(
+    fn try_build(
         &self,
         alloc: Global,
+        partition: u32,
         ledger: &Ledger,
     ) -> Result<Option<Vec<(u32, u32)>>, AllocError> {
-        let pairs = self.join(alloc, ledger)?;
+        let pairs = self.build(alloc, partition, ledger)?;
         Ok(Some(pairs))
     }
 
-    fn join(&self, alloc: Global, ledger: &Ledger) -> Result<Vec<(u32, u32)>, AllocError> {
+    fn build(
+        &self,
+        alloc: Global,
+        partition: u32,
+        ledger: &Ledger,
+    ) -> Result<Vec<(u32, u32)>, AllocError> {
         let _job = self;
+        let _partition = partition;
         let pairs = pairs_of(alloc, ledger.delivered(0))?;
         Ok(pairs)
     }

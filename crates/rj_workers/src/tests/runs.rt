@@ -31,9 +31,9 @@ fn run<R: Threads + Wait + Clock + Sync>(
     job: &Dealt,
     block: u32,
     retries: u32,
-) -> Option<Delivered>
+) -> Option<Delivered<Vec<(u32, u32)>>>
     requires block { 1 ≤ block }
-    ensures len { IfSome result (λ r. (length r.ledgers.items ≡ 3) × (length r.pairs.items ≡ 3)) }
+    ensures len { IfSome result (λ r. (length r.ledgers.items ≡ 3) × (length r.built.items ≡ 3)) }
     ensures senders { IfSome result (λ r. (p : ℕ) (d : _) → p < 3 →
         length (slice_index_or r.ledgers.items p d).senders ≡ job.now.stripes + job.now.stripes) }
 {
@@ -95,14 +95,18 @@ fn is_joined(alloc: Global, pairs: &[(u32, u32)], partition: u32) -> Result<bool
 }
 
 // Whether each partition has what all senders have for it, and its pairs.
-fn is_whole(alloc: Global, delivered: &Delivered, senders: u32) -> Result<bool, AllocError>
-    requires len { (length delivered.now.ledgers.items ≡ 3) × (length delivered.now.pairs.items ≡ 3) }
+fn is_whole(
+    alloc: Global,
+    delivered: &Delivered<Vec<(u32, u32)>>,
+    senders: u32,
+) -> Result<bool, AllocError>
+    requires len { (length delivered.now.ledgers.items ≡ 3) × (length delivered.now.built.items ≡ 3) }
     requires senders { (senders ≤ 128) × ((p : ℕ) (d : _) → p < 3 → length (slice_index_or delivered.now.ledgers.items p d).senders ≡ senders) }
 {
     for partition in 0..PARTITIONS {
         let at = partition as usize;
         let rows = is_delivered(alloc, &delivered.ledgers[at], senders, partition)?;
-        let pairs = is_joined(alloc, &delivered.pairs[at], partition)?;
+        let pairs = is_joined(alloc, &delivered.built[at], partition)?;
         if !rows || !pairs {
             return Ok(false);
         }
@@ -160,7 +164,7 @@ fn rows_by_partition(rt: HostRuntime) -> Result<(), Fail> {
             assert_eq!(rt; delivered.ledgers[0].delivered(0), [0, 3].as_slice());
             assert_eq!(rt; delivered.ledgers[1].delivered(1), [10, 13].as_slice());
             assert_eq!(rt; delivered.ledgers[2].delivered(1), [11, 14].as_slice());
-            assert_eq!(rt; delivered.pairs[1].as_slice(), [(1, 1), (4, 4)].as_slice());
+            assert_eq!(rt; delivered.built[1].as_slice(), [(1, 1), (4, 4)].as_slice());
         }
         None => assert!(rt; false, "memory or a thread was refused"),
     }

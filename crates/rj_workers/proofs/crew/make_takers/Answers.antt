@@ -9,13 +9,13 @@ use Rattle.rj_workers.proofs.Parts.{all_kept, kept_len}
 use Rattle.rj_workers.proofs.crew.make_takers.Goals as goal
 
 pub loop-draws-preserved : goal.loop-draws-preserved
-loop-draws-preserved c =
+loop-draws-preserved g c =
     let v = c.loop-draws.invariant in let xs : List Seat = c.loop-draws.yielded in let ys : List Seat = into_iter_items c.loop-draws.draws-iterator in let zs : List Seat = into_iter_items c.next.new.self in
     let all : List Seat = c.args.draws.items in let x : Seat = c.in-Some.draws in let steps = c.in-Some.ensures.steps in
     let n = next_at xs ys zs all x steps.0 v.rest in
     let long : length (xs ++ x ∷ []) ≡ length xs + 1 = length-append xs (x ∷ []) in
     let here = subst (IsSeatOf c.args.words.now.tickets) n.1 (c.requires.draws (length xs) x n.0) in
-    let new : Taker = record { all = c.new.result; seat = c.in-Some-next_seat.seat; look = c.in-Some-next_seat-2.look; draws = x } in
+    let new : Taker _ = record { all = c.new.result; seat = c.in-Some-next_seat.seat; look = c.in-Some-next_seat-2.look; draws = x } in
     let is : IsNewTaker c.args.words.now.halt c.args.words.now.done c.args.words.now.tickets new = (record { seat = c.in-Some-next_seat.ensures.seat; look = c.in-Some-next_seat-2.ensures.seat; draws = here }, c.new.ensures.items) in record {
       rest = next_is xs ys zs all x steps.0 v.rest;
       rest_len = next_len ys zs x _ _ steps.0 v.rest_len steps.1;

@@ -6,7 +6,7 @@ use Rattle.rj_workers.specs.Takes.{IsNewTaker}
 use Rattle.rj_workers.proofs.crew.make_takers.Given as goal
 
 abbrev pub invariant-loop-draws : goal.invariant-loop-draws
-invariant-loop-draws l = record {
+invariant-loop-draws g l = record {
   rest : l.yielded ++ into_iter_items l.draws-iterator ≡ l.fn.draws.items;
   rest_len : into_iter_len l.draws-iterator ≡ length (into_iter_items l.draws-iterator);
   seats : All (IsHaltSeatOf l.words.halt) (into_iter_items l.seats);

@@ -7,7 +7,7 @@ use Rattle.rj_exchange.specs.declared.boxes.Inbox.{Inbox}
 use Rattle.rj_exchange.specs.Boxes.{PostedVec, takens, taken_of}
 use Rattle.rj_workers.specs.Arrivals.{parcels_of}
 use Rattle.rj_workers.proofs.Ends.{all_arrived}
-use Rattle.rj_workers.proofs.Ledgers.{after_append, joining_kept}
+use Rattle.rj_workers.proofs.Ledgers.{after_append, building_kept}
 use Rattle.rj_workers.proofs.ending.finish_one.Goals as goal
 
 pub returns-clause-arrived : goal.returns-clause-arrived
@@ -19,7 +19,7 @@ returns-clause-arrived g c =
       c.in_ok-offer_rests.ensures ∙ ap (λ (u : LedgerValue). after_all u (parcels_of rests)) a.2 ∙ sym (after_append opening xs (parcels_of rests)),
     )
 
-pub returns-clause-joined : goal.returns-clause-joined
-returns-clause-joined g c =
+pub returns-clause-built : goal.returns-clause-built
+returns-clause-built g c =
     let h = c.requires.held in let v : LedgerValue = c.args.held.ledger in
-    joining_kept (g.J.Job.joins c.args.shared.now.job.now) v c.offer_rests.new.ledger (λ whole. c.in_ok-offer_rests.ensures ∙ c.complete_stays.ensures.stays v (parcels_of c.in-Ok.finished.rest.items) whole) c.args.held.joining h.joined
+    building_kept (g.J.Job.builds c.args.shared.now.job.now) c.args.held.inbox.partition v c.offer_rests.new.ledger (λ whole. c.in_ok-offer_rests.ensures ∙ c.complete_stays.ensures.stays v (parcels_of c.in-Ok.finished.rest.items) whole) c.args.held.building h.built

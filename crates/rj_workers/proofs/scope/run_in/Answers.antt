@@ -24,12 +24,12 @@ returns g c =
           );
       taken = (
           let j = c.in_ok-taken.ensures in let st = c.in_ok-takers.ensures in let hs = c.in_ok-takers.takers.items in
-          let rs : List Taker = c.in_ok-taken.taken.items in (
+          let rs : List (Taker _) = c.in_ok-taken.taken.items in (
             j.len ∙ st.len ∙ h.many,
             λ s d lt.
-                let n = j.len in let below : s < length hs = omega arith in let k = (j.each s d below).1 in let f = st.each s k.handle below in let r : Taker = get_or rs s d in
+                let n = j.len in let below : s < length hs = omega arith in let k = (j.each s d below).1 in let f = st.each s k.handle below in let r : Taker _ = get_or rs s d in
                 let a = through hs s k.handle k.handle_is (λ z. z.promise.shared) c.args.floor.now f in
-                subst (λ (z : Floor g.row.J.Denot g.row.G.Denot). IsTake (g.J.Job.joins z.job.now) z r) a k.kept,
+                subst (λ (z : Floor g.row.J.Denot g.row.G.Denot). IsTake (g.J.Job.builds z.job.now) z r) a k.kept,
           )
           );
     }

@@ -11,5 +11,5 @@ returns-clause-all g c =
     let senders : ℕ = c.args.shared.now.crew.workers + c.args.shared.now.crew.workers in let block : ℕ = c.args.shared.now.crew.block in
     let is : c.in-Some-take_place.ledger ≡ opened c.in-Some-take_place.inbox.partition senders block =
     t.1 ∙ ap (λ (q : ℕ). opened q g.B.Room.senders g.B.Room.block) (sym f.1) ∙ ap (λ (n : ℕ). opened c.in-Some-take_place.inbox.partition n g.B.Room.block) r.both ∙ ap (opened c.in-Some-take_place.inbox.partition senders) r.rows in
-    let joins = g.J.Job.joins c.args.shared.now.job.now in
-    subst (All (IsHeld joins c.args.shared.now)) (sym c.in_ok-push.ensures.items) (All-push (IsHeld joins c.args.shared.now) c.args.me.now.all.items _ c.requires.all (record { taking = (f.0, ([], f.2, is)); joined = tt }))
+    let builds = g.J.Job.builds c.args.shared.now.job.now in
+    subst (All (IsHeld builds c.args.shared.now)) (sym c.in_ok-push.ensures.items) (All-push (IsHeld builds c.args.shared.now) c.args.me.now.all.items _ c.requires.all (record { taking = (f.0, ([], f.2, is)); built = tt }))

@@ -3,4 +3,4 @@ use Rattle.rj_workers.specs.Takes.{IsHeld}
 use Rattle.rj_workers.proofs.take.take_newest.Goals as goal
 
 pub returns : goal.returns
-returns g c = All-set (IsHeld (g.J.Job.joins c.args.shared.now.job.now) c.args.shared.now) c.args.all.now.items _ c.take_at.new.held c.in_ok-found.ensures c.requires.all
+returns g c = All-set (IsHeld (g.J.Job.builds c.args.shared.now.job.now) c.args.shared.now) c.args.all.now.items _ c.take_at.new.held c.in_ok-found.ensures c.requires.all

@@ -5,8 +5,9 @@ use Rattle.rj_ledger.specs.Ledgers.{LedgerValue, opened, after_offer, after_all}
 use Rattle.rj_exchange.specs.Boxes.{takens, taken_of}
 use Rattle.rj_exchange.specs.declared.boxes.Inbox.{Inbox}
 use Rattle.rj_workers.specs.Arrivals.{Takes, IsArrived}
+use Rattle.rj_workers.specs.Takes.{IsBuilding}
 use Rattle.rj_workers.proofs.Takes.{arrived_more}
-use Rattle.rj_workers.proofs.Ledgers.{after_append, joining_kept}
+use Rattle.rj_workers.proofs.Ledgers.{after_append, building_kept}
 use Rattle.rj_workers.proofs.take.take_once.Goals as goal
 
 pub returns-in_default : goal.returns-in_default
@@ -16,7 +17,7 @@ returns-in_default g c =
         c.take.ensures.inbox t.0,
         (a.0, subst (λ (w : Takes). IsArrived w a.0) (sym c.in_default.ensures.taken.0) a.1, a.2 ∙ ap (λ (p : ℕ). after_all (opened p senders block) a.0) (sym c.take.ensures.same.1)),
       );
-      joined = h.joined;
+      built = subst (λ (p : ℕ). IsBuilding (g.J.Job.builds c.args.shared.now.job.now) p c.args.held.now.ledger c.args.held.now.building) (sym c.take.ensures.same.1) h.built;
     }
 
 pub returns : goal.returns
@@ -37,5 +38,5 @@ returns g c =
           now ∙ ap (λ (p : ℕ). after_all (opened p senders block) (xs ++ x ∷ [])) (sym c.take.ensures.same.1),
         ),
       );
-      joined = joining_kept (g.J.Job.joins c.args.shared.now.job.now) v w (λ whole. is ∙ c.complete_stays.ensures.stays v (x ∷ []) whole) c.args.held.now.joining h.joined;
+      built = subst (λ (p : ℕ). IsBuilding (g.J.Job.builds c.args.shared.now.job.now) p w c.args.held.now.building) (sym c.take.ensures.same.1) (building_kept (g.J.Job.builds c.args.shared.now.job.now) inbox.partition v w (λ whole. is ∙ c.complete_stays.ensures.stays v (x ∷ []) whole) c.args.held.now.building h.built);
     }

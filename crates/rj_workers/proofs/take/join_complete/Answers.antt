@@ -1,6 +1,0 @@
-use Rattle.std.proofs.Common.{◌+◌, ℕ, sym, ap, ◌∙◌}
-use Rattle.rj_workers.proofs.Ledgers.{senders_opened}
-use Rattle.rj_workers.proofs.take.join_complete.Goals as goal
-
-pub try_join-requires : goal.try_join-requires
-try_join-requires g c = let t = c.requires.held.taking in let a = t.1 in senders_opened c.shape_stays.ensures c.args.held.now.ledger _ _ _ a.0 a.2 ∙ ap (λ (n : ℕ). n + n) (sym c.requires.job)
