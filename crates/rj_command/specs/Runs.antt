@@ -31,13 +31,14 @@ hash_value hash.Mixed key = mixed (plain key)
 
 -- how many members of each kind the joined table has, and how many rows of each table were delivered to each partition of
 -- the first pass: the rows with a key whose hash ends in the partition's bits
-pub record IsCounted (value : List Content → ℕ) (bits : ℕ) (l r : TableValue) (join : BoundJoin) (stats : Stats) : Type 0 where
+pub record IsCounted (value : List Content → ℕ) (q : Request) (l r : TableValue) (join : BoundJoin) (stats : Stats) : Type 0 where
   pub pairs : stats.pairs ≡ length (joined_of join l r).pairs
   pub lone_left : stats.lone_left ≡ length (joined_of join l r).lone_left
   pub lone_right : stats.lone_right ≡ length (joined_of join l r).lone_right
-  pub numbers : map (λ p. p.number) stats.partitions.items ≡ range_with_len 0 (2 ^ bits)
-  pub lefts : map (λ p. p.left) stats.partitions.items ≡ sizes_of value bits l (map (λ k. k.0) (keys_of join))
-  pub rights : map (λ p. p.right) stats.partitions.items ≡ sizes_of value bits r (map (λ k. k.1) (keys_of join))
+  pub numbers : map (λ p. p.number) stats.partitions.items ≡ range_with_len 0 (2 ^ q.settings.bits1)
+  pub lefts : map (λ p. p.left) stats.partitions.items ≡ sizes_of value q.settings.bits1 l (map (λ k. k.0) (keys_of join))
+  pub rights : map (λ p. p.right) stats.partitions.items ≡ sizes_of value q.settings.bits1 r (map (λ k. k.1) (keys_of join))
+  pub tells_pieces : stats.tells_pieces ≡ q.tells_pieces
 
 -- the text of the joined table of what the bytes denote, and what is counted of it
 pub record IsJoined (left right : List ℕ) (q : Request) (stats : Stats) (text : List ℕ) : Type 0 where
@@ -45,7 +46,7 @@ pub record IsJoined (left right : List ℕ) (q : Request) (stats : Stats) (text 
   pub r : TableValue
   pub join : BoundJoin
   pub operands : AreOperands left right q l r join
-  pub counts : IsCounted (hash_value q.hash) q.settings.bits1 l r join stats
+  pub counts : IsCounted (hash_value q.hash) q l r join stats
   pub shown : text ≡ joined_text q.null.now join l r
 
 -- the bytes denote two tables, and the clause a join of them

@@ -29,7 +29,7 @@ returns-clause-joined g c =
     let request = c.args.request.now in
     let text = joined_text request.null.now operands.join operands.left operands.right in
     let Writes : List ℕ → Type 0 = Appends (g.O.Output.told c.args.writer.now) (g.O.Output.told c.write_by_hash.new.writer) in
-    if_ok (λ stats. IsCounted (hash_value request.hash) request.settings.bits1 operands.left operands.right operands.join stats × Writes text)
+    if_ok (λ stats. IsCounted (hash_value request.hash) request operands.left operands.right operands.join stats × Writes text)
     (λ stats. (x : List ℕ) × IsJoined c.args.left.now c.args.right.now request stats x × Writes x)
     (λ stats h. (
       text,

@@ -8,7 +8,7 @@ pub returns-in-Plain-clause-ok : goal.returns-in-Plain-clause-ok
 returns-in-Plain-clause-ok g c =
     let o = c.args.operands.now in
     let q = c.args.request.now in
-    subst (λ (h : Hash). IfOk c.write_joined.result (λ stats. IsCounted (hash_value h) q.settings.bits1 o.left o.right o.join stats
+    subst (λ (h : Hash). IfOk c.write_joined.result (λ stats. IsCounted (hash_value h) q o.left o.right o.join stats
     × Appends (g.O.Output.told c.args.writer.now) (g.O.Output.told c.write_joined.new.writer) (joined_text q.null.now o.join o.left o.right)))
     (sym c.in-Plain.is) c.write_joined.ensures.ok
 
@@ -16,6 +16,6 @@ pub returns-in-Mixed-clause-ok : goal.returns-in-Mixed-clause-ok
 returns-in-Mixed-clause-ok g c =
     let o = c.args.operands.now in
     let q = c.args.request.now in
-    subst (λ (h : Hash). IfOk c.write_joined-in-Mixed.result (λ stats. IsCounted (hash_value h) q.settings.bits1 o.left o.right o.join stats
+    subst (λ (h : Hash). IfOk c.write_joined-in-Mixed.result (λ stats. IsCounted (hash_value h) q o.left o.right o.join stats
     × Appends (g.O.Output.told c.args.writer.now) (g.O.Output.told c.write_joined-in-Mixed.new.writer) (joined_text q.null.now o.join o.left o.right)))
     (sym c.in-Mixed.is) c.write_joined-in-Mixed.ensures.ok

@@ -1,4 +1,4 @@
-use Rattle.std.proofs.Common.{◌∙◌, ◌^◌, ap, sym, subst, map, length, ℕ, List, Bor}
+use Rattle.std.proofs.Common.{◌∙◌, ◌^◌, refl, ap, sym, subst, map, length, ℕ, List, Bor}
 use Rattle.std.specs.List.{range_with_len}
 use Rattle.std.specs.Io.KnownBytes.{Appends}
 use Rattle.std.proofs.lemmas.List.FromFn.{length-map-range_with_len}
@@ -42,6 +42,7 @@ returns-clause-ok g c =
         numbers = rows.numbers ∙ ap (range_with_len 0) many;
         lefts = rows.lefts ∙ joined.left_sizes;
         rights = rows.rights ∙ joined.right_sizes;
+        tells_pieces = refl;
       },
       subst Writes text c.in_ok-write_rows.ensures.ok,
     )
