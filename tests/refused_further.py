@@ -1,5 +1,5 @@
 """Refuses each allocation in turn in further runs of the built programs: statistics, coalesced texts, a remainder, a
-quoted header, help, faults, a write that fails, and scripts with gaps.
+quoted header, the versions, faults, a write that fails, and scripts with gaps.
 
 Each run ends as if nothing had been refused, or with `E18 Memory`, status 5. Where it would end by a fault it may end
 by that too; nothing is on standard output then but after a write that failed."""
@@ -47,6 +47,9 @@ RUNS = [
     joined("a remainder", b"k,a\n1,5\n1,9\n2,7\n", b"k,b\n1,7\n2,8\n", ["int,int", "int,int"], "LEFT JOIN ON L.k = R.k AND (L.a > R.b OR R.b IN (8, 6) AND NOT L.a IS NULL)", b"k,a,k,b\n1,9,1,7\n2,7,2,8\n1,5,,\n"),
     joined("a quoted header", *QUOTED, ["int,text", "int,text"], 'RIGHT JOIN ON L."a,b" = R."a,b"', b'"a,b","say ""it""","a,b",c\n1,x,1,"p,q"\n'),
     joined("a null text", b"k\nNULL\n1\n", b"k,b\n1,NULL\n", ["int", "int,text"], "NATURAL FULL JOIN", b"k,b\n1,NULL\nNULL,NULL\n", "--null=NULL"),
+    joined("two passes by the mixed hash", *TEXTS, ["text,int", "int,text"], "FULL JOIN USING (k)", b"k,a,b\ncy,3,5\nann,1,\n,2,\nbob,,4\n,,6\n", "--bits1=1", "--bits2=2", "--hash=mixed"),
+    Run("the version", ["--version"], {}, b"radixjoin 1.0.0\n"),
+    Run("the version of arrivals", ["--version"], {}, b"arrivals 1.0.0\n", program="arrivals"),
     joined("a bad integer", b"k\n1\nx\n", b"k\n1\n", ["int", "int"], "CROSS JOIN", b"", stderr=b"radixjoin: E6 BadInteger left row 2 column 1\n", status=3),
     joined("no clause", b"k\n1\n", b"k\n1\n", ["int", "int"], "JOIN ON (L.k = 1 AND NOT R.k IS NULL", b"", stderr=b"radixjoin: E11 Syntax byte 36\n", status=4),
     joined("no column", b"k\n1\n", b"k\n1\n", ["int", "int"], 'JOIN ON L.k = 1 AND R."K" > 2', b"", stderr=b"radixjoin: E13 UnknownColumn\n", status=4),

@@ -1,5 +1,5 @@
 -- Which fault of the command line a bad type list is.
-use Rattle.std.proofs.Common.{◌≡◌, ◌≢◌, ◌∙◌, Bool, true, false, List, [], Option, Some, ap, sym, subst, true≢false, codes}
+use Rattle.std.proofs.Common.{◌≡◌, ◌≢◌, Bool, true, false, List, [], Some, ap, sym, subst, true≢false, codes}
 use Rattle.clap.specs.Words.{Text, fault_of}
 use Rattle.rj_columns.specs.declared.cell.ColumnType.{ColumnType}
 use Rattle.rj_command.specs.declared.fault.Fault.{Fault}

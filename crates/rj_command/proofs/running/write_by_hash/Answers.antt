@@ -1,4 +1,4 @@
-use Rattle.std.proofs.Common.{IfOk, ◌∙◌, sym, subst}
+use Rattle.std.proofs.Common.{IfOk, sym, subst}
 use Rattle.std.specs.Io.KnownBytes.{Appends}
 use Rattle.rj_command.specs.Runs.{IsCounted, hash_value, joined_text}
 use Rattle.rj_command.specs.declared.request.Hash.{Hash}
