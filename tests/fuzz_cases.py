@@ -55,7 +55,7 @@ if scaled.ARE_TOLD:
 WORDS = [of for of in CELLS if of != "num(18,18)"]
 
 SCRIPT_PIECES = [b" ", b"  ", b"\n", b"\r\n", b"\r", b"0", b"1", b"-1", b"+1", b"x", b"close", b"rows", b" rows 1", b"\xff", b"4294967295", b"4294967296", b"18446744073709551615", b"18446744073709551616", b"000000000000000000000000001"]
-LINE_PIECES = [b"-", b"--", b"=", b"--left", b"--help", b"-h", b"--stats", b"--gaps", b"--null=", b"--bits1", b"--workers=64", b"--block", b"--lanes=4", b"--capacity", b"--retries=3", b"--bits2", b"--hash", b"mixed", b"plain", b"--version", b"-V", b"11", b"10", b"", b"\xff", b"int", b",", b"text", b" ", b"a", b"--join", b"0", b"--partition=1024", b"-1"]
+LINE_PIECES = [b"-", b"--", b"=", b"--left", b"--help", b"-h", b"--stats", b"--gaps", b"--null=", b"--bits1", b"--workers=64", b"--block", b"--lanes=4", b"--capacity", b"--retries=3", b"--bits2", b"--hash", b"mixed", b"plain", b"--piece=1", b"1048577", b"--version", b"-V", b"11", b"10", b"", b"\xff", b"int", b",", b"text", b" ", b"a", b"--join", b"0", b"--partition=1024", b"-1"]
 
 
 class Cases:
@@ -142,7 +142,7 @@ class Cases:
         for side, of, names in zip((b"left", b"right"), types, fuzz_clauses.COLUMNS):
             rows = [[self.source.choice(CELLS[one][:6]) for one in of] for _ in range(self.source.randrange(20))]
             files[side] = b"".join(b",".join(row) + b"\n" for row in [names, *rows])
-        options = [b"--stats", b"--bits1=%d" % self.source.randrange(11), b"--bits2=%d" % self.source.randrange(11), b"--hash=" + self.source.choice([b"plain", b"mixed"]), b"--workers=%d" % self.source.randrange(1, 4)]
+        options = [b"--stats", b"--bits1=%d" % self.source.randrange(11), b"--bits2=%d" % self.source.randrange(11), b"--hash=" + self.source.choice([b"plain", b"mixed"]), b"--piece=%d" % self.source.choice([1, 2, 3, 7, 65536]), b"--workers=%d" % self.source.randrange(1, 4)]
         options = self.source.sample(options, self.source.randrange(len(options) + 1))
         words = self.request([b"left", b"right"], types, self.clauses.lawful(types), self.source.choice(NULLS), options)
         return Case("joins", "radixjoin", words, files, self.folder)
@@ -173,7 +173,7 @@ class Cases:
             words = [b"--partition", b"0", b"--senders", b"1", b"--block", b"1"]
         else:
             words = [b"--left", b"left", b"--right", b"right", b"--left-types", b"int", b"--right-types=int", b"--join", b"CROSS JOIN"]
-        words += source.choice([[], [b"--stats"], [b"--bits1", b"3"], [b"--bits2=2"], [b"--hash", b"mixed"], [b"--version"], [b"--workers=2"], [b"--lanes", b"2"], [b"--block=65536", b"--capacity=1"], [b"--null=x"], [b"--gaps"], [b"--help"]])
+        words += source.choice([[], [b"--stats"], [b"--bits1", b"3"], [b"--bits2=2"], [b"--hash", b"mixed"], [b"--piece", b"3"], [b"--version"], [b"--workers=2"], [b"--lanes", b"2"], [b"--block=65536", b"--capacity=1"], [b"--null=x"], [b"--gaps"], [b"--help"]])
         for _ in range(source.choice([0, 1, 1, 2, 3])):
             at = source.randrange(len(words))
             how = source.randrange(6)

@@ -30,6 +30,7 @@ def random_settings(source):
         "capacity": source.choice([1, 2, 3, 64, 4096]),
         "lanes": source.randint(1, 4),
         "retries": source.randint(0, 3),
+        "piece": source.choice([1, 2, 3, 7, 100, 65536, 1_048_576]),
     }
     return [f"--{name}={value}" for name, value in settings.items()]
 

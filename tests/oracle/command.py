@@ -44,6 +44,7 @@ OPTIONS_OF = {
         "lanes": Number(1, 4, 1),
         "capacity": Number(1, 4096, 64),
         "retries": Number(0, 3, 1),
+        "piece": Number(1, 1_048_576, 65_536),
         "stats": FLAG,
     },
     "arrivals": {"partition": Number(0, 1023), "senders": Number(1, 128), "block": Number(1, 65536), "gaps": FLAG},
@@ -128,6 +129,8 @@ class Request:
         self.null = found.get("null", "").encode()
         self.bits1 = found.get("bits1", options["bits1"].default)
         self.hash = found.get("hash", options["hash"].default)
+        self.piece = found.get("piece", options["piece"].default)
+        self.tells_pieces = "piece" in found
         self.stats = "stats" in found
 
 

@@ -48,6 +48,7 @@ option_rules h =
     ∷ rule_for (codes "capacity") (takes.Number 1 4096)
     ∷ rule_for (codes "lanes") (takes.Number 1 4)
     ∷ rule_for (codes "retries") (takes.Number 0 3)
+    ∷ rule_for (codes "piece") (takes.Number 1 1048576)
     ∷ rule_for (codes "stats") takes.Nothing
     ∷ []
 

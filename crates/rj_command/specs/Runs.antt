@@ -11,6 +11,7 @@ use Rattle.rj_columns.specs.Contents.{Content}
 use Rattle.rj_radix.specs.Hashes.{mixed, plain}
 use Rattle.rj_engine.specs.Cells.{header_of, view_of}
 use Rattle.rj_engine.specs.Partitioned.{sizes_of}
+use Rattle.rj_engine.specs.Pools.{pieces_of_sizes}
 use Rattle.rj_engine.specs.Results.{joined_of}
 use Rattle.rj_command.specs.Operands.{AreOperands}
 use Rattle.rj_command.specs.declared.fault.Fault.{Fault}
@@ -29,8 +30,9 @@ abbrev pub hash_value : Hash → List Content → ℕ
 hash_value hash.Plain key = plain key
 hash_value hash.Mixed key = mixed (plain key)
 
--- how many members of each kind the joined table has, and how many rows of each table were delivered to each partition of
--- the first pass: the rows with a key whose hash ends in the partition's bits
+-- how many members of each kind the joined table has, how many rows of each table were delivered to each partition of the
+-- first pass (the rows with a key whose hash ends in the partition's bits), and how many pieces the rows of the larger side of
+-- each partition make
 pub record IsCounted (value : List Content → ℕ) (q : Request) (l r : TableValue) (join : BoundJoin) (stats : Stats) : Type 0 where
   pub pairs : stats.pairs ≡ length (joined_of join l r).pairs
   pub lone_left : stats.lone_left ≡ length (joined_of join l r).lone_left
@@ -38,6 +40,8 @@ pub record IsCounted (value : List Content → ℕ) (q : Request) (l r : TableVa
   pub numbers : map (λ p. p.number) stats.partitions.items ≡ range_with_len 0 (2 ^ q.settings.bits1)
   pub lefts : map (λ p. p.left) stats.partitions.items ≡ sizes_of value q.settings.bits1 l (map (λ k. k.0) (keys_of join))
   pub rights : map (λ p. p.right) stats.partitions.items ≡ sizes_of value q.settings.bits1 r (map (λ k. k.1) (keys_of join))
+  pub pieces : stats.pieces ≡ pieces_of_sizes q.settings.piece (map (λ p. p.left) stats.partitions.items) (map (λ p. p.right) stats.partitions.items)
+  pub tells_pieces : stats.tells_pieces ≡ q.tells_pieces
 
 -- the text of the joined table of what the bytes denote, and what is counted of it
 pub record IsJoined (left right : List ℕ) (q : Request) (stats : Stats) (text : List ℕ) : Type 0 where

@@ -1,5 +1,5 @@
 -- The text of what a join counts.
-use Rattle.std.specs.Prelude.{ℕ, List, [], ◌∷◌, ◌++◌, codes, decimal}
+use Rattle.std.specs.Prelude.{ℕ, if◌then◌else◌, List, [], ◌∷◌, ◌++◌, codes, decimal}
 use Rattle.std.specs.List.{flat_map}
 use Rattle.rj_command.specs.declared.stats.PartitionRows.{PartitionRows}
 use Rattle.rj_command.specs.declared.stats.Stats.{Stats}
@@ -12,6 +12,10 @@ partition_text p = codes "partition " ++ (decimal p.number ++ (codes " left " ++
 abbrev pub written_text : Stats → List ℕ
 written_text s = codes "pairs " ++ (decimal s.pairs ++ (codes " lone-left " ++ (decimal s.lone_left ++ (codes " lone-right " ++ decimal s.lone_right))))
 
--- a line for each partition, ended by LF, and then that of the rows written
+-- the line of the pieces
+abbrev pub pieces_text : Stats → List ℕ
+pieces_text s = codes "pieces " ++ decimal s.pieces
+
+-- a line for each partition, ended by LF, then that of the rows written, and where it is asked for that of the pieces
 abbrev pub stats_text : Stats → List ℕ
-stats_text s = flat_map (λ p. partition_text p ++ 10 ∷ []) s.partitions.items ++ written_text s
+stats_text s = flat_map (λ p. partition_text p ++ 10 ∷ []) s.partitions.items ++ (if s.tells_pieces then written_text s ++ (10 ∷ pieces_text s) else written_text s)

@@ -85,7 +85,7 @@ fn settings_of(matches: &ArgMatches<'_>) -> Settings
         lanes: number_or(matches, "lanes", 1),
         capacity: number_or(matches, "capacity", 64),
         retries: number_or(matches, "retries", 1),
-        piece: 65_536,
+        piece: number_or(matches, "piece", 65_536),
     }
 }
 
@@ -130,6 +130,7 @@ pub fn read_line<'a>(alloc: Global, words: &'a [&'a str]) -> Result<Line<'a>, Fa
             clause: given(&matches, "join"),
             settings: settings_of(&matches),
             hash: hash_of(&matches),
+            tells_pieces: matches.get_str("piece").is_some(),
         },
         stats: is_given(&matches, "stats"),
     })

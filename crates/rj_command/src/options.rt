@@ -34,7 +34,7 @@ pub(crate) struct LineOption {
 // The bits of the hash that a pass partitions by.
 const BITS: Takes = Takes::Number(0, 10);
 
-const OPTIONS: [LineOption; 15] = [
+const OPTIONS: [LineOption; 16] = [
     LineOption {
         name: "left",
         takes: Takes::Required,
@@ -106,9 +106,14 @@ const OPTIONS: [LineOption; 15] = [
         help: "Times that a part of the tables is scanned again where memory was short, 0 to 3 [default: 1]",
     },
     LineOption {
+        name: "piece",
+        takes: Takes::Number(1, 1_048_576),
+        help: "Rows of a partition that a thread joins at once, 1 to 1048576 [default: 65536]",
+    },
+    LineOption {
         name: "stats",
         takes: Takes::Nothing,
-        help: "Print on standard error how many rows each partition had, and how many rows of each kind were written",
+        help: "Print on standard error how many rows each partition had, how many rows of each kind were written, and where --piece is given how many pieces were joined",
     },
 ];
 

@@ -27,4 +27,6 @@ pub struct Request<'a> {
     pub settings: Settings,
     /// The hash that partitions the rows.
     pub hash: Hash,
+    /// Whether the statistics tell the number of pieces.
+    pub tells_pieces: bool,
 }

@@ -17,7 +17,7 @@ pub struct PartitionRows {
 }
 
 /// What a join counts. The text is what `--stats` prints, without its last line end: a line for each partition, and
-/// then one that counts the rows written.
+/// then one that counts the rows written, and where `--piece` was given one that counts the pieces.
 #[derive(Drop)]
 pub struct Stats {
     /// The rows of each partition, in the order of the partitions.
@@ -28,6 +28,10 @@ pub struct Stats {
     pub lone_left: u64,
     /// The right rows in no kept pair.
     pub lone_right: u64,
+    /// The pieces that the partitions were joined in.
+    pub pieces: u64,
+    /// Whether the text tells the number of pieces.
+    pub tells_pieces: bool,
 }
 
 impl fmt::Display for PartitionRows {
@@ -50,6 +54,11 @@ impl fmt::Display for Stats {
         write!(
             f,
             "pairs {pairs} lone-left {lone_left} lone-right {lone_right}"
-        )
+        )?;
+        if self.tells_pieces {
+            let pieces = self.pieces;
+            write!(f, "\npieces {pieces}")?;
+        }
+        Ok(())
     }
 }

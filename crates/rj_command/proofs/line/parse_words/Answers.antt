@@ -44,6 +44,7 @@ returns-in-Ok-try_get_matches_from-clause-ok c =
         capacity = number 11 1 4096 (lit< tt) refl got.parsed;
         lanes = number 12 1 4 (lit< tt) refl got.parsed;
         retries = number 13 0 3 (lit< tt) refl got.parsed;
+        piece = number 14 1 1048576 (lit< tt) refl got.parsed;
       };
       hash = hash_given command.start c.in-Ok.command (option_rules h) m command.bare command.chain refl refl 8 (lit< tt) h refl refl got.parsed;
     }

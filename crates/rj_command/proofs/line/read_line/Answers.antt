@@ -1,4 +1,4 @@
-use Rattle.std.proofs.Common.{◌≡◌, ◌∙◌, ap, refl, subst, sym, [], Option, Some, None, unwrap_or, codes, option_map, map, rules, Bor}
+use Rattle.std.proofs.Common.{◌≡◌, ◌∙◌, ap, refl, subst, sym, [], Option, Some, None, unwrap_or, codes, is_some, option_map, map, rules, Bor}
 use Rattle.clap.specs.Words.{Text, first_value, found_of}
 use Rattle.rj_engine.specs.declared.settings.Settings.{Settings}
 use Rattle.rj_command.specs.Line.{AreSettings, IsHashOr, IsNumberOr, is_true}
@@ -14,6 +14,11 @@ value-or v o u d is got empty = ap (λ (s : Bor Text). s.now) got ∙ (shown o �
     shown None = empty
     shown (Some x) = refl
 
+-- an option has a value where its text is found
+same-given : (v : Option Text) (o : Option (Bor Text)) → option_map (λ s. s.now) o ≡ v → is_some o ≡ is_some v
+same-given v None is = ap is_some is
+same-given v (Some x) is = ap is_some is
+
 -- settings by the values that a parse found are those by the words
 same-settings : (found word : Text → Option Text) (s : Settings) → ((name : Text) → found name ≡ word name) → AreSettings found s → AreSettings word s
 same-settings found word s same are = record {
@@ -24,7 +29,7 @@ same-settings found word s same are = record {
   lanes = subst (λ (o : Option Text). IsNumberOr 1 o s.lanes) (same (codes "lanes")) are.lanes;
   capacity = subst (λ (o : Option Text). IsNumberOr 64 o s.capacity) (same (codes "capacity")) are.capacity;
   retries = subst (λ (o : Option Text). IsNumberOr 1 o s.retries) (same (codes "retries")) are.retries;
-  piece = are.piece;
+  piece = subst (λ (o : Option Text). IsNumberOr 65536 o s.piece) (same (codes "piece")) are.piece;
 }
 
 pub returns-clause-line : goal.returns-clause-line
@@ -41,6 +46,7 @@ returns-clause-line c =
       null = value-or _ c.get_str.result c.unwrap_or.result _ (c.get_str.ensures ∙ parse.values (codes "null")) c.unwrap_or.ensures refl;
       settings = same-settings (first_value (found_of c.in_ok-matches.matches)) _ c.settings_of.result parse.values c.settings_of.ensures;
       hash = subst (λ (o : Option Text). IsHashOr hash.Plain o c.hash_of.result) (parse.values (codes "hash")) c.hash_of.ensures;
+      tells_pieces = c.is_some.ensures ∙ same-given _ c.get_str-2.result (c.get_str-2.ensures ∙ parse.values (codes "piece"));
       stats = c.is_given.ensures ∙ ap is_true (parse.values (codes "stats"));
     }
 

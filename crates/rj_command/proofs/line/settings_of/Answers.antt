@@ -13,5 +13,5 @@ invariant_of-result c = record {
       (number_between 1 4 1 (first_value (found_of c.args.matches.now) (codes "lanes")) c.number_or-5.result (omega arith) (omega arith) c.requires.lanes c.number_or-5.ensures)
       (number_between 1 4096 64 (first_value (found_of c.args.matches.now) (codes "capacity")) c.number_or-6.result (omega arith) (omega arith) c.requires.capacity c.number_or-6.ensures)
       (number_between 0 3 1 (first_value (found_of c.args.matches.now) (codes "retries")) c.number_or-7.result (omega arith) (omega arith) c.requires.retries c.number_or-7.ensures);
-  piece_limits = refl;
+  piece_limits = number_between 1 1048576 65536 (first_value (found_of c.args.matches.now) (codes "piece")) c.number_or-8.result (omega arith) (omega arith) c.requires.piece c.number_or-8.ensures;
 }

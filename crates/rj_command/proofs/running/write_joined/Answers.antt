@@ -1,4 +1,4 @@
-use Rattle.std.proofs.Common.{◌∙◌, ◌^◌, ap, sym, subst, map, length, ℕ, List, Bor}
+use Rattle.std.proofs.Common.{◌∙◌, ◌^◌, refl, ap, ap₂, sym, subst, map, length, ℕ, List, Bor}
 use Rattle.std.specs.List.{range_with_len}
 use Rattle.std.specs.Io.KnownBytes.{Appends}
 use Rattle.std.proofs.lemmas.List.FromFn.{length-map-range_with_len}
@@ -6,6 +6,7 @@ use Rattle.rj_csv_io.specs.Shown.{table_text}
 use Rattle.rj_condition.specs.Splits.{keys_of}
 use Rattle.rj_engine.specs.Join.{JoinedValue}
 use Rattle.rj_engine.specs.Partitioned.{rows_of_partition}
+use Rattle.rj_engine.specs.Pools.{pieces_of_sizes}
 use Rattle.std.proofs.lemmas.List.{length-map}
 use Rattle.rj_engine.specs.Cells.{ViewValue, columns_of, header_of, name_of}
 use Rattle.rj_command.proofs.running.write_joined.Goals as goal
@@ -42,6 +43,8 @@ returns-clause-ok g c =
         numbers = rows.numbers ∙ ap (range_with_len 0) many;
         lefts = rows.lefts ∙ joined.left_sizes;
         rights = rows.rights ∙ joined.right_sizes;
+        pieces = c.pieces.ensures ∙ (joined.pieces ∙ ap₂ (pieces_of_sizes c.args.request.now.settings.piece) (sym rows.lefts) (sym rows.rights));
+        tells_pieces = refl;
       },
       subst Writes text c.in_ok-write_rows.ensures.ok,
     )
