@@ -1,7 +1,7 @@
 # Completion of radixjoin for bash: options that were not given yet, files, and the words of --hash.
 _radixjoin() {
     local options="--left --right --left-types --right-types --join --null --stats --workers --bits1 --bits2 --hash
-        --block --capacity --lanes --retries --help --version"
+        --piece --block --capacity --lanes --retries --help --version"
     local word=${COMP_WORDS[COMP_CWORD]} before=${COMP_WORDS[COMP_CWORD - 1]}
     # `--left=a` is three words here: --left, = and a.
     if [[ $word == = ]]; then
@@ -18,7 +18,7 @@ _radixjoin() {
         --hash)
             mapfile -t COMPREPLY < <(compgen -W "plain mixed" -- "$word")
             ;;
-        --left-types | --right-types | --join | --null | --workers | --bits1 | --bits2 | --block | --capacity | --lanes | --retries) ;;
+        --left-types | --right-types | --join | --null | --workers | --bits1 | --bits2 | --piece | --block | --capacity | --lanes | --retries) ;;
         *)
             local option left=
             for option in $options; do

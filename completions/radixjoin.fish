@@ -11,6 +11,7 @@ complete -c radixjoin -l workers -x -d 'Threads that scan, and as many that join
 complete -c radixjoin -l bits1 -x -d 'Bits of the hash that name a partition, 0 to 10'
 complete -c radixjoin -l bits2 -x -d 'Bits of the hash that divide a partition, 0 to 10'
 complete -c radixjoin -l hash -x -a 'plain mixed' -d 'How keys are hashed'
+complete -c radixjoin -l piece -x -d 'Rows of a partition joined at once, 1 to 1048576'
 complete -c radixjoin -l block -x -d 'Rows that a scanning thread hands on at once, 1 to 65536'
 complete -c radixjoin -l capacity -x -d 'Blocks that wait in a queue at most, 1 to 4096'
 complete -c radixjoin -l lanes -x -d 'Queues that lead to each partition, 1 to 4'
