@@ -19,10 +19,9 @@ pub loop-row-preserved : goal.loop-row-preserved
 loop-row-preserved c =
     let fits : FitsType c.loop-row.column.kind (content_of c.cell.result) = fits_kind c.args.self.now.types c.args.col _ c.loop-row.column.kind c.loop-row.invariant.0 c.cell.ensures.typed in
     let pushed = c.in_ok-push.ensures.ok in
-    let kind : slice_get c.args.self.now.types c.args.col ≡ Some c.push.new.self.kind = rw pushed c.loop-row.invariant.0 in
-    (
+    let kind : slice_get c.args.self.now.types c.args.col ≡ Some c.push.new.self.kind = rw pushed c.loop-row.invariant.0 in (
       kind,
       copied (λ r. cell_of c.args.self.now r c.args.col) c.args.rows.now c.loop-row.row-index c.loop-row.column.cells c.push.new.self.cells (content_of c.cell.result) c.loop-row-test.true
-        c.loop-row.invariant.1 (ap (λ v. v.cells) pushed) (c.cell.ensures.content ∙ ap (λ r. cell_of c.args.self.now r c.args.col) c.from.ensures),
-      grown_typed c.loop-row.column (content_of c.cell.result) c.push.new.self c.loop-row.invariant.2 fits pushed
+          c.loop-row.invariant.1 (ap (λ v. v.cells) pushed) (c.cell.ensures.content ∙ ap (λ r. cell_of c.args.self.now r c.args.col) c.from.ensures),
+      grown_typed c.loop-row.column (content_of c.cell.result) c.push.new.self c.loop-row.invariant.2 fits pushed,
     )
