@@ -67,17 +67,20 @@ def compare(workload, proved, plain, runs, options):
     left, right = workload.file(DATA, "left"), workload.file(DATA, "right")
     types = f"{workload.keys},text"
     files = ["--left", left, "--left-types", types, "--right", right, "--right-types", types]
-    proved_words = [proved, *files, "--join", workload.clause(), *options]
-    lines = [[plain, left, right, workload.keys, workload.kind], proved_words]
-    lines += [[*proved_words, f"--workers={workers}"] for workers in WORKERS]
+    proved_words = [proved, *files, "--join", workload.clause(), *workload.options(), *options]
+    # (the plain join knows no clause but USING)
+    lines = [[plain, left, right, workload.keys, workload.kind]] if workload.kind != "hot" else []
+    lines += [proved_words, *([*proved_words, f"--workers={workers}"] for workers in WORKERS)]
     found = [[measure(words) for words in lines] for _ in range(runs)]
-    theirs, ours, *others = [least(of_one) for of_one in zip(*found)]
+    *theirs, ours, second, third = [least(of_one) for of_one in zip(*found)]
     size = left.stat().st_size + right.stat().st_size
-    more = "".join(f" {it.wall:.2f} s | {it.cpu:.2f} s | {it.memory / 1e6:.0f} MB |" for it in others)
+    walls = [f"{it.wall:.2f} s | {ours.wall / it.wall:.2f}" for it in theirs] or ["- | -"]
+    cpus = [f"{it.cpu:.2f} s | {ours.cpu / it.cpu:.2f}" for it in theirs] or ["- | -"]
+    peaks = [f"{it.memory / 1e6:.0f} MB" for it in theirs] or ["-"]
+    more = "".join(f" {it.wall:.2f} s | {it.cpu:.2f} s | {it.memory / 1e6:.0f} MB |" for it in (second, third))
     print(
-        f"| {workload.name} | {size / 1e6:.0f} MB | {ours.wall:.2f} s | {theirs.wall:.2f} s | {ours.wall / theirs.wall:.2f} "
-        f"| {ours.cpu:.2f} s | {theirs.cpu:.2f} s | {ours.cpu / theirs.cpu:.2f} "
-        f"| {ours.memory / 1e6:.0f} MB | {theirs.memory / 1e6:.0f} MB | {ours.memory / size:.1f} |{more}",
+        f"| {workload.name} | {size / 1e6:.0f} MB | {ours.wall:.2f} s | {walls[0]} | {ours.cpu:.2f} s | {cpus[0]} "
+        f"| {ours.memory / 1e6:.0f} MB | {peaks[0]} | {ours.memory / size:.1f} |{more}",
         flush=True,
     )
     return {run.digest for turn in found for run in turn} == {ours.digest}

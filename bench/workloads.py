@@ -14,6 +14,10 @@ SMALL_ROWS = 10_000
 WORDS = 50_000
 
 
+# (of `hot` no pair is kept, so that the join is all that it does: each left text is before each right one)
+CLAUSES = {"inner": "JOIN USING (k)", "full": "FULL JOIN USING (k)", "hot": "JOIN ON L.k = R.k AND L.a > R.b"}
+
+
 class Workload:
     """Two files, how many rows they have, and what is asked of them."""
 
@@ -26,7 +30,11 @@ class Workload:
         self.draw = draw
 
     def clause(self):
-        return "FULL JOIN USING (k)" if self.kind == "full" else "JOIN USING (k)"
+        return CLAUSES[self.kind]
+
+    def options(self):
+        """A table of so few rows is one piece, unless pieces are asked to be small."""
+        return ["--piece=1024"] if self.kind == "hot" else []
 
     def file(self, folder, side):
         return pathlib.Path(folder) / f"{self.name}.{side}.csv"
@@ -54,6 +62,11 @@ def half(source, rows, keys):
     return (int(source.random() * keys * 2) for _ in range(rows))
 
 
+def hot(source, rows, keys):
+    """Half of the rows have one key, the others one each."""
+    return (0 if row % 2 else 1 + row for row in range(rows))
+
+
 WORKLOADS = [
     Workload("foreign_key", "int", "inner", LEFT_ROWS, RIGHT_ROWS, uniform),
     Workload("zipf_1.00", "int", "inner", LEFT_ROWS, RIGHT_ROWS, zipf(1.0)),
@@ -62,6 +75,7 @@ WORKLOADS = [
     Workload("numeric_key", "num(12,2)", "inner", LEFT_ROWS, RIGHT_ROWS, uniform),
     Workload("full_half", "int", "full", LEFT_ROWS, RIGHT_ROWS, half),
     Workload("small", "int", "inner", SMALL_ROWS, SMALL_ROWS, uniform),
+    Workload("hot_key", "int", "hot", 2 * SMALL_ROWS, 2 * SMALL_ROWS, hot),
 ]
 
 
@@ -73,7 +87,7 @@ def spelled(workload, key):
 
 
 def write(path, header, keys, source):
-    words = [f"{source.getrandbits(64):016x}" for _ in range(WORDS)]
+    words = [f"{header[-2]}{source.getrandbits(60):015x}" for _ in range(WORDS)]
     with open(path, "w", newline="", buffering=1 << 20) as file:
         file.write(header)
         for key in keys:
@@ -81,14 +95,15 @@ def write(path, header, keys, source):
 
 
 def make(workload, folder, scale):
-    """Writes both files of a workload: the right table has each key once, in any order."""
+    """Writes both files of a workload: the right table has each key once, in any order, but of `hot`."""
     left, right = max(1, int(workload.left * scale)), max(1, int(workload.right * scale))
     source = random.Random(f"radixjoin benchmark {workload.name}")
     numbers = list(range(right))
     source.shuffle(numbers)
     drawn = workload.draw(source, left, right)
     write(workload.file(folder, "left"), "k,a\n", (spelled(workload, key) for key in drawn), source)
-    write(workload.file(folder, "right"), "k,b\n", (spelled(workload, key) for key in numbers), source)
+    others = workload.draw(source, right, left) if workload.kind == "hot" else numbers
+    write(workload.file(folder, "right"), "k,b\n", (spelled(workload, key) for key in others), source)
 
 
 def main():
