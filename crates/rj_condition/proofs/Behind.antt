@@ -3,6 +3,7 @@ use Rattle.std.proofs.Common.{◌≡◌, inl, inr, ℕ, List, [], ◌∷◌, Opt
 use Rattle.std.specs.List.{find}
 use Rattle.std.specs.Str.{bytes_eq, str_to_ascii_lowercase}
 use Rattle.std.proofs.lemmas.Slice.Eq.{bytes_eq-Decides}
+use Rattle.rj_condition.proofs.Quotes.{some_same}
 use Rattle.rj_condition.specs.declared.token.Keyword.{Keyword}
 use Rattle.rj_condition.specs.declared.token.Keyword.TheVariants as keyword
 use Rattle.rj_condition.specs.declared.token.Sign.{Sign}
@@ -19,9 +20,6 @@ use Rattle.rj_condition.specs.Grammar.{optional, sign_of, keyword_of_truth}
 use Rattle.rj_condition.specs.Reading.{◌>>=◌, same_keyword, same_sign, after, behind, optionally, opt, name_at, comparison_of, operator_at, truth_of, truth_at}
 use Rattle.rj_condition.proofs.Words.{spelled_once}
 use Rattle.rj_condition.proofs.TokenLaws.{chosen}
-
-pub some_same : {A : Type 0} (x y : A) → Some x ≡ Some y → x ≡ y
-some_same x y e = cc
 
 pub bind_some : {A B : Type 0} (r : Option A) (f : A → Option B) (y : B) → (r >>= f) ≡ Some y → (x : A) × (r ≡ Some x) × (f x ≡ Some y)
 bind_some (Some x) f y e = (x, refl, e)

@@ -60,7 +60,11 @@ mutual
   test_shorter : (ts : List Token) (c : Condition) (us : List Token) → IsTest ts c us → length us < length ts
   test_shorter _ _ _ (plain ts c us h) = primary_shorter ts c us h
   test_shorter _ _ _ (is_truth ts c t negated us h) =
-      omega (arith, primary_shorter ts c (token.Keyword keyword.Is ∷ optional negated keyword.Not (token.Keyword (keyword_of_truth t) ∷ us)) h, optional_length negated (token.Keyword (keyword_of_truth t) ∷ us))
+      omega (
+        arith,
+        primary_shorter ts c (token.Keyword keyword.Is ∷ optional negated keyword.Not (token.Keyword (keyword_of_truth t) ∷ us)) h,
+        optional_length negated (token.Keyword (keyword_of_truth t) ∷ us),
+      )
 
   primary_shorter : (ts : List Token) (c : Condition) (us : List Token) → IsPrimary ts c us → length us < length ts
   primary_shorter _ _ _ (predicate ts c us h) = predicate_shorter ts c us h

@@ -6,13 +6,13 @@ use Rattle.std.specs.Char.{is_ascii_digit}
 use Rattle.std.specs.List.{prefix_len}
 use Rattle.std.specs.Str.Parse.{IsNumeral, AllDigits, without_leading_sign, signed_digits_value}
 use Rattle.std.proofs.lemmas.Bool.Decides.{nat_tests}
+use Rattle.std.proofs.lemmas.Bool.{and_parts, ltb-true, lt-ltb}
 use mir.Val.{SFits}
 use Rattle.rj_condition.specs.declared.decimal.DecimalLiteral.{DecimalLiteral}
 use Rattle.rj_condition.specs.Sizes.{is_short}
 use Rattle.rj_condition.specs.Decimals.{checked, decimal_of}
 use Rattle.rj_condition.specs.Tokens.{begins, is_name_byte, IsDecimal}
 use Rattle.rj_condition.specs.Scanning.{fits_word, is_integer, decimal_parts, with_rest, judged_decimal, fraction_at}
-use Rattle.rj_condition.proofs.Runs.{both_true}
 use Rattle.rj_condition.proofs.Quotes.{some_same}
 use Rattle.rj_condition.proofs.Integers.{integer-Decides, fits-Decides}
 
@@ -63,16 +63,10 @@ joined_some : (xs ys : List ℕ) → 0 < length xs → 0 < length (xs ++ ys)
 joined_some [] ys lt = absurd (omega (arith, lt))
 joined_some (x ∷ xs) ys lt = omega arith
 
-below : (a b : ℕ) → nat_lt a b ≡ true → a < b
-below a b e = grind (arith, nat_tests)
-
-is_less : (a b : ℕ) → a < b → nat_lt a b ≡ true
-is_less a b e = grind (arith, nat_tests)
-
 -- a decimal's units are a number of 64 bits
 below_fits : (z : ℤ) → nat_lt (unsigned_abs z) (10 ^ 18) ≡ true → fits_word z ≡ true
-below_fits (pos n) e = is_less n (2 ^ 63) (omega (arith, below n (10 ^ 18) e))
-below_fits (negsuc n) e = is_less n (2 ^ 63) (omega (arith, below (suc n) (10 ^ 18) e))
+below_fits (pos n) e = lt-ltb n (2 ^ 63) (omega (arith, ltb-true n (10 ^ 18) e))
+below_fits (negsuc n) e = lt-ltb n (2 ^ 63) (omega (arith, ltb-true (suc n) (10 ^ 18) e))
 
 -- which way the test of the parts went
 tested : (a b c : Bool) (x : Option DecimalLiteral) (d : DecimalLiteral) → cond (a && b && c) x None ≡ Some d → (a ≡ true) × (b ≡ true) × (c ≡ true) × (x ≡ Some d)
@@ -83,10 +77,11 @@ tested false b c x d e = cc
 
 pub parts_sound : (before after : List ℕ) (d : DecimalLiteral) → 0 < length after → decimal_parts before after ≡ Some d → IsDecimal d (before ++ 46 ∷ after)
 parts_sound before after d some e =
-    let t = tested (is_integer (before ++ after)) (nat_lt 0 (length (without_leading_sign before))) (nat_lt (length (without_leading_sign before) + length after) 19) (decimal_of (signed_digits_value 10 (before ++ after)) (length after)) d e in
+    let t = tested (is_integer (before ++ after)) (nat_lt 0 (length (without_leading_sign before))) (nat_lt (length (without_leading_sign before) + length after) 19)
+    (decimal_of (signed_digits_value 10 (before ++ after)) (length after)) d e in
     let number = (integer-Decides (before ++ after)).0 t.0 in
-    let filled = below 0 (length (without_leading_sign before)) t.1 in
-    let few = below (length (without_leading_sign before) + length after) 19 t.2 in
+    let filled = ltb-true 0 (length (without_leading_sign before)) t.1 in
+    let few = ltb-true (length (without_leading_sign before) + length after) 19 t.2 in
     let P : List ℕ → Type 0 = AllDigits 10 in
     let digits = digits_split (without_leading_sign before) after (subst P (unsigned_append before after (some_before before filled)) number.0.1) in
     let value = checked_some _ _ _ _ d t.3 in
@@ -101,10 +96,10 @@ parts_found before after d m n few scale units =
     let P : List ℕ → Type 0 = IsNumeral 10 in
     let digits = subst P (sym (unsigned_append before after (some_before before m.0))) (joined_some (without_leading_sign before) after m.0, digits_join (without_leading_sign before) after m.1 n.1) in
     let Q : ℤ → Type 0 = SFits w64 in
-    let fits = subst Q units ((fits-Decides d.units).0 (below_fits d.units (both_true _ _ d.short).1)) in
+    let fits = subst Q units ((fits-Decides d.units).0 (below_fits d.units (and_parts _ _ d.short).1)) in
     all_three (is_integer (before ++ after)) (nat_lt 0 (length (without_leading_sign before))) (nat_lt (length (without_leading_sign before) + length after) 19)
     (decimal_of (signed_digits_value 10 (before ++ after)) (length after))
-    ((integer-Decides (before ++ after)).1 (digits, fits)) (is_less _ _ m.0) (is_less _ _ (omega (arith, few)))
+    ((integer-Decides (before ++ after)).1 (digits, fits)) (lt-ltb _ _ m.0) (lt-ltb _ _ (omega (arith, few)))
     ∙ ap (λ z. decimal_of z (length after)) (sym units)
     ∙ ap (decimal_of d.units) (sym scale)
     ∙ own d
@@ -113,16 +108,19 @@ parts_found before after d m n few scale units =
 pub made : (units u : ℤ) (scale : ℕ) (p : is_short u scale ≡ true) → u ≡ units → Some record { units = u; scale = scale; short = p } ≡ decimal_of units scale
 made units u scale p e = sym (checked_is u scale (is_short u scale) refl p) ∙ ap (λ z. decimal_of z scale) e
 
-pub parts_ok : (before after : List ℕ) (units : ℤ) (scale : ℕ) → is_integer (before ++ after) ≡ true → 0 < length (without_leading_sign before) → length (without_leading_sign before) + length after ≤ 18 →
+pub parts_ok : (before after : List ℕ) (units : ℤ) (scale : ℕ) → is_integer (before ++ after) ≡ true → 0 < length (without_leading_sign before)
+    → length (without_leading_sign before) + length after ≤ 18 →
     units ≡ signed_digits_value 10 (before ++ after) → scale ≡ length after → decimal_of units scale ≡ decimal_parts before after
 parts_ok before after units scale is some few e f =
     ap (λ z. decimal_of z scale) e
     ∙ ap (decimal_of (signed_digits_value 10 (before ++ after))) f
-    ∙ sym (all_three (is_integer (before ++ after)) (nat_lt 0 (length (without_leading_sign before))) (nat_lt (length (without_leading_sign before) + length after) 19) _ is (is_less _ _ some) (is_less _ _ (omega (arith, few))))
+    ∙ sym (all_three (is_integer (before ++ after)) (nat_lt 0 (length (without_leading_sign before))) (nat_lt (length (without_leading_sign before) + length after) 19) _ is (lt-ltb _ _ some)
+    (lt-ltb _ _ (omega (arith, few))))
 
 pub parts_err : (before after : List ℕ) → is_integer (before ++ after) ≡ false → None ≡ decimal_parts before after
 parts_err before after is =
-    sym (ap (λ c. cond (c && nat_lt 0 (length (without_leading_sign before)) && nat_lt (length (without_leading_sign before) + length after) 19) (decimal_of (signed_digits_value 10 (before ++ after)) (length after)) None) is)
+    sym (ap (λ c. cond (c && nat_lt 0 (length (without_leading_sign before)) && nat_lt (length (without_leading_sign before) + length after) 19)
+    (decimal_of (signed_digits_value 10 (before ++ after)) (length after)) None) is)
 
 pub fraction_some : (before bs text after rest : List ℕ) (n : ℕ) (d : DecimalLiteral) → bs ≡ text → n ≡ prefix_len is_ascii_digit bs → after ≡ take n text → rest ≡ drop n text →
     begins is_name_byte rest ≡ false → Some d ≡ decimal_parts before after → Some (d, rest) ≡ fraction_at before text

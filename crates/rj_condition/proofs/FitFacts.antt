@@ -4,6 +4,7 @@ use Rattle.std.specs.Prelude.{◌<◌, ◌≤◌, ◌^◌, ℤ, nat_lt, unsigned
 use Rattle.std.proofs.lemmas.Bool.Decides.{nat_tests}
 use Rattle.std.proofs.lemmas.Grind.{common_steps}
 use Rattle.std.proofs.Common.{arith}
+use Rattle.std.proofs.lemmas.Bool.{and_parts}
 use Rattle.rj_columns.specs.Contents.{Content, nothing, whole, decimal, word, FitsType, IsInLimits}
 use Rattle.rj_columns.specs.Compare.{seen, AreOneKind, AreComparable}
 use Rattle.rj_columns.proofs.LimitFacts.{FitsType-limits}
@@ -17,7 +18,6 @@ use Rattle.rj_condition.specs.Sizes.{is_short}
 use Rattle.rj_condition.specs.declared.typing.TypeFamily.{TypeFamily}
 use Rattle.rj_condition.specs.declared.typing.TypeFamily.TheVariants as family
 use Rattle.rj_condition.proofs.PairFacts.{both, fit_none}
-use Rattle.rj_condition.proofs.Runs.{both_true}
 
 length_none : (n : ℕ) (x : Option ℕ) → length (replicate n x) ≡ n
 length_none n x = grind (arith, common_steps)
@@ -50,7 +50,7 @@ fits_kind (t ∷ types) (suc i) x h = fits_kind types i x h
 
 -- a decimal of a clause is within the limits of a comparison
 pub short_limits : (units : ℤ) (scale : ℕ) → is_short units scale ≡ true → IsInLimits (decimal units scale)
-short_limits units scale e = let h = both_true (nat_lt scale 19) (nat_lt (unsigned_abs units) (10 ^ 18)) e in (limit scale h.0, below (unsigned_abs units) (10 ^ 18) h.1)
+short_limits units scale e = let h = and_parts (nat_lt scale 19) (nat_lt (unsigned_abs units) (10 ^ 18)) e in (limit scale h.0, below (unsigned_abs units) (10 ^ 18) h.1)
   where
     below : (a b : ℕ) → nat_lt a b ≡ true → a < b
     below a b e = grind (arith, nat_tests)

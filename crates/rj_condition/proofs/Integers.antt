@@ -16,7 +16,7 @@ use Rattle.std.proofs.Math.Facts.{to_z-of_z}
 use mir.Val.{to_z, of_z}
 use Rattle.rj_condition.specs.Tokens.{begins, is_name_byte}
 use Rattle.rj_condition.specs.Scanning.{fits_word, is_integer, judged, number_len, is_sign_of_number}
-use Rattle.rj_condition.proofs.Runs.{either, run_ascii, cut_behind}
+use Rattle.rj_condition.proofs.Runs.{run_ascii, cut_behind}
 
 pub fits-Decides : (z : ℤ) → Decides (fits_word z) (SFits w64 z)
 fits-Decides (pos n) = (λ e. record { sfits = ltb-true n (2 ^ 63) e }, λ h. lt-ltb n (2 ^ 63) h.sfits)
@@ -50,9 +50,11 @@ parsed-err {E} w r x h e =
 
 -- the number that a word is
 judged_of : (w rest : List ℕ) (b : Bool) (a : Bool) → b ≡ begins is_name_byte rest → is_integer w ≡ a → judged w rest ≡ cond b None (cond a (Some (signed_digits_value 10 w, rest)) None)
-judged_of w rest b a e f = ap (λ c. cond c None (cond (is_integer w) (Some (signed_digits_value 10 w, rest)) None)) (sym e) ∙ ap (λ c. cond b None (cond c (Some (signed_digits_value 10 w, rest)) None)) f
+judged_of w rest b a e f = ap (λ c. cond c None (cond (is_integer w) (Some (signed_digits_value 10 w, rest)) None)) (sym e)
+    ∙ ap (λ c. cond b None (cond c (Some (signed_digits_value 10 w, rest)) None)) f
 
-pub integer_found : {E : Type 0} → (w rest : List ℕ) (r : Result ℤ E) (n : ℤ) → false ≡ begins is_name_byte rest → ParsesSigned w64 10 w r → r ≡ Ok n → Some (to_z w64 (of_z w64 n), rest) ≡ judged w rest
+pub integer_found : {E : Type 0} → (w rest : List ℕ) (r : Result ℤ E) (n : ℤ) → false ≡ begins is_name_byte rest → ParsesSigned w64 10 w r → r ≡ Ok n
+    → Some (to_z w64 (of_z w64 n), rest) ≡ judged w rest
 integer_found {E} w rest r n e h f =
     let p = parsed-ok w r n h f in
     let fits : SFits w64 n = p.2 in
@@ -71,7 +73,7 @@ sign_low b e = grind (arith, nat_tests)
 number_ascii : (bs : List ℕ) → IsAscii (take (number_len bs) bs) × (number_len bs ≤ length bs)
 unfolding number_len
 number_ascii [] = (λ i. omega arith, omega arith)
-number_ascii (b ∷ bs) = elim (either (is_sign_of_number b)) as (λ v. IsAscii (take (number_len (b ∷ bs)) (b ∷ bs)) × (number_len (b ∷ bs) ≤ length (b ∷ bs))) [
+number_ascii (b ∷ bs) = elim (cases_Bool (is_sign_of_number b)) as (λ v. IsAscii (take (number_len (b ∷ bs)) (b ∷ bs)) × (number_len (b ∷ bs) ≤ length (b ∷ bs))) [
   | inl h ↦
       let n = prefix_len is_ascii_digit bs in
       let len : number_len (b ∷ bs) ≡ suc n = ap (λ c. cond c (1 + n) (prefix_len is_ascii_digit (b ∷ bs))) h ∙ one n in

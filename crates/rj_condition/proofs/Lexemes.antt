@@ -8,6 +8,7 @@ use Rattle.std.specs.Str.{all_ascii_digits}
 use Rattle.std.specs.Str.Parse.{IsNumeral, AllDigits, without_leading_sign, signed_digits_value}
 use Rattle.std.proofs.lemmas.Bool.Decides.{nat_tests}
 use Rattle.std.proofs.Math.Seq.{drop-append_seam}
+use Rattle.std.proofs.lemmas.Bool.{and_parts, cases_Bool, eqb-true}
 use Rattle.rj_condition.specs.declared.decimal.DecimalLiteral.{DecimalLiteral}
 use Rattle.rj_condition.specs.declared.token.Sign.{Sign}
 use Rattle.rj_condition.specs.declared.token.Sign.TheVariants as sign
@@ -16,12 +17,12 @@ use Rattle.rj_condition.specs.declared.token.Token.TheVariants as token
 use Rattle.rj_condition.specs.Tokens.{is_blank, is_name_byte, begins, begins_fraction, doubled, in_quotes, sign_text, IsIdentifier, IsNamed, IsDecimal, IsSpelled, EndsSign, Ends, IsToken}
 use Rattle.rj_condition.specs.Lexing.{Lexes, nothing, blank, next, unreadable}
 use Rattle.rj_condition.specs.Scanning.{quoted, text_at, delimited_at, word_at, named, number_len, is_sign_of_number, is_integer, judged, as_integer, decimal_parts, with_rest, judged_decimal, fraction_at, as_decimal, number_behind, number_at, less_at, greater_at, mark_of, sign_at, as_sign, begins_number, token_at}
-use Rattle.rj_condition.proofs.Runs.{either, both_true, run_is}
+use Rattle.rj_condition.proofs.Runs.{run_is}
 use Rattle.rj_condition.proofs.Words.{keyword_word, name_word, take_seam}
 use Rattle.rj_condition.proofs.Quotes.{some_same, quoted_complete}
 use Rattle.rj_condition.proofs.Integers.{integer-Decides, digits-Decides}
 use Rattle.rj_condition.proofs.DecimalParts.{parts_found}
-use Rattle.rj_condition.proofs.TokenLaws.{is_byte, token_sound}
+use Rattle.rj_condition.proofs.TokenLaws.{token_sound}
 
 -- words
 letter_at : (b : ℕ) (bs : List ℕ) → is_ascii_alphabetic b ≡ true → token_at (b ∷ bs) ≡ Some (word_at (b ∷ bs))
@@ -65,7 +66,7 @@ number_first b bs e =
 
 digits_all : (ds : List ℕ) → all_ascii_digits ds ≡ true → list_all is_ascii_digit ds ≡ true
 digits_all [] e = refl
-digits_all (d ∷ ds) e = let h = both_true (is_ascii_digit d) (all_ascii_digits ds) e in
+digits_all (d ∷ ds) e = let h = and_parts (is_ascii_digit d) (all_ascii_digits ds) e in
     ap (λ c. c && list_all is_ascii_digit ds) h.0 ∙ digits_all ds h.1
 
 no_digit : (rest : List ℕ) → begins is_name_byte rest ≡ false → begins is_ascii_digit rest ≡ false
@@ -92,7 +93,7 @@ plain_len b ds rest e d n =
     ∙ run_is is_ascii_digit (b ∷ ds) rest d n
 
 unsigned : (b : ℕ) (ds : List ℕ) → is_sign_of_number b ≡ true → without_leading_sign (b ∷ ds) ≡ ds
-unsigned b ds e = elim (either (b == 45)) [
+unsigned b ds e = elim (cases_Bool (b == 45)) [
   | inl h ↦ ap (λ c. cond c ds (drop (cond (b == 43) 1 0) (b ∷ ds))) h
   | inr h ↦ ap (λ c. cond c ds (drop (cond (b == 43) 1 0) (b ∷ ds))) h ∙ ap (λ c. drop (cond c 1 0) (b ∷ ds)) (plus b e h)
 ]
@@ -116,13 +117,13 @@ Measured (b ∷ ds) rest = (begins_number b ≡ true) × (number_len (b ∷ (ds 
 
 measured : (w rest : List ℕ) → IsNumeral 10 (without_leading_sign w) → begins is_ascii_digit rest ≡ false → Measured w rest
 measured [] rest n e = absurd (omega (arith, n.0))
-measured (b ∷ ds) rest n e = elim (either (is_sign_of_number b)) [
+measured (b ∷ ds) rest n e = elim (cases_Bool (is_sign_of_number b)) [
   | inl h ↦
       let digits = digits_all ds ((digits-Decides ds).1 (let P : List ℕ → Type 0 = AllDigits 10 in subst P (unsigned b ds h) n.1)) in
       (signs b h, signed_len b ds rest h digits e)
   | inr h ↦
       let digits = digits_all (b ∷ ds) ((digits-Decides (b ∷ ds)).1 (let P : List ℕ → Type 0 = AllDigits 10 in subst P (no_sign b ds h) n.1)) in
-      (digit b (both_true (is_ascii_digit b) (list_all is_ascii_digit ds) digits).0, plain_len b ds rest h digits e)
+      (digit b (and_parts (is_ascii_digit b) (list_all is_ascii_digit ds) digits).0, plain_len b ds rest h digits e)
 ]
   where
     signs : (b : ℕ) → is_sign_of_number b ≡ true → begins_number b ≡ true
@@ -160,7 +161,7 @@ integer_found w rest z n fits value ends point =
 -- the digits behind a point
 first_digit : (after rest : List ℕ) → 0 < length after → list_all is_ascii_digit after ≡ true → begins is_ascii_digit (after ++ rest) ≡ true
 first_digit [] rest lt e = absurd (omega (arith, lt))
-first_digit (b ∷ after) rest lt e = (both_true (is_ascii_digit b) (list_all is_ascii_digit after) e).0
+first_digit (b ∷ after) rest lt e = (and_parts (is_ascii_digit b) (list_all is_ascii_digit after) e).0
 
 fraction_found : (before after rest : List ℕ) (d : DecimalLiteral) → list_all is_ascii_digit after ≡ true → begins is_name_byte rest ≡ false → decimal_parts before after ≡ Some d →
     fraction_at before (after ++ rest) ≡ Some (d, rest)
@@ -208,7 +209,8 @@ sign_found sign.Comma rest e = refl
 sign_found sign.Point rest e = refl
 
 -- each token
-name_found : (delimited : Bool) (text w rest : List ℕ) → IsNamed delimited text w → begins (cond delimited (λ b. b == 34) is_name_byte) rest ≡ false → token_at (w ++ rest) ≡ Some (named delimited text, rest)
+name_found : (delimited : Bool) (text w rest : List ℕ) → IsNamed delimited text w → begins (cond delimited (λ b. b == 34) is_name_byte) rest ≡ false
+    → token_at (w ++ rest) ≡ Some (named delimited text, rest)
 name_found true text w rest s e = ap (λ z. token_at (z ++ rest)) s.0 ∙ delimited_found text rest s.1 e
 name_found false text w rest s e = word_found w rest (named false w) s.1 (name_word w rest s.1 s.2 e) ∙ ap (λ z. Some (named false z, rest)) s.0
 
@@ -227,13 +229,13 @@ token_found bytes t rest h = ap token_at h.1 ∙ spelled_found t h.0 rest h.2 h.
 -- white space is no token, nor is the end
 blank_none : (b : ℕ) (bs : List ℕ) → is_blank b ≡ true → token_at (b ∷ bs) ≡ None
 unfolding token_at sign_at mark_of
-blank_none b bs e = elim (either (b == 32)) [
-  | inl h ↦ ap (λ z. token_at (z ∷ bs)) (is_byte b 32 h)
-  | inr h ↦ elim (either (b == 9)) [
-    | inl k ↦ ap (λ z. token_at (z ∷ bs)) (is_byte b 9 k)
-    | inr k ↦ elim (either (b == 10)) [
-      | inl l ↦ ap (λ z. token_at (z ∷ bs)) (is_byte b 10 l)
-      | inr l ↦ ap (λ z. token_at (z ∷ bs)) (is_byte b 13 (last b e h k l))
+blank_none b bs e = elim (cases_Bool (b == 32)) [
+  | inl h ↦ ap (λ z. token_at (z ∷ bs)) (eqb-true b 32 h)
+  | inr h ↦ elim (cases_Bool (b == 9)) [
+    | inl k ↦ ap (λ z. token_at (z ∷ bs)) (eqb-true b 9 k)
+    | inr k ↦ elim (cases_Bool (b == 10)) [
+      | inl l ↦ ap (λ z. token_at (z ∷ bs)) (eqb-true b 10 l)
+      | inr l ↦ ap (λ z. token_at (z ∷ bs)) (eqb-true b 13 (last b e h k l))
     ]
   ]
 ]

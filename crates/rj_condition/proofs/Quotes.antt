@@ -7,9 +7,10 @@ use Rattle.std.proofs.lemmas.Bool.Decides.{nat_tests}
 use Rattle.std.proofs.lemmas.List.Sums.{prefix_len-le-length}
 use Rattle.std.proofs.lemmas.List.{take-append-drop}
 use Rattle.std.proofs.lemmas.Str.{IsCharBoundary-before_ascii, IsCharBoundary-end}
+use Rattle.std.proofs.lemmas.Bool.{and_parts, cases_Bool}
 use Rattle.rj_condition.specs.Tokens.{begins, doubled}
 use Rattle.rj_condition.specs.Scanning.{is_other, in_front, quoted, after_quote}
-use Rattle.rj_condition.proofs.Runs.{either, both_true, run_passes, run_ends}
+use Rattle.rj_condition.proofs.Runs.{run_passes, run_ends}
 
 pub some_same : {A : Type 0} (x y : A) → Some x ≡ Some y → x ≡ y
 some_same x y e = cc
@@ -42,7 +43,7 @@ after_quote_last q [] e = refl
 after_quote_last q (b ∷ bs) e = ap (λ c. cond c (in_front (q ∷ []) (quoted q bs)) (Some ([], b ∷ bs))) e
 
 other_is : (q b : ℕ) → is_other q b ≡ true → is_quote q b ≡ false
-other_is q b e = elim (either (is_quote q b)) [ inl h ↦ let f = ap not h in cc | inr h ↦ h ]
+other_is q b e = elim (cases_Bool (is_quote q b)) [ inl h ↦ let f = ap not h in cc | inr h ↦ h ]
 
 quote_is_other : (q b : ℕ) → is_quote q b ≡ true → is_other q b ≡ false
 quote_is_other q b e = ap not e
@@ -70,7 +71,7 @@ in_front_nothing None = refl
 run_in_front : (q : ℕ) (front more : List ℕ) → list_all (is_other q) front ≡ true → quoted q (front ++ more) ≡ in_front front (quoted q more)
 run_in_front q [] more a = in_front_nothing (quoted q more)
 run_in_front q (b ∷ front) more a =
-    let h = both_true (is_other q b) (list_all (is_other q) front) a in
+    let h = and_parts (is_other q b) (list_all (is_other q) front) a in
     quoted_other q b (front ++ more) (other_is q b h.0)
     ∙ ap (in_front (b ∷ [])) (run_in_front q front more h.1)
     ∙ in_front_twice (b ∷ []) front (quoted q more)
@@ -82,7 +83,7 @@ cut_in_front q found rest front more k =
 -- what stands behind the run is a quote
 pub quote_there : (q : ℕ) (rest front more : List ℕ) → IsCut q rest front more → 0 < length more → get_or more 0 0 ≡ q
 quote_there q rest front [] k lt = absurd (omega arith)
-quote_there q rest front (b ∷ more) k lt = elim (either (is_quote q b)) [
+quote_there q rest front (b ∷ more) k lt = elim (cases_Bool (is_quote q b)) [
   | inl h ↦ quote_is q b h
   | inr h ↦ let e = ap not h in let f = k.ends in cc
 ]
@@ -184,7 +185,7 @@ quote_is q b e = grind (arith, nat_tests)
 mutual
   pub quoted_sound : (q : ℕ) (bs : List ℕ) (p : List ℕ × List ℕ) → quoted q bs ≡ Some p → Quoted q bs p
   quoted_sound q [] p e = let f = quoted_nothing q in cc
-  quoted_sound q (b ∷ bs) p e = elim (either (is_quote q b)) [
+  quoted_sound q (b ∷ bs) p e = elim (cases_Bool (is_quote q b)) [
     | inl h ↦ let s = after_sound q bs p (sym (quoted_quote q b bs h) ∙ e) in
         (ap (λ z. z ∷ bs) (quote_is q b h) ∙ s.0, s.1)
     | inr h ↦ let f = in_front_some b (quoted q bs) p (sym (quoted_other q b bs h) ∙ e) in
@@ -196,7 +197,7 @@ mutual
 
   after_sound : (q : ℕ) (bs : List ℕ) (p : List ℕ × List ℕ) → after_quote q bs ≡ Some p → Quoted q (q ∷ bs) p
   after_sound q [] p e = subst (Quoted q (q ∷ [])) (some_same _ _ (sym (after_quote_last q [] refl) ∙ e)) (refl, refl)
-  after_sound q (b ∷ bs) p e = elim (either (is_quote q b)) [
+  after_sound q (b ∷ bs) p e = elim (cases_Bool (is_quote q b)) [
     | inl h ↦ let f = in_front_some q (quoted q bs) p (sym (after_quote_two q b bs h) ∙ e) in
         let s = quoted_sound q bs f.0 f.1 in (
           ap (λ z. q ∷ z ∷ bs) (quote_is q b h) ∙ ap (λ z. q ∷ q ∷ z) s.0 ∙ ap (λ z. q ∷ q ∷ (doubled q f.0.0 ++ q ∷ z)) (sym f.3)
@@ -209,7 +210,7 @@ mutual
 -- and what has their form is read
 pub quoted_complete : (q : ℕ) (t rest : List ℕ) → begins (is_quote q) rest ≡ false → quoted q (doubled q t ++ q ∷ rest) ≡ Some (t, rest)
 quoted_complete q [] rest e = quoted_quote q q rest (same_quote q) ∙ after_quote_last q rest e
-quoted_complete q (b ∷ t) rest e = elim (either (is_quote q b)) [
+quoted_complete q (b ∷ t) rest e = elim (cases_Bool (is_quote q b)) [
   | inl h ↦
       ap (λ z. quoted q (z ++ q ∷ rest)) (doubled_quote q b t h)
       ∙ quoted_quote q q (q ∷ (doubled q t ++ q ∷ rest)) (same_quote q)

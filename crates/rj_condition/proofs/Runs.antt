@@ -6,15 +6,8 @@ use Rattle.std.specs.List.{prefix_len, list_all}
 use Rattle.std.proofs.lemmas.Bool.Decides.{nat_tests}
 use Rattle.std.proofs.lemmas.List.Sums.{prefix_len-le-length}
 use Rattle.std.proofs.lemmas.Str.{IsUtf8-from_ascii, IsCharBoundary-from_take}
+use Rattle.std.proofs.lemmas.Bool.{and_parts, cases_Bool}
 use Rattle.rj_condition.specs.Tokens.{begins, is_name_byte}
-
-pub either : (b : Bool) → (b ≡ true) ⊎ (b ≡ false)
-either true = inl refl
-either false = inr refl
-
-pub both_true : (c d : Bool) → (c && d) ≡ true → (c ≡ true) × (d ≡ true)
-both_true true d e = (refl, e)
-both_true false d e = cc
 
 module _ (p : ℕ → Bool) where
   one_more : (n : ℕ) → 1 + n ≡ suc n
@@ -28,14 +21,14 @@ module _ (p : ℕ → Bool) where
 
   pub run_passes : (xs : List ℕ) → list_all p (take (prefix_len p xs) xs) ≡ true
   run_passes [] = refl
-  run_passes (x ∷ xs) = elim (either (p x)) [
+  run_passes (x ∷ xs) = elim (cases_Bool (p x)) [
     | inl e ↦ ap (λ n. list_all p (take n (x ∷ xs))) (len_in x xs e) ∙ ap (λ b. b && list_all p (take (prefix_len p xs) xs)) e ∙ run_passes xs
     | inr e ↦ ap (λ n. list_all p (take n (x ∷ xs))) (len_out x xs e)
   ]
 
   pub run_ends : (xs : List ℕ) → begins p (drop (prefix_len p xs) xs) ≡ false
   run_ends [] = refl
-  run_ends (x ∷ xs) = elim (either (p x)) [
+  run_ends (x ∷ xs) = elim (cases_Bool (p x)) [
     | inl e ↦ ap (λ n. begins p (drop n (x ∷ xs))) (len_in x xs e) ∙ run_ends xs
     | inr e ↦ ap (λ n. begins p (drop n (x ∷ xs))) (len_out x xs e) ∙ e
   ]
@@ -44,14 +37,14 @@ module _ (p : ℕ → Bool) where
   run_is [] [] a b = refl
   run_is [] (r ∷ rest) a b = len_out r rest b
   run_is (x ∷ w) rest a b =
-      let h = both_true (p x) (list_all p w) a in
+      let h = and_parts (p x) (list_all p w) a in
       len_in x (w ++ rest) h.0 ∙ ap suc (run_is w rest h.1 b)
 
   -- a run of ASCII bytes
   all_ascii : ((b : ℕ) → p b ≡ true → b < 128) → (xs : List ℕ) → list_all p xs ≡ true → IsAscii xs
   all_ascii low [] a i = omega arith
-  all_ascii low (x ∷ xs) a zero = low x (both_true (p x) (list_all p xs) a).0
-  all_ascii low (x ∷ xs) a (suc i) = all_ascii low xs (both_true (p x) (list_all p xs) a).1 i
+  all_ascii low (x ∷ xs) a zero = low x (and_parts (p x) (list_all p xs) a).0
+  all_ascii low (x ∷ xs) a (suc i) = all_ascii low xs (and_parts (p x) (list_all p xs) a).1 i
 
   pub run_ascii : ((b : ℕ) → p b ≡ true → b < 128) → (xs : List ℕ) → IsAscii (take (prefix_len p xs) xs)
   run_ascii low xs = all_ascii low (take (prefix_len p xs) xs) (run_passes xs)

@@ -1,5 +1,6 @@
 -- What is read is in the grammar.
 use Rattle.std.proofs.Common.{◌≡◌, ℕ, zero, suc, ◌⊎◌, inl, inr, List, [], ◌∷◌, ◌++◌, length, Option, Some, None, Bool, refl, sym, ap, ◌∙◌, subst, append_assoc}
+use Rattle.rj_condition.proofs.Quotes.{some_same}
 use Rattle.rj_condition.specs.declared.token.Keyword.TheVariants as keyword
 use Rattle.rj_condition.specs.declared.token.Sign.TheVariants as sign
 use Rattle.rj_condition.specs.declared.token.Token.{Token}
@@ -10,7 +11,7 @@ use Rattle.rj_condition.specs.declared.tree.Comparison.{Comparison}
 use Rattle.rj_condition.specs.declared.tree.Condition.{Condition}
 use Rattle.rj_condition.specs.Grammar.{optional, any_of, all_of, IsOperand, plain_name, qualified_name, integer, decimal, text, IsOperands, last_operand, more_operands, IsNames, last_name, more_names, IsPredicate, compare, is_null, between, among, IsFactor, not, test, IsTest, plain, is_truth, IsPrimary, predicate, group, IsFactors, last_factor, and_factors, IsTerms, last_term, or_terms}
 use Rattle.rj_condition.specs.Reading.{Read, go_on, separated, after, behind, opt, name_at, column_of, column_at, operand_at, operands_at, names_at, operator_at, null_at, bounds_at, members_at, by_in, by_between, range_at, by_is, by_operator, test_of, predicate_at, factor_of, factor_at, factors_at, term_at, terms_at, cond_at, term_with, cond_with, group_with, group_at, truth_at, truth_test_at, suffix_of, suffix, primary_of, primary_with, test_with, primary_at, test_at}
-use Rattle.rj_condition.proofs.Behind.{some_same, bind_some, after_next, behind_next, opt_is, name_next, operator_next, truth_next}
+use Rattle.rj_condition.proofs.Behind.{bind_some, after_next, behind_next, opt_is, name_next, operator_next, truth_next}
 
 pub go_on_some : {A : Type 0} (o : Option (List Token)) (stop : Read A) (go : List Token → Read A) (y : A × List Token) → go_on o stop go ≡ Some y →
     ((o ≡ None) × (stop ≡ Some y)) ⊎ ((vs : List Token) × (o ≡ Some vs) × (go vs ≡ Some y))
@@ -71,7 +72,8 @@ unfolding names_at
 names_sound ts p e =
     let s = separated_sound name_at (behind sign.Comma) IsOneName IsNames name_next
     (λ us n vs r. subst (λ (z : List Token). IsNames z (n ∷ []) vs) (sym r) (last_name n vs))
-    (λ us n vs ws ns zs r f l. subst (λ (z : List Token). IsNames z (n ∷ ns) zs) (sym (r ∙ ap (λ (z : List Token). token.Name n ∷ z) (behind_next sign.Comma vs ws f))) (more_names n ws ns zs l)) (length ts) [] ts p e in
+    (λ us n vs ws ns zs r f l. subst (λ (z : List Token). IsNames z (n ∷ ns) zs) (sym (r ∙ ap (λ (z : List Token). token.Name n ∷ z) (behind_next sign.Comma vs ws f))) (more_names n ws ns zs l))
+    (length ts) [] ts p e in
     subst (λ (z : List Name). IsNames ts z p.1) (sym s.1) s.2
 
 -- predicates
@@ -90,7 +92,8 @@ module _ (ts : List Token) (x : Operand) where
       subst Told (some_same _ _ b.2)
       (is_null ts x n.0 b.0 (told_by _ _ (ap (λ (z : List Token). token.Keyword keyword.Is ∷ optional n.0 keyword.Not z) (after_next keyword.Null n.1 b.0 b.1)) h))
 
-  bounds_sound : (negated : Bool) (vs : List Token) (p : Condition × List Token) → IsOperand ts x (optional negated keyword.Not (token.Keyword keyword.Between ∷ vs)) → bounds_at x negated vs ≡ Some p → Told p
+  bounds_sound : (negated : Bool) (vs : List Token) (p : Condition × List Token) → IsOperand ts x (optional negated keyword.Not (token.Keyword keyword.Between ∷ vs))
+      → bounds_at x negated vs ≡ Some p → Told p
   unfolding bounds_at
   bounds_sound negated vs p h e =
       let low = bind_some (operand_at vs) _ p e in
@@ -100,7 +103,8 @@ module _ (ts : List Token) (x : Operand) where
       (between ts x negated vs low.0.0 and.0 high.0.0 high.0.1 h
       (subst (λ (z : List Token). IsOperand vs low.0.0 z) (after_next keyword.And low.0.1 and.0 and.1) (operand_sound vs low.0 low.1)) (operand_sound and.0 high.0 high.1))
 
-  members_sound : (negated : Bool) (vs : List Token) (p : Condition × List Token) → IsOperand ts x (optional negated keyword.Not (token.Keyword keyword.In ∷ vs)) → members_at x negated vs ≡ Some p → Told p
+  members_sound : (negated : Bool) (vs : List Token) (p : Condition × List Token) → IsOperand ts x (optional negated keyword.Not (token.Keyword keyword.In ∷ vs))
+      → members_at x negated vs ≡ Some p → Told p
   unfolding members_at
   members_sound negated vs p h e =
       let open' = bind_some (behind sign.Open vs) _ p e in
@@ -115,7 +119,8 @@ module _ (ts : List Token) (x : Operand) where
   in_sound n None p f h e = cc
   in_sound n (Some vs) p f h e = members_sound n.0 vs p (told_by _ _ (ap (optional n.0 keyword.Not) (after_next keyword.In n.1 vs f)) h) e
 
-  between_sound : (n : Bool × List Token) (o : Option (List Token)) (p : Condition × List Token) → after keyword.Between n.1 ≡ o → IsOperand ts x (optional n.0 keyword.Not n.1) → by_between x n o ≡ Some p → Told p
+  between_sound : (n : Bool × List Token) (o : Option (List Token)) (p : Condition × List Token) → after keyword.Between n.1 ≡ o → IsOperand ts x (optional n.0 keyword.Not n.1)
+      → by_between x n o ≡ Some p → Told p
   between_sound n None p f h e = in_sound n (after keyword.In n.1) p refl h e
   between_sound n (Some vs) p f h e = bounds_sound n.0 vs p (told_by _ _ (ap (optional n.0 keyword.Not) (after_next keyword.Between n.1 vs f)) h) e
 
@@ -196,14 +201,16 @@ module _ (n : ℕ) (sound : (ts : List Token) (p : Condition × List Token) → 
   unfolding primary_with
   primary_sound ts p e = primary_by ts (behind sign.Open ts) p refl e
 
-  truth_sound : (ts : List Token) (c : Condition) (m : Bool × List Token) (p : Condition × List Token) → IsPrimary ts c (token.Keyword keyword.Is ∷ optional m.0 keyword.Not m.1) → truth_test_at c m ≡ Some p → IsTest ts p.0 p.1
+  truth_sound : (ts : List Token) (c : Condition) (m : Bool × List Token) (p : Condition × List Token) → IsPrimary ts c (token.Keyword keyword.Is ∷ optional m.0 keyword.Not m.1)
+      → truth_test_at c m ≡ Some p → IsTest ts p.0 p.1
   unfolding truth_test_at
   truth_sound ts c m p h e =
       let t = bind_some (truth_at m.1) _ p e in
       subst (λ (z : Condition × List Token). IsTest ts z.0 z.1) (some_same _ _ t.2)
       (is_truth ts c t.0.0 m.0 t.0.1 (subst (λ (z : List Token). IsPrimary ts c (token.Keyword keyword.Is ∷ optional m.0 keyword.Not z)) (truth_next m.1 t.0 t.1) h))
 
-  suffix_by : (ts : List Token) (c : Condition) (us : List Token) (o : Option (List Token)) (p : Condition × List Token) → after keyword.Is us ≡ o → IsPrimary ts c us → suffix_of c us o ≡ Some p → IsTest ts p.0 p.1
+  suffix_by : (ts : List Token) (c : Condition) (us : List Token) (o : Option (List Token)) (p : Condition × List Token) → after keyword.Is us ≡ o → IsPrimary ts c us → suffix_of c us o ≡ Some p
+      → IsTest ts p.0 p.1
   suffix_by ts c us (Some vs) p f h e =
       truth_sound ts c (opt keyword.Not vs) p
       (subst (λ (z : List Token). IsPrimary ts c z) (after_next keyword.Is us vs f ∙ ap (λ (z : List Token). token.Keyword keyword.Is ∷ z) (opt_is keyword.Not vs)) h) e

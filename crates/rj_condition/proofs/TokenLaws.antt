@@ -5,6 +5,7 @@ use Rattle.std.specs.Char.{is_ascii_alphabetic, is_ascii_digit}
 use Rattle.std.specs.List.{prefix_len}
 use Rattle.std.proofs.lemmas.Bool.Decides.{nat_tests}
 use Rattle.std.proofs.lemmas.List.{take-append-drop}
+use Rattle.std.proofs.lemmas.Bool.{and_parts, cases_Bool, eqb-true}
 use Rattle.rj_condition.specs.declared.decimal.DecimalLiteral.{DecimalLiteral}
 use Rattle.rj_condition.specs.declared.token.Sign.{Sign}
 use Rattle.rj_condition.specs.declared.token.Sign.TheVariants as sign
@@ -12,7 +13,7 @@ use Rattle.rj_condition.specs.declared.token.Token.{Token}
 use Rattle.rj_condition.specs.declared.token.Token.TheVariants as token
 use Rattle.rj_condition.specs.Tokens.{is_name_byte, begins, begins_fraction, doubled, in_quotes, sign_text, EndsSign, IsToken}
 use Rattle.rj_condition.specs.Scanning.{quoted, text_at, delimited_at, number_len, is_integer, judged, as_integer, decimal_parts, with_rest, fraction_at, as_decimal, number_at, less_at, greater_at, mark_of, as_mark, sign_at, as_sign, begins_number, token_at}
-use Rattle.rj_condition.proofs.Runs.{either, both_true, len_in}
+use Rattle.rj_condition.proofs.Runs.{len_in}
 use Rattle.rj_condition.proofs.Words.{word_token}
 use Rattle.rj_condition.proofs.Quotes.{some_same, quoted_sound}
 use Rattle.rj_condition.proofs.Integers.{integer-Decides}
@@ -22,9 +23,6 @@ use Rattle.rj_condition.proofs.DecimalParts.{parts_sound}
 pub chosen : {A : Type 0} (b : Bool) (x y : Option A) (p : A) → cond b x y ≡ Some p → ((b ≡ true) × (x ≡ Some p)) ⊎ ((b ≡ false) × (y ≡ Some p))
 chosen true x y p e = inl (refl, e)
 chosen false x y p e = inr (refl, e)
-
-pub is_byte : (b c : ℕ) → (b == c) ≡ true → b ≡ c
-is_byte b c e = grind (arith, nat_tests)
 
 -- signs
 abbrev IsSignAt : List ℕ → Sign × List ℕ → Type 0
@@ -36,21 +34,23 @@ both_false b c e f = grind (arith, nat_tests)
 less_sound : (bs : List ℕ) → IsSignAt (60 ∷ bs) (less_at bs)
 unfolding less_at
 less_sound [] = (refl, refl)
-less_sound (b ∷ bs) = elim (either (b == 62)) [
-  | inl h ↦ subst (IsSignAt (60 ∷ b ∷ bs)) (sym (ap (λ c. cond c (sign.NotEqual, bs) (cond (b == 61) (sign.LessOrEqual, bs) (sign.Less, b ∷ bs))) h)) (ap (λ z. 60 ∷ z ∷ bs) (is_byte b 62 h), tt)
-  | inr h ↦ elim (either (b == 61)) [
+less_sound (b ∷ bs) = elim (cases_Bool (b == 62)) [
+  | inl h ↦ subst (IsSignAt (60 ∷ b ∷ bs)) (sym (ap (λ c. cond c (sign.NotEqual, bs) (cond (b == 61) (sign.LessOrEqual, bs) (sign.Less, b ∷ bs))) h)) (ap (λ z. 60 ∷ z ∷ bs) (eqb-true b 62 h), tt)
+  | inr h ↦ elim (cases_Bool (b == 61)) [
     | inl k ↦ subst (IsSignAt (60 ∷ b ∷ bs))
-        (sym (ap (λ c. cond c (sign.NotEqual, bs) (cond (b == 61) (sign.LessOrEqual, bs) (sign.Less, b ∷ bs))) h ∙ ap (λ c. cond c (sign.LessOrEqual, bs) (sign.Less, b ∷ bs)) k)) (ap (λ z. 60 ∷ z ∷ bs) (is_byte b 61 k), tt)
+        (sym (ap (λ c. cond c (sign.NotEqual, bs) (cond (b == 61) (sign.LessOrEqual, bs) (sign.Less, b ∷ bs))) h ∙ ap (λ c. cond c (sign.LessOrEqual, bs) (sign.Less, b ∷ bs)) k))
+        (ap (λ z. 60 ∷ z ∷ bs) (eqb-true b 61 k), tt)
     | inr k ↦ subst (IsSignAt (60 ∷ b ∷ bs))
-        (sym (ap (λ c. cond c (sign.NotEqual, bs) (cond (b == 61) (sign.LessOrEqual, bs) (sign.Less, b ∷ bs))) h ∙ ap (λ c. cond c (sign.LessOrEqual, bs) (sign.Less, b ∷ bs)) k)) (refl, both_false b b h k)
+        (sym (ap (λ c. cond c (sign.NotEqual, bs) (cond (b == 61) (sign.LessOrEqual, bs) (sign.Less, b ∷ bs))) h ∙ ap (λ c. cond c (sign.LessOrEqual, bs) (sign.Less, b ∷ bs)) k))
+        (refl, both_false b b h k)
   ]
 ]
 
 greater_sound : (bs : List ℕ) → IsSignAt (62 ∷ bs) (greater_at bs)
 unfolding greater_at
 greater_sound [] = (refl, refl)
-greater_sound (b ∷ bs) = elim (either (b == 61)) [
-  | inl h ↦ subst (IsSignAt (62 ∷ b ∷ bs)) (sym (ap (λ c. cond c (sign.GreaterOrEqual, bs) (sign.Greater, b ∷ bs)) h)) (ap (λ z. 62 ∷ z ∷ bs) (is_byte b 61 h), tt)
+greater_sound (b ∷ bs) = elim (cases_Bool (b == 61)) [
+  | inl h ↦ subst (IsSignAt (62 ∷ b ∷ bs)) (sym (ap (λ c. cond c (sign.GreaterOrEqual, bs) (sign.Greater, b ∷ bs)) h)) (ap (λ z. 62 ∷ z ∷ bs) (eqb-true b 61 h), tt)
   | inr h ↦ subst (IsSignAt (62 ∷ b ∷ bs)) (sym (ap (λ c. cond c (sign.GreaterOrEqual, bs) (sign.Greater, b ∷ bs)) h)) (refl, h)
 ]
 
@@ -75,7 +75,7 @@ mark_sound b bs s e = elim (chosen (b == 61) _ _ s e) [
   where
     at : (b : ℕ) (bs : List ℕ) (r s : Sign) (c : ℕ) → sign_text r ≡ c ∷ [] → EndsSign r bs → (b == c) ≡ true → r ≡ s → IsSignAt (b ∷ bs) (s, bs)
     at b bs r s c spelled ends same is =
-        subst (λ (z : Sign). IsSignAt (b ∷ bs) (z, bs)) is (ap (λ z. z ∷ bs) (is_byte b c same) ∙ ap (λ z. z ++ bs) (sym spelled), ends)
+        subst (λ (z : Sign). IsSignAt (b ∷ bs) (z, bs)) is (ap (λ z. z ∷ bs) (eqb-true b c same) ∙ ap (λ z. z ++ bs) (sym spelled), ends)
 
 as_mark_some : (o : Option Sign) (bs : List ℕ) (p : Sign × List ℕ) → as_mark o bs ≡ Some p → (s : Sign) × (o ≡ Some s) × ((s, bs) ≡ p)
 as_mark_some (Some s) bs p e = (s, refl, some_same _ _ e)
@@ -85,9 +85,9 @@ sign_sound : (bytes : List ℕ) (p : Sign × List ℕ) → sign_at bytes ≡ Som
 unfolding sign_at
 sign_sound [] p e = cc
 sign_sound (b ∷ bs) p e = elim (chosen (b == 60) _ _ p e) [
-  | inl h ↦ subst (IsSignAt (b ∷ bs)) (some_same _ _ h.1) (subst (λ (z : ℕ). IsSignAt (z ∷ bs) (less_at bs)) (sym (is_byte b 60 h.0)) (less_sound bs))
+  | inl h ↦ subst (IsSignAt (b ∷ bs)) (some_same _ _ h.1) (subst (λ (z : ℕ). IsSignAt (z ∷ bs) (less_at bs)) (sym (eqb-true b 60 h.0)) (less_sound bs))
   | inr h ↦ elim (chosen (b == 62) _ _ p h.1) [
-    | inl h ↦ subst (IsSignAt (b ∷ bs)) (some_same _ _ h.1) (subst (λ (z : ℕ). IsSignAt (z ∷ bs) (greater_at bs)) (sym (is_byte b 62 h.0)) (greater_sound bs))
+    | inl h ↦ subst (IsSignAt (b ∷ bs)) (some_same _ _ h.1) (subst (λ (z : ℕ). IsSignAt (z ∷ bs) (greater_at bs)) (sym (eqb-true b 62 h.0)) (greater_sound bs))
     | inr h ↦ let m = as_mark_some (mark_of b) bs p h.1 in subst (IsSignAt (b ∷ bs)) m.2 (mark_sound b bs m.0 m.1)
   ]
 ]
@@ -160,7 +160,7 @@ decimal_token w bs (Some r) p n q e =
 
 fraction_first : (rest : List ℕ) → begins_fraction rest ≡ true → (rest ≡ 46 ∷ drop 1 rest) × (begins is_ascii_digit (drop 1 rest) ≡ true)
 fraction_first [] e = cc
-fraction_first (b ∷ bs) e = let h = both_true (b == 46) (begins is_ascii_digit bs) e in (ap (λ z. z ∷ bs) (is_byte b 46 h.0), h.1)
+fraction_first (b ∷ bs) e = let h = and_parts (b == 46) (begins is_ascii_digit bs) e in (ap (λ z. z ∷ bs) (eqb-true b 46 h.0), h.1)
 
 number_token : (bytes : List ℕ) (p : Token × List ℕ) → number_at bytes ≡ Some p → TokenAt bytes p
 unfolding number_at
@@ -181,9 +181,9 @@ token_sound [] p e = cc
 token_sound (b ∷ bs) p e = elim (chosen (is_ascii_alphabetic b) _ _ p e) [
   | inl h ↦ subst (TokenAt (b ∷ bs)) (some_same _ _ h.1) (word_token b bs h.0)
   | inr h ↦ elim (chosen (b == 39) _ _ p h.1) [
-    | inl h ↦ subst (λ z. TokenAt (z ∷ bs) p) (sym (is_byte b 39 h.0)) (literal_token bs (quoted 39 bs) p refl h.1)
+    | inl h ↦ subst (λ z. TokenAt (z ∷ bs) p) (sym (eqb-true b 39 h.0)) (literal_token bs (quoted 39 bs) p refl h.1)
     | inr h ↦ elim (chosen (b == 34) _ _ p h.1) [
-      | inl h ↦ subst (λ z. TokenAt (z ∷ bs) p) (sym (is_byte b 34 h.0)) (delimited_token bs (quoted 34 bs) p refl h.1)
+      | inl h ↦ subst (λ z. TokenAt (z ∷ bs) p) (sym (eqb-true b 34 h.0)) (delimited_token bs (quoted 34 bs) p refl h.1)
       | inr h ↦ elim (chosen (begins_number b) _ _ p h.1) [
         | inl h ↦ number_token (b ∷ bs) p h.1
         | inr h ↦ as_sign_token (b ∷ bs) (sign_at (b ∷ bs)) p refl h.1

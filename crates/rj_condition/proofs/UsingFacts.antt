@@ -11,4 +11,5 @@ use Rattle.rj_condition.proofs.StepFacts.{drop_at}
 pub using_next : (l r : TableValue) (ps qs : List (Option ℕ)) (names : List Name) (i : ℕ) (n : Name) (a b : ℕ) → i < length names → n ≡ get_or names i n → qs ≡ ps →
     Ok (a, b) ≡ pair_of l r qs (place l.names n) (place r.names n) → using_from l r ps (drop i names) ≡ using_from l r (slice_set ps a (Some b)) (drop (i + 1) names)
 using_next l r ps qs names i n a b lt is same e =
-    ap (using_from l r ps) (drop_at names i n lt is) ∙ ap (λ z. and_then z (λ p. using_from l r (slice_set ps p.0 (Some p.1)) (drop (i + 1) names))) (sym (e ∙ ap (λ z. pair_of l r z (place l.names n) (place r.names n)) same))
+    ap (using_from l r ps) (drop_at names i n lt is)
+    ∙ ap (λ z. and_then z (λ p. using_from l r (slice_set ps p.0 (Some p.1)) (drop (i + 1) names))) (sym (e ∙ ap (λ z. pair_of l r z (place l.names n) (place r.names n)) same))

@@ -1,5 +1,6 @@
 -- What is read of all the tokens is their only clause.
 use Rattle.std.proofs.Common.{◌≡◌, List, [], ◌∷◌, length, Option, Some, None, true, false, refl, sym, ap, ◌∙◌, subst}
+use Rattle.rj_condition.proofs.Quotes.{some_same}
 use Rattle.rj_condition.specs.declared.token.Keyword.TheVariants as keyword
 use Rattle.rj_condition.specs.declared.token.Sign.TheVariants as sign
 use Rattle.rj_condition.specs.declared.token.Token.{Token}
@@ -12,7 +13,7 @@ use Rattle.rj_condition.specs.declared.tree.Clause.{Clause}
 use Rattle.rj_condition.specs.declared.tree.Clause.TheVariants as clause
 use Rattle.rj_condition.specs.Grammar.{optional, any_of, IsTerms, IsNames, IsJoin, inner, left, right, full, Derives, cross, natural, on, using}
 use Rattle.rj_condition.specs.Reading.{Read, ◌>>=◌, after, behind, opt, names_at, cond_at, by_inner, by_left, by_right, by_full, kind_at, join_at, ended, cross_at, natural_at, on_at, using_at, by_on, qualified_at, by_natural, by_cross, clause_at}
-use Rattle.rj_condition.proofs.Behind.{some_same, bind_some, after_next, behind_next, opt_is}
+use Rattle.rj_condition.proofs.Behind.{bind_some, after_next, behind_next, opt_is}
 use Rattle.rj_condition.proofs.Sound.{cond_sound, factor_sound, names_sound}
 use Rattle.rj_condition.proofs.Complete.{cond_complete, names_complete, close_no_comma}
 
@@ -29,17 +30,20 @@ outer_tokens us vs e = opt_is keyword.Outer us ∙ ap (optional (opt keyword.Out
 
 full_sound : (ts : List Token) (o : Option (List Token)) → after keyword.Full ts ≡ o → Joins ts (by_full ts o)
 full_sound ts (Some us) f vs e =
-    subst (λ (z : List Token). IsJoin z kind.Full vs) (sym (after_next keyword.Full ts us f ∙ ap (λ (z : List Token). token.Keyword keyword.Full ∷ z) (outer_tokens us vs e))) (full (opt keyword.Outer us).0 vs)
+    subst (λ (z : List Token). IsJoin z kind.Full vs) (sym (after_next keyword.Full ts us f ∙ ap (λ (z : List Token). token.Keyword keyword.Full ∷ z) (outer_tokens us vs e)))
+    (full (opt keyword.Outer us).0 vs)
 full_sound ts None f vs e = subst (λ (z : List Token). IsJoin z kind.Inner vs) (sym e) (inner false vs)
 
 right_sound : (ts : List Token) (o : Option (List Token)) → after keyword.Right ts ≡ o → Joins ts (by_right ts o)
 right_sound ts (Some us) f vs e =
-    subst (λ (z : List Token). IsJoin z kind.Right vs) (sym (after_next keyword.Right ts us f ∙ ap (λ (z : List Token). token.Keyword keyword.Right ∷ z) (outer_tokens us vs e))) (right (opt keyword.Outer us).0 vs)
+    subst (λ (z : List Token). IsJoin z kind.Right vs) (sym (after_next keyword.Right ts us f ∙ ap (λ (z : List Token). token.Keyword keyword.Right ∷ z) (outer_tokens us vs e)))
+    (right (opt keyword.Outer us).0 vs)
 right_sound ts None f vs e = full_sound ts (after keyword.Full ts) refl vs e
 
 left_sound : (ts : List Token) (o : Option (List Token)) → after keyword.Left ts ≡ o → Joins ts (by_left ts o)
 left_sound ts (Some us) f vs e =
-    subst (λ (z : List Token). IsJoin z kind.Left vs) (sym (after_next keyword.Left ts us f ∙ ap (λ (z : List Token). token.Keyword keyword.Left ∷ z) (outer_tokens us vs e))) (left (opt keyword.Outer us).0 vs)
+    subst (λ (z : List Token). IsJoin z kind.Left vs) (sym (after_next keyword.Left ts us f ∙ ap (λ (z : List Token). token.Keyword keyword.Left ∷ z) (outer_tokens us vs e)))
+    (left (opt keyword.Outer us).0 vs)
 left_sound ts None f vs e = right_sound ts (after keyword.Right ts) refl vs e
 
 inner_sound : (ts : List Token) (o : Option (List Token)) → after keyword.Inner ts ≡ o → Joins ts (by_inner ts o)
@@ -59,7 +63,8 @@ unfolding cross_at
 cross_sound ts c e =
     let b = bind_some (after keyword.Join ts) _ c e in
     let f = ended_some clause.Cross b.0 c b.2 in
-    subst (λ (z : List Token). Derives z c) (sym (ap (λ (z : List Token). token.Keyword keyword.Cross ∷ z) (after_next keyword.Join ts b.0 b.1 ∙ ap (λ (z : List Token). token.Keyword keyword.Join ∷ z) f.0)))
+    subst (λ (z : List Token). Derives z c)
+    (sym (ap (λ (z : List Token). token.Keyword keyword.Cross ∷ z) (after_next keyword.Join ts b.0 b.1 ∙ ap (λ (z : List Token). token.Keyword keyword.Join ∷ z) f.0)))
     (subst (λ (z : Clause). Derives (token.Keyword keyword.Cross ∷ token.Keyword keyword.Join ∷ []) z) f.1 cross)
 
 natural_sound : (ts : List Token) (c : Clause) → natural_at ts ≡ Some c → Derives (token.Keyword keyword.Natural ∷ ts) c
@@ -85,7 +90,8 @@ using_sound ts k us c h e =
     let ns = bind_some (names_at o.0) _ c o.2 in
     let close = bind_some (behind sign.Close ns.0.1) _ c ns.2 in
     let f = ended_some (clause.Using k ns.0.0) close.0 c close.2 in
-    let tokens : us ≡ token.Keyword keyword.Using ∷ token.Sign sign.Open ∷ o.0 = after_next keyword.Using us u.0 u.1 ∙ ap (λ (z : List Token). token.Keyword keyword.Using ∷ z) (behind_next sign.Open u.0 o.0 o.1) in
+    let tokens : us ≡ token.Keyword keyword.Using ∷ token.Sign sign.Open ∷ o.0 = after_next keyword.Using us u.0 u.1
+    ∙ ap (λ (z : List Token). token.Keyword keyword.Using ∷ z) (behind_next sign.Open u.0 o.0 o.1) in
     let rest : ns.0.1 ≡ token.Sign sign.Close ∷ [] = behind_next sign.Close ns.0.1 close.0 close.1 ∙ ap (λ (z : List Token). token.Sign sign.Close ∷ z) f.0 in
     subst (λ (z : Clause). Derives ts z) f.1
     (using ts k o.0 ns.0.0 (subst (λ (z : List Token). IsJoin ts k z) tokens h) (subst (λ (z : List Token). IsNames o.0 ns.0.0 z) rest (names_sound o.0 ns.0 ns.1)))
@@ -144,7 +150,8 @@ natural_read : (ts : List Token) (k : JoinKind) → IsJoin ts k [] → clause_at
 unfolding clause_at natural_at after
 natural_read ts k h = ap (λ (r : Read JoinKind). r >>= λ k. ended (clause.Natural k.0) k.1) (join_complete ts k [] h)
 
-on_read : (k : JoinKind) (vs : List Token) (cs : List Condition) → IsTerms vs cs [] → by_on k (token.Keyword keyword.On ∷ vs) (after keyword.On (token.Keyword keyword.On ∷ vs)) ≡ Some (clause.On k (any_of cs))
+on_read : (k : JoinKind) (vs : List Token) (cs : List Condition) → IsTerms vs cs []
+    → by_on k (token.Keyword keyword.On ∷ vs) (after keyword.On (token.Keyword keyword.On ∷ vs)) ≡ Some (clause.On k (any_of cs))
 unfolding on_at after
 on_read k vs cs h = ap (λ (r : Read Condition). r >>= λ c. ended (clause.On k c.0) c.1) (cond_complete vs cs h)
 

@@ -7,19 +7,20 @@ use Rattle.std.proofs.lemmas.Bool.Decides.{nat_tests}
 use Rattle.std.proofs.lemmas.List.{take-append-drop}
 use Rattle.std.proofs.lemmas.Slice.Eq.{bytes_eq-Decides}
 use Rattle.std.proofs.Math.Seq.{drop-append_seam}
+use Rattle.std.proofs.lemmas.Bool.{cases_Bool}
 use Rattle.rj_condition.specs.declared.token.Keyword.{Keyword}
 use Rattle.rj_condition.specs.declared.token.Keyword.TheVariants as keyword
 use Rattle.rj_condition.specs.declared.token.Token.TheVariants as token
 use Rattle.rj_condition.specs.Tokens.{spelling_of, spells, is_name_byte, begins, IsIdentifier, IsSpelled, Ends, IsToken}
 use Rattle.rj_condition.specs.Scanning.{all_keywords, keyword_of, word_or_name, word_at, named}
-use Rattle.rj_condition.proofs.Runs.{either, run_passes, run_ends, run_is, len_in}
+use Rattle.rj_condition.proofs.Runs.{run_passes, run_ends, run_is, len_in}
 
 pub letter_is_name_byte : (b : ℕ) → is_ascii_alphabetic b ≡ true → is_name_byte b ≡ true
 letter_is_name_byte b e = grind (arith, nat_tests)
 
 find_some : {A : Type 0} (p : A → Bool) (xs : List A) (x : A) → find p xs ≡ Some x → p x ≡ true
 find_some p [] x e = cc
-find_some {A} p (y ∷ xs) x e = elim (either (p y)) [
+find_some {A} p (y ∷ xs) x e = elim (cases_Bool (p y)) [
   | inl h ↦
       let q : Some y ≡ Some x = sym (ap (λ c. cond c (Some y) (find p xs)) h) ∙ e in
       let same : y ≡ x = cc in
@@ -64,7 +65,7 @@ unfolding keyword_of
 keyword_spells w k e = find_some (spells w) all_keywords k e
 
 no_keyword : (w : List ℕ) → keyword_of w ≡ None → (k : Keyword) → spells w k ≡ false
-no_keyword w e k = elim (either (spells w k)) [ inl h ↦ let f = keyword_found w k h in cc | inr h ↦ h ]
+no_keyword w e k = elim (cases_Bool (spells w k)) [ inl h ↦ let f = keyword_found w k h in cc | inr h ↦ h ]
 
 -- where no keyword is spelled, none is found
 none_spelled : (w : List ℕ) (o : Option Keyword) → ((k : Keyword) → spells w k ≡ false) → keyword_of w ≡ o → o ≡ None

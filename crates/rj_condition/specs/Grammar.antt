@@ -48,7 +48,8 @@ qualified_column q n = record { qualifier = Some q; name = n }
 
 pub data IsOperand : List Token → Operand → List Token → Type 0 where
   plain_name : (n : Name) (us : List Token) → IsOperand (token.Name n ∷ us) (operand.Column (plain_column n)) us
-  qualified_name : (q n : Name) (us : List Token) → IsOperand (token.Name q ∷ token.Sign sign.Point ∷ token.Name n ∷ us) (operand.Column (qualified_column q n)) us
+  qualified_name : (q n : Name) (us : List Token)
+      → IsOperand (token.Name q ∷ token.Sign sign.Point ∷ token.Name n ∷ us) (operand.Column (qualified_column q n)) us
   integer : (z : ℤ) (us : List Token) → IsOperand (token.Integer z ∷ us) (operand.Literal (literal.Integer z)) us
   decimal : (d : DecimalLiteral) (us : List Token) → IsOperand (token.Decimal d ∷ us) (operand.Literal (literal.Decimal d)) us
   text : (w : List ℕ) (us : List Token) → IsOperand (token.Text w ∷ us) (operand.Literal (literal.Text w)) us
@@ -62,7 +63,8 @@ pub data IsOperands : List Token → List Operand → List Token → Type 0 wher
 -- one name or more, with commas between
 pub data IsNames : List Token → List Name → List Token → Type 0 where
   last_name : (n : Name) (us : List Token) → IsNames (token.Name n ∷ us) (n ∷ []) us
-  more_names : (n : Name) (vs : List Token) (ns : List Name) (us : List Token) → IsNames vs ns us → IsNames (token.Name n ∷ token.Sign sign.Comma ∷ vs) (n ∷ ns) us
+  more_names : (n : Name) (vs : List Token) (ns : List Name) (us : List Token) → IsNames vs ns us
+      → IsNames (token.Name n ∷ token.Sign sign.Comma ∷ vs) (n ∷ ns) us
 
 abbrev pub sign_of : Comparison → Sign
 sign_of comparison.Equal = sign.Equal
@@ -83,7 +85,8 @@ pub data IsPredicate : List Token → Condition → List Token → Type 0 where
   is_null : (ts : List Token) (x : Operand) (negated : Bool) (us : List Token) →
       IsOperand ts x (token.Keyword keyword.Is ∷ optional negated keyword.Not (token.Keyword keyword.Null ∷ us)) → IsPredicate ts (tree.IsNull x negated) us
   between : (ts : List Token) (x : Operand) (negated : Bool) (vs : List Token) (low : Operand) (ws : List Token) (high : Operand) (us : List Token) →
-      IsOperand ts x (optional negated keyword.Not (token.Keyword keyword.Between ∷ vs)) → IsOperand vs low (token.Keyword keyword.And ∷ ws) → IsOperand ws high us →
+      IsOperand ts x (optional negated keyword.Not (token.Keyword keyword.Between ∷ vs)) → IsOperand vs low (token.Keyword keyword.And ∷ ws)
+      → IsOperand ws high us →
       IsPredicate ts (tree.Between x low high negated) us
   among : (ts : List Token) (x : Operand) (negated : Bool) (vs : List Token) (xs : List Operand) (us : List Token) →
       IsOperand ts x (optional negated keyword.Not (token.Keyword keyword.In ∷ token.Sign sign.Open ∷ vs)) → IsOperands vs xs (token.Sign sign.Close ∷ us) →
@@ -110,7 +113,8 @@ mutual
 
   pub data IsPrimary : List Token → Condition → List Token → Type 0 where
     predicate : (ts : List Token) (c : Condition) (us : List Token) → IsPredicate ts c us → IsPrimary ts c us
-    group : (ts : List Token) (cs : List Condition) (us : List Token) → IsTerms ts cs (token.Sign sign.Close ∷ us) → IsPrimary (token.Sign sign.Open ∷ ts) (any_of cs) us
+    group : (ts : List Token) (cs : List Condition) (us : List Token) → IsTerms ts cs (token.Sign sign.Close ∷ us)
+        → IsPrimary (token.Sign sign.Open ∷ ts) (any_of cs) us
 
   -- the factors of a term
   pub data IsFactors : List Token → List Condition → List Token → Type 0 where
@@ -135,6 +139,7 @@ pub data IsJoin : List Token → JoinKind → List Token → Type 0 where
 pub data Derives : List Token → Clause → Type 0 where
   cross : Derives (token.Keyword keyword.Cross ∷ token.Keyword keyword.Join ∷ []) clause.Cross
   natural : (ts : List Token) (k : JoinKind) → IsJoin ts k [] → Derives (token.Keyword keyword.Natural ∷ ts) (clause.Natural k)
-  on : (ts : List Token) (k : JoinKind) (vs : List Token) (cs : List Condition) → IsJoin ts k (token.Keyword keyword.On ∷ vs) → IsTerms vs cs [] → Derives ts (clause.On k (any_of cs))
+  on : (ts : List Token) (k : JoinKind) (vs : List Token) (cs : List Condition) → IsJoin ts k (token.Keyword keyword.On ∷ vs) → IsTerms vs cs []
+      → Derives ts (clause.On k (any_of cs))
   using : (ts : List Token) (k : JoinKind) (vs : List Token) (ns : List Name) →
       IsJoin ts k (token.Keyword keyword.Using ∷ token.Sign sign.Open ∷ vs) → IsNames vs ns (token.Sign sign.Close ∷ []) → Derives ts (clause.Using k ns)

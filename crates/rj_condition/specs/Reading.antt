@@ -293,7 +293,8 @@ unfoldable pub on_at : JoinKind → List Token → Option Clause
 on_at k ts = cond_at (length ts) ts >>= λ c. ended (clause.On k c.0) c.1
 
 unfoldable pub using_at : JoinKind → List Token → Option Clause
-using_at k ts = after keyword.Using ts >>= λ us. behind sign.Open us >>= λ vs. names_at vs >>= λ ns. behind sign.Close ns.1 >>= λ ws. ended (clause.Using k ns.0) ws
+using_at k ts =
+    after keyword.Using ts >>= λ us. behind sign.Open us >>= λ vs. names_at vs >>= λ ns. behind sign.Close ns.1 >>= λ ws. ended (clause.Using k ns.0) ws
 
 abbrev pub by_on : JoinKind → List Token → Option (List Token) → Option Clause
 by_on k ts (Some us) = on_at k us

@@ -34,7 +34,8 @@ abbrev pub resolved_at : List (List ℕ) → List (List ℕ) → Condition-F Res
 resolved_at left right (Condition-F.Compare a op b) =
     and_then (resolved_operand left right a) (λ x. and_then (resolved_operand left right b) (λ y. Ok (Compare x op y)))
 resolved_at left right (Condition-F.Between a b c negated) =
-    and_then (resolved_operand left right a) (λ x. and_then (resolved_operand left right b) (λ y. and_then (resolved_operand left right c) (λ z. Ok (Between x y z negated))))
+    and_then (resolved_operand left right a)
+    (λ x. and_then (resolved_operand left right b) (λ y. and_then (resolved_operand left right c) (λ z. Ok (Between x y z negated))))
 resolved_at left right (Condition-F.In a members negated) =
     and_then (resolved_operand left right a) (λ x. and_then (all_ok (map (resolved_operand left right) members)) (λ ys. Ok (In x ys negated)))
 resolved_at left right (Condition-F.IsNull a negated) = and_then (resolved_operand left right a) (λ x. Ok (IsNull x negated))

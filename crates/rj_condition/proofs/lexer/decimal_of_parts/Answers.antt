@@ -13,7 +13,8 @@ returns-in-Ok c =
     let same = ap (λ z. length (without_leading_sign z)) c.as_bytes.ensures.value in
     let len = ap length c.as_bytes.ensures.value in
     c.decimal_of.ensures
-    ∙ parts_ok c.args.before.now c.args.after.now _ _ (ap is_integer (sym text) ∙ read.0) (omega (arith, same, len, c.sign_len.ensures, c.if-whole-eq0.false)) (omega (arith, same, len, c.sign_len.ensures, c.if-whole-after.false, c.if-after-gt18.false))
+    ∙ parts_ok c.args.before.now c.args.after.now _ _ (ap is_integer (sym text) ∙ read.0) (omega (arith, same, len, c.sign_len.ensures, c.if-whole-eq0.false))
+    (omega (arith, same, len, c.sign_len.ensures, c.if-whole-after.false, c.if-after-gt18.false))
     (to_z-of_z read.2 ∙ read.1 ∙ ap (signed_digits_value 10) text) refl
 
 pub returns : goal.returns

@@ -14,7 +14,8 @@ loop-name-preserved c =
     let r = c.args.right.now in
     let ps = c.loop-name.partners.items in
     let within : c.in_ok-i.i < length ps = omega (arith, c.in_ok-i.ensures.within, ap length c.deref.ensures.value) in (
-      c.loop-name.invariant.0 ∙ using_next l r ps c.deref.result.now c.args.names.now c.loop-name.name-index c.name-item.result c.in_ok-i.i c.in_ok-i.j c.loop-name-test.true c.name-item.is c.deref.ensures.value c.in_ok-i.ensures.pair,
+      c.loop-name.invariant.0
+          ∙ using_next l r ps c.deref.result.now c.args.names.now c.loop-name.name-index c.name-item.result c.in_ok-i.i c.in_ok-i.j c.loop-name-test.true c.name-item.is c.deref.ensures.value c.in_ok-i.ensures.pair,
       simp length-set c.loop-name.invariant.1,
       fit_set l.types r.types ps c.in_ok-i.i c.in_ok-i.j within c.in_ok-i.ensures.fits c.loop-name.invariant.2,
     )

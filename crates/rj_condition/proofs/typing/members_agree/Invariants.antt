@@ -5,4 +5,5 @@ use Rattle.rj_condition.proofs.typing.members_agree.Given as goal
 
 abbrev pub invariant-loop-member : goal.invariant-loop-member
 invariant-loop-member l =
-    list_all (λ m. are_one_family l.operand (family_of l.left.types l.right.types m)) (drop l.member-index l.members) ≡ list_all (λ m. are_one_family l.operand (family_of l.left.types l.right.types m)) l.members
+    list_all (λ m. are_one_family l.operand (family_of l.left.types l.right.types m)) (drop l.member-index l.members) ≡ list_all
+    (λ m. are_one_family l.operand (family_of l.left.types l.right.types m)) l.members
