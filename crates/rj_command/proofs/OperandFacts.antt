@@ -13,8 +13,8 @@ use Rattle.rj_command.specs.declared.fault.Side.TheVariants as side
 use Rattle.rj_command.specs.declared.request.Request.{Request}
 use Rattle.rj_command.specs.Operands.{IsFirstFault, IsJoinFault, bind_fault, in_clause, in_left, in_right, parse_fault, read_fault, unbound, unread}
 use Rattle.rj_condition.specs.Clauses.{HasClause, IsFault}
-use Rattle.rj_condition.specs.declared.fault.ParseRefused.{ParseRefused}
-use Rattle.rj_condition.specs.declared.fault.ParseRefused.TheVariants as parse
+use Rattle.rj_condition.specs.declared.refused.ParseRefused.{ParseRefused}
+use Rattle.rj_condition.specs.declared.refused.ParseRefused.TheVariants as parse
 
 pub unread_fault : (text : List ℕ) (l r : TableValue) (e : ParseRefused) (f : Fault) → IsFault text e → f ≡ parse_fault e → f ≢ fault.Memory → IsJoinFault text l r f
 unread_fault text l r e f told is not =

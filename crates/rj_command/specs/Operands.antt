@@ -15,8 +15,8 @@ use Rattle.rj_command.specs.declared.fault.Side.{Side}
 use Rattle.rj_command.specs.declared.fault.Side.TheVariants as side
 use Rattle.rj_command.specs.declared.request.Request.{Request}
 use Rattle.rj_condition.specs.Clauses.{HasClause, IsFault}
-use Rattle.rj_condition.specs.declared.fault.ParseRefused.{ParseRefused}
-use Rattle.rj_condition.specs.declared.fault.ParseRefused.TheVariants as parse
+use Rattle.rj_condition.specs.declared.refused.ParseRefused.{ParseRefused}
+use Rattle.rj_condition.specs.declared.refused.ParseRefused.TheVariants as parse
 
 -- the fault of a table that can't be read
 abbrev pub read_fault : Side → ReadRefused → Fault

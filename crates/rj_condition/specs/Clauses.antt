@@ -3,8 +3,8 @@
 use Rattle.std.specs.Prelude.{◌≡◌, ◌≢◌, ◌<◌, ◌≤◌, ℕ, true, false, List, length, Result, Ok, Err, MatchResult}
 use Rattle.rj_condition.specs.declared.token.Token.{Token}
 use Rattle.rj_condition.specs.declared.tree.Clause.{Clause}
-use Rattle.rj_condition.specs.declared.fault.ParseRefused.{ParseRefused}
-use Rattle.rj_condition.specs.declared.fault.ParseRefused.TheVariants as refused
+use Rattle.rj_condition.specs.declared.refused.ParseRefused.{ParseRefused}
+use Rattle.rj_condition.specs.declared.refused.ParseRefused.TheVariants as refused
 use Rattle.rj_condition.specs.Lexing.{Lexes}
 use Rattle.rj_condition.specs.Nesting.{is_deep}
 use Rattle.rj_condition.specs.Grammar.{Derives}

@@ -22,8 +22,8 @@ use Rattle.rj_condition.specs.declared.tree.Condition.{Condition}
 use Rattle.rj_condition.specs.declared.tree.Condition.TheVariants as tree
 use Rattle.rj_condition.specs.declared.tree.Clause.{Clause}
 use Rattle.rj_condition.specs.declared.tree.Clause.TheVariants as clause
-use Rattle.rj_condition.specs.declared.fault.Fault.{Fault}
-use Rattle.rj_condition.specs.declared.fault.Fault.TheVariants as fault
+use Rattle.rj_condition.specs.declared.stop.Stop.{Stop}
+use Rattle.rj_condition.specs.declared.stop.Stop.TheVariants as stop
 use Rattle.rj_condition.specs.Tokens.{spelling_of, sign_text}
 use Rattle.rj_condition.specs.Grammar.{plain_column, qualified_column}
 use Rattle.rj_condition.specs.Grammar as grammar
@@ -44,19 +44,19 @@ abbrev pub ◌>>=◌ : {A B : Type 0} → Option A → (A → Option B) → Opti
 None >>= f = None
 
 -- What a function returned is what reading gives, unless memory ran out.
-abbrev pub Fails : {A : Type 0} → Fault → Option A → Type 0
-Fails fault.Memory read = Unit {0}
-Fails (fault.Syntax left) read = read ≡ None
+abbrev pub Fails : {A : Type 0} → Stop → Option A → Type 0
+Fails stop.Memory read = Unit {0}
+Fails (stop.Syntax left) read = read ≡ None
 
-abbrev pub Gives : {A : Type 0} → Result (A × Bor (List Token)) Fault → Read A → Type 0
+abbrev pub Gives : {A : Type 0} → Result (A × Bor (List Token)) Stop → Read A → Type 0
 Gives (Ok x) read = read ≡ Some (x.0, x.1.now)
 Gives (Err e) read = Fails e read
 
-abbrev pub GivesRest : Result (Bor (List Token)) Fault → Option (List Token) → Type 0
+abbrev pub GivesRest : Result (Bor (List Token)) Stop → Option (List Token) → Type 0
 GivesRest (Ok us) read = read ≡ Some us.now
 GivesRest (Err e) read = Fails e read
 
-abbrev pub GivesWhole : Result Clause Fault → Option Clause → Type 0
+abbrev pub GivesWhole : Result Clause Stop → Option Clause → Type 0
 GivesWhole (Ok c) read = read ≡ Some c
 GivesWhole (Err e) read = Fails e read
 

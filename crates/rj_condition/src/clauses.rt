@@ -5,8 +5,8 @@ ghost use Rattle.rj_condition.specs.Reading.{Gives, GivesWhole};
 ghost use Rattle.rj_condition.specs.Reading as reading;
 
 use crate::conditions::condition;
-use crate::fault::Fault;
 use crate::steps::{after, expect, expect_sign, names, optional, whole};
+use crate::stop::Stop;
 use crate::token::{Keyword, Sign, Token};
 use crate::tree::{Clause, JoinKind};
 use std::alloc::Global;
@@ -32,7 +32,7 @@ fn kind(tokens: &[Token]) -> (JoinKind, &[Token])
 }
 
 #[tactic(auto, unfolding(crate::specs::Reading::join_at))]
-fn join(tokens: &[Token]) -> Result<(JoinKind, &[Token]), Fault>
+fn join(tokens: &[Token]) -> Result<(JoinKind, &[Token]), Stop>
     ensures { Gives result (reading.join_at tokens.now) }
 {
     let (kind, rest) = kind(tokens);
@@ -42,7 +42,7 @@ fn join(tokens: &[Token]) -> Result<(JoinKind, &[Token]), Fault>
 
 // Behind CROSS.
 #[tactic(auto, unfolding(crate::specs::Reading::cross_at))]
-fn cross(tokens: &[Token]) -> Result<Clause, Fault>
+fn cross(tokens: &[Token]) -> Result<Clause, Stop>
     ensures { GivesWhole result (reading.cross_at tokens.now) }
 {
     let rest = expect(tokens, Keyword::Join)?;
@@ -51,7 +51,7 @@ fn cross(tokens: &[Token]) -> Result<Clause, Fault>
 
 // Behind NATURAL.
 #[tactic(auto, unfolding(crate::specs::Reading::natural_at))]
-fn natural(tokens: &[Token]) -> Result<Clause, Fault>
+fn natural(tokens: &[Token]) -> Result<Clause, Stop>
     ensures { GivesWhole result (reading.natural_at tokens.now) }
 {
     let (kind, rest) = join(tokens)?;
@@ -60,7 +60,7 @@ fn natural(tokens: &[Token]) -> Result<Clause, Fault>
 
 // Behind ON.
 #[tactic(auto, unfolding(crate::specs::Reading::on_at))]
-fn on(alloc: Global, kind: JoinKind, tokens: &[Token]) -> Result<Clause, Fault>
+fn on(alloc: Global, kind: JoinKind, tokens: &[Token]) -> Result<Clause, Stop>
     ensures { GivesWhole result (reading.on_at kind tokens.now) }
 {
     let (condition, rest) = condition(alloc, tokens.len(), tokens)?;
@@ -69,7 +69,7 @@ fn on(alloc: Global, kind: JoinKind, tokens: &[Token]) -> Result<Clause, Fault>
 
 // USING and its names.
 #[tactic(auto, unfolding(crate::specs::Reading::using_at))]
-fn using(alloc: Global, kind: JoinKind, tokens: &[Token]) -> Result<Clause, Fault>
+fn using(alloc: Global, kind: JoinKind, tokens: &[Token]) -> Result<Clause, Stop>
     ensures { GivesWhole result (reading.using_at kind tokens.now) }
 {
     let rest = expect(tokens, Keyword::Using)?;
@@ -81,7 +81,7 @@ fn using(alloc: Global, kind: JoinKind, tokens: &[Token]) -> Result<Clause, Faul
 
 // A join with ON or USING.
 #[tactic(auto, unfolding(crate::specs::Reading::qualified_at))]
-fn qualified(alloc: Global, tokens: &[Token]) -> Result<Clause, Fault>
+fn qualified(alloc: Global, tokens: &[Token]) -> Result<Clause, Stop>
     ensures { GivesWhole result (reading.qualified_at tokens.now) }
 {
     let (kind, rest) = join(tokens)?;
@@ -93,7 +93,7 @@ fn qualified(alloc: Global, tokens: &[Token]) -> Result<Clause, Fault>
 
 /// The clause that the tokens are.
 #[tactic(auto, unfolding(crate::specs::Reading::clause_at))]
-pub fn clause(alloc: Global, tokens: &[Token]) -> Result<Clause, Fault>
+pub fn clause(alloc: Global, tokens: &[Token]) -> Result<Clause, Stop>
     ensures { GivesWhole result (reading.clause_at tokens.now) }
 {
     if let Some(rest) = after(tokens, Keyword::Cross) {

@@ -5,9 +5,9 @@ ghost use Rattle.std.specs.Prelude.{◌≡◌, [], ◌∷◌};
 ghost use Rattle.rj_condition.specs.Reading.{Gives, factor_at, factors_at, term_at, terms_at, cond_at, group_at, test_at, primary_at, any_of, all_of};
 ghost use Rattle.rj_condition.specs.Reading as reading;
 
-use crate::fault::Fault;
 use crate::predicates::predicate;
 use crate::steps::{after, behind, expect_sign, optional};
+use crate::stop::Stop;
 use crate::token::{Keyword, Sign, Token};
 use crate::tree::Condition;
 use crate::truth::Truth;
@@ -49,15 +49,15 @@ fn truth_of(keyword: Keyword) -> Option<Truth>
 
 // The truth value behind IS and perhaps NOT.
 #[tactic(auto, unfolding(crate::specs::Reading::truth_at))]
-fn truth(tokens: &[Token]) -> Result<(Truth, &[Token]), Fault>
+fn truth(tokens: &[Token]) -> Result<(Truth, &[Token]), Stop>
     ensures { Gives result (reading.truth_at tokens.now) }
 {
     match tokens {
         [Token::Keyword(keyword), rest @ ..] => match truth_of(*keyword) {
             Some(truth) => Ok((truth, rest)),
-            None => Err(Fault::Syntax(tokens.len())),
+            None => Err(Stop::Syntax(tokens.len())),
         },
-        _ => Err(Fault::Syntax(tokens.len())),
+        _ => Err(Stop::Syntax(tokens.len())),
     }
 }
 
@@ -67,7 +67,7 @@ fn truth_test(
     condition: Condition,
     negated: bool,
     tokens: &[Token],
-) -> Result<(Condition, &[Token]), Fault>
+) -> Result<(Condition, &[Token]), Stop>
     ensures { Gives result (reading.truth_test_at condition (negated, tokens.now)) }
 {
     let (truth, rest) = truth(tokens)?;
@@ -87,7 +87,7 @@ fn suffix(
     alloc: Global,
     condition: Condition,
     tokens: &[Token],
-) -> Result<(Condition, &[Token]), Fault>
+) -> Result<(Condition, &[Token]), Stop>
     ensures { Gives result (reading.suffix condition tokens.now) }
 {
     match after(tokens, Keyword::Is) {
@@ -101,11 +101,11 @@ fn suffix(
 
 #[cycle(reading)]
 #[tactic(auto, using(crate::proofs::Turns::factor_none, crate::proofs::Turns::factor_not, crate::proofs::Turns::factor_test))]
-fn factor(alloc: Global, limit: usize, tokens: &[Token]) -> Result<(Condition, &[Token]), Fault>
+fn factor(alloc: Global, limit: usize, tokens: &[Token]) -> Result<(Condition, &[Token]), Stop>
     ensures { Gives result (factor_at limit tokens.now) }
 {
     if limit == 0 {
-        return Err(Fault::Syntax(tokens.len()));
+        return Err(Stop::Syntax(tokens.len()));
     }
     match after(tokens, Keyword::Not) {
         Some(rest) => {
@@ -118,7 +118,7 @@ fn factor(alloc: Global, limit: usize, tokens: &[Token]) -> Result<(Condition, &
 
 #[cycle(reading)]
 #[tactic(auto, unfolding(crate::specs::Reading::test_with))]
-fn test(alloc: Global, limit: usize, tokens: &[Token]) -> Result<(Condition, &[Token]), Fault>
+fn test(alloc: Global, limit: usize, tokens: &[Token]) -> Result<(Condition, &[Token]), Stop>
     ensures { Gives result (test_at limit tokens.now) }
 {
     let (inner, rest) = primary(alloc, limit, tokens)?;
@@ -127,7 +127,7 @@ fn test(alloc: Global, limit: usize, tokens: &[Token]) -> Result<(Condition, &[T
 
 #[cycle(reading)]
 #[tactic(auto, unfolding(crate::specs::Reading::primary_with))]
-fn primary(alloc: Global, limit: usize, tokens: &[Token]) -> Result<(Condition, &[Token]), Fault>
+fn primary(alloc: Global, limit: usize, tokens: &[Token]) -> Result<(Condition, &[Token]), Stop>
     ensures { Gives result (primary_at limit tokens.now) }
 {
     match behind(tokens, Sign::Open) {
@@ -139,7 +139,7 @@ fn primary(alloc: Global, limit: usize, tokens: &[Token]) -> Result<(Condition, 
 // A condition behind an open parenthesis, and what closes it.
 #[cycle(reading)]
 #[tactic(auto, unfolding(crate::specs::Reading::group_with))]
-fn group(alloc: Global, limit: usize, tokens: &[Token]) -> Result<(Condition, &[Token]), Fault>
+fn group(alloc: Global, limit: usize, tokens: &[Token]) -> Result<(Condition, &[Token]), Stop>
     ensures { Gives result (group_at limit tokens.now) }
 {
     let (inner, rest) = condition(alloc, limit, tokens)?;
@@ -153,7 +153,7 @@ fn factors(
     alloc: Global,
     limit: usize,
     tokens: &[Token],
-) -> Result<(Items<Condition>, &[Token]), Fault>
+) -> Result<(Items<Condition>, &[Token]), Stop>
     ensures { Gives result (factors_at limit tokens.now) }
 {
     let mut found = Items::new(alloc);
@@ -166,12 +166,12 @@ fn factors(
             None => return Ok((found, behind_one)),
         }
     }
-    Err(Fault::Syntax(rest.len()))
+    Err(Stop::Syntax(rest.len()))
 }
 
 #[cycle(reading)]
 #[tactic(auto, unfolding(crate::specs::Reading::term_with))]
-fn term(alloc: Global, limit: usize, tokens: &[Token]) -> Result<(Condition, &[Token]), Fault>
+fn term(alloc: Global, limit: usize, tokens: &[Token]) -> Result<(Condition, &[Token]), Stop>
     ensures { Gives result (term_at limit tokens.now) }
 {
     let (conditions, rest) = factors(alloc, limit, tokens)?;
@@ -184,7 +184,7 @@ fn terms(
     alloc: Global,
     limit: usize,
     tokens: &[Token],
-) -> Result<(Items<Condition>, &[Token]), Fault>
+) -> Result<(Items<Condition>, &[Token]), Stop>
     ensures { Gives result (terms_at limit tokens.now) }
 {
     let mut found = Items::new(alloc);
@@ -197,7 +197,7 @@ fn terms(
             None => return Ok((found, behind_one)),
         }
     }
-    Err(Fault::Syntax(rest.len()))
+    Err(Stop::Syntax(rest.len()))
 }
 
 #[cycle(reading)]
@@ -206,7 +206,7 @@ pub fn condition(
     alloc: Global,
     limit: usize,
     tokens: &[Token],
-) -> Result<(Condition, &[Token]), Fault>
+) -> Result<(Condition, &[Token]), Stop>
     ensures { Gives result (cond_at limit tokens.now) }
 {
     let (conditions, rest) = terms(alloc, limit, tokens)?;

@@ -8,7 +8,6 @@ mod clauses;
 mod conditions;
 mod deciding;
 mod decimal;
-mod fault;
 mod joining;
 mod lexer;
 mod names;
@@ -21,6 +20,7 @@ mod refused;
 mod resolving;
 mod splitting;
 mod steps;
+mod stop;
 #[cfg(test)]
 mod tests;
 mod token;
@@ -31,10 +31,9 @@ mod word;
 
 pub use binding::bind;
 pub use bound::BoundJoin;
-pub use fault::ParseRefused;
 pub use parsing::{one_clause, parse};
 pub use parts::{Remainder, Split};
-pub use refused::BindRefused;
+pub use refused::{BindRefused, ParseRefused};
 pub use splitting::split;
 pub use tree::{Clause, JoinKind};
 pub use truth::Truth;

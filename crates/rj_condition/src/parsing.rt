@@ -2,13 +2,14 @@
 
 ghost use Rattle.std.specs.Prelude.{◌≡◌, ◌∷◌, [], ◌≤◌, length, List, ℕ};
 ghost use Rattle.rj_condition.specs.declared.tree.Clause.{Clause};
-ghost use Rattle.rj_condition.specs.declared.fault.ParseRefused.TheVariants as refused;
+ghost use Rattle.rj_condition.specs.declared.refused.ParseRefused.TheVariants as refused;
 ghost use Rattle.rj_condition.specs.Clauses.{IsTooLong, IsTooDeep, HasClause, HasNoClause, Parses, IsAnswer, Refuses, IsSyntax};
 
 use crate::clauses::clause;
-use crate::fault::{Fault, ParseRefused};
 use crate::lexer::lex;
 use crate::nesting::too_deep;
+use crate::refused::ParseRefused;
+use crate::stop::Stop;
 use crate::tree::Clause;
 use std::alloc::Global;
 
@@ -47,8 +48,8 @@ fn read(alloc: Global, text: &str) -> Result<Clause, ParseRefused>
     }
     match clause(alloc, lexed.tokens.as_slice()) {
         Ok(clause) => Ok(clause),
-        Err(Fault::Memory) => Err(ParseRefused::Memory),
-        Err(Fault::Syntax(left)) => Err(ParseRefused::Syntax(
+        Err(Stop::Memory) => Err(ParseRefused::Memory),
+        Err(Stop::Syntax(left)) => Err(ParseRefused::Syntax(
             fault_byte(&lexed.starts, left, text.len()) as u64,
         )),
     }

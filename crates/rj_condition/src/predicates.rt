@@ -4,8 +4,8 @@ ghost use Rattle.std.specs.Prelude.{◌≡◌, [], ◌∷◌};
 ghost use Rattle.rj_condition.specs.Reading.{Gives};
 ghost use Rattle.rj_condition.specs.Reading as reading;
 
-use crate::fault::Fault;
 use crate::steps::{after, behind, expect, expect_sign, name, optional};
+use crate::stop::Stop;
 use crate::token::{Keyword, Sign, Token};
 use crate::tree::{ColumnName, Comparison, Condition, Literal, Operand};
 use crate::word::Word;
@@ -13,7 +13,7 @@ use sqlite_items::Items;
 use std::alloc::Global;
 
 #[tactic(auto, unfolding(crate::specs::Reading::column_at))]
-fn column(alloc: Global, tokens: &[Token]) -> Result<(Operand, &[Token]), Fault>
+fn column(alloc: Global, tokens: &[Token]) -> Result<(Operand, &[Token]), Stop>
     ensures { Gives result (reading.column_at tokens.now) }
 {
     let (first, rest) = name(alloc, tokens)?;
@@ -39,7 +39,7 @@ fn column(alloc: Global, tokens: &[Token]) -> Result<(Operand, &[Token]), Fault>
 }
 
 #[tactic(auto, unfolding(crate::specs::Reading::operand_at))]
-fn operand(alloc: Global, tokens: &[Token]) -> Result<(Operand, &[Token]), Fault>
+fn operand(alloc: Global, tokens: &[Token]) -> Result<(Operand, &[Token]), Stop>
     ensures { Gives result (reading.operand_at tokens.now) }
 {
     match tokens {
@@ -61,7 +61,7 @@ fn operand(alloc: Global, tokens: &[Token]) -> Result<(Operand, &[Token]), Fault
 
 // Operands with commas between.
 #[tactic(auto, using(crate::proofs::Turns::separated_more, crate::proofs::Turns::separated_end), unfolding(crate::specs::Reading::operands_at, crate::specs::Reading::separated))]
-fn operands(alloc: Global, tokens: &[Token]) -> Result<(Items<Operand>, &[Token]), Fault>
+fn operands(alloc: Global, tokens: &[Token]) -> Result<(Items<Operand>, &[Token]), Stop>
     ensures { Gives result (reading.operands_at tokens.now) }
 {
     let mut found = Items::new(alloc);
@@ -74,7 +74,7 @@ fn operands(alloc: Global, tokens: &[Token]) -> Result<(Items<Operand>, &[Token]
             None => return Ok((found, behind_one)),
         }
     }
-    Err(Fault::Syntax(rest.len()))
+    Err(Stop::Syntax(rest.len()))
 }
 
 fn comparison(sign: Sign) -> Option<Comparison>
@@ -107,7 +107,7 @@ fn operator(tokens: &[Token]) -> Option<(Comparison, &[Token])>
 
 // `[NOT] NULL`, behind an operand and IS.
 #[tactic(auto, unfolding(crate::specs::Reading::null_at))]
-fn null(operand: Operand, negated: bool, tokens: &[Token]) -> Result<(Condition, &[Token]), Fault>
+fn null(operand: Operand, negated: bool, tokens: &[Token]) -> Result<(Condition, &[Token]), Stop>
     ensures { Gives result (reading.null_at operand (negated, tokens.now)) }
 {
     let rest = expect(tokens, Keyword::Null)?;
@@ -121,7 +121,7 @@ fn bounds(
     operand_between: Operand,
     negated: bool,
     tokens: &[Token],
-) -> Result<(Condition, &[Token]), Fault>
+) -> Result<(Condition, &[Token]), Stop>
     ensures { Gives result (reading.bounds_at operand_between negated tokens.now) }
 {
     let (low, rest) = operand(alloc, tokens)?;
@@ -145,7 +145,7 @@ fn members(
     operand: Operand,
     negated: bool,
     tokens: &[Token],
-) -> Result<(Condition, &[Token]), Fault>
+) -> Result<(Condition, &[Token]), Stop>
     ensures { Gives result (reading.members_at operand negated tokens.now) }
 {
     let rest = expect_sign(tokens, Sign::Open)?;
@@ -168,7 +168,7 @@ fn range(
     operand: Operand,
     negated: bool,
     tokens: &[Token],
-) -> Result<(Condition, &[Token]), Fault>
+) -> Result<(Condition, &[Token]), Stop>
     ensures { Gives result (reading.range_at operand (negated, tokens.now)) }
 {
     if let Some(rest) = after(tokens, Keyword::Between) {
@@ -176,13 +176,13 @@ fn range(
     }
     match after(tokens, Keyword::In) {
         Some(rest) => members(alloc, operand, negated, rest),
-        None => Err(Fault::Syntax(tokens.len())),
+        None => Err(Stop::Syntax(tokens.len())),
     }
 }
 
 // What a predicate says of its first operand.
 #[tactic(auto, unfolding(crate::specs::Reading::test_of))]
-fn test_of(alloc: Global, first: Operand, tokens: &[Token]) -> Result<(Condition, &[Token]), Fault>
+fn test_of(alloc: Global, first: Operand, tokens: &[Token]) -> Result<(Condition, &[Token]), Stop>
     ensures { Gives result (reading.test_of first tokens.now) }
 {
     if let Some((operator, rest)) = operator(tokens) {
@@ -209,7 +209,7 @@ fn test_of(alloc: Global, first: Operand, tokens: &[Token]) -> Result<(Condition
 }
 
 #[tactic(auto, unfolding(crate::specs::Reading::predicate_at))]
-pub fn predicate(alloc: Global, tokens: &[Token]) -> Result<(Condition, &[Token]), Fault>
+pub fn predicate(alloc: Global, tokens: &[Token]) -> Result<(Condition, &[Token]), Stop>
     ensures { Gives result (reading.predicate_at tokens.now) }
 {
     let (first, rest) = operand(alloc, tokens)?;

@@ -4,7 +4,7 @@ ghost use Rattle.std.specs.Prelude.{◌≡◌, [], ◌∷◌, IfOk, IsTrue, ◌�
 ghost use Rattle.rj_condition.specs.Reading.{Gives, GivesRest, GivesWhole, rest_view};
 ghost use Rattle.rj_condition.specs.Reading as reading;
 
-use crate::fault::Fault;
+use crate::stop::Stop;
 use crate::token::{Keyword, Sign, Token};
 use crate::tree::{Clause, Name};
 use crate::word::Word;
@@ -58,22 +58,22 @@ pub fn behind(tokens: &[Token], sign: Sign) -> Option<&[Token]>
 }
 
 // The tokens behind the keyword, which has to come next.
-pub fn expect(tokens: &[Token], keyword: Keyword) -> Result<&[Token], Fault>
+pub fn expect(tokens: &[Token], keyword: Keyword) -> Result<&[Token], Stop>
     ensures { GivesRest result (reading.after keyword tokens.now) }
 {
     match after(tokens, keyword) {
         Some(rest) => Ok(rest),
-        None => Err(Fault::Syntax(tokens.len())),
+        None => Err(Stop::Syntax(tokens.len())),
     }
 }
 
 // The tokens behind the sign, which has to come next.
-pub fn expect_sign(tokens: &[Token], sign: Sign) -> Result<&[Token], Fault>
+pub fn expect_sign(tokens: &[Token], sign: Sign) -> Result<&[Token], Stop>
     ensures { GivesRest result (reading.behind sign tokens.now) }
 {
     match behind(tokens, sign) {
         Some(rest) => Ok(rest),
-        None => Err(Fault::Syntax(tokens.len())),
+        None => Err(Stop::Syntax(tokens.len())),
     }
 }
 
@@ -88,12 +88,12 @@ pub fn optional(tokens: &[Token], keyword: Keyword) -> (bool, &[Token])
 }
 
 // The clause, where no tokens are left behind it.
-pub fn whole(clause: Clause, rest: &[Token]) -> Result<Clause, Fault>
+pub fn whole(clause: Clause, rest: &[Token]) -> Result<Clause, Stop>
     ensures { GivesWhole result (reading.ended clause rest.now) }
 {
     match rest {
         [] => Ok(clause),
-        _ => Err(Fault::Syntax(rest.len())),
+        _ => Err(Stop::Syntax(rest.len())),
     }
 }
 
@@ -107,18 +107,18 @@ fn copied(alloc: Global, name: &Name) -> Result<Name, AllocError>
 }
 
 #[tactic(auto, unfolding(crate::specs::Reading::name_at))]
-pub fn name(alloc: Global, tokens: &[Token]) -> Result<(Name, &[Token]), Fault>
+pub fn name(alloc: Global, tokens: &[Token]) -> Result<(Name, &[Token]), Stop>
     ensures { Gives result (reading.name_at tokens.now) }
 {
     match tokens {
         [Token::Name(name), rest @ ..] => Ok((copied(alloc, name)?, rest)),
-        _ => Err(Fault::Syntax(tokens.len())),
+        _ => Err(Stop::Syntax(tokens.len())),
     }
 }
 
 // Names with commas between.
 #[tactic(auto, using(crate::proofs::Turns::separated_more, crate::proofs::Turns::separated_end), unfolding(crate::specs::Reading::names_at, crate::specs::Reading::separated))]
-pub fn names(alloc: Global, tokens: &[Token]) -> Result<(Items<Name>, &[Token]), Fault>
+pub fn names(alloc: Global, tokens: &[Token]) -> Result<(Items<Name>, &[Token]), Stop>
     ensures { Gives result (reading.names_at tokens.now) }
 {
     let mut found = Items::new(alloc);
@@ -131,5 +131,5 @@ pub fn names(alloc: Global, tokens: &[Token]) -> Result<(Items<Name>, &[Token]),
             None => return Ok((found, behind_one)),
         }
     }
-    Err(Fault::Syntax(rest.len()))
+    Err(Stop::Syntax(rest.len()))
 }

@@ -1,7 +1,7 @@
 // What no contract says of the parser: the byte of a syntax fault, and that it answers.
 
-use crate::fault::ParseRefused;
 use crate::parsing::parse;
+use crate::refused::ParseRefused;
 use crate::tests::wrapping::wrapped;
 use crate::tree::{Clause, Condition, JoinKind};
 use std::alloc::Global;
