@@ -1,8 +1,8 @@
 -- Values with the marks of nulls, after a push, a cut, a removal and a join.
-use Rattle.std.proofs.Common.{◌≡◌, ◌≤◌, ◌<◌, ◌-◌, ◌∙◌, ℕ, zero, suc, List, [], ◌∷◌, ◌++◌, length, None, Some, Bool, true, false, refl, sym, ap, arith, take, append_assoc}
+use Rattle.std.proofs.Common.{◌≡◌, ◌≤◌, ◌<◌, ◌+◌, ◌-◌, ◌∙◌, ℕ, zero, suc, List, [], ◌∷◌, ◌++◌, length, None, Some, Bool, true, false, refl, ap, arith, take}
 use Rattle.std.specs.Prelude.{slice_get, slice_index_or, replicate}
 use Rattle.std.specs.List.{remove}
-use Rattle.std.proofs.lemmas.List.{length-append, length-replicate, append-nil}
+use Rattle.std.proofs.lemmas.List.{length-append, length-replicate}
 use Rattle.rj_columns.specs.Nulls.{unless, with_nulls, marked_at, marks_joined}
 
 pub push-value : {A : Type 0} (values : List A) (nulls : List Bool) (x : A) → length nulls ≤ length values → with_nulls (values ++ x ∷ []) nulls ≡ with_nulls values nulls ++ Some x ∷ []
@@ -43,8 +43,7 @@ length-padded nulls row h = omega (arith, length-append nulls (replicate (row - 
 join-padded : {A : Type 0} (v w : List A) (n m : List Bool) → length n ≤ length v → with_nulls (v ++ w) (n ++ replicate (length v - length n) false ++ m) ≡ with_nulls v n ++ with_nulls w m
 join-padded v w n m h =
     let all = join-marked v w (n ++ replicate (length v - length n) false) m (length-padded n (length v) h) in
-    let same = pad-same v n (length v - length n) in
-    ap (with_nulls (v ++ w)) (sym (append_assoc n (replicate (length v - length n) false) m)) ∙ (all ∙ ap (λ t. t ++ with_nulls w m) same)
+    all ∙ ap (λ t. t ++ with_nulls w m) (pad-same v n (length v - length n))
 
 pub join-marks : {A : Type 0} (v w : List A) (n m : List Bool) → length n ≤ length v → with_nulls (v ++ w) (marks_joined n (length v) m) ≡ with_nulls v n ++ with_nulls w m
 join-marks v w n [] h = join-plain v w n h
@@ -55,7 +54,7 @@ length-joined n [] row more h k = omega arith
 length-joined n (x ∷ m) row more h k =
     let size = length-padded n row h in
     let all = length-append (n ++ replicate (row - length n) false) (x ∷ m) in
-    rw (← append_assoc n (replicate (row - length n) false) (x ∷ m)) (omega arith)
+    omega arith
 
 one-null : {A : Type 0} (x : A) → with_nulls (x ∷ []) (true ∷ []) ≡ None ∷ []
 unfolding with_nulls
@@ -69,7 +68,7 @@ pub length-marked : (nulls : List Bool) (row : ℕ) → length nulls ≤ row →
 length-marked nulls row h =
     let size = length-padded nulls row h in
     let all = length-append (nulls ++ replicate (row - length nulls) false) (true ∷ []) in
-    rw (← append_assoc nulls (replicate (row - length nulls) false) (true ∷ [])) (omega arith)
+    omega arith
 
 pub length-values : {A : Type 0} (values : List A) (nulls : List Bool) → length (with_nulls values nulls) ≡ length values
 unfolding with_nulls

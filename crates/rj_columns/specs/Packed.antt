@@ -26,12 +26,12 @@ ends_from start [] = []
 ends_from start (t ∷ texts) = (start + length t) ∷ ends_from (start + length t) texts
 
 -- a buffer that has these texts, one after another, and nothing else
-pub record Packs (bytes ends : List ℕ) (texts : List (List ℕ)) : Type 0 where
-  pub bytes : bytes ≡ concat texts
-  pub ends : ends ≡ ends_from 0 texts
+pub record Packs (buffer places : List ℕ) (texts : List (List ℕ)) : Type 0 where
+  pub bytes : buffer ≡ concat texts
+  pub ends : places ≡ ends_from 0 texts
   pub utf8 : All IsUtf8 texts
 
 -- texts in a buffer, and no more marks of nulls than there are texts
-pub record ArePacked (bytes ends : List ℕ) (nulls : List Bool) : Type 0 where
-  pub texts : Packs bytes ends (texts_from 0 bytes ends)
-  pub nulls : length nulls ≤ length ends
+pub record ArePacked (buffer places : List ℕ) (marks : List Bool) : Type 0 where
+  pub texts : Packs buffer places (texts_from 0 buffer places)
+  pub nulls : length marks ≤ length places

@@ -100,8 +100,9 @@ impl Table {
         requires room { length (rows_of_all parts.now) < 2 ^ 31 }
         ensures { IfOk result (λ t. t ≡ concatenated parts.now) }
     {
+        let first = &parts[0];
         Ok(Table {
-            names: parts[0].names.copy()?,
+            names: first.names.copy()?,
             columns: concat_columns(rt, alloc, parts)?,
             rows: count_rows(parts),
         })

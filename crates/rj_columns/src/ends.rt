@@ -133,13 +133,18 @@ impl Ends {
         Ok(())
     }
 
-    // Adds the ends of texts whose buffer comes behind so many bytes.
+    // Adds the ends of texts whose buffer comes behind so many bytes. Where memory is refused they are as they were.
     pub(crate) fn append(&mut self, more: &Ends, before: usize) -> Result<(), AllocError>
         requires { All (λ e. before + e < 2 ^ 64) more.now }
-        ensures { OnOk result (self.new ≡ self.old ++ map (λ e. before + e) more.now) }
+        ensures ok { OnOk result (self.new ≡ self.old ++ map (λ e. before + e) more.now) }
+        ensures err { OnErr result (self.new ≡ self.old) }
     {
+        let rows = self.len();
         for i in 0..more.len() {
-            self.push(before + more.end(i))?;
+            if self.push(before + more.end(i)).is_err() {
+                self.truncate(rows);
+                return Err(AllocError);
+            }
         }
         Ok(())
     }

@@ -1,6 +1,6 @@
 // Marks of nulls, which reach no further than the last null.
 
-ghost use Rattle.std.specs.Prelude.{◌≡◌, ◌≤◌, length, false, slice_index_or, OnOk, OnErr};
+ghost use Rattle.std.specs.Prelude.{◌≡◌, ◌≤◌, ◌+◌, length, false, slice_index_or, OnOk, OnErr};
 ghost use Rattle.rj_columns.specs.Nulls.{marked_at, marks_joined};
 
 use std::alloc::AllocError;
@@ -31,8 +31,8 @@ pub(crate) fn mark(nulls: &mut Vec<bool>, row: usize) -> Result<(), AllocError>
     Ok(())
 }
 
-// Adds marks from a row on, which stands behind all that are marked. Where memory is refused there are marks of no
-// row behind it.
+// Adds marks from a row on, which stands behind all that are marked. Where memory is refused none was added, and the
+// marks may reach up to that row.
 pub(crate) fn add_marks(
     nulls: &mut Vec<bool>,
     row: usize,
@@ -40,7 +40,7 @@ pub(crate) fn add_marks(
 ) -> Result<(), AllocError>
     requires { length nulls.old.items ≤ row }
     ensures ok { OnOk result (nulls.new.items ≡ marks_joined nulls.old.items row more.now.items) }
-    ensures err { OnErr result (length nulls.new.items ≤ row) }
+    ensures within { length nulls.new.items ≤ row + length more.now.items }
 {
     let marks = more.as_slice();
     if marks.is_empty() {

@@ -1,0 +1,65 @@
+-- A column of a table, and a table from its columns.
+use Rattle.std.proofs.Common.{◌≡◌, ◌≤◌, ◌<◌, ◌+◌, ◌∙◌, ℕ, zero, suc, List, [], ◌∷◌, ◌++◌, map, length, take, Some, None, refl, sym, ap, subst, arith, get_or}
+use Rattle.std.specs.Prelude.{All, slice_get}
+use Rattle.std.specs.List.{flat_map}
+use Rattle.std.proofs.lemmas.List.{length-map, map-append, get_or-map, take_all, ext_get_or}
+use Rattle.std.proofs.lemmas.List.Elements.{All-nil, All-cons, All-head, All-tail, All-get_or, All-from_get_or}
+use Rattle.std.proofs.Math.Seq.{take-suc}
+use Rattle.rj_columns.specs.declared.cell.ColumnType.{ColumnType}
+use Rattle.rj_columns.specs.Contents.{Content, nothing}
+use Rattle.rj_columns.specs.Tables.{TableValue, FitsTypes, column_in, rows_of_all, AreAlike, concatenated}
+use Rattle.rj_columns.specs.Columns.{ColumnValue, row_at, rows_of, AreFull, Filling, IsTyped, IsColumnOf}
+use Rattle.rj_columns.proofs.RowFacts.{length-rows_of, rows_of-at, Filling-full, Filling-start}
+
+-- the kind of a column by its number
+kind-at : (columns : List ColumnValue) (col : ℕ) (c : ColumnValue) → col < length columns → c ≡ get_or columns col c → slice_get (map (λ c. c.kind) columns) col ≡ Some c.kind
+kind-at [] col c h e = absurd (omega arith)
+kind-at (x ∷ columns) zero c h e = rw (← e) refl
+kind-at (x ∷ columns) (suc col) c h e = kind-at columns col c (omega arith) e
+
+-- the cells of a column in the rows that the columns make
+cells-to : (columns : List ColumnValue) (n col m : ℕ) (c : ColumnValue) → col < length columns → c ≡ get_or columns col c → length c.cells ≡ n → m ≤ n → column_in (rows_of columns m) col ≡ take m c.cells
+unfolding rows_of
+cells-to columns n col zero c h e size low = refl
+cells-to columns n col (suc m) c h e size low =
+    let before = cells-to columns n col m c h e size (omega arith) in
+    let next = take-suc c.cells m nothing (omega arith) in
+    let cell : get_or (row_at columns m) col nothing ≡ get_or c.cells m nothing =
+        get_or-map (λ (v : ColumnValue). get_or v.cells m nothing) columns col c nothing h ∙ ap (λ (v : ColumnValue). get_or v.cells m nothing) (sym e) in
+    map-append (λ r. get_or r col nothing) (rows_of columns m) (row_at columns m ∷ []) ∙ (ap (λ t. t ++ get_or (row_at columns m) col nothing ∷ []) before ∙ (ap (λ x. take m c.cells ++ x ∷ []) cell ∙ sym next))
+
+pub column-of : (columns : List ColumnValue) (n col : ℕ) (c : ColumnValue) → Filling columns 0 n → All IsTyped columns → col < length (map (λ c. c.kind) columns) → c ≡ get_or columns col c
+    → IsColumnOf record { names = []; types = map (λ c. c.kind) columns; rows = rows_of columns n } col c
+column-of columns n col c fills typed h e =
+    let kinds : length (map (λ (c : ColumnValue). c.kind) columns) ≡ length columns = length-map columns (λ (c : ColumnValue). c.kind) in
+    let inside : col < length columns = omega arith in
+    let size : length c.cells ≡ n = subst (λ (v : ColumnValue). length v.cells ≡ n) (sym e) (Filling-full columns n fills col c inside) in (
+      kind-at columns col c inside e,
+      sym (cells-to columns n col n c inside e size (omega arith) ∙ take_all n c.cells (omega arith)),
+      subst IsTyped (sym e) (typed col c inside),
+    )
+
+-- tables with the same columns
+pub alike-types : (tables : List TableValue) (i : ℕ) (t : TableValue) → AreAlike tables → i < length tables → t ≡ get_or tables i t → t.types ≡ (concatenated tables).types
+alike-types [] i t a h e = absurd a
+alike-types (first ∷ tables) zero t a h e = ap (λ (u : TableValue). u.types) e
+alike-types (first ∷ tables) (suc i) t a h e = ap (λ (u : TableValue). u.types) e ∙ (a i t (omega arith)).1
+
+pub alike-some : (tables : List TableValue) → AreAlike tables → 0 < length tables
+alike-some [] a = absurd a
+alike-some (t ∷ tables) a = omega arith
+
+-- tables of which each has these names and types
+pub AreAlike-of : (tables : List TableValue) (names : List (List ℕ)) (types : List ColumnType) → 0 < length tables → All (λ t. (t.names ≡ names) × (t.types ≡ types)) tables → AreAlike tables
+AreAlike-of [] names types some h = absurd (omega arith)
+AreAlike-of (t ∷ tables) names types some h = λ k d inside.
+    let first = All-head (λ (u : TableValue). (u.names ≡ names) × (u.types ≡ types)) t tables h in
+    let other = All-tail (λ (u : TableValue). (u.names ≡ names) × (u.types ≡ types)) t tables h k d inside in
+    (other.0 ∙ sym first.0, other.1 ∙ sym first.1)
+
+pub concatenated-of : (tables : List TableValue) (names : List (List ℕ)) (types : List ColumnType) → 0 < length tables → All (λ t. (t.names ≡ names) × (t.types ≡ types)) tables
+    → concatenated tables ≡ record { names = names; types = types; rows = rows_of_all tables }
+concatenated-of [] names types some h = absurd (omega arith)
+concatenated-of (t ∷ tables) names types some h =
+    let first = All-head (λ (u : TableValue). (u.names ≡ names) × (u.types ≡ types)) t tables h in
+    rw (first.0, first.1) refl
