@@ -1,7 +1,7 @@
 -- The cells of a column at some rows.
 use Rattle.std.proofs.Common.{◌≡◌, ◌≤◌, ◌<◌, ◌+◌, ◌-◌, ◌∙◌, ℕ, zero, suc, List, [], ◌∷◌, ◌++◌, map, length, take, drop, Some, refl, sym, ap, arith, get_or, append_assoc}
 use Rattle.std.specs.Prelude.{slice_get, slice_range}
-use Rattle.std.proofs.lemmas.List.{length-map, length-drop, map-append, take_more, get_or-drop, get_or-map, append-nil}
+use Rattle.std.proofs.lemmas.List.{length-map, length-drop, map-append, take-map, drop-map, take_more, get_or-drop, get_or-map, append-nil}
 use Rattle.std.proofs.lemmas.Option.{get_or_from_slice_get}
 use Rattle.std.proofs.Math.Seq.{take-suc}
 use Rattle.rj_columns.specs.Contents.{Content, content_of, nothing}
@@ -45,3 +45,14 @@ part-range rows col from (suc n) h =
     let at : get_or (drop from (column_in rows col)) n nothing ≡ cell_in rows (from + n) col =
         get_or-drop from (column_in rows col) n nothing ∙ get_or-map (λ r. get_or r col nothing) rows (from + n) [] nothing (omega arith) in
     rw (next, at, part-range rows col from n (omega arith)) refl
+
+-- the cells of a column whose contents are made of values
+pub as-cells : {A : Type 0} (column : List Content) (f : A → Content) (values : List A) (from to : ℕ) (old new : List Content) → column ≡ map f values → new ≡ old ++ map f (slice_range values from to)
+    → new ≡ old ++ slice_range column from to
+as-cells column f values from to old new e made =
+    made ∙ ap (λ t. old ++ t) (rw (e, drop-map, take-map) refl)
+
+pub as-part : (rows : List (List Content)) (col from to : ℕ) (column old new : List Content) → column ≡ column_in rows col → from ≤ to → to ≤ length rows → new ≡ old ++ slice_range column from to
+    → new ≡ old ++ part_of rows col from (to - from)
+as-part rows col from to column old new e low high made =
+    made ∙ ap (λ t. old ++ t) (ap (λ l. slice_range l from to) e ∙ sym (part-range rows col from (to - from) (omega arith)))

@@ -49,12 +49,8 @@ pub join-marks : {A : Type 0} (v w : List A) (n m : List Bool) → length n ≤ 
 join-marks v w n [] h = join-plain v w n h
 join-marks v w n (x ∷ m) h = join-padded v w n (x ∷ m) h
 
-pub length-joined : (n m : List Bool) (row more : ℕ) → length n ≤ row → length m ≤ more → length (marks_joined n row m) ≤ row + more
-length-joined n [] row more h k = omega arith
-length-joined n (x ∷ m) row more h k =
-    let size = length-padded n row h in
-    let all = length-append (n ++ replicate (row - length n) false) (x ∷ m) in
-    omega arith
+pub join-shown : {A : Type 0} (v w : List A) (n m now : List Bool) (row : ℕ) → length n ≤ length v → row ≡ length v → now ≡ marks_joined n row m → with_nulls (v ++ w) now ≡ with_nulls v n ++ with_nulls w m
+join-shown v w n m now row h r e = rw (e, r) (join-marks v w n m h)
 
 one-null : {A : Type 0} (x : A) → with_nulls (x ∷ []) (true ∷ []) ≡ None ∷ []
 unfolding with_nulls

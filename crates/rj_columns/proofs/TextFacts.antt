@@ -6,7 +6,7 @@ use Rattle.std.proofs.lemmas.List.{length-append, length-map, length-take, take_
 use Rattle.std.proofs.lemmas.Str.{IsUtf8-nil}
 use Rattle.rj_columns.specs.Nulls.{unless, with_nulls, marked_at, marks_joined}
 use Rattle.rj_columns.specs.Packed.{start_at, texts_from, Packs, ArePacked}
-use Rattle.rj_columns.proofs.NullFacts.{push-value, push-null, length-marked, length-values, take-values, remove-values, join-marks, length-joined, value-at}
+use Rattle.rj_columns.proofs.NullFacts.{push-value, push-null, length-marked, length-values, take-values, remove-values, join-marks, value-at}
 use Rattle.rj_columns.proofs.PackFacts.{texts-found, packed, length-texts, length-ends, push-packed, take-packed, remove-packed, join-packed, text-at}
 use Rattle.rj_columns.proofs.RemoveFacts.{remove-none, remove-within}
 
@@ -102,17 +102,15 @@ joined-packed bytes ends more others nulls marks now size p q e h =
       nulls = omega (arith, h, length-append ends (map (λ e. size + e) others), length-map others (λ e. size + e));
     }
 
-pub joined-shown : (bytes ends more others : List ℕ) (nulls marks : List Bool) (size row : ℕ) → ArePacked bytes ends nulls → ArePacked more others marks → size ≡ length bytes → row ≡ length ends
-    → with_nulls (texts_from 0 (bytes ++ more) (ends ++ map (λ e. size + e) others)) (marks_joined nulls row marks) ≡ with_nulls (texts_from 0 bytes ends) nulls ++ with_nulls (texts_from 0 more others) marks
-joined-shown bytes ends more others nulls marks size row p q e r =
+pub joined-shown : (bytes ends more others : List ℕ) (nulls marks now : List Bool) (size row : ℕ) → ArePacked bytes ends nulls → ArePacked more others marks → size ≡ length bytes → row ≡ length ends
+    → now ≡ marks_joined nulls row marks
+    → with_nulls (texts_from 0 (bytes ++ more) (ends ++ map (λ e. size + e) others)) now ≡ with_nulls (texts_from 0 bytes ends) nulls ++ with_nulls (texts_from 0 more others) marks
+joined-shown bytes ends more others nulls marks now size row p q e r joined =
     let both = join-packed bytes ends more others (texts_from 0 bytes ends) (texts_from 0 more others) size p.texts q.texts e in
     let texts = texts-found (bytes ++ more) (ends ++ map (λ e. size + e) others) (texts_from 0 bytes ends ++ texts_from 0 more others) both in
     let many = length-texts 0 bytes ends in
     let here : row ≡ length (texts_from 0 bytes ends) = omega arith in
-    rw (texts, here) (join-marks (texts_from 0 bytes ends) (texts_from 0 more others) nulls marks (omega (arith, p.nulls)))
-
-pub marks-within : (ends others : List ℕ) (nulls marks : List Bool) (row : ℕ) → length nulls ≤ length ends → length marks ≤ length others → row ≡ length ends → length (marks_joined nulls row marks) ≤ length ends + length others
-marks-within ends others nulls marks row h k e = rw e (length-joined nulls marks (length ends) (length others) h k)
+    rw (texts, joined, here) (join-marks (texts_from 0 bytes ends) (texts_from 0 more others) nulls marks (omega (arith, p.nulls)))
 
 -- a row by its number
 pub row-inside : (bytes ends : List ℕ) (nulls : List Bool) (i : ℕ) → i < length (with_nulls (texts_from 0 bytes ends) nulls) → i < length ends

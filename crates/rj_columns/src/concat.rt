@@ -1,6 +1,6 @@
 // One table of the rows of several.
 
-ghost use Rattle.std.specs.Prelude.{◌≡◌, ◌<◌, ◌^◌, ℕ, [], Some, Ok, length, map, slice_get, slice_index_or, IfOk};
+ghost use Rattle.std.specs.Prelude.{◌≡◌, ◌<◌, ◌^◌, ℕ, [], Some, Ok, length, map, slice_get, slice_index_or, All, IfOk};
 ghost use Rattle.rj_columns.specs.Columns.{ColumnValue, IsColumnOf};
 ghost use Rattle.rj_columns.specs.Tables.{AreAlike, concatenated, rows_of_all};
 
@@ -9,14 +9,16 @@ use super::table::Table;
 use std::alloc::{AllocError, Global};
 use std::thread::{self, Threads};
 
-// How many rows tables have in all.
+// How many rows tables have in all. Each of them is as wide as the first table.
 fn count_rows(parts: &[Table]) -> u64
-    requires { length (rows_of_all parts.now) < 2 ^ 31 }
-    ensures { result ≡ length (rows_of_all parts.now) }
+    requires alike { AreAlike parts.now }
+    requires room { length (rows_of_all parts.now) < 2 ^ 31 }
+    ensures count { result ≡ length (rows_of_all parts.now) }
+    ensures wide { All (λ r. length r ≡ length (concatenated parts.now).types) (rows_of_all parts.now) }
 {
     let mut rows = 0;
     for part in parts {
-        rows += part.rows();
+        rows += part.rows;
     }
     rows
 }
@@ -58,7 +60,7 @@ fn all_made(alloc: Global, made: Vec<Result<Column, AllocError>>) -> Result<Vec<
 {
     let mut made = made;
     let mut columns = Vec::with_capacity(alloc, made.len())?;
-    for _ in 0..made.len() {
+    for _done in 0..made.len() {
         columns.push(made.remove(0)?)?;
     }
     Ok(columns)

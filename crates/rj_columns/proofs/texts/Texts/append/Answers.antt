@@ -9,7 +9,7 @@ use Rattle.rj_columns.proofs.texts.Texts.append.Goals as goal
 pub append-requires : goal.append-requires
 append-requires c = λ k d h.
     let fits = ends-inside c.other.inside.bytes.items c.other.inside.ends (texts_from 0 c.other.inside.bytes.items c.other.inside.ends) c.other.invariant.texts k d h in
-    let size : c.len-size.result + length c.other.inside.bytes.items < 2 ^ 64 = ? in
+    let size : c.len-size.result + length c.other.inside.bytes.items < 2 ^ 64 = omega (arith, c.extend_from_slice.new.self.small, c.in_ok-extend_from_slice.ensures.len, ap length c.as_slice.ensures.value, c.len-size.ensures, c.extend_from_slice.new.self.ok) in
     omega arith
 
 pub invariant_of-self-2 : goal.invariant_of-self-2
@@ -26,7 +26,7 @@ returns c =
     let size : c.len-size.result ≡ length c.self.inside.bytes.items = search rules in
     let bytes : c.extend_from_slice.new.self.items ≡ c.self.inside.bytes.items ++ c.other.inside.bytes.items = c.in_ok-extend_from_slice.ensures.items ∙ ap (λ t. c.self.inside.bytes.items ++ t) c.as_slice.ensures.value in
     let ends : c.append.new.self ≡ c.self.inside.ends ++ map (λ e. c.len-size.result + e) c.other.inside.ends = search rules in
-    on_ok_weaker c.add_marks.result
-    (λ e. rw (bytes, ends, e, ← c.self.view_is, ← c.other.view_is)
-    (joined-shown c.self.inside.bytes.items c.self.inside.ends c.other.inside.bytes.items c.other.inside.ends c.self.inside.nulls.items c.other.inside.nulls.items c.len-size.result c.len-rows.result c.self.invariant c.other.invariant size c.len-rows.ensures))
-    c.add_marks.ensures.ok
+    rw (bytes, ends, ← c.self.view_is, ← c.other.view_is)
+    (on_ok_weaker c.add_marks.result
+    (joined-shown c.self.inside.bytes.items c.self.inside.ends c.other.inside.bytes.items c.other.inside.ends c.self.inside.nulls.items c.other.inside.nulls.items c.add_marks.new.nulls.items c.len-size.result c.len-rows.result c.self.invariant c.other.invariant size c.len-rows.ensures)
+    c.add_marks.ensures.ok)
