@@ -1,6 +1,6 @@
 // Laws: each of these functions does nothing, and its contract is a fact about every ledger, list of parcels or plan.
 
-ghost use Rattle.std.specs.Prelude.{List, slice_get, [], ◌++◌, ◌≡◌, ◌<◌, ◌+◌, ℕ, true, Some, length, All, Contains};
+ghost use Rattle.std.specs.Prelude.{List, slice_get, [], ◌++◌, ◌≡◌, ◌<◌, ◌+◌, ℕ, true, Some, length, All};
 ghost use Rattle.rj_ledger.specs.declared.parcel.Parcel.{Parcel};
 ghost use Rattle.rj_ledger.specs.declared.parcel.Answer.TheVariants.{Accepted};
 ghost use Rattle.rj_ledger.specs.Cutting.{bodies, plan, IsPlacedAt};
@@ -8,7 +8,7 @@ ghost use Rattle.rj_ledger.specs.Ledgers.{LedgerValue, opened, standing, answer_
 ghost use Rattle.rj_ledger.specs.Reading.{IsRefused};
 ghost use Rattle.rj_ledger.specs.Kept.{AreKeptOnce, AreClosedLast, keep, kept, Keeps};
 ghost use Rattle.rj_ledger.specs.KeptRules.{ShowsKept, kept_answer, kept_answers};
-ghost use Rattle.rj_ledger.specs.Lawful.{AreLawful, IsPlanned, HasAll, AreAmong, planned_answers};
+ghost use Rattle.rj_ledger.specs.Lawful.{AreLawful, IsPlanned, HasAll, AreAmong, ContainsPlans, planned_answers};
 ghost use Rattle.rj_ledger.specs.Delivery.{Delivers, DeliversAll, AreExactly};
 
 /// An offer keeps a ledger in agreement with the kept parcels, whatever they are.
@@ -18,7 +18,8 @@ pub fn offer_keeps()
 
 /// No parcel is kept twice: an offer keeps none whose sender and number a kept one has.
 pub fn offer_keeps_once()
-    ensures { (ks : List Parcel) (v : LedgerValue) (x : Parcel) → Keeps ks v → AreKeptOnce v.partition (length v.senders) ks → AreKeptOnce v.partition (length v.senders) (keep (answer_to v x) x ks) }
+    ensures { (ks : List Parcel) (v : LedgerValue) (x : Parcel) → Keeps ks v
+        → AreKeptOnce v.partition (length v.senders) ks → AreKeptOnce v.partition (length v.senders) (keep (answer_to v x) x ks) }
 {}
 
 /// Of any list each parcel is kept at most once.
@@ -38,7 +39,8 @@ pub fn close_is_last()
 
 /// The answer to one offer is that of the nine rules read over the kept parcels alone.
 pub fn offer_rules()
-    ensures { (ks : List Parcel) (v : LedgerValue) (x : Parcel) → Keeps ks v → AreKeptOnce v.partition (length v.senders) ks → answer_to v x ≡ kept_answer v.partition (length v.senders) v.block ks x }
+    ensures { (ks : List Parcel) (v : LedgerValue) (x : Parcel) → Keeps ks v → AreKeptOnce v.partition (length v.senders) ks
+        → answer_to v x ≡ kept_answer v.partition (length v.senders) v.block ks x }
 {}
 
 /// The answers to any list are those of the nine rules read over the kept parcels alone.
@@ -49,12 +51,14 @@ pub fn replay_rules()
 /// What a ledger shows of a sender, read off the parcels that it has kept: the next number is the least that none of them
 /// has, the rows are those of the parcels below it, by number, and the gap reaches to the smallest held number.
 pub fn shows_kept()
-    ensures { (ks : List Parcel) (v : LedgerValue) → Keeps ks v → AreKeptOnce v.partition (length v.senders) ks → (s : ℕ) → s < length v.senders → ShowsKept ks s (standing v s) }
+    ensures { (ks : List Parcel) (v : LedgerValue) → Keeps ks v → AreKeptOnce v.partition (length v.senders) ks
+        → (s : ℕ) → s < length v.senders → ShowsKept ks s (standing v s) }
 {}
 
 /// An accepted parcel moves its sender's next number on by the count in the answer.
 pub fn accepted_counts()
-    ensures { (v : LedgerValue) (x : Parcel) (n : ℕ) → answer_to v x ≡ Accepted n → (standing (after_offer v x) x.sender).next ≡ (standing v x.sender).next + n }
+    ensures { (v : LedgerValue) (x : Parcel) (n : ℕ) → answer_to v x ≡ Accepted n
+        → (standing (after_offer v x) x.sender).next ≡ (standing v x.sender).next + n }
 {}
 
 /// Once a sender's close was delivered, each parcel of that sender is refused.
@@ -86,17 +90,20 @@ pub fn lawful_if_all()
 
 /// The answers to any lawful arrivals, offered one by one to a ledger to which nothing was offered.
 pub fn offers_answer()
-    ensures { (due : ℕ → ℕ → List ℕ) (block q n : ℕ) → 0 < block → (xs : List Parcel) → AreLawful due block xs → answers (opened q n block) xs ≡ planned_answers due block q n [] xs }
+    ensures { (due : ℕ → ℕ → List ℕ) (block q n : ℕ) → 0 < block → (xs : List Parcel) → AreLawful due block xs
+        → answers (opened q n block) xs ≡ planned_answers due block q n [] xs }
 {}
 
 /// The kept parcels of any lawful arrivals are exactly the distinct ones of the ledger's partition and a known sender.
 pub fn offers_keep_exactly()
-    ensures { (due : ℕ → ℕ → List ℕ) (block q n : ℕ) → 0 < block → (xs : List Parcel) → AreLawful due block xs → AreExactly due block q n xs (kept xs (answers (opened q n block) xs)) }
+    ensures { (due : ℕ → ℕ → List ℕ) (block q n : ℕ) → 0 < block → (xs : List Parcel) → AreLawful due block xs
+        → AreExactly due block q n xs (kept xs (answers (opened q n block) xs)) }
 {}
 
 /// What a ledger has delivered after any lawful arrivals, offered one by one.
 pub fn offers_deliver()
-    ensures { (due : ℕ → ℕ → List ℕ) (block q n : ℕ) → 0 < block → (xs : List Parcel) → AreLawful due block xs → Delivers due block q n xs (after_all (opened q n block) xs) }
+    ensures { (due : ℕ → ℕ → List ℕ) (block q n : ℕ) → 0 < block → (xs : List Parcel) → AreLawful due block xs
+        → Delivers due block q n xs (after_all (opened q n block) xs) }
 {}
 
 /// A parcel of a plan has the plan's sender and partition, its place there as its number, and carries what stands there.
@@ -117,5 +124,6 @@ pub fn all_plans_suffice()
 /// Planned arrivals that contain the plans of all senders, in any order and number, leave a ledger that is complete and has
 /// delivered of each sender what was due.
 pub fn contained_suffice()
-    ensures { (due : ℕ → ℕ → List ℕ) (block q n : ℕ) → 0 < block → (xs : List Parcel) → All (IsPlanned due block) xs → ((s : ℕ) → s < n → All (Contains xs) (plan block (due s q) s q)) → DeliversAll due q n (after_all (opened q n block) xs) }
+    ensures { (due : ℕ → ℕ → List ℕ) (block q n : ℕ) → 0 < block → (xs : List Parcel) → All (IsPlanned due block) xs
+        → ContainsPlans due block q n xs → DeliversAll due q n (after_all (opened q n block) xs) }
 {}

@@ -8,3 +8,5 @@ pub mod Ends
 pub mod Parts
 pub mod Wholes
 pub mod Openings
+pub mod Numbers
+pub mod MadeShares

@@ -1,11 +1,10 @@
 //! Workers that draw shares by ticket.
 ghost use Rattle.std.specs.Prelude.{◌≡◌, ◌<◌, ◌≤◌, All, IfOk, length};
 ghost use Rattle.std.specs.Vec.Iter.{into_iter_items};
-ghost use Rattle.rj_exchange.specs.Halt.{IsHaltSeatOf};
-ghost use Rattle.rj_exchange.specs.Tickets.{IsSeatOf, limit_of};
-ghost use Rattle.rj_workers.specs.Sharing.{AreMade, IsDrawer};
+ghost use Rattle.rj_exchange.specs.Halt.{AreAllHaltSeats, halt_seats_of};
+ghost use Rattle.rj_exchange.specs.Tickets.{AreAllSeats, IsNew, limit_of, seats_of};
+ghost use Rattle.rj_workers.specs.Sharing.{AreMade, IsDrawnOf, IsGathered, IsMadeBehind, IsMadeOfEach, IsNewDrawer};
 
-use crate::crew::next_seat;
 use crate::gate::Gate;
 use crate::shares::Shares;
 use rj_exchange::{Halt, HaltSeat, Seat, Tickets};
@@ -23,7 +22,23 @@ pub(crate) struct Drawer {
     seat: HaltSeat,
 }
 
-// A worker for each seat at the tickets, where there are as many at the word halt.
+/// What a worker hands back.
+#[derive(Drop)]
+pub(crate) struct Drawn<T> {
+    drawer: Drawer,
+    // What the shares made that it drew, in the order in which it drew them.
+    made: Vec<T>,
+}
+
+/// What all workers hand back.
+#[derive(Drop)]
+pub(crate) struct Gathered<T> {
+    draws: Vec<Seat>,
+    seats: Vec<HaltSeat>,
+    made: Vec<T>,
+}
+
+// A worker for each seat at the tickets and at the word halt.
 fn make_drawers(
     alloc: Global,
     tickets: &Tickets,
@@ -31,16 +46,18 @@ fn make_drawers(
     draws: Vec<Seat>,
     seats: Vec<HaltSeat>,
 ) -> Result<Vec<Drawer>, AllocError>
-    requires draws { All (IsSeatOf tickets.now) draws.items }
-    requires seats { All (IsHaltSeatOf halt.now) seats.items }
-    ensures { IfOk result (λ v. All (IsDrawer tickets.now halt.now) v.items) }
+    requires draws { AreAllSeats tickets.now draws.items × All IsNew draws.items }
+    requires seats { AreAllHaltSeats halt.now seats.items × (halt_seats_of halt.now ≡ seats_of tickets.now) }
+    ensures len { IfOk result (λ v. length v.items ≡ seats_of tickets.now) }
+    ensures drawers { IfOk result (λ v. All (IsNewDrawer tickets.now halt.now) v.items) }
 {
     let _tickets = tickets;
+    let _halt = halt;
     let mut left = seats.into_iter();
     let mut drawers = Vec::with_capacity(alloc, draws.len())?;
     for draws in draws {
-        let Some(seat) = next_seat(halt, &mut left) else {
-            return Err(AllocError);
+        let Some(seat) = left.next() else {
+            unreachable!()
         };
         drawers.push(Drawer { draws, seat })?;
     }
@@ -55,9 +72,8 @@ fn add_share<S: Shares, G: Gate>(
     number: u64,
     made: &mut Vec<S::Done>,
 ) -> Result<(), AllocError>
-    requires number { number < S.shares shares.now }
-    requires made { AreMade (S.makes shares.now) (S.shares shares.now) made.old.items }
-    ensures { IfOk result (λ _. AreMade (S.makes shares.now) (S.shares shares.now) made.new.items) }
+    requires { number < S.shares shares.now }
+    ensures { IfOk result (λ _. IsMadeBehind (S.makes shares.now) number made.old.items made.new.items) }
 {
     gate.pass(shares.place(number));
     let done = shares.share(alloc, number)?;
@@ -73,55 +89,109 @@ fn draw_shares<S: Shares, G: Gate>(
     gate: &G,
     tickets: &Tickets,
     halt: &Halt,
-    me: Drawer,
-) -> Result<Vec<S::Done>, AllocError>
+    drawer: Drawer,
+) -> Result<Drawn<S::Done>, AllocError>
     requires tickets { limit_of tickets.now ≤ S.shares shares.now }
-    requires me { IsDrawer tickets.now halt.now me }
-    ensures { IfOk result (λ v. AreMade (S.makes shares.now) (S.shares shares.now) v.items) }
+    requires drawer { IsNewDrawer tickets.now halt.now drawer }
+    ensures { IfOk result (IsDrawnOf (S.makes shares.now) tickets.now halt.now) }
 {
-    let mut me = me;
+    let mut drawer = drawer;
     let mut made = Vec::new(alloc);
     // (it draws no more than all)
     for _ in 0..shares.count() {
-        let Some(number) = tickets.claim(&mut me.draws) else {
-            return Ok(made);
+        let Some(number) = tickets.claim(&mut drawer.draws) else {
+            return Ok(Drawn { drawer, made });
         };
-        if halt.raised(&mut me.seat) {
-            return Ok(made);
+        if halt.raised(&mut drawer.seat) {
+            return Ok(Drawn { drawer, made });
         }
         let Ok(()) = add_share(alloc, shares, gate, number, &mut made) else {
-            halt.raise(&mut me.seat);
+            halt.raise(&mut drawer.seat);
             return Err(AllocError);
         };
     }
-    Ok(made)
+    Ok(Drawn { drawer, made })
 }
 
-// What all workers made, unless one of them was refused memory.
-fn all_made<S: Shares>(
+// What all workers hand back, put together, unless one of them was refused memory.
+fn gather<S: Shares>(
     alloc: Global,
     shares: &S,
-    results: Vec<Result<Vec<S::Done>, AllocError>>,
-) -> Result<Vec<S::Done>, AllocError>
-    requires { All (λ r. IfOk r (λ v. AreMade (S.makes shares.now) (S.shares shares.now) v.items)) results.items }
-    ensures { IfOk result (λ v. AreMade (S.makes shares.now) (S.shares shares.now) v.items) }
+    tickets: &Tickets,
+    halt: &Halt,
+    results: Vec<Result<Drawn<S::Done>, AllocError>>,
+) -> Result<Gathered<S::Done>, AllocError>
+    requires len { (length results.items ≡ seats_of tickets.now) × (halt_seats_of halt.now ≡ seats_of tickets.now) }
+    requires each { All (λ r. IfOk r (IsDrawnOf (S.makes shares.now) tickets.now halt.now)) results.items }
+    ensures { IfOk result (IsGathered (S.makes shares.now) tickets.now halt.now) }
 {
-    let _shared = shares;
+    let _shares = shares;
+    let _tickets = tickets;
+    let _halt = halt;
+    let mut draws = Vec::new(alloc);
+    let mut seats = Vec::new(alloc);
     let mut all = Vec::new(alloc);
     for result in results {
-        let mut made = result?;
+        let Drawn { drawer, mut made } = result?;
+        draws.push(drawer.draws)?;
+        seats.push(drawer.seat)?;
         all.append(&mut made)?;
     }
-    Ok(all)
+    Ok(Gathered {
+        draws,
+        seats,
+        made: all,
+    })
 }
 
-/// Does shares by so many workers at the same time, which draw them by ticket, each once. All of them are lent the shares. It
-/// answers what all of them made.
+// How many shares were drawn, the first ones, and what they made. Nothing comes of it where the word halt was raised.
+fn finish_draws<S: Shares>(
+    shares: &S,
+    tickets: Tickets,
+    halt: Halt,
+    gathered: Gathered<S::Done>,
+) -> Result<(u64, Vec<S::Done>), AllocError>
+    requires { IsGathered (S.makes shares.now) tickets halt gathered }
+    ensures most { IfOk result (λ r. r.0 ≤ limit_of tickets) }
+    ensures made { IfOk result (λ r. IsMadeOfEach (S.makes shares.now) r.0 r.1.items) }
+{
+    let _shares = shares;
+    let Gathered { draws, seats, made } = gathered;
+    if halt.finish(seats) {
+        return Err(AllocError);
+    }
+    Ok((tickets.finish(draws), made))
+}
+
+// Does the shares from a number on.
+fn make_rest<S: Shares, G: Gate>(
+    alloc: Global,
+    shares: &S,
+    gate: &G,
+    first: u64,
+    made: &mut Vec<S::Done>,
+) -> Result<(), AllocError>
+    requires first { first ≤ S.shares shares.now }
+    requires made { IsMadeOfEach (S.makes shares.now) first made.old.items }
+    ensures { IfOk result (λ _. IsMadeOfEach (S.makes shares.now) (S.shares shares.now) made.new.items) }
+{
+    for number in first..shares.count() {
+        add_share(alloc, shares, gate, number, made)?;
+    }
+    Ok(())
+}
+
+/// Does each share once, by so many workers at the same time, which are lent the shares and draw them by ticket. It answers
+/// what the shares made, in any order. Tickets go up to 2^32: shares from there on are done by the calling thread once the
+/// workers have ended.
+///
+/// A worker whose thread can't be started draws in the thread that was to start it, so no share is left undone for want of
+/// threads.
 ///
 /// # Errors
 ///
-/// Refuses only for want of memory. A worker that is refused memory raises a word, at which the others end. All threads have
-/// then ended. Where no thread can be started the shares are done by those that could.
+/// Refuses only for want of memory. A worker that is refused memory raises a word, at which the others end; all threads have
+/// then ended, and what the shares made is dropped.
 pub fn run_shares<R: Threads + Sync, S: Shares + Sync, G: Gate + Sync>(
     rt: &R,
     alloc: Global,
@@ -134,7 +204,10 @@ where
     requires workers { (1 ≤ workers) × (workers ≤ 64) }
 
     // each result is what some share makes
-    ensures { IfOk result (λ v. AreMade (S.makes shares.now) (S.shares shares.now) v.items) }
+    ensures made { IfOk result (λ v. AreMade (S.makes shares.now) (S.shares shares.now) v.items) }
+
+    // and each share made one of them
+    ensures each { IfOk result (λ v. IsMadeOfEach (S.makes shares.now) (S.shares shares.now) v.items) }
 {
     let (tickets, draws) = Tickets::open(alloc, shares.count().min(MOST_DRAWN), workers)?;
     let (halt, seats) = Halt::open(alloc, workers)?;
@@ -144,10 +217,13 @@ where
     let results = thread::map_vec(
         rt,
         drawers,
-        &|me: Drawer| -> Result<Vec<S::Done>, AllocError>
-            requires { (limit_of at_tickets.now ≤ S.shares shares.now) × IsDrawer at_tickets.now at_halt.now me }
-            ensures { IfOk result (λ v. AreMade (S.makes shares.entry.now) (S.shares shares.entry.now) v.items) }
-        { draw_shares(alloc, shares, gate, at_tickets, at_halt, me) },
+        &|drawer: Drawer| -> Result<Drawn<S::Done>, AllocError>
+            requires { (limit_of at_tickets.now ≤ S.shares shares.now) × IsNewDrawer at_tickets.now at_halt.now drawer }
+            ensures { IfOk result (IsDrawnOf (S.makes shares.entry.now) at_tickets.entry.now at_halt.entry.now) }
+        { draw_shares(alloc, shares, gate, at_tickets, at_halt, drawer) },
     )?;
-    all_made(alloc, shares, results)
+    let gathered = gather(alloc, shares, &tickets, &halt, results)?;
+    let (drawn, mut made) = finish_draws(shares, tickets, halt, gathered)?;
+    make_rest(alloc, shares, gate, drawn, &mut made)?;
+    Ok(made)
 }

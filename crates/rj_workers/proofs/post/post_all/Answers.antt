@@ -1,11 +1,8 @@
 use Rattle.std.proofs.Common.{◌≡◌, List, true, inl, inr, sym, ◌∙◌, subst, rules}
 use Rattle.std.specs.List.{list_all}
-use Rattle.std.specs.Prelude.{Contains, option_to_list}
-use Rattle.rj_ledger.specs.declared.parcel.Parcel.{Parcel}
-use Rattle.rj_exchange.specs.declared.boxes.Exchange.{Exchange}
-use Rattle.rj_exchange.specs.Boxes.{sents, sent_of, queue_of}
+use Rattle.rj_exchange.specs.Boxes.{sents}
 use Rattle.rj_workers.specs.declared.post.Sending.{Sending}
-use Rattle.rj_workers.specs.Posts.{Posts, IsLeft, is_sent, to_post}
+use Rattle.rj_workers.specs.Posts.{IsLeft, is_sent}
 use Rattle.rj_workers.proofs.Sends.{none_left, sent_more}
 use Rattle.rj_workers.proofs.post.post_all.Goals as goal
 

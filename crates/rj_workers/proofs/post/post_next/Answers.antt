@@ -6,7 +6,7 @@ use Rattle.rj_ledger.specs.declared.parcel.Parcel.{Parcel}
 use Rattle.rj_exchange.specs.declared.boxes.Exchange.{Exchange}
 use Rattle.rj_exchange.specs.Boxes.{sents, sent_of, queue_of}
 use Rattle.rj_workers.specs.declared.post.Sending.{Sending}
-use Rattle.rj_workers.specs.Posts.{Posts, IsLeft, is_sent, to_post}
+use Rattle.rj_workers.specs.Posts.{Posts, to_post}
 use Rattle.rj_workers.proofs.Ends.{along}
 use Rattle.rj_workers.proofs.Posts.{queue_fits}
 use Rattle.rj_workers.proofs.Sends.{sent_none, sent_one}

@@ -1,10 +1,8 @@
-use Rattle.std.proofs.Common.{◌≡◌, ◌<◌, ℕ, List, length, length-set, set, get_or, ◌∙◌, arith}
-use Rattle.std.specs.Prelude.{Contains, option_to_list}
-use Rattle.rj_ledger.specs.declared.parcel.Parcel.{Parcel}
+use Rattle.std.proofs.Common.{◌<◌, ℕ, List, length, length-set, set, ◌∙◌, arith}
 use Rattle.rj_exchange.specs.declared.boxes.Exchange.{Exchange}
-use Rattle.rj_exchange.specs.Boxes.{sents, sent_of, queue_of}
+use Rattle.rj_exchange.specs.Boxes.{sents}
 use Rattle.rj_workers.specs.declared.post.Sending.{Sending}
-use Rattle.rj_workers.specs.Posts.{Posts, IsLeft, is_sent, to_post}
+use Rattle.rj_workers.specs.Posts.{Posts, IsLeft}
 use Rattle.rj_workers.proofs.Sends.{left_at, sent_at, sent_more}
 use Rattle.rj_workers.proofs.post.post_round.Goals as goal
 

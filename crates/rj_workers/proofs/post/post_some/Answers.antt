@@ -1,10 +1,7 @@
 use Rattle.std.proofs.Common.{◌∙◌}
-use Rattle.std.specs.Prelude.{Contains, option_to_list}
-use Rattle.rj_ledger.specs.declared.parcel.Parcel.{Parcel}
-use Rattle.rj_exchange.specs.declared.boxes.Exchange.{Exchange}
-use Rattle.rj_exchange.specs.Boxes.{sents, sent_of, queue_of}
-use Rattle.rj_workers.specs.declared.post.Sending.{Sending}
-use Rattle.rj_workers.specs.Posts.{Posts, IsLeft, is_sent, to_post}
+use Rattle.std.specs.Prelude.{Contains}
+use Rattle.rj_exchange.specs.Boxes.{sents}
+use Rattle.rj_workers.specs.Posts.{to_post}
 use Rattle.rj_workers.proofs.Sends.{sent_more}
 use Rattle.rj_workers.proofs.post.post_some.Goals as goal
 

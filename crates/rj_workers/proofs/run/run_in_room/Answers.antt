@@ -1,5 +1,4 @@
-use Rattle.std.proofs.Common.{ℕ, List, sym, subst}
-use Rattle.rj_workers.specs.Hands.{AreSeats}
+use Rattle.std.proofs.Common.{ℕ, sym, subst}
 use Rattle.rj_workers.specs.Scans.{AreNewOutboxes}
 use Rattle.rj_workers.proofs.run.run_in_room.Goals as goal
 

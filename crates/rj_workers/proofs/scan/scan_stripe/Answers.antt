@@ -1,4 +1,4 @@
-use Rattle.std.proofs.Common.{◌+◌, ◌<◌, ℕ, List, inl, inr, arith}
+use Rattle.std.proofs.Common.{◌+◌, ℕ, List, inl, inr}
 use Rattle.rj_exchange.specs.declared.boxes.Exchange.{Exchange}
 use Rattle.rj_exchange.specs.Boxes.{sents}
 use Rattle.rj_workers.specs.declared.post.Sending.{Sending}
