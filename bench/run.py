@@ -1,11 +1,11 @@
 """Times radixjoin, with one worker and with more, beside a plain single-threaded Rust join, and checks that all write
 the same rows.
 
-usage: run.py [--scale F] [--runs N] [NAME ..]
+usage: run.py [--scale F] [--runs N] [--sizes] [NAME ..]
 
 Makes the workloads under bench/data (once), builds both programs, runs each several times in turn, and prints a table
-of the least wall time, CPU time and peak memory of each, and of one worker their ratios. It judges nothing: it ends with status 0
-unless the rows differ or a program can't be run."""
+of the least wall time, CPU time and peak memory of each, and of one worker their ratios. With --sizes it runs foreign_key
+with 1 to 16 million left rows instead. It judges nothing: it ends with status 0 unless the rows differ or a program can't be run."""
 import argparse
 import hashlib
 import os
@@ -21,6 +21,8 @@ ROOT = BENCH.parent
 DATA = BENCH / "data"
 # With how many workers radixjoin runs beside its one.
 WORKERS = (2, 4)
+# The parts and multiples of a workload's rows that --sizes runs.
+SCALES = (0.25, 0.5, 1.0, 2.0, 4.0)
 
 
 class Measured:
@@ -62,14 +64,20 @@ def build():
     return ROOT / "crates" / "radixjoin" / "out" / "radixjoin", plain
 
 
+def words_of(workload, proved):
+    """The command line of a workload."""
+    left, right = workload.file(DATA, "left"), workload.file(DATA, "right")
+    files = ["--left", left, "--left-types", workload.types(), "--right", right, "--right-types", workload.types()]
+    return [proved, *files, "--join", workload.clause(), *workload.options()]
+
+
 def compare(workload, proved, plain, runs, options):
     """Runs one workload on both programs in turn, radixjoin with one worker and with each of `WORKERS`."""
     left, right = workload.file(DATA, "left"), workload.file(DATA, "right")
-    types = f"{workload.keys},text"
-    files = ["--left", left, "--left-types", types, "--right", right, "--right-types", types]
-    proved_words = [proved, *files, "--join", workload.clause(), *workload.options(), *options]
+    proved_words = [*words_of(workload, proved), *options]
     # (the plain join knows no clause but USING)
-    lines = [[plain, left, right, workload.keys, workload.kind]] if workload.kind != "hot" else []
+    kind = "full" if workload.kind == "full" else "inner"
+    lines = [[plain, left, right, workload.keys, kind]] if workload.kind != "hot" else []
     lines += [proved_words, *([*proved_words, f"--workers={workers}"] for workers in WORKERS)]
     found = [[measure(words) for words in lines] for _ in range(runs)]
     *theirs, ours, second, third = [least(of_one) for of_one in zip(*found)]
@@ -86,15 +94,46 @@ def compare(workload, proved, plain, runs, options):
     return {run.digest for turn in found for run in turn} == {ours.digest}
 
 
+def make(workload, scale):
+    """Makes a workload's files, where they aren't there."""
+    made = DATA / f"{workload.name}.{scale}.made"
+    if not made.exists():
+        workloads.make(workload, DATA, scale)
+        for old in DATA.glob(f"{workload.name}.*.made"):
+            old.unlink()
+        made.touch()
+
+
+def sizes(proved, runs, options):
+    """Runs foreign_key with ever more rows, by one and by the most workers."""
+    workload = next(it for it in workloads.WORKLOADS if it.name == "foreign_key")
+    heads = ["left rows", "input", *(f"{workers} workers: {it}" for workers in (1, WORKERS[-1]) for it in ("wall", "CPU", "CPU by million rows", "peak"))]
+    print(f"| {' | '.join(heads)} |")
+    print("|---" * len(heads) + "|")
+    for scale in SCALES:
+        make(workload, scale)
+        millions = workload.left * scale / 1e6
+        size = sum(workload.file(DATA, side).stat().st_size for side in ("left", "right"))
+        row = [f"{millions:.0f}M", f"{size / 1e6:.0f} MB"]
+        for workers in (1, WORKERS[-1]):
+            it = least([measure([*words_of(workload, proved), f"--workers={workers}", *options]) for _ in range(runs)])
+            row += [f"{it.wall:.2f} s", f"{it.cpu:.2f} s", f"{it.cpu / millions:.3f} s", f"{it.memory / 1e6:.0f} MB"]
+        print(f"| {' | '.join(row)} |", flush=True)
+
+
 def main():
     words = argparse.ArgumentParser(description=__doc__, formatter_class=argparse.RawDescriptionHelpFormatter)
     words.add_argument("names", nargs="*")
     words.add_argument("--scale", type=float, default=1.0)
     words.add_argument("--runs", type=int, default=3)
     words.add_argument("--option", action="append", default=[], help="one more word for radixjoin, as --option=--bits1=6")
+    words.add_argument("--sizes", action="store_true", help="run foreign_key with ever more rows")
     given = words.parse_args()
     DATA.mkdir(exist_ok=True)
     proved, plain = build()
+    if given.sizes:
+        sizes(proved, given.runs, given.option)
+        return
     heads = ["workload", "input", "radixjoin wall", "plain wall", "ratio", "radixjoin CPU", "plain CPU", "ratio"]
     heads += ["radixjoin peak", "plain peak", "peak by input"]
     heads += [f"{workers} workers {figure}" for workers in WORKERS for figure in ("wall", "CPU", "peak")]
@@ -104,12 +143,7 @@ def main():
     for workload in workloads.WORKLOADS:
         if given.names and workload.name not in given.names:
             continue
-        made = DATA / f"{workload.name}.{given.scale}.made"
-        if not made.exists():
-            workloads.make(workload, DATA, given.scale)
-            for old in DATA.glob(f"{workload.name}.*.made"):
-                old.unlink()
-            made.touch()
+        make(workload, given.scale)
         if not compare(workload, proved, plain, given.runs, given.option):
             differing.append(workload.name)
     if differing:

@@ -1,4 +1,4 @@
-"""Makes the workloads of the benchmark: pairs of CSV files of two columns, the key `k` first.
+"""Makes the workloads of the benchmark: pairs of CSV files of two columns, the key `k` first, and of `wide` of twenty.
 
 usage: workloads.py FOLDER [--scale F] [NAME ..]"""
 import argparse
@@ -10,12 +10,16 @@ import random
 LEFT_ROWS = 4_000_000
 RIGHT_ROWS = 1_000_000
 SMALL_ROWS = 10_000
+# Of twenty columns.
+WIDE_LEFT_ROWS = 400_000
+WIDE_RIGHT_ROWS = 100_000
+WIDE_TEXTS, WIDE_INTS = 10, 7
 # The words that fill the second column are drawn from this many, so that a file is made quickly.
 WORDS = 50_000
 
 
 # (of `hot` no pair is kept, so that the join is all that it does: each left text is before each right one)
-CLAUSES = {"inner": "JOIN USING (k)", "full": "FULL JOIN USING (k)", "hot": "JOIN ON L.k = R.k AND L.a > R.b"}
+CLAUSES = {"inner": "JOIN USING (k)", "full": "FULL JOIN USING (k)", "hot": "JOIN ON L.k = R.k AND L.a > R.b", "wide": "JOIN USING (k1, k2, k3)"}
 
 
 class Workload:
@@ -31,6 +35,11 @@ class Workload:
 
     def clause(self):
         return CLAUSES[self.kind]
+
+    def types(self):
+        """The types of both tables' columns."""
+        others = ["text"] * WIDE_TEXTS + ["int"] * WIDE_INTS if self.kind == "wide" else ["text"]
+        return ",".join([self.keys, *others])
 
     def options(self):
         """A table of so few rows is one piece, unless pieces are asked to be small."""
@@ -74,6 +83,7 @@ WORKLOADS = [
     Workload("text_key", "text", "inner", LEFT_ROWS, RIGHT_ROWS, uniform),
     Workload("numeric_key", "num(12,2)", "inner", LEFT_ROWS, RIGHT_ROWS, uniform),
     Workload("full_half", "int", "full", LEFT_ROWS, RIGHT_ROWS, half),
+    Workload("wide", "int,text,int", "wide", WIDE_LEFT_ROWS, WIDE_RIGHT_ROWS, uniform),
     Workload("small", "int", "inner", SMALL_ROWS, SMALL_ROWS, uniform),
     Workload("hot_key", "int", "hot", 2 * SMALL_ROWS, 2 * SMALL_ROWS, hot),
 ]
@@ -94,6 +104,23 @@ def write(path, header, keys, source):
             file.write(f"{key},{words[int(source.random() * WORDS)]}\n")
 
 
+def spelled_wide(key):
+    """A key of three columns."""
+    return f"{key % 1000},{key * 0x9E3779B97F4A7C15 % 2**32:08x},{key // 1000}"
+
+
+def write_wide(path, letter, keys, source):
+    """Rows of a key, texts of which one in four has commas and quotes, and whole numbers."""
+    words = [f"{letter}{source.getrandbits(40):010x}" for _ in range(WORDS)]
+    words[::4] = [f'"{word[:5]}, ""{word[5:]}"" x"' for word in words[::4]]
+    names = ["k1,k2,k3", *(f"{letter}{i}" for i in range(WIDE_TEXTS + WIDE_INTS))]
+    with open(path, "w", newline="", buffering=1 << 20) as file:
+        file.write(",".join(names) + "\n")
+        for key in keys:
+            numbers = (str(source.getrandbits(20)) for _ in range(WIDE_INTS))
+            file.write(",".join([spelled_wide(key), *source.choices(words, k=WIDE_TEXTS), *numbers]) + "\n")
+
+
 def make(workload, folder, scale):
     """Writes both files of a workload: the right table has each key once, in any order, but of `hot`."""
     left, right = max(1, int(workload.left * scale)), max(1, int(workload.right * scale))
@@ -101,6 +128,10 @@ def make(workload, folder, scale):
     numbers = list(range(right))
     source.shuffle(numbers)
     drawn = workload.draw(source, left, right)
+    if workload.kind == "wide":
+        write_wide(workload.file(folder, "left"), "a", drawn, source)
+        write_wide(workload.file(folder, "right"), "b", numbers, source)
+        return
     write(workload.file(folder, "left"), "k,a\n", (spelled(workload, key) for key in drawn), source)
     others = workload.draw(source, right, left) if workload.kind == "hot" else numbers
     write(workload.file(folder, "right"), "k,b\n", (spelled(workload, key) for key in others), source)
