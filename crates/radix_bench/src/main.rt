@@ -1,174 +1,332 @@
-//! Times the radix passes over an int column. `radix_bench ROWS` prints, for one pass and for two passes over these
-//! numbers of bits, the least time in microseconds that the routes and the moving of the rows took, and a checksum of
-//! the rows as they then stand. With no word it takes a thousand rows and prints the checksums alone.
+//! Times the radix passes, and building and probing, over columns of keys. Each of these prints the least times in
+//! microseconds that two steps took in so many rounds, and a checksum of what came out; with no rounds it makes the
+//! tables alone.
+//!
+//!     radix_bench passes ROWS
+//!     radix_bench int|text|pieces RIGHT LEFT BITS1 BITS2 ROUNDS
+//!
+//! `passes` times one pass and two passes over these numbers of bits. `int` and `text` join a right table that has each
+//! of its keys once with left rows of any of these keys, by so many bits of the hash in each of two passes. `pieces`
+//! joins the partition with the most rows, where the left keys are drawn by Zipf's law with the exponent 1.25, in
+//! pieces of 65,536 rows. With no word it does all of them over few rows, and prints the checksums alone.
 #![tactic(auto)]
 
-ghost use Rattle.std.specs.Prelude.{◌≡◌, ◌<◌, ◌≤◌, ◌^◌, All, IfOk, [], ◌∷◌, length};
-ghost use Rattle.rj_radix.specs.Keys.{InTable};
+ghost use Rattle.std.specs.Prelude.{◌≡◌, ◌<◌, ◌≤◌, ◌^◌, IfOk, true, length};
+ghost use Rattle.rj_condition.specs.Fits.{fits};
+ghost use Rattle.rj_condition.specs.Parts.{split_fits};
 
-use rj_columns::{Cell, ColumnType, Table, TableBuilder};
-use rj_radix::{Digits, Mixed, Plain, routes, scatter, scatter_two};
+mod joins;
+mod keys;
+mod passes;
+mod pieces;
+mod round;
+mod rows;
+
+use joins::{Bits, join_once};
+use keys::{Draw, KeyType, key_table};
+use passes::{one_pass, two_passes};
+use pieces::{biggest_part, join_part};
+use rj_columns::Table;
+use rj_condition::{BoundJoin, Split, bind, parse, split};
+use rj_radix::Mixed;
+use round::{Round, Timed};
+use rows::{all_rows, part_rows};
 use std::alloc::{AllocError, Global};
-use std::time::{Clock, Duration, Instant};
 use std::{env, io};
 
 const ROUNDS: u32 = 7;
 
-const FEW: u32 = 1000;
-
 const LIMIT: u32 = 0x7fff_ffff;
 
-const KEY: [usize; 1] = [0];
+const USAGE: &str = "radix_bench passes ROWS | int|text|pieces RIGHT LEFT BITS1 BITS2 ROUNDS";
 
-// A column of numbers that lie far apart.
-#[tactic(auto, unfolding(rj_columns::specs::Tables::FitsTypes))]
-fn numbers(alloc: Global, count: u32) -> Result<Table, AllocError>
+// The rows of both tables, the bits of the hash, and how often it is joined.
+#[derive(Clone, Copy)]
+struct Task {
+    right: u32,
+    left: u32,
+    bits: Bits,
+    rounds: u32,
+    shown: bool,
+}
+
+impl Task {
+    // Whether the tables and the bits are within their limits.
+    fn in_limits(self) -> bool
+        ensures { result ≡ true → (self.right < 2 ^ 31) × (self.left < 2 ^ 31) × (self.bits.first ≤ 10) × (self.bits.second ≤ 10) }
+    {
+        self.right <= LIMIT && self.left <= LIMIT && self.bits.first <= 10 && self.bits.second <= 10
+    }
+}
+
+fn run_passes(
+    rt: &HostRuntime,
+    alloc: Global,
+    count: u32,
+    rounds: u32,
+    shown: bool,
+) -> io::Result<()>
     requires { count < 2 ^ 31 }
-    ensures { IfOk result (λ t. (length t.types ≡ 1) × (length t.rows ≡ count)) }
 {
-    let names = [b"k".as_slice()];
-    let types = [ColumnType::Int];
-    let Ok(mut builder) = TableBuilder::new(alloc, names.as_slice(), types.as_slice()) else {
+    let table = key_table(alloc, KeyType::Int, count, Draw::Once)?;
+    let rows = all_rows(alloc, &table)?;
+    let mut few = Round::none();
+    let mut many = Round::none();
+    let mut twice = Round::none();
+    for _round in 0..rounds {
+        few = few.least(one_pass(rt, alloc, &table, &rows, 4)?);
+        many = many.least(one_pass(rt, alloc, &table, &rows, 10)?);
+        twice = twice.least(two_passes(rt, alloc, &table, &rows, 5)?);
+    }
+    let first = "routes";
+    let second = "moves";
+    few.print(
+        rt,
+        Timed {
+            name: "one pass, 4 bits",
+            first,
+            second,
+            shown,
+        },
+    )?;
+    many.print(
+        rt,
+        Timed {
+            name: "one pass, 10 bits",
+            first,
+            second,
+            shown,
+        },
+    )?;
+    twice.print(
+        rt,
+        Timed {
+            name: "two passes, 5 bits each",
+            first,
+            second,
+            shown,
+        },
+    )
+}
+
+fn join_rounds(
+    rt: &HostRuntime,
+    alloc: Global,
+    left: &Table,
+    right: &Table,
+    split: &Split<'_>,
+    task: Task,
+) -> io::Result<()>
+    requires first { task.bits.first ≤ 10 }
+    requires second { task.bits.second ≤ 10 }
+    requires fits { split_fits split.now left.now.types right.now.types ≡ true }
+    requires left_column { 0 < length left.now.types }
+    requires right_column { 0 < length right.now.types }
+{
+    let mut best = Round::none();
+    for _round in 0..task.rounds {
+        best = best.least(join_once(rt, alloc, left, right, split, task.bits)?);
+    }
+    best.print(
+        rt,
+        Timed {
+            name: "join",
+            first: "parts",
+            second: "joins",
+            shown: task.shown,
+        },
+    )
+}
+
+fn piece_rounds(
+    rt: &HostRuntime,
+    alloc: Global,
+    left: &Table,
+    right: &Table,
+    split: &Split<'_>,
+    task: Task,
+) -> io::Result<()>
+    requires first { task.bits.first ≤ 10 }
+    requires fits { split_fits split.now left.now.types right.now.types ≡ true }
+    requires left_column { 0 < length left.now.types }
+    requires right_column { 0 < length right.now.types }
+{
+    let bits = task.bits.first;
+    let left_rows = all_rows(alloc, left)?;
+    let right_rows = all_rows(alloc, right)?;
+    let left_parts = part_rows(alloc, left, &left_rows, bits, &Mixed)?;
+    let right_parts = part_rows(alloc, right, &right_rows, bits, &Mixed)?;
+    let part = biggest_part(&left_parts, bits);
+    let mut best = Round::none();
+    for _round in 0..task.rounds {
+        let round = join_part(
+            rt,
+            alloc,
+            left,
+            &left_parts,
+            right,
+            &right_parts,
+            split,
+            bits,
+            part,
+        )?;
+        best = best.least(round);
+    }
+    best.print(
+        rt,
+        Timed {
+            name: "pieces",
+            first: "build",
+            second: "pieces",
+            shown: task.shown,
+        },
+    )
+}
+
+// The join of two tables on their keys.
+fn key_join(alloc: Global, left: &Table, right: &Table) -> Result<BoundJoin, AllocError>
+    ensures { IfOk result (λ join. fits join left.now.types right.now.types ≡ true) }
+{
+    let Ok(clause) = parse(alloc, "JOIN USING (k)") else {
         return Err(AllocError);
     };
-    builder.reserve(count as usize);
-    let mut number = 1i64;
-    for _row in 0..count {
-        builder.push_row([Cell::Int(number)].as_slice())?;
-        number = number
-            .wrapping_mul(6_364_136_223_846_793_005)
-            .wrapping_add(1_442_695_040_888_963_407);
+    match bind(alloc, &clause, left, right) {
+        Ok(join) => Ok(join),
+        Err(_) => Err(AllocError),
     }
-    Ok(builder.finish())
 }
 
-// The numbers of the rows.
-fn all_rows(alloc: Global, count: u32) -> Result<Vec<u32>, AllocError>
-    ensures { IfOk result (λ v. All (λ r. r < count) v.items) }
+// Joins two tables on their keys, in pieces or not.
+fn run_tables(
+    rt: &HostRuntime,
+    alloc: Global,
+    left: &Table,
+    right: &Table,
+    task: Task,
+    in_pieces: bool,
+) -> io::Result<()>
+    requires first { task.bits.first ≤ 10 }
+    requires second { task.bits.second ≤ 10 }
+    requires left_column { 0 < length left.now.types }
+    requires right_column { 0 < length right.now.types }
 {
-    let mut rows = Vec::with_capacity(alloc, count as usize)?;
-    for row in 0..count {
-        rows.push(row)?;
+    let join = key_join(alloc, left, right)?;
+    let split = split(alloc, &join)?;
+    if in_pieces {
+        return piece_rounds(rt, alloc, left, right, &split, task);
     }
-    Ok(rows)
+    join_rounds(rt, alloc, left, right, &split, task)
 }
 
-// A number that tells lists of rows apart.
-fn checksum(rows: &[u32]) -> u64 {
-    let mut sum = 0u64;
-    for row in rows {
-        sum = sum.wrapping_mul(31).wrapping_add(u64::from(*row));
+// Makes two tables, and joins them.
+fn run_task(
+    rt: &HostRuntime,
+    alloc: Global,
+    kind: KeyType,
+    task: Task,
+    in_pieces: bool,
+) -> io::Result<()>
+    requires right { task.right < 2 ^ 31 }
+    requires left { task.left < 2 ^ 31 }
+    requires first { task.bits.first ≤ 10 }
+    requires second { task.bits.second ≤ 10 }
+{
+    let draw = if in_pieces {
+        Draw::Zipf(task.right)
+    } else {
+        Draw::Any(task.right)
+    };
+    let right = key_table(alloc, kind, task.right, Draw::Once)?;
+    let left = key_table(alloc, kind, task.left, draw)?;
+    run_tables(rt, alloc, &left, &right, task, in_pieces)
+}
+
+// All of it, over few rows.
+fn run_few(rt: &HostRuntime, alloc: Global) -> io::Result<()> {
+    run_passes(rt, alloc, 1000, 1, false)?;
+    let none = Task {
+        right: 1000,
+        left: 4000,
+        bits: Bits {
+            first: 0,
+            second: 0,
+        },
+        rounds: 1,
+        shown: false,
+    };
+    let once = Task {
+        bits: Bits {
+            first: 4,
+            second: 0,
+        },
+        ..none
+    };
+    let twice = Task {
+        bits: Bits {
+            first: 3,
+            second: 2,
+        },
+        ..none
+    };
+    run_task(rt, alloc, KeyType::Int, none, false)?;
+    run_task(rt, alloc, KeyType::Int, once, false)?;
+    run_task(rt, alloc, KeyType::Text, twice, false)?;
+    run_task(rt, alloc, KeyType::Int, once, true)
+}
+
+// What the words ask for: the name of a join, its sizes and bits, and how often it is joined.
+fn run_join(rt: &HostRuntime, alloc: Global, name: &str, task: Task) -> io::Result<()> {
+    if !task.in_limits() {
+        return eprintln!(rt; "{USAGE}");
     }
-    sum
+    match name {
+        "int" => run_task(rt, alloc, KeyType::Int, task, false),
+        "text" => run_task(rt, alloc, KeyType::Text, task, false),
+        "pieces" => run_task(rt, alloc, KeyType::Int, task, true),
+        _ => eprintln!(rt; "{USAGE}"),
+    }
 }
 
-// How long the steps took, and the checksum of the rows.
-#[derive(Clone, Copy)]
-struct Round {
-    routed: Duration,
-    moved: Duration,
-    sum: u64,
+// What the words ask for, by their first one and the numbers after it.
+fn run_words(rt: &HostRuntime, alloc: Global, name: &str, numbers: &[u32]) -> io::Result<()> {
+    if name == "passes" && numbers.len() == 1 && numbers[0] <= LIMIT {
+        return run_passes(rt, alloc, numbers[0], ROUNDS, true);
+    }
+    if numbers.len() != 5 {
+        return eprintln!(rt; "{USAGE}");
+    }
+    let task = Task {
+        right: numbers[0],
+        left: numbers[1],
+        bits: Bits {
+            first: numbers[2],
+            second: numbers[3],
+        },
+        rounds: numbers[4],
+        shown: true,
+    };
+    run_join(rt, alloc, name, task)
 }
 
-impl Round {
-    // The less of both times of each step.
-    fn least(self, other: Round) -> Round {
-        Round {
-            routed: self.routed.min(other.routed),
-            moved: self.moved.min(other.moved),
-            sum: other.sum,
+// The numbers that the words after the first two are, as far as they are numbers.
+fn numbers_of(rt: &HostRuntime, alloc: Global) -> io::Result<Vec<u32>> {
+    let mut numbers = Vec::new(alloc);
+    for word in env::args(rt)?.skip(2) {
+        match word.parse::<u32>() {
+            Ok(number) => numbers.push(number)?,
+            Err(_) => return Ok(numbers),
         }
     }
-
-    fn print<P: Print>(self, rt: &P, name: &str, timed: bool) -> io::Result<()> {
-        if timed {
-            let routed = self.routed.as_micros();
-            let moved = self.moved.as_micros();
-            println!(rt; "{name} routes {routed} moves {moved} sum {}", self.sum)
-        } else {
-            println!(rt; "{name} sum {}", self.sum)
-        }
-    }
-}
-
-// Routes by the plain hash's low bits, and one pass.
-fn one_pass<C: Clock>(
-    rt: &C,
-    alloc: Global,
-    table: &Table,
-    rows: &[u32],
-    bits: u32,
-) -> io::Result<Round>
-    requires rows { All (λ r. InTable table.now (0 ∷ []) r) rows.now }
-    requires bits { bits ≤ 10 }
-{
-    let digits = Digits { shift: 0, bits };
-    let start = Instant::now(rt)?;
-    let parts = routes(alloc, table, KEY.as_slice(), rows, digits, &Plain)?;
-    let routed = start.elapsed(rt)?;
-    let start = Instant::now(rt)?;
-    let scattered = scatter(alloc, rows, &parts, 1 << bits)?;
-    let moved = start.elapsed(rt)?;
-    Ok(Round {
-        routed,
-        moved,
-        sum: checksum(&scattered.rows),
-    })
-}
-
-// Routes by the mixed hash's low bits and those above them, and two passes.
-fn two_passes<C: Clock>(
-    rt: &C,
-    alloc: Global,
-    table: &Table,
-    rows: &[u32],
-    bits: u32,
-) -> io::Result<Round>
-    requires rows { All (λ r. InTable table.now (0 ∷ []) r) rows.now }
-    requires bits { bits ≤ 10 }
-{
-    let low = Digits { shift: 0, bits };
-    let high = Digits { shift: bits, bits };
-    let start = Instant::now(rt)?;
-    let first = routes(alloc, table, KEY.as_slice(), rows, low, &Mixed)?;
-    let second = routes(alloc, table, KEY.as_slice(), rows, high, &Mixed)?;
-    let routed = start.elapsed(rt)?;
-    let start = Instant::now(rt)?;
-    let scattered = scatter_two(alloc, rows, &first, &second, bits, bits)?;
-    let moved = start.elapsed(rt)?;
-    Ok(Round {
-        routed,
-        moved,
-        sum: checksum(&scattered.rows),
-    })
-}
-
-fn run(rt: HostRuntime, count: u32, timed: bool) -> io::Result<()>
-    requires { count < 2 ^ 31 }
-{
-    let alloc = rt.alloc();
-    let table = numbers(alloc, count)?;
-    let rows = all_rows(alloc, count)?;
-    let rounds = if timed { ROUNDS } else { 1 };
-    let mut few = one_pass(&rt, alloc, &table, &rows, 4)?;
-    let mut many = one_pass(&rt, alloc, &table, &rows, 10)?;
-    let mut twice = two_passes(&rt, alloc, &table, &rows, 5)?;
-    for _round in 1..rounds {
-        few = few.least(one_pass(&rt, alloc, &table, &rows, 4)?);
-        many = many.least(one_pass(&rt, alloc, &table, &rows, 10)?);
-        twice = twice.least(two_passes(&rt, alloc, &table, &rows, 5)?);
-    }
-    few.print(&rt, "one pass, 4 bits:", timed)?;
-    many.print(&rt, "one pass, 10 bits:", timed)?;
-    twice.print(&rt, "two passes, 5 bits each:", timed)
+    Ok(numbers)
 }
 
 fn main(rt: HostRuntime) -> io::Result<()> {
+    let alloc = rt.alloc();
     match env::args(&rt)?.nth(1) {
-        Some(word) => match word.parse::<u32>() {
-            Ok(count) if count <= LIMIT => run(rt, count, true),
-            _ => eprintln!(rt; "radix_bench ROWS"),
-        },
-        None => run(rt, FEW, false),
+        Some(name) => {
+            let numbers = numbers_of(&rt, alloc)?;
+            run_words(&rt, alloc, &name, &numbers)
+        }
+        None => run_few(&rt, alloc),
     }
 }
