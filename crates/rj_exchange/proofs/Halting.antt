@@ -8,7 +8,7 @@ use Rattle.atomic_table.specs.Table.{State, Me, step, keeps, stepped, Allows, Sp
 use Rattle.atomic_table.proofs.Lists.{at_set, at_snoc}
 use Rattle.rj_exchange.specs.declared.halt.Look.{Look}
 use Rattle.rj_exchange.specs.Halting.{look, Halting, raising, looking}
-use Rattle.rj_exchange.proofs.Totals.{total-snoc, total-set, one_le_total, sole}
+use Rattle.rj_exchange.proofs.Totals.{total-snoc, total-set, one_le_total, sole, index_of}
 
 abbrev St : Type 0
 St = State (Unit {0}) Look
@@ -85,10 +85,6 @@ merges k id v other w s r at apart at' = let b : Look = look (v.parts + w.parts)
           (λ y. r.idle j u y.1 none_of) (at_set s.views id j b u x.1))
           (at_set vs other j z u e);
     }
-
-index_of : (ws : List ℕ) (word : ℕ) → get_elem? ws 0 ≡ some word → get_or ws 0 0 ≡ word
-index_of [] word e = absurd (some-ne-none word (sym e))
-index_of (w ∷ ws) word e = some-injective w word e
 
 pub closes : (k : ℕ) (ws : List ℕ) (xs : List (Unit {0})) (id : ℕ) (v : Look) (word : ℕ) → Final (Seen (Halting k) id v) ws xs → v.parts ≡ k → get_elem? ws 0 ≡ some word
     → (0 < word → 0 < v.raises) × (0 < v.raises → 0 < word) × (0 < v.sees → 0 < word)

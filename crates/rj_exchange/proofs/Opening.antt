@@ -41,7 +41,8 @@ ends_stay lanes outboxes p m queues queue ends h le = record {
   row = λ k l s lt. subst (λ (z : Queue). IsFreshEnd (place_of p k lanes outboxes) outboxes z (get_or ends k s)) (sym (before_end queues (queue ∷ []) (p * lanes + k) l (omega arith))) (h.row k l s lt);
 }
 
-pub ends_grow : (lanes outboxes p m : ℕ) (queues : List Queue) (queue : Queue) (ends : List Stub) (end : Stub) → AreEnds lanes outboxes p m queues ends → length queues ≡ p * lanes + m → IsFreshEnd (place_of p m lanes outboxes) outboxes queue end
+pub ends_grow : (lanes outboxes p m : ℕ) (queues : List Queue) (queue : Queue) (ends : List Stub) (end : Stub) → AreEnds lanes outboxes p m queues ends → length queues ≡ p * lanes + m
+    → IsFreshEnd (place_of p m lanes outboxes) outboxes queue end
     → AreEnds lanes outboxes p (m + 1) (queues ++ queue ∷ []) (ends ++ end ∷ [])
 ends_grow lanes outboxes p m queues queue ends end h here fresh = let stay = ends_stay lanes outboxes p m queues queue ends h (omega arith) in let many = h.many in record {
   many = (let l = length-append ends (end ∷ []) in omega arith);
@@ -58,10 +59,12 @@ inboxes_stay lanes outboxes n queues queue is h le = record {
   ends = λ p x lt. ends_stay lanes outboxes p lanes queues queue (get_or is p x).ends.items (h.ends p x lt) (let f : (p + 1) * lanes ≤ n * lanes = mul-le-mul_right lanes (omega arith) in omega arith);
 }
 
-pub inboxes_grow : (lanes outboxes n : ℕ) (queues : List Queue) (is : List Inbox) (new : Inbox) → AreInboxes lanes outboxes n queues is → new.partition ≡ n → AreEnds lanes outboxes n lanes queues new.ends.items → AreInboxes lanes outboxes (n + 1) queues (is ++ new ∷ [])
+pub inboxes_grow : (lanes outboxes n : ℕ) (queues : List Queue) (is : List Inbox) (new : Inbox) → AreInboxes lanes outboxes n queues is → new.partition ≡ n
+    → AreEnds lanes outboxes n lanes queues new.ends.items → AreInboxes lanes outboxes (n + 1) queues (is ++ new ∷ [])
 inboxes_grow lanes outboxes n queues is new h named fresh = let many = h.many in record {
   many = (let l = length-append is (new ∷ []) in omega arith);
-  partition = λ p x lt. dite (ℕ_discrete p n) (λ e. ap (λ (z : Inbox). z.partition) (at_end is new x p (e ∙ sym many)) ∙ named ∙ sym e) (λ ne. ap (λ (z : Inbox). z.partition) (before_end is (new ∷ []) p x (omega arith)) ∙ h.partition p x (omega arith));
+  partition = λ p x lt. dite (ℕ_discrete p n) (λ e. ap (λ (z : Inbox). z.partition) (at_end is new x p (e ∙ sym many)) ∙ named ∙ sym e)
+      (λ ne. ap (λ (z : Inbox). z.partition) (before_end is (new ∷ []) p x (omega arith)) ∙ h.partition p x (omega arith));
   ends = λ p x lt. dite (ℕ_discrete p n)
       (λ e. subst (λ (z : ℕ × Inbox). AreEnds lanes outboxes z.0 lanes queues z.1.ends.items) (λ i. (sym e i, sym (at_end is new x p (e ∙ sym many)) i)) fresh)
       (λ ne. subst (λ (z : Inbox). AreEnds lanes outboxes p lanes queues z.ends.items) (sym (before_end is (new ∷ []) p x (omega arith))) (h.ends p x (omega arith)));
@@ -71,4 +74,5 @@ inboxes_grow lanes outboxes n queues is new h named fresh = let many = h.many in
 pub fresh_untold : (lanes outboxes p : ℕ) (queues : List Queue) (ends : List Stub) → AreEnds lanes outboxes p lanes queues ends → 0 < length queues → (k : ℕ) → get_or (map heard_of ends) k [] ≡ []
 fresh_untold lanes outboxes p queues ends h some k = dite (dec_le (length ends) k)
     (λ le. past_end (map heard_of ends) k [] (let n = length-map' heard_of ends in omega arith))
-    (λ ne. let lt : k < length ends = lt_of_not-le ne in let s : Stub = pick ends k lt in let l : Queue = pick queues 0 some in get_or-map heard_of ends k s [] lt ∙ ap (λ (v : Trace). v.known) (h.row k l s (let m = h.many in omega arith)).1)
+    (λ ne. let lt : k < length ends = lt_of_not-le ne in let s : Stub = pick ends k lt in let l : Queue = pick queues 0 some in
+    get_or-map heard_of ends k s [] lt ∙ ap (λ (v : Trace). v.known) (h.row k l s (let m = h.many in omega arith)).1)

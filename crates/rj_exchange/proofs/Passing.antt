@@ -15,7 +15,8 @@ use Rattle.rj_exchange.proofs.Of.{chosen, passed, snoc_cases, within, past_end, 
 
 -- where the taker knows of every outbox, it knows the whole
 pub whole : (reader : ℕ) (owner : ℕ → ℕ) (place : Where) (got items : List Posted) (pass : ℕ) (v : Trace) → FitsTaker reader owner place got items pass v → length v.known ≡ v.made → Interleaves v.known (v.taken ++ items)
-whole reader owner place got items pass v f all k = ap (λ l. of k (l ++ items)) f.taken ∙ dite (dec_le v.made k) (λ le. (f.later k le).1 ∙ sym (past_end v.known k [] (omega arith))) (λ n. (f.ended k (let lt = lt_of_not-le n in omega arith)).1)
+whole reader owner place got items pass v f all k =
+    ap (λ l. of k (l ++ items)) f.taken ∙ dite (dec_le v.made k) (λ le. (f.later k le).1 ∙ sym (past_end v.known k [] (omega arith))) (λ n. (f.ended k (let lt = lt_of_not-le n in omega arith)).1)
 
 -- a view of one kind is none of the other
 not_both : (b : Bool) → b ≡ true → b ≡ false → ⊥
@@ -24,7 +25,8 @@ not_both b t f = true≢false (sym t ∙ f)
 pub posts : (n pass : ℕ) (v : Trace) (x : Posted) → v.sends ≡ true → x.outbox ≡ v.outbox → Belongs v.place x → Pushes Passing n pass v x (λ w. w ≡ sender v.place v.outbox (v.sent ++ x.parcel ∷ []))
 posts n pass v x may from belongs items views room h at = let w : Trace = sender v.place v.outbox (v.sent ++ x.parcel ∷ []) in let mine = h.senders pass v at may in
     let apart = λ (k : ℕ) (own : h.owner k ≡ h.reader) (e : x.outbox ≡ k). mine.other (sym mine.mine ∙ ap h.owner (sym from ∙ e) ∙ own) in
-    let now : FitsSender h.reader h.owner h.place (h.got ++ (items ++ x ∷ [])) pass w = record { mine = mine.mine; other = mine.other; sent = ap (λ l. l ++ x.parcel ∷ []) mine.sent ∙ sym (of_hit v.outbox h.got items x from); there = mine.there } in (
+    let now : FitsSender h.reader h.owner h.place
+    (h.got ++ (items ++ x ∷ [])) pass w = record { mine = mine.mine; other = mine.other; sent = ap (λ l. l ++ x.parcel ∷ []) mine.sent ∙ sym (of_hit v.outbox h.got items x from); there = mine.there } in (
       w,
       record {
         reader = h.reader;
@@ -131,7 +133,8 @@ fixes pass v p is items views h at = let l : Trace = taker p 0 [] [] in let mine
           (λ new. not_both u.sends s (ap (λ (z : Trace). z.sends) (sym new.1)))
           (snoc_cases vs nobody u j e));
       takers = λ j u e t. ⊎_elim
-          (λ old. ⊎_elim (λ y. subst (λ (z : ℕ × Trace). FitsTaker h.reader h.owner p h.got items z.0 z.1) {x = (pass, l)} {y = (j, u)} (λ i. (sym y.0 i, y.1 i)) now) (λ y. absurd (y.0 ((h.takers j u y.1 t).only ∙ sym mine.only))) (at_set views pass j l u old))
+          (λ old. ⊎_elim (λ y. subst (λ (z : ℕ × Trace). FitsTaker h.reader h.owner p h.got items z.0 z.1) {x = (pass, l)} {y = (j, u)} (λ i. (sym y.0 i, y.1 i)) now)
+          (λ y. absurd (y.0 ((h.takers j u y.1 t).only ∙ sym mine.only))) (at_set views pass j l u old))
           (λ new. absurd (not_both u.takes t (ap (λ (z : Trace). z.takes) (sym new.1))))
           (snoc_cases vs nobody u j e);
     }
@@ -161,7 +164,8 @@ deals pass v may placed items views h at = let l : Trace = taker v.place (v.made
           (λ new. subst (λ (z : ℕ × Trace). FitsSender h.reader owner h.place posted z.0 z.1) {x = (n, r)} {y = (j, u)} (λ i. (sym new.0 i, new.1 i)) new_one)
           (snoc_cases vs r u j e);
       takers = λ j u e t. ⊎_elim
-          (λ old. ⊎_elim (λ y. subst (λ (z : ℕ × Trace). FitsTaker h.reader owner h.place h.got items z.0 z.1) {x = (pass, l)} {y = (j, u)} (λ i. (sym y.0 i, y.1 i)) now) (λ y. absurd (y.0 ((h.takers j u y.1 t).only ∙ sym mine.only))) (at_set views pass j l u old))
+          (λ old. ⊎_elim (λ y. subst (λ (z : ℕ × Trace). FitsTaker h.reader owner h.place h.got items z.0 z.1) {x = (pass, l)} {y = (j, u)} (λ i. (sym y.0 i, y.1 i)) now)
+          (λ y. absurd (y.0 ((h.takers j u y.1 t).only ∙ sym mine.only))) (at_set views pass j l u old))
           (λ new. absurd (not_both u.takes t (ap (λ (z : Trace). z.takes) (sym new.1))))
           (snoc_cases vs r u j e);
     }
@@ -171,14 +175,16 @@ pub returns : (pass : ℕ) (v : Trace) (other : ℕ) (w : Trace) → v.takes ≡
 returns pass v other w may placed theirs from items views h at apart at' = let b : Trace = taker v.place v.made v.taken (v.known ++ w.sent ∷ []) in let mine = h.takers pass v at may in let vs : List Trace = set views pass b in
     let was : get_elem? views other ≡ some w = ⊎_elim (λ x. absurd (apart x.0)) (λ x. x.1) (at_set views pass other b w at') in let its = h.senders other w was theirs in
     let posted : List Posted = h.got ++ items in let owner : ℕ → ℕ = λ k. cond (eqb k w.outbox) h.reader (h.owner k) in
-    let owned = λ (k : ℕ) (o : h.owner k ≡ h.reader). (let Goal : Type 0 = owner k ≡ h.reader in let g : Goal = dite (ℕ_discrete k w.outbox) (λ e. chosen k w.outbox h.reader (h.owner k) e) (λ ne. passed k w.outbox h.reader (h.owner k) ne ∙ o) in g) in
+    let owned = λ (k : ℕ) (o : h.owner k ≡ h.reader).
+    (let Goal : Type 0 = owner k ≡ h.reader in let g : Goal = dite (ℕ_discrete k w.outbox) (λ e. chosen k w.outbox h.reader (h.owner k) e) (λ ne. passed k w.outbox h.reader (h.owner k) ne ∙ o) in g) in
     let made : length v.known < v.made = lt_of_not-le (λ le. its.other (sym its.mine ∙ (mine.later w.outbox (omega arith)).0)) in
     let now : FitsTaker h.reader owner h.place h.got items pass b = record {
       only = mine.only;
       taken = mine.taken;
       later = λ k le. let o = mine.later k le in (owned k o.0, o.1);
       ended = λ k lt. dite (dec_le (length v.known) k)
-          (λ le. let is : k ≡ length v.known = (let l = length-append v.known (w.sent ∷ []) in omega arith) in (chosen k w.outbox h.reader (h.owner k) (is ∙ sym from), ap (λ m. of m posted) (is ∙ sym from) ∙ sym its.sent ∙ sym (at_end v.known w.sent [] k is)))
+          (λ le. let is : k ≡ length v.known = (let l = length-append v.known (w.sent ∷ []) in omega arith) in
+          (chosen k w.outbox h.reader (h.owner k) (is ∙ sym from), ap (λ m. of m posted) (is ∙ sym from) ∙ sym its.sent ∙ sym (at_end v.known w.sent [] k is)))
           (λ ne. let o = mine.ended k (lt_of_not-le ne) in (owned k o.0, o.1 ∙ sym (before_end v.known (w.sent ∷ []) k [] (lt_of_not-le ne))));
       known = (let l = length-append v.known (w.sent ∷ []) in omega arith);
       there = λ _. mine.there placed;
@@ -195,6 +201,7 @@ returns pass v other w may placed theirs from items views h at apart at' = let b
           (at_set views pass j b u x.1))
           (at_set vs other j nobody u e);
       takers = λ j u e t. ⊎_elim (λ x. absurd (not_both u.takes t (ap (λ (z : Trace). z.takes) (sym x.1))))
-          (λ x. ⊎_elim (λ y. subst (λ (z : ℕ × Trace). FitsTaker h.reader owner h.place h.got items z.0 z.1) {x = (pass, b)} {y = (j, u)} (λ i. (sym y.0 i, y.1 i)) now) (λ y. absurd (y.0 ((h.takers j u y.1 t).only ∙ sym mine.only))) (at_set views pass j b u x.1))
+          (λ x. ⊎_elim (λ y. subst (λ (z : ℕ × Trace). FitsTaker h.reader owner h.place h.got items z.0 z.1) {x = (pass, b)} {y = (j, u)} (λ i. (sym y.0 i, y.1 i)) now)
+          (λ y. absurd (y.0 ((h.takers j u y.1 t).only ∙ sym mine.only))) (at_set views pass j b u x.1))
           (at_set vs other j nobody u e);
     }

@@ -1,6 +1,6 @@
 -- Lists of seats.
 use Rattle.std.proofs.Common.{◌≡◌, ℕ, ◌+◌, ◌<◌, ◌≤◌, min, List, [], ◌∷◌, ◌++◌, map, length, get_or, sym, refl, ap, ◌∙◌, cond, arith}
-use mathlib.Core.Option.{some, some-injective, some-ne-none}
+use mathlib.Core.Option.{some}
 use lib.ListN.{get_elem?}
 use Rattle.atomic_table.specs.Seated.{TableId}
 use Rattle.atomic_table.specs.Table.{Final, Seen}
@@ -10,7 +10,7 @@ use Rattle.rj_exchange.specs.declared.tickets.Draw.{Draw}
 use Rattle.rj_exchange.specs.Totals.{total, total_below}
 use Rattle.rj_exchange.specs.Drawing.{Drawing}
 use Rattle.rj_exchange.specs.Tickets.{drawn, EachOnce, AnySpent, times}
-use Rattle.rj_exchange.proofs.Totals.{total-snoc, one_le_total, below_over, below_under, here}
+use Rattle.rj_exchange.proofs.Totals.{total-snoc, one_le_total, below_over, below_under, here, index_of}
 use Rattle.rj_exchange.proofs.Drawing.{knows}
 
 abbrev pub IsAt : TableId → Seat → Type 0
@@ -32,10 +32,6 @@ total-map f g (x ∷ xs) = ap (λ n. f (g x) + n) (total-map f g xs)
 pub each_once : (m : ℕ) (v : List ℕ) (ss : List Seat) → ((h : ℕ → ℕ) → total h v ≡ total_below h m) → ((h : ℕ → ℕ) → total h v + 0 ≡ total (λ s. total h (drawn s)) ss) → EachOnce m (map drawn ss)
 each_once m v ss below all x = let f : ℕ → ℕ = here x in let a = below f in let b = all f in let e = total-map (times x) drawn ss in
     ((λ lt. let u = below_under x m lt in omega arith), (λ le. let u = below_over x m le in omega arith))
-
-index_of : (ws : List ℕ) (word : ℕ) → get_elem? ws 0 ≡ some word → get_or ws 0 0 ≡ word
-index_of [] word e = absurd (some-ne-none word (sym e))
-index_of (w ∷ ws) word e = some-injective w word e
 
 pub closes : (k : Plan) (ws : List ℕ) (xs : List (Unit {0})) (id : ℕ) (v : Draw) (word : ℕ) → Final (Seen (Drawing k) id v) ws xs → v.parts ≡ k.seats → get_elem? ws 0 ≡ some word
     → ((h : ℕ → ℕ) → total h v.drawn ≡ total_below h (min word k.limit)) × (0 < v.nones → k.limit ≤ word)

@@ -28,10 +28,12 @@ all_held n v (y ∷ ys) ss a all limit same none = absurd (omega arith)
 -- where it isn't, they don't
 pub not_all_held : (n : ℕ) (v : Share) (items : List Stripe) (ss : List StripeSeat) → Accounts v items → v.parts ≡ v.seats → v.limit ≡ n → ((h : ℕ → ℕ) → total h v.held ≡ HeldBy ss h) → 0 < length items → EachOnce n (map held ss) → ⊥
 not_all_held n v [] ss a all limit same some_left once = absurd (omega arith)
-not_all_held n v (y ∷ ys) ss a all limit same some_left once = let x : ℕ = y.number in let f : ℕ → ℕ = here x in let e = a.1 all f in let s = same f in let m = total-map (times x) held ss in let l = ap (total_below f) limit in let one = here_same x in
+not_all_held n v (y ∷ ys) ss a all limit same some_left once =
+    let x : ℕ = y.number in let f : ℕ → ℕ = here x in let e = a.1 all f in let s = same f in let m = total-map (times x) held ss in let l = ap (total_below f) limit in let one = here_same x in
     dite (dec_le n x) (λ le. let u = below_over x n le in omega arith) (λ ne. let lt : x < n = lt_of_not-le ne in let u = below_under x n lt in let o = (once x).0 lt in omega arith)
 
 -- what the seats drew is among what was put in
-pub counted : (n : ℕ) (v : Share) (items : List Stripe) (ss : List StripeSeat) → Accounts v items → v.parts ≡ v.seats → v.limit ≡ n → ((h : Stripe → ℕ) → total h v.drawn ≡ drew_in_all h ss) → ((h : Stripe → ℕ) → total h v.put ≡ put_in_all h ss)
+pub counted : (n : ℕ) (v : Share) (items : List Stripe) (ss : List StripeSeat) → Accounts v items → v.parts ≡ v.seats → v.limit ≡ n → ((h : Stripe → ℕ) → total h v.drawn ≡ drew_in_all h ss)
+    → ((h : Stripe → ℕ) → total h v.put ≡ put_in_all h ss)
     → (h : Stripe → ℕ) → drew_in_all h ss + total h items ≡ put_in_all h ss + total h (opening n)
 counted n v items ss a all limit drawn put h = let e = a.2 all h in let d = drawn h in let p = put h in let l = ap (λ k. total h (opening k)) limit in omega arith

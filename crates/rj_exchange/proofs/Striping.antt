@@ -30,7 +30,8 @@ pub total-without : (h : ℕ → ℕ) (x : ℕ) (l : List ℕ) → 0 < times x l
 total-without h x [] some_x = absurd (omega arith)
 total-without h x (y ∷ ys) some_x = dite (ℕ_discrete y x)
     (λ e. let c = ap (total h) (chosen y x ys (y ∷ without x ys) e) in let i : h y ≡ h x = ap h e in omega arith)
-    (λ n. let c = ap (total h) (passed y x ys (y ∷ without x ys) n) in let m : 0 < 0 + times x ys = subst (λ (k : ℕ). 0 < k + times x ys) (here_other x y n) some_x in let some_more : 0 < times x ys = omega arith in let r = total-without h x ys some_more in omega arith)
+    (λ n. let c = ap (total h) (passed y x ys (y ∷ without x ys) n) in let m : 0 < 0 + times x ys = subst (λ (k : ℕ). 0 < k + times x ys) (here_other x y n) some_x in
+    let some_more : 0 < times x ys = omega arith in let r = total-without h x ys some_more in omega arith)
 
 pub nothing : (l : List ℕ) → total (λ _. 1) l ≡ 0 → l ≡ []
 nothing [] e = refl
@@ -39,7 +40,8 @@ nothing (x ∷ xs) e = absurd (omega arith)
 pub accounts : (pass : ℕ) (v : Share) → 0 < v.parts → Learns Striping pass v (Accounts v)
 accounts pass v part items views r at = let fit = (r.fits pass v at).1 part in (
   (λ h. let t = one_le_total (λ (u : Share). total h u.held) views pass v at in let n = r.numbers h in let e = ap (total_below h) fit.0 in omega arith),
-  (λ all h. let s = sole (λ (u : Share). u.parts) (λ u. total h u.held) views pass v at (r.parts ∙ sym (all ∙ fit.1)) (λ j w at_w none_of. ap (total h) ((r.fits j w at_w).0 none_of).0) in let n = r.numbers h in let e = ap (total_below h) fit.0 in omega arith),
+  (λ all h. let s = sole (λ (u : Share). u.parts) (λ u. total h u.held) views pass v at (r.parts ∙ sym (all ∙ fit.1)) (λ j w at_w none_of. ap (total h) ((r.fits j w at_w).0 none_of).0) in
+      let n = r.numbers h in let e = ap (total_below h) fit.0 in omega arith),
   (λ all h. let d = sole (λ (u : Share). u.parts) (λ u. total h u.drawn) views pass v at (r.parts ∙ sym (all ∙ fit.1)) (λ j w at_w none_of. ap (total h) ((r.fits j w at_w).0 none_of).1) in
       let p = sole (λ (u : Share). u.parts) (λ u. total h u.put) views pass v at (r.parts ∙ sym (all ∙ fit.1)) (λ j w at_w none_of. ap (total h) ((r.fits j w at_w).0 none_of).2) in
       let n = r.stripes h in let e = ap (λ m. total h (opening m)) fit.0 in omega arith),
@@ -93,7 +95,8 @@ opens = record {
     fresh (suc id) v e = absurd (some-ne-none v (sym e))
 
 pub deals : (pass : ℕ) (v : Share) (n m : ℕ) → v ≡ blank → 1 ≤ m → Forks Striping pass v (share n m m (below n) (opening n) []) nobody
-deals pass v n m is some_seat items views r at = let one : v.parts ≡ 1 = ap (λ (u : Share). u.parts) is in let fit = (r.fits pass v at).1 (omega arith) in let l : Share = share n m m (below n) (opening n) [] in let vs : List Share = set views pass l in
+deals pass v n m is some_seat items views r at =
+    let one : v.parts ≡ 1 = ap (λ (u : Share). u.parts) is in let fit = (r.fits pass v at).1 (omega arith) in let l : Share = share n m m (below n) (opening n) [] in let vs : List Share = set views pass l in
     let limit : r.limit ≡ 0 = sym fit.0 ∙ ap (λ (u : Share). u.limit) is in let seats : r.seats ≡ 1 = sym fit.1 ∙ ap (λ (u : Share). u.seats) is in record {
       limit = n;
       seats = m;
@@ -142,7 +145,8 @@ merges pass v other w part items views r at apart at' = let b : Share = joined v
       limit = r.limit;
       seats = r.seats;
       parts = (let t = total-set (λ (u : Share). u.parts) views pass v b at in let a = total-set (λ (u : Share). u.parts) vs other w nobody at' in let p = r.parts in omega arith);
-      numbers = λ h. (let t = total-set (λ (u : Share). total h u.held) views pass v b at in let a = total-set (λ (u : Share). total h u.held) vs other w nobody at' in let n = total-append h v.held w.held in let q = r.numbers h in omega arith);
+      numbers = λ h. (let t = total-set (λ (u : Share). total h u.held) views pass v b at in let a = total-set (λ (u : Share). total h u.held) vs other w nobody at' in
+          let n = total-append h v.held w.held in let q = r.numbers h in omega arith);
       stripes = λ h. (let t = total-set (λ (u : Share). total h u.drawn) views pass v b at in let a = total-set (λ (u : Share). total h u.drawn) vs other w nobody at' in let n = total-append h v.drawn w.drawn in
           let t' = total-set (λ (u : Share). total h u.put) views pass v b at in let a' = total-set (λ (u : Share). total h u.put) vs other w nobody at' in let n' = total-append h v.put w.put in let q = r.stripes h in omega arith);
       fits = λ j u e. ⊎_elim (λ x. subst (FitsShare r.limit r.seats) x.1 ((λ z. (refl, refl, refl)), λ z. absurd (omega arith)))

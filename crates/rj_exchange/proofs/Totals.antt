@@ -1,5 +1,5 @@
 -- Sums over lists, and over the list of views after a step.
-use Rattle.std.proofs.Common.{◌≡◌, ◌≢◌, ℕ, zero, suc, ◌+◌, ◌<◌, ◌≤◌, eqb, cond, List, [], ◌∷◌, ◌++◌, length, set, sym, refl, ap, ◌∙◌, arith, eq-eqb, ne_eqb}
+use Rattle.std.proofs.Common.{◌≡◌, ◌≢◌, ℕ, zero, suc, ◌+◌, ◌<◌, ◌≤◌, eqb, cond, List, [], ◌∷◌, ◌++◌, length, get_or, set, sym, refl, ap, ◌∙◌, arith, eq-eqb, ne_eqb}
 use mathlib.Core.Option.{some, some-injective, some-ne-none}
 use mathlib.Core.Logic.{dite}
 use native.Mathlib.Decide.{ℕ_discrete}
@@ -76,3 +76,8 @@ below_under x zero lt = absurd (omega arith)
 below_under x (suc m) lt = dite (ℕ_discrete m x)
     (λ e. let r = below_over x m (omega arith) in let s : here x m ≡ 1 = ap (here x) e ∙ here_same x in omega arith)
     (λ n. let r = below_under x m (omega arith) in let o = here_other x m n in omega arith)
+
+-- the word of a table of one word
+pub index_of : (ws : List ℕ) (word : ℕ) → get_elem? ws 0 ≡ some word → get_or ws 0 0 ≡ word
+index_of [] word e = absurd (some-ne-none word (sym e))
+index_of (w ∷ ws) word e = some-injective w word e

@@ -135,5 +135,6 @@ AddsStub place i l old new = (new.number ≡ old.number) × ((s : Stub) × (new.
 -- each outbox and each inbox is of the exchange, and nothing was posted or taken
 abbrev pub IsOpened : Exchange → List Outbox → List Inbox → ℕ → ℕ → Type 0
 IsOpened e os is outboxes partitions = (e.outboxes ≡ outboxes) × (e.partitions ≡ partitions) × (length os ≡ outboxes) × (length is ≡ partitions)
-    × ((i : ℕ) (o : Outbox) → i < outboxes → IsOutboxOf e (slice_index_or os i o) × ((slice_index_or os i o).number ≡ i) × ((p k : ℕ) (s : Stub) → p < partitions → k < e.lanes → sent_of (slice_index_or (slice_index_or os i o).stubs.items (p * e.lanes + k) s) ≡ []))
+    × ((i : ℕ) (o : Outbox) → i < outboxes → IsOutboxOf e (slice_index_or os i o) × ((slice_index_or os i o).number ≡ i)
+    × ((p k : ℕ) (s : Stub) → p < partitions → k < e.lanes → sent_of (slice_index_or (slice_index_or os i o).stubs.items (p * e.lanes + k) s) ≡ []))
     × ((p : ℕ) (n : Inbox) → p < partitions → IsInboxOf e (slice_index_or is p n) × ((slice_index_or is p n).partition ≡ p) × ((k : ℕ) (s : Stub) → k < e.lanes → taken_of (slice_index_or (slice_index_or is p n).ends.items k s) ≡ []))

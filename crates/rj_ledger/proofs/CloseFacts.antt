@@ -1,5 +1,6 @@
 -- A close is the last kept parcel of its sender, and a complete ledger stays as it is.
 use Rattle.std.proofs.Common.{◌≡◌, ℕ, ◌<◌, ◌≤◌, ◌==◌, Bool, true, false, cond, ◌||◌, ◌&&◌, List, [], ◌∷◌, length, nat_lt, refl, ap, sym, ◌∙◌, arith, subst, inl, inr, ◌⊎◌, Some, None, eq-eqb}
+use Rattle.std.proofs.lemmas.Bool.{lt-ltb}
 use Rattle.std.proofs.lemmas.Bool.Decides.{nat_tests}
 use Rattle.rj_ledger.specs.declared.parcel.Body.{Body}
 use Rattle.rj_ledger.specs.declared.parcel.Body.TheVariants.{Close}
@@ -13,13 +14,10 @@ use Rattle.rj_ledger.specs.Ledgers.{LedgerValue, standing, answer_to, after_answ
 use Rattle.rj_ledger.specs.Kept.{keep, kept_onto, body_in, held_at, Agrees, Keeps, AreClosedLast}
 use Rattle.rj_ledger.proofs.Soundness.{unrefused, close_last}
 use Rattle.rj_ledger.proofs.KeptFacts.{number_apart_above}
-use Rattle.rj_ledger.proofs.LedgerFacts.{keeps_offer}
+use Rattle.rj_ledger.proofs.LedgerFacts.{keeps_offer, same_or_apart}
 use Rattle.rj_ledger.proofs.LawfulFacts.{wrong, unknown, refused, next, later, outcome}
 use Rattle.rj_ledger.proofs.DeliveryFacts.{list_all_at}
-use Rattle.rj_ledger.proofs.KeptRuleFacts.{close_is_any, any_if, close_if, lt_is}
-
-same_or_apart : (a b : ℕ) → (a ≡ b) ⊎ ((a == b) ≡ false)
-same_or_apart a b = grind (arith, nat_tests)
+use Rattle.rj_ledger.proofs.KeptRuleFacts.{close_is_any, any_if, close_if}
 
 below_or_from : (m k : ℕ) → (m < k) ⊎ (k ≤ m)
 below_or_from m k = grind arith
@@ -43,7 +41,7 @@ none_held_above (e ∷ es) n k h l =
 
 -- a held close with a smaller number is held
 close_held : (es : List (ℕ × Body)) (m n : ℕ) → held_at m es ≡ Some Close → m < n → holds_close_below n es ≡ true
-close_held es m n h l = close_is_any n es ∙ any_if (λ k b. is_close b && nat_lt k n) es m Close h (lt_is m n l)
+close_held es m n h l = close_is_any n es ∙ any_if (λ k b. is_close b && nat_lt k n) es m Close h (lt-ltb m n l)
 
 -- what an unrefused parcel's sender has kept
 module _ (ks : List Parcel) (x : Parcel) (t : Standing) (block : ℕ) (a : Agrees (body_in ks x.sender) t) (unfit : refusal block t x.number x.body ≡ None) (last : AreClosedLast ks) where

@@ -1,5 +1,8 @@
 -- The rules over the kept parcels alone give the ledger's answers.
-use Rattle.std.proofs.Common.{IsSome, ◌≡◌, ℕ, zero, suc, ◌+◌, ◌-◌, ◌<◌, ◌≤◌, ◌==◌, Bool, true, false, cond, not, ◌||◌, ◌&&◌, List, [], ◌∷◌, length, nat_lt, nat_le, refl, ap, sym, ◌∙◌, arith, subst, inl, inr, ◌⊎◌, is_some, Some, None, Option, eq-eqb}
+use Rattle.std.proofs.Common.{IsSome, ◌≡◌, ℕ, zero, suc, ◌+◌, ◌-◌, ◌<◌, ◌≤◌, ◌==◌, Bool, true, false, cond, not, ◌||◌, ◌&&◌, List, [], ◌∷◌, length, nat_lt, nat_le, refl, ap, sym, ◌∙◌, arith, subst}
+use Rattle.std.proofs.Common.{inl, inr, ◌⊎◌, is_some, Some, None, Option, eq-eqb}
+use Rattle.std.specs.Cmp.{both_ways}
+use Rattle.std.proofs.lemmas.Bool.{and_from, and_parts, cases_Bool, eqb-true, le-leb, le-ltb, leb-true, lt-ltb, ltb-true, or_cases, or_left, or_right, ltb-false}
 use Rattle.std.proofs.lemmas.List.{length-replicate}
 use Rattle.std.proofs.lemmas.Bool.Decides.{nat_tests}
 use Rattle.rj_ledger.specs.declared.parcel.Body.{Body}
@@ -14,7 +17,7 @@ use Rattle.rj_ledger.specs.Ledgers.{LedgerValue, standing, opened, answer_to, af
 use Rattle.rj_ledger.specs.Kept.{rows_below, keep, body_in, held_at, is_close_at, close_below, Agrees, Keeps, AreKeptOnce}
 use Rattle.rj_ledger.specs.KeptRules.{IsGapIn, ShowsKept, next_in, some_of, is_closed_in, is_kept_in, holds_close_before, holds_after, kept_answer, kept_answers}
 use Rattle.rj_ledger.specs.Reading.{gap_before}
-use Rattle.rj_ledger.proofs.KeptFacts.{none_held_below, number_apart, number_apart_above}
+use Rattle.rj_ledger.proofs.KeptFacts.{none_held_below, number_apart, number_apart_above, last_or_below, some_either}
 use Rattle.rj_ledger.proofs.PlanFacts.{holds_is}
 use Rattle.rj_ledger.proofs.LawfulFacts.{wrong, unknown, refused, next, later, outcome, passing_is}
 use Rattle.rj_ledger.proofs.LedgerFacts.{keeps_offer, keeps_opened}
@@ -73,16 +76,14 @@ one_number p c (suc n) = elim (below_or_past n c) [
   | inr l ↦ let w : count_below (λ m. p && (c == m)) n ≤ 1 = one_number p c n in let v : ◌≡◌ {A = ℕ} (cond (p && (c == n)) 1 0) 0 = ap (λ (t : Bool). cond (p && t) 1 0) (number_apart_above c n l) ∙ none_at p in omega arith
 ]
 
-some_either : (p : Bool) (b : Body) (o : Option Body) → is_some (cond p (Some b) o) ≡ (p || is_some o)
-some_either true b o = refl
-some_either false b o = refl
-
 -- parcels have no more numbers than they are
 few_numbers : (ks : List Parcel) (s n : ℕ) → count_below (λ m. is_some (body_in ks s m)) n ≤ length ks
 few_numbers [] s n = let w : count_below (λ m. false) n ≡ 0 = none_passes n in omega arith
 few_numbers (x ∷ ks) s n =
-    let same : count_below (λ m. is_some (body_in (x ∷ ks) s m)) n ≡ count_below (λ m. ((x.sender == s) && (x.number == m)) || is_some (body_in ks s m)) n = same_count _ _ n (λ m. some_either ((x.sender == s) && (x.number == m)) x.body (body_in ks s m)) in
-    let both : count_below (λ m. ((x.sender == s) && (x.number == m)) || is_some (body_in ks s m)) n ≤ count_below (λ m. (x.sender == s) && (x.number == m)) n + count_below (λ m. is_some (body_in ks s m)) n = either_passes (λ m. (x.sender == s) && (x.number == m)) (λ m. is_some (body_in ks s m)) n in
+    let same : count_below (λ m. is_some (body_in (x ∷ ks) s m)) n ≡ count_below (λ m. ((x.sender == s) && (x.number == m)) || is_some (body_in ks s m)) n = same_count _ _ n
+    (λ m. some_either ((x.sender == s) && (x.number == m)) x.body (body_in ks s m)) in
+    let both : count_below (λ m. ((x.sender == s) && (x.number == m)) || is_some (body_in ks s m)) n ≤ count_below (λ m. (x.sender == s) && (x.number == m)) n + count_below
+    (λ m. is_some (body_in ks s m)) n = either_passes (λ m. (x.sender == s) && (x.number == m)) (λ m. is_some (body_in ks s m)) n in
     let one : count_below (λ m. (x.sender == s) && (x.number == m)) n ≤ 1 = one_number (x.sender == s) x.number n in
     let more : count_below (λ m. is_some (body_in ks s m)) n ≤ length ks = few_numbers ks s n in
     omega arith
@@ -95,50 +96,6 @@ next_is ks s t a =
     let few : count_below f t.next ≤ length ks = few_numbers ks s t.next in
     let from : 0 + t.next ≡ t.next = omega arith in
     passing_is f (length ks) 0 t.next (λ m p q. a.below m (omega arith)) (omega arith) (inr (ap f from ∙ ap is_some a.next))
-
-and_parts : (a b : Bool) → (a && b) ≡ true → (a ≡ true) × (b ≡ true)
-and_parts true b h = (refl, h)
-and_parts false b h = cc
-
-both_true : (a b : Bool) → a ≡ true → b ≡ true → (a && b) ≡ true
-both_true true b h k = k
-both_true false b h k = cc
-
-or_left : (a b : Bool) → a ≡ true → (a || b) ≡ true
-or_left true b h = refl
-or_left false b h = cc
-
-or_right : (a b : Bool) → b ≡ true → (a || b) ≡ true
-or_right true b h = refl
-or_right false b h = h
-
-or_cases : (a b : Bool) → (a || b) ≡ true → (a ≡ true) ⊎ (b ≡ true)
-or_cases true b h = inl refl
-or_cases false b h = inr h
-
-truth : (a : Bool) → (a ≡ true) ⊎ (a ≡ false)
-truth true = inl refl
-truth false = inr refl
-
-same_truth : (a b : Bool) → (a ≡ true → b ≡ true) → (b ≡ true → a ≡ true) → a ≡ b
-same_truth true b f g = sym (f refl)
-same_truth false true f g = g refl
-same_truth false false f g = refl
-
-same_number : (a b : ℕ) → (a == b) ≡ true → a ≡ b
-same_number a b h = grind (arith, nat_tests)
-
-pub lt_is : (a b : ℕ) → a < b → nat_lt a b ≡ true
-lt_is a b h = grind (arith, nat_tests)
-
-lt_if : (a b : ℕ) → nat_lt a b ≡ true → a < b
-lt_if a b h = grind (arith, nat_tests)
-
-le_is : (a b : ℕ) → a ≤ b → nat_le a b ≡ true
-le_is a b h = grind (arith, nat_tests)
-
-le_if : (a b : ℕ) → nat_le a b ≡ true → a ≤ b
-le_if a b h = grind (arith, nat_tests)
 
 -- a number whose body passes the test
 pub record Passes (test : ℕ → Body → Bool) (f : ℕ → Option Body) : Type 0 where
@@ -155,9 +112,9 @@ pass_later test x ks s none p = record {
   number = p.number;
   body = p.body;
   pass = p.pass;
-  is = elim (truth ((x.sender == s) && (x.number == p.number))) [
+  is = elim (cases_Bool ((x.sender == s) && (x.number == p.number))) [
     | inl h ↦ let parts = and_parts _ _ h in
-        let here : body_in ks s p.number ≡ None = ap (λ (k : ℕ). body_in ks k p.number) (sym (same_number x.sender s parts.0)) ∙ ap (body_in ks x.sender) (sym (same_number x.number p.number parts.1)) ∙ none in
+        let here : body_in ks s p.number ≡ None = ap (λ (k : ℕ). body_in ks k p.number) (sym (eqb-true x.sender s parts.0)) ∙ ap (body_in ks x.sender) (sym (eqb-true x.number p.number parts.1)) ∙ none in
         absurd (not_none (body_in ks s p.number) p.body p.is here)
     | inr h ↦ ap (λ (t : Bool). cond t (Some x.body) (body_in ks s p.number)) h ∙ p.is
   ];
@@ -166,7 +123,7 @@ pass_later test x ks s none p = record {
 pass_first : (test : ℕ → Body → Bool) (x : Parcel) (ks : List Parcel) (s : ℕ) → ((x.sender == s) && test x.number x.body) ≡ true → Passes test (body_in (x ∷ ks) s)
 pass_first test x ks s h =
     let parts = and_parts _ _ h in
-    record { number = x.number; body = x.body; pass = parts.1; is = ap (λ (t : Bool). cond t (Some x.body) (body_in ks s x.number)) (both_true _ _ parts.0 (eq-eqb x.number x.number refl)) }
+    record { number = x.number; body = x.body; pass = parts.1; is = ap (λ (t : Bool). cond t (Some x.body) (body_in ks s x.number)) (and_from _ _ parts.0 (eq-eqb x.number x.number refl)) }
 
 pub passes_if : (test : ℕ → Body → Bool) (q n : ℕ) (ks : List Parcel) (s : ℕ) → AreKeptOnce q n ks → some_of test ks s ≡ true → Passes test (body_in ks s)
 passes_if test q n [] s once h = cc
@@ -180,11 +137,11 @@ some_body_is b c h = cc
 
 pub some_if : (test : ℕ → Body → Bool) (ks : List Parcel) (s m : ℕ) (b : Body) → body_in ks s m ≡ Some b → test m b ≡ true → some_of test ks s ≡ true
 some_if test [] s m b h t = cc
-some_if test (x ∷ ks) s m b h t = elim (truth ((x.sender == s) && (x.number == m))) [
+some_if test (x ∷ ks) s m b h t = elim (cases_Bool ((x.sender == s) && (x.number == m))) [
   | inl hit ↦ let parts = and_parts _ _ hit in
       let body : x.body ≡ b = some_body_is x.body b (ap (λ (u : Bool). cond u (Some x.body) (body_in ks s m)) (sym hit) ∙ h) in
-      let passes : test x.number x.body ≡ true = ap (λ (k : ℕ). test k x.body) (same_number x.number m parts.1) ∙ ap (test m) body ∙ t in
-      or_left _ _ (both_true _ _ parts.0 passes)
+      let passes : test x.number x.body ≡ true = ap (λ (k : ℕ). test k x.body) (eqb-true x.number m parts.1) ∙ ap (test m) body ∙ t in
+      or_left _ _ (and_from _ _ parts.0 passes)
   | inr miss ↦ or_right _ _ (some_if test ks s m b (ap (λ (u : Bool). cond u (Some x.body) (body_in ks s m)) (sym miss) ∙ h) t)
 ]
 
@@ -224,9 +181,9 @@ held_if test (e ∷ es) least o h = elim (or_cases _ _ h) [
 
 pub any_if : (test : ℕ → Body → Bool) (es : List (ℕ × Body)) (m : ℕ) (b : Body) → held_at m es ≡ Some b → test m b ≡ true → held_any test es ≡ true
 any_if test [] m b h t = cc
-any_if test (e ∷ es) m b h t = elim (truth (e.0 == m)) [
+any_if test (e ∷ es) m b h t = elim (cases_Bool (e.0 == m)) [
   | inl hit ↦ let body : e.1 ≡ b = some_body_is e.1 b (ap (λ (u : Bool). cond u (Some e.1) (held_at m es)) (sym hit) ∙ h) in
-      or_left _ _ (ap (λ (k : ℕ). test k e.1) (same_number e.0 m hit) ∙ ap (test m) body ∙ t)
+      or_left _ _ (ap (λ (k : ℕ). test k e.1) (eqb-true e.0 m hit) ∙ ap (test m) body ∙ t)
   | inr miss ↦ or_right _ _ (any_if test es m b (ap (λ (u : Bool). cond u (Some e.1) (held_at m es)) (sym miss) ∙ h) t)
 ]
 
@@ -249,12 +206,9 @@ closes_if f (suc n) h = elim (or_cases _ _ h) [
   | inr rest ↦ let p = closes_if f n rest in let l : p.number < n = p.below in record { number = p.number; body = p.body; below = omega arith; is = p.is; close = p.close }
 ]
 
-below_or_at : (m n : ℕ) → m < suc n → (m < n) ⊎ (m ≡ n)
-below_or_at m n h = grind arith
-
 pub close_if : (f : ℕ → Option Body) (n m : ℕ) (b : Body) → m < n → f m ≡ Some b → is_close b ≡ true → close_below f n ≡ true
 close_if f zero m b l h c = absurd (omega arith)
-close_if f (suc n) m b l h c = elim (below_or_at m n l) [
+close_if f (suc n) m b l h c = elim (last_or_below m n l) [
   | inl q ↦ or_right _ _ (close_if f n m b q h c)
   | inr q ↦ or_left _ _ (ap (λ (k : ℕ). is_close_at (f k)) (sym q) ∙ ap is_close_at h ∙ c)
 ]
@@ -265,19 +219,16 @@ closed_same q n ks s t once a =
     let k : next_in ks s ≡ t.next = next_is ks s t a in
     let f : ℕ → Option Body = body_in ks s in
     let to : close_below f t.next ≡ true → some_of (λ m b. is_close b && nat_lt m t.next) ks s ≡ true = λ h.
-    let p = closes_if f t.next h in some_if (λ m b. is_close b && nat_lt m t.next) ks s p.number p.body p.is (both_true _ _ p.close (lt_is p.number t.next p.below)) in
+    let p = closes_if f t.next h in some_if (λ m b. is_close b && nat_lt m t.next) ks s p.number p.body p.is (and_from _ _ p.close (lt-ltb p.number t.next p.below)) in
     let back : some_of (λ m b. is_close b && nat_lt m t.next) ks s ≡ true → close_below f t.next ≡ true = λ h.
-    let p = passes_if (λ m b. is_close b && nat_lt m t.next) q n ks s once h in let parts = and_parts _ _ p.pass in close_if f t.next p.number p.body (lt_if _ _ parts.1) p.is parts.0 in
-    a.closed ∙ same_truth _ _ to back ∙ ap (λ (j : ℕ). some_of (λ m b. is_close b && nat_lt m j) ks s) (sym k)
+    let p = passes_if (λ m b. is_close b && nat_lt m t.next) q n ks s once h in let parts = and_parts _ _ p.pass in close_if f t.next p.number p.body (ltb-true _ _ parts.1) p.is parts.0 in
+    a.closed ∙ both_ways _ _ to back ∙ ap (λ (j : ℕ). some_of (λ m b. is_close b && nat_lt m j) ks s) (sym k)
 
 kept_number : (ks : List Parcel) (s n : ℕ) (t : Standing) → Agrees (body_in ks s) t → (nat_lt n t.next || holds n t.held) ≡ is_some (body_in ks s n)
-kept_number ks s n t a = elim (truth (nat_lt n t.next)) [
-  | inl h ↦ or_left _ _ h ∙ sym (a.below n (lt_if _ _ h))
-  | inr h ↦ ap (λ (u : Bool). u || holds n t.held) h ∙ holds_is t.held n ∙ ap is_some (sym (a.held n (not_below n t.next h)))
+kept_number ks s n t a = elim (cases_Bool (nat_lt n t.next)) [
+  | inl h ↦ or_left _ _ h ∙ sym (a.below n (ltb-true _ _ h))
+  | inr h ↦ ap (λ (u : Bool). u || holds n t.held) h ∙ holds_is t.held n ∙ ap is_some (sym (a.held n (ltb-false n t.next h)))
 ]
-  where
-    not_below : (n k : ℕ) → nat_lt n k ≡ false → k ≤ n
-    not_below n k h = grind (arith, nat_tests)
 
 beyond_same : (q c : ℕ) (ks : List Parcel) (s n : ℕ) (t : Standing) → AreKeptOnce q c ks → IsSound t → Agrees (body_in ks s) t → holds_close_below n t.held ≡ holds_close_before ks s n
 beyond_same q c ks s n t once sound a =
@@ -286,13 +237,13 @@ beyond_same q c ks s n t once sound a =
     let p = held_if (λ m b. is_close b && nat_lt m n) t.held (t.next + 1) sound.orderly h in
     let from : t.next + 1 ≤ p.number = p.from in
     let parts = and_parts _ _ p.pass in
-    some_if (λ m b. is_close b && (nat_le t.next m && nat_lt m n)) ks s p.number p.body (a.held p.number (omega arith) ∙ p.is) (both_true _ _ parts.0 (both_true _ _ (le_is t.next p.number (omega arith)) parts.1)) in
+    some_if (λ m b. is_close b && (nat_le t.next m && nat_lt m n)) ks s p.number p.body (a.held p.number (omega arith) ∙ p.is) (and_from _ _ parts.0 (and_from _ _ (le-leb t.next p.number (omega arith)) parts.1)) in
     let back : some_of (λ m b. is_close b && (nat_le t.next m && nat_lt m n)) ks s ≡ true → held_any (λ m b. is_close b && nat_lt m n) t.held ≡ true = λ h.
     let p = passes_if (λ m b. is_close b && (nat_le t.next m && nat_lt m n)) q c ks s once h in
     let parts = and_parts _ _ p.pass in
     let more = and_parts _ _ parts.1 in
-    any_if (λ m b. is_close b && nat_lt m n) t.held p.number p.body (sym (a.held p.number (le_if _ _ more.0)) ∙ p.is) (both_true _ _ parts.0 more.1) in
-    close_is_any n t.held ∙ same_truth _ _ to back ∙ ap (λ (j : ℕ). some_of (λ m b. is_close b && (nat_le j m && nat_lt m n)) ks s) (sym k)
+    any_if (λ m b. is_close b && nat_lt m n) t.held p.number p.body (sym (a.held p.number (leb-true _ _ more.0)) ∙ p.is) (and_from _ _ parts.0 more.1) in
+    close_is_any n t.held ∙ both_ways _ _ to back ∙ ap (λ (j : ℕ). some_of (λ m b. is_close b && (nat_le j m && nat_lt m n)) ks s) (sym k)
 
 above_same : (q c : ℕ) (ks : List Parcel) (s n : ℕ) (t : Standing) → AreKeptOnce q c ks → IsSound t → Agrees (body_in ks s) t → holds_above n t.held ≡ holds_after ks s n
 above_same q c ks s n t once sound a =
@@ -300,19 +251,21 @@ above_same q c ks s n t once sound a =
     let to : held_any (λ m b. nat_lt n m) t.held ≡ true → some_of (λ m b. nat_le t.next m && nat_lt n m) ks s ≡ true = λ h.
     let p = held_if (λ m b. nat_lt n m) t.held (t.next + 1) sound.orderly h in
     let from : t.next + 1 ≤ p.number = p.from in
-    some_if (λ m b. nat_le t.next m && nat_lt n m) ks s p.number p.body (a.held p.number (omega arith) ∙ p.is) (both_true _ _ (le_is t.next p.number (omega arith)) p.pass) in
+    some_if (λ m b. nat_le t.next m && nat_lt n m) ks s p.number p.body (a.held p.number (omega arith) ∙ p.is) (and_from _ _ (le-leb t.next p.number (omega arith)) p.pass) in
     let back : some_of (λ m b. nat_le t.next m && nat_lt n m) ks s ≡ true → held_any (λ m b. nat_lt n m) t.held ≡ true = λ h.
     let p = passes_if (λ m b. nat_le t.next m && nat_lt n m) q c ks s once h in
     let parts = and_parts _ _ p.pass in
-    any_if (λ m b. nat_lt n m) t.held p.number p.body (sym (a.held p.number (le_if _ _ parts.0)) ∙ p.is) parts.1 in
-    above_is_any n t.held ∙ same_truth _ _ to back ∙ ap (λ (j : ℕ). some_of (λ m b. nat_le j m && nat_lt n m) ks s) (sym k)
+    any_if (λ m b. nat_lt n m) t.held p.number p.body (sym (a.held p.number (leb-true _ _ parts.0)) ∙ p.is) parts.1 in
+    above_is_any n t.held ∙ both_ways _ _ to back ∙ ap (λ (j : ℕ). some_of (λ m b. nat_le j m && nat_lt n m) ks s) (sym k)
 
 -- the reason, or else an answer
 abbrev or_refused : Option Reason → Answer → Answer
 or_refused (Some reason) a = Refused reason
 or_refused None a = a
 
-in_order : (b c d e g : Bool) (a : Answer) → cond b (Refused BadLength) (cond c (Refused AfterClose) (cond d (Refused Repeat) (cond e (Refused BeyondClose) (cond g (Refused EarlyClose) a)))) ≡ or_refused (cond b (Some BadLength) (cond c (Some AfterClose) (cond d (Some Repeat) (cond e (Some BeyondClose) (cond g (Some EarlyClose) None))))) a
+in_order : (b c d e g : Bool) (a : Answer)
+    → cond b (Refused BadLength) (cond c (Refused AfterClose) (cond d (Refused Repeat) (cond e (Refused BeyondClose) (cond g (Refused EarlyClose) a)))) ≡ or_refused
+    (cond b (Some BadLength) (cond c (Some AfterClose) (cond d (Some Repeat) (cond e (Some BeyondClose) (cond g (Some EarlyClose) None))))) a
 in_order true c d e g a = refl
 in_order false true d e g a = refl
 in_order false false true e g a = refl
@@ -324,15 +277,18 @@ abbrev accepting : List Parcel → Parcel → Answer
 accepting ks x = cond (x.number == next_in ks x.sender) (Accepted (next_in (x ∷ ks) x.sender - next_in ks x.sender)) Held
 
 -- for a known sender at the right partition
-known_answer : (q n block : ℕ) (ks : List Parcel) (x : Parcel) (t : Standing) → x.partition ≡ q → x.sender < n → AreKeptOnce q n ks → IsSound t → Agrees (body_in ks x.sender) t → kept_answer q n block ks x ≡ or_refused (refusal block t x.number x.body) (accepting ks x)
+known_answer : (q n block : ℕ) (ks : List Parcel) (x : Parcel) (t : Standing) → x.partition ≡ q → x.sender < n → AreKeptOnce q n ks → IsSound t → Agrees (body_in ks x.sender) t
+    → kept_answer q n block ks x ≡ or_refused (refusal block t x.number x.body) (accepting ks x)
 known_answer q n block ks x t right known once sound a =
     let b : Bool = is_bad_length block x.body in
-    let five : Bool → Bool → Bool → Bool → Answer = λ c d e g. cond b (Refused BadLength) (cond c (Refused AfterClose) (cond d (Refused Repeat) (cond e (Refused BeyondClose) (cond (is_close x.body && g) (Refused EarlyClose) (accepting ks x))))) in
+    let five : Bool → Bool → Bool → Bool
+    → Answer = λ c d e g. cond b (Refused BadLength) (cond c (Refused AfterClose) (cond d (Refused Repeat) (cond e (Refused BeyondClose) (cond (is_close x.body && g) (Refused EarlyClose) (accepting ks x))))) in
     let d : Bool = nat_lt x.number t.next || holds x.number t.held in
     let e : Bool = holds_close_below x.number t.held in
     let g : Bool = holds_above x.number t.held in
-    ap (λ (u : Bool). cond (not u) (Refused WrongPartition) (cond (not (nat_lt x.sender n)) (Refused UnknownSender) (five (is_closed_in ks x.sender) (is_kept_in ks x.sender x.number) (holds_close_before ks x.sender x.number) (holds_after ks x.sender x.number)))) (eq-eqb x.partition q right)
-    ∙ ap (λ (u : Bool). cond (not u) (Refused UnknownSender) (five (is_closed_in ks x.sender) (is_kept_in ks x.sender x.number) (holds_close_before ks x.sender x.number) (holds_after ks x.sender x.number))) (lt_is x.sender n known)
+    ap (λ (u : Bool). cond (not u) (Refused WrongPartition)
+    (cond (not (nat_lt x.sender n)) (Refused UnknownSender) (five (is_closed_in ks x.sender) (is_kept_in ks x.sender x.number) (holds_close_before ks x.sender x.number) (holds_after ks x.sender x.number)))) (eq-eqb x.partition q right)
+    ∙ ap (λ (u : Bool). cond (not u) (Refused UnknownSender) (five (is_closed_in ks x.sender) (is_kept_in ks x.sender x.number) (holds_close_before ks x.sender x.number) (holds_after ks x.sender x.number))) (lt-ltb x.sender n known)
     ∙ ap (λ (u : Bool). five u (is_kept_in ks x.sender x.number) (holds_close_before ks x.sender x.number) (holds_after ks x.sender x.number)) (sym (closed_same q n ks x.sender t once a))
     ∙ ap (λ (u : Bool). five t.closed u (holds_close_before ks x.sender x.number) (holds_after ks x.sender x.number)) (kept_is ks x.sender x.number ∙ sym (kept_number ks x.sender x.number t a))
     ∙ ap (λ (u : Bool). five t.closed d u (holds_after ks x.sender x.number)) (sym (beyond_same q n ks x.sender x.number t once sound a))
@@ -364,9 +320,6 @@ left : (u : Bool) (a b : Answer) → u ≡ false → cond u a b ≡ b
 left true a b h = cc
 left false a b h = refl
 
-not_lt : (a b : ℕ) → b ≤ a → nat_lt a b ≡ false
-not_lt a b h = grind (arith, nat_tests)
-
 pub one_rule : (ks : List Parcel) (v : LedgerValue) (x : Parcel) → Keeps ks v → AreKeptOnce v.partition (length v.senders) ks → answer_to v x ≡ kept_answer v.partition (length v.senders) v.block ks x
 one_rule ks v x k once =
     let known : (p : x.partition ≡ v.partition) (l : x.sender < length v.senders) → kept_answer v.partition (length v.senders) v.block ks x ≡ or_refused (refusal v.block (standing v x.sender) x.number x.body) (accepting ks x) = λ p l.
@@ -374,7 +327,7 @@ one_rule ks v x k once =
     let same_next : (l : x.sender < length v.senders) → next_in ks x.sender ≡ (standing v x.sender).next = λ l. next_is ks x.sender (standing v x.sender) (k x.sender l).1 in
     elim (outcome v x) [
       | wrong p a ↦ a ∙ sym (refused_by _ _ _ p)
-      | unknown p l a ↦ a ∙ sym (passed_by _ _ _ (eq-eqb x.partition v.partition p) ∙ refused_by _ _ _ (not_lt x.sender (length v.senders) l))
+      | unknown p l a ↦ a ∙ sym (passed_by _ _ _ (eq-eqb x.partition v.partition p) ∙ refused_by _ _ _ (le-ltb x.sender (length v.senders) l))
       | refused reason p l r a ↦ a ∙ sym (known p l ∙ ap (λ (o : Option Reason). or_refused o (accepting ks x)) r)
       | next p l r e a ↦ a ∙ sym (known p l ∙ ap (λ (o : Option Reason). or_refused o (accepting ks x)) r ∙ taken _ _ _ (eq-eqb x.number (next_in ks x.sender) (e ∙ sym (same_next l))) ∙ ap Accepted (accept_counts ks v x _ k l a))
       | later p l r e a ↦ a ∙ sym (known p l ∙ ap (λ (o : Option Reason). or_refused o (accepting ks x)) r ∙ left _ _ _ (ap (λ (j : ℕ). x.number == j) (same_next l) ∙ e))
@@ -384,9 +337,12 @@ all_rules : (q n block : ℕ) (xs ks : List Parcel) (v : LedgerValue) → v.part
 all_rules q n block [] ks v eq en eb k once = refl
 all_rules q n block (x ∷ xs) ks v eq en eb k once =
     let once_here : AreKeptOnce v.partition (length v.senders) ks = subst (λ (p : ℕ). AreKeptOnce p (length v.senders) ks) (sym eq) (subst (λ (m : ℕ). AreKeptOnce q m ks) (sym en) once) in
-    let one : answer_to v x ≡ kept_answer q n block ks x = one_rule ks v x k once_here ∙ ap (λ (p : ℕ). kept_answer p (length v.senders) v.block ks x) eq ∙ ap (λ (m : ℕ). kept_answer q m v.block ks x) en ∙ ap (λ (m : ℕ). kept_answer q n m ks x) eb in
-    let once_after : AreKeptOnce q n (keep (answer_to v x) x ks) = subst (λ (p : ℕ). AreKeptOnce p n (keep (answer_to v x) x ks)) eq (subst (λ (m : ℕ). AreKeptOnce v.partition m (keep (answer_to v x) x ks)) en (kept_once (x ∷ []) ks v k once_here)) in
-    let more : answers (after_offer v x) xs ≡ kept_answers q n block (keep (answer_to v x) x ks) xs = all_rules q n block xs (keep (answer_to v x) x ks) (after_offer v x) ((same_shape v x).partition ∙ eq) ((same_shape v x).senders ∙ en) ((same_shape v x).block ∙ eb) (keeps_offer ks v x k) once_after in
+    let one : answer_to v x ≡ kept_answer q n block ks x = one_rule ks v x k once_here ∙ ap (λ (p : ℕ). kept_answer p (length v.senders) v.block ks x) eq
+    ∙ ap (λ (m : ℕ). kept_answer q m v.block ks x) en ∙ ap (λ (m : ℕ). kept_answer q n m ks x) eb in
+    let once_after : AreKeptOnce q n (keep (answer_to v x) x ks) = subst (λ (p : ℕ). AreKeptOnce p n (keep (answer_to v x) x ks)) eq
+    (subst (λ (m : ℕ). AreKeptOnce v.partition m (keep (answer_to v x) x ks)) en (kept_once (x ∷ []) ks v k once_here)) in
+    let more : answers (after_offer v x) xs ≡ kept_answers q n block (keep (answer_to v x) x ks) xs = all_rules q n block xs (keep (answer_to v x) x ks) (after_offer v x)
+    ((same_shape v x).partition ∙ eq) ((same_shape v x).senders ∙ en) ((same_shape v x).block ∙ eb) (keeps_offer ks v x k) once_after in
     ap (λ (as' : List Answer). answer_to v x ∷ as') more ∙ ap (λ (a : Answer). a ∷ kept_answers q n block (keep a x ks) xs) one
 
 pub replay_rules : (q n block : ℕ) (xs : List Parcel) → answers (opened q n block) xs ≡ kept_answers q n block [] xs

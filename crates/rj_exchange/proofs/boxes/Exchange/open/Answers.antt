@@ -11,7 +11,8 @@ use Rattle.rj_exchange.proofs.Opening.{grows, ends_grow, inboxes_stay, inboxes_g
 use Rattle.rj_exchange.proofs.boxes.Exchange.open.Goals as goal
 
 pub loop-lane-preserved : goal.loop-lane-preserved
-loop-lane-preserved c = let v = c.loop-lane.invariant in let lanes : ℕ = c.args.lanes in let outboxes : ℕ = c.args.outboxes in let p : ℕ = c.loop-partition.partition in let k : ℕ = c.loop-lane.lane in let lt : k < lanes = c.loop-lane-test.true in
+loop-lane-preserved c = let v = c.loop-lane.invariant in let lanes : ℕ = c.args.lanes in let outboxes : ℕ = c.args.outboxes in let p : ℕ = c.loop-partition.partition in
+    let k : ℕ = c.loop-lane.lane in let lt : k < lanes = c.loop-lane-test.true in
     let queues : List Queue = c.loop-lane.queues.items in let queue : Queue = c.in_ok-queue.queue in let end : Stub = c.in_ok-queue.end in let e = c.in_ok-push-2.ensures.items in let f = c.in_ok-push-3.ensures.items in
     let q = c.in_ok-queue.ensures.queue in let b = c.in_ok-queue.ensures.boxes in let count = v.count in record {
       count = (let l = ap length e in let m = length-append queues (queue ∷ []) in omega arith);
@@ -28,7 +29,8 @@ loop-partition-preserved c = let v = c.loop-lane.invariant in let lanes : ℕ = 
       count = (let n = v.count in omega arith);
       caps = v.caps;
       boxes = v.boxes;
-      inboxes = subst (AreInboxes lanes outboxes (p + 1) c.loop-lane.queues.items) (sym e) (inboxes_grow lanes outboxes p c.loop-lane.queues.items c.loop-partition.inboxes.items record { partition = p; ends = c.loop-lane.ends } v.inboxes refl ends);
+      inboxes = subst (AreInboxes lanes outboxes (p + 1) c.loop-lane.queues.items) (sym e)
+          (inboxes_grow lanes outboxes p c.loop-lane.queues.items c.loop-partition.inboxes.items record { partition = p; ends = c.loop-lane.ends } v.inboxes refl ends);
     }
 
 pub returns-clause-opened : goal.returns-clause-opened
@@ -43,7 +45,11 @@ returns-clause-opened c = let v = c.loop-partition.invariant in let lanes : ℕ 
         record {
           many = b.wide i o lt ∙ many;
           below = (let z = b.number i o lt in omega arith);
-          tokens = λ p k l s pl kl. let f = b.stubs i p k o l s lt kl (let z = row_fits p partitions lanes k pl kl in omega arith) in (f.0, subst (λ (m : ℕ). view (get_or (get_or c.loop-partition.boxes.items i o).stubs.items (p * lanes + k) s).pass ≡ sender (place_of p k lanes outboxes) m (view (get_or (get_or c.loop-partition.boxes.items i o).stubs.items (p * lanes + k) s).pass).sent) (sym (b.number i o lt)) (f.1 ∙ (λ j. sender (place_of p k lanes outboxes) i (sym f.1 j).sent)));
+          tokens = λ p k l s pl kl. let f = b.stubs i p k o l s lt kl (let z = row_fits p partitions lanes k pl kl in omega arith) in (
+            f.0,
+            subst (λ (m : ℕ). view (get_or (get_or c.loop-partition.boxes.items i o).stubs.items (p * lanes + k) s).pass ≡ sender (place_of p k lanes outboxes) m
+                (view (get_or (get_or c.loop-partition.boxes.items i o).stubs.items (p * lanes + k) s).pass).sent) (sym (b.number i o lt)) (f.1 ∙ (λ j. sender (place_of p k lanes outboxes) i (sym f.1 j).sent)),
+          );
         },
         b.number i o lt,
         λ p k s pl kl. let inside : p * lanes + k < length c.loop-partition.queues.items = (let z = row_fits p partitions lanes k pl kl in omega arith) in
@@ -58,7 +64,8 @@ returns-clause-opened c = let v = c.loop-partition.invariant in let lanes : ℕ 
                 subst (λ (m : ℕ). IsEndOf (place_of m k lanes outboxes) outboxes (get_or c.loop-partition.queues.items (m * lanes + k) l) (get_or (get_or c.loop-partition.inboxes.items p x).ends.items k s)) (sym same)
                 (f.0, f.1 ∙ (λ j. taker (place_of p k lanes outboxes) outboxes (sym f.1 j).taken (sym f.1 j).known));
           };
-          untold = fresh_untold lanes outboxes p c.loop-partition.queues.items (get_or c.loop-partition.inboxes.items p x).ends.items e (let f = row_fits p partitions lanes 0 lt (omega arith) in let z : 0 < length c.loop-partition.queues.items = omega arith in z);
+          untold = fresh_untold lanes outboxes p c.loop-partition.queues.items (get_or c.loop-partition.inboxes.items p x).ends.items e
+              (let f = row_fits p partitions lanes 0 lt (omega arith) in let z : 0 < length c.loop-partition.queues.items = omega arith in z);
         },
         n.partition p x (omega arith),
         λ k s kl. let inside : p * lanes + k < length c.loop-partition.queues.items = (let z = row_fits p partitions lanes k lt kl in omega arith) in

@@ -20,7 +20,8 @@ returns-in-Ok-clause-same g c =
         many = length-set o.stubs.items at new ∙ r.many;
         below = r.below;
         tokens = λ p k l s pl kl. kept (IsStubOf (where_at x p k) o.number) x.queues.items o.stubs.items (p * x.lanes + k) at (p * x.lanes + k) at queue new a.1 (let z = r.many in let y = a.1 in omega arith) b (λ is. is)
-            (λ is. let here = ap (λ (z : Stub). (view z.pass).place) d ∙ ap (λ (m : ℕ). (view (get_or o.stubs.items m old).pass).place) (sym is) ∙ ap (λ (v : Trace). v.place) (r.tokens p k queue old pl kl).1 in subst (λ w. IsStubOf w o.number queue new) here e)
+            (λ is. let here = ap (λ (z : Stub). (view z.pass).place) d ∙ ap (λ (m : ℕ). (view (get_or o.stubs.items m old).pass).place) (sym is)
+            ∙ ap (λ (v : Trace). v.place) (r.tokens p k queue old pl kl).1 in subst (λ w. IsStubOf w o.number queue new) here e)
             (λ l' s'. r.tokens p k l' s' pl kl)
             l s;
       },
@@ -45,7 +46,8 @@ returns-in-Err-clause-same g c =
         many = length-set o.stubs.items at new ∙ r.many;
         below = r.below;
         tokens = λ p k l s pl kl. kept (IsStubOf (where_at x p k) o.number) x.queues.items o.stubs.items (p * x.lanes + k) at (p * x.lanes + k) at queue new a.1 (let z = r.many in let y = a.1 in omega arith) b (λ is. is)
-            (λ is. let here = ap (λ (z : Stub). (view z.pass).place) d ∙ ap (λ (m : ℕ). (view (get_or o.stubs.items m old).pass).place) (sym is) ∙ ap (λ (v : Trace). v.place) (r.tokens p k queue old pl kl).1 in subst (λ w. IsStubOf w o.number queue new) here e)
+            (λ is. let here = ap (λ (z : Stub). (view z.pass).place) d ∙ ap (λ (m : ℕ). (view (get_or o.stubs.items m old).pass).place) (sym is)
+            ∙ ap (λ (v : Trace). v.place) (r.tokens p k queue old pl kl).1 in subst (λ w. IsStubOf w o.number queue new) here e)
             (λ l' s'. r.tokens p k l' s' pl kl)
             l s;
       },
@@ -61,7 +63,8 @@ returns-in-Err-clause-sent g c =
     let before : sent_of old ≡ get_or S Q [] = sym (was sent_of o.stubs.items at old [] lt d) ∙ ap (λ (m : ℕ). get_or S m []) q in
     let t = c.in-Err.ensures.told in let lane : ℕ = c.args.parcel.number % x.lanes in
     let is : c.args.parcel.partition * x.lanes + lane ≡ at = sym q in
-    let here = ap (λ (z : Stub). (view z.pass).place) d ∙ ap (λ (m : ℕ). (view (get_or o.stubs.items m old).pass).place) (sym is) ∙ ap (λ (v : Trace). v.place) (r.tokens c.args.parcel.partition lane queue old c.requires.1 (let z = x.limits in omega arith)).1 in
+    let here = ap (λ (z : Stub). (view z.pass).place) d ∙ ap (λ (m : ℕ). (view (get_or o.stubs.items m old).pass).place) (sym is)
+    ∙ ap (λ (v : Trace). v.place) (r.tokens c.args.parcel.partition lane queue old c.requires.1 (let z = x.limits in omega arith)).1 in
     let cap : ruled_capacity queue ≡ x.capacity = ap ruled_capacity b ∙ x.room at queue a.1 in (
       ap (λ z. z.parcel) t.0,
       map-set_same sent_of o.stubs.items at new old (t.1 ∙ ap sent_of d),

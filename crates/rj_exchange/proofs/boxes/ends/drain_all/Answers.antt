@@ -9,13 +9,15 @@ use Rattle.rj_exchange.proofs.Stubs.{any_default}
 use Rattle.rj_exchange.proofs.boxes.ends.drain_all.Goals as goal
 
 pub drain_at-requires-clause-end : goal.drain_at-requires-clause-end
-drain_at-requires-clause-end g c = let v = c.loop-lane.invariant in let k : ℕ = c.loop-lane.lane in let old : Stub = c.index_mut.result.now in let room : PostedVec = c.index_mut-in-loop-lane.result.now in let queue : Queue = c.index.result.now in
+drain_at-requires-clause-end g c =
+    let v = c.loop-lane.invariant in let k : ℕ = c.loop-lane.lane in let old : Stub = c.index_mut.result.now in let room : PostedVec = c.index_mut-in-loop-lane.result.now in let queue : Queue = c.index.result.now in
     let lt : k < c.args.exchange.now.lanes = c.loop-lane-test.true in let mine = c.index_mut.ensures.value ∙ v.yet k old (omega arith) in let free = c.index_mut-in-loop-lane.ensures.value ∙ v.empty k room (omega arith) in
     let here = c.index.ensures ∙ ap (λ (m : ℕ). get_or c.args.exchange.now.queues.items m queue) c.index-at.ensures.0 in
     subst (λ (z : Stub × Queue). IsTaker (view z.0.pass).made z.1 z.0) (λ i. (sym mine i, sym here i)) (c.requires.ends.1 k queue old lt)
 
 pub drain_at-requires-clause-room : goal.drain_at-requires-clause-room
-drain_at-requires-clause-room g c = let v = c.loop-lane.invariant in let k : ℕ = c.loop-lane.lane in let old : Stub = c.index_mut.result.now in let room : PostedVec = c.index_mut-in-loop-lane.result.now in let queue : Queue = c.index.result.now in
+drain_at-requires-clause-room g c =
+    let v = c.loop-lane.invariant in let k : ℕ = c.loop-lane.lane in let old : Stub = c.index_mut.result.now in let room : PostedVec = c.index_mut-in-loop-lane.result.now in let queue : Queue = c.index.result.now in
     let lt : k < c.args.exchange.now.lanes = c.loop-lane-test.true in let mine = c.index_mut.ensures.value ∙ v.yet k old (omega arith) in let free = c.index_mut-in-loop-lane.ensures.value ∙ v.empty k room (omega arith) in
     let many = c.requires.rooms.0 in let r = subst (IsRoom c.args.exchange.now.capacity) (sym free) (c.requires.rooms.1 k room (omega arith)) in
     let cap = ap ruled_capacity c.index.ensures ∙ c.args.exchange.now.room c.index-at.result queue c.index-at.ensures.1 in (r.0, (let s = r.1 in omega arith))

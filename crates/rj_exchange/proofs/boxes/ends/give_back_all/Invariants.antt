@@ -8,5 +8,6 @@ abbrev pub invariant-loop-outbox : goal.invariant-loop-outbox
 invariant-loop-outbox l = record {
   many : length l.ends.items ≡ l.exchange.lanes;
   later : IsLater (l.outbox * l.exchange.lanes) l.fn.stubs.items (into_iter_items l.left);
-  knows : (k : ℕ) (q : Queue) (s u : Stub) → k < l.exchange.lanes → Knows (get_or l.exchange.queues.items (l.partition * l.exchange.lanes + k) q) (get_or l.fn.ends.items k s) (known_of l.exchange.lanes l.fn.stubs.items k l.outbox) (get_or l.ends.items k u);
+  knows : (k : ℕ) (q : Queue) (s u : Stub) → k < l.exchange.lanes
+      → Knows (get_or l.exchange.queues.items (l.partition * l.exchange.lanes + k) q) (get_or l.fn.ends.items k s) (known_of l.exchange.lanes l.fn.stubs.items k l.outbox) (get_or l.ends.items k u);
 }

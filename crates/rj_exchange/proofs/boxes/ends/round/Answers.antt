@@ -17,7 +17,8 @@ give_back_at-requires-clause-stub c = let v = c.loop-lane.invariant in let k : �
     subst (λ (z : Stub × Queue × ℕ). IsStubOf (view z.0.pass).place z.2 z.1 z.0) (λ i. (sym first i, sym here i, sym count i)) (c.requires.stubs.1 k queue x lt)
 
 pub loop-lane-preserved : goal.loop-lane-preserved
-loop-lane-preserved c = let v = c.loop-lane.invariant in let k : ℕ = c.loop-lane.lane in let x : Stub = c.in-Some.stub in let old : Stub = c.index_mut.result.now in let new : Stub = c.give_back_at.new.end in let queue : Queue = c.index.result.now in
+loop-lane-preserved c = let v = c.loop-lane.invariant in let k : ℕ = c.loop-lane.lane in let x : Stub = c.in-Some.stub in let old : Stub = c.index_mut.result.now in
+    let new : Stub = c.give_back_at.new.end in let queue : Queue = c.index.result.now in
     let lt : k < c.args.exchange.now.lanes = c.loop-lane-test.true in let all : List Stub = into_iter_items c.args.stubs.now in let qs : List Queue = c.args.exchange.now.queues.items in let ends : List Stub = c.loop-lane.ends.items in
     let items = c.in-Some.ensures.items in
     let first = sym (ap (λ l. get_or l 0 x) items) ∙ v.later.1 0 x ∙ ap (λ (m : ℕ). get_or all m x) (let Z : Type 0 = k + 0 ≡ k in let z : Z = omega arith in z) in
@@ -31,7 +32,8 @@ loop-lane-preserved c = let v = c.loop-lane.invariant in let k : ℕ = c.loop-la
           let d = first ∙ any_default all k x t (omega arith) ∙ ap (λ (m : ℕ). get_or all m t) (sym e) in
           let f = sym (ap (λ (m : ℕ). get_or (set ends k new) m u) e ∙ get_or-set_same ends k new u (omega arith)) in
           subst (λ (z : Queue × Stub × Stub × Stub). IsGrown z.0 z.1 z.2 z.3) (λ i. (a i, b i, d i, f i)) c.give_back_at.ensures)
-          (λ ne. subst (λ (z : Stub). IsGrown (get_or qs (c.args.partition * c.args.exchange.now.lanes + j) q) (get_or c.args.ends.now.items j s) (get_or all j t) z) (sym (get_or-set_other ends k j new u ne)) (v.done j q s t u (omega arith)));
+          (λ ne. subst (λ (z : Stub). IsGrown (get_or qs (c.args.partition * c.args.exchange.now.lanes + j) q) (get_or c.args.ends.now.items j s) (get_or all j t) z)
+          (sym (get_or-set_other ends k j new u ne)) (v.done j q s t u (omega arith)));
       yet = λ j s le. get_or-set_other ends k j new s (λ e. omega arith) ∙ v.yet j s (omega arith);
     }
 

@@ -17,7 +17,8 @@ deal_at-stub-requires c = let v = c.loop-at.invariant.end in (v.0, taker_self _ 
 pub loop-at-preserved : goal.loop-at-preserved
 loop-at-preserved c = let v = c.loop-at.invariant in let k : ℕ = c.loop-at.at in let old : Outbox = c.index_mut.result.now in let new : Outbox = c.give.new.outbox in let stub : Stub = c.deal_at-stub.result in
     let boxes : List Outbox = c.loop-at.boxes.items in let first : List Outbox = c.args.boxes.now.items in let place : Where = place_of c.args.partition c.args.lane c.args.lanes c.args.outboxes in
-    let mine = c.index_mut.ensures.value ∙ v.yet k old (omega arith) in let g = c.in_ok-give.ensures in let d = c.deal_at-stub.ensures in let e = v.end.1 in let many = v.many in let lt : k < length boxes = (let t = c.loop-at-test.true in let z = c.requires.boxes in omega (arith, c.args.boxes.now.ok)) in
+    let mine = c.index_mut.ensures.value ∙ v.yet k old (omega arith) in let g = c.in_ok-give.ensures in let d = c.deal_at-stub.ensures in let e = v.end.1 in let many = v.many in
+    let lt : k < length boxes = (let t = c.loop-at-test.true in let z = c.requires.boxes in omega (arith, c.args.boxes.now.ok)) in
     let before = c.requires.boxes in
     let token : view stub.pass ≡ sender place k [] = d.stub.1 ∙ (λ i. sender (e i).place (e i).made []) in record {
       end = (d.end.0, d.end.1 ∙ (λ i. taker (e i).place ((e i).made + 1) (e i).taken (e i).known));

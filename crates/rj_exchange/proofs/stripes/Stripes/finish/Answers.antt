@@ -45,8 +45,11 @@ len_as-left-requires-clause-rule g c = accounts _ _ c.loop-next.invariant.some
 
 pub returns-then-left-eq0-clause-held : goal.returns-then-left-eq0-clause-held
 returns-then-left-eq0-clause-held g c = let i = c.loop-next.invariant in let none : length c.loop-next.seats.items ≡ 0 = (let a = c.in_default-pop.ensures.cases in omega (arith, c.loop-next.seats.ok)) in
-    let look = c.len_as-left.ensures.rule.1 in
-    ((λ _. all_held _ _ look.0 _ look.2 (let n = i.parts in let m = i.seats in omega arith) i.limit (λ h. let n = i.numbers h in let z = ends (λ s. total h (held s)) _ none in omega arith) (let t = c.if-left-eq0.true in let l = look.1 in omega arith)), λ _. refl)
+    let look = c.len_as-left.ensures.rule.1 in (
+      (λ _. all_held _ _ look.0 _ look.2 (let n = i.parts in let m = i.seats in omega arith) i.limit (λ h. let n = i.numbers h in let z = ends (λ s. total h (held s)) _ none in omega arith)
+          (let t = c.if-left-eq0.true in let l = look.1 in omega arith)),
+      λ _. refl,
+    )
 
 pub returns-then-left-eq0-clause-drawn : goal.returns-then-left-eq0-clause-drawn
 returns-then-left-eq0-clause-drawn g c = let i = c.loop-next.invariant in let none : length c.loop-next.seats.items ≡ 0 = (let a = c.in_default-pop.ensures.cases in omega (arith, c.loop-next.seats.ok)) in
@@ -61,8 +64,11 @@ returns-then-left-eq0-clause-all g c = let i = c.loop-next.invariant in let none
 
 pub returns-clause-held : goal.returns-clause-held
 returns-clause-held g c = let i = c.loop-next.invariant in let none : length c.loop-next.seats.items ≡ 0 = (let a = c.in_default-pop.ensures.cases in omega (arith, c.loop-next.seats.ok)) in
-    let look = c.len_as-left.ensures.rule.1 in
-    ((λ no. absurd (true≢false (sym no))), λ once. absurd (not_all_held _ _ look.0 _ look.2 (let n = i.parts in let m = i.seats in omega arith) i.limit (λ h. let n = i.numbers h in let z = ends (λ s. total h (held s)) _ none in omega arith) (let t = c.if-left-eq0.false in let l = look.1 in omega arith) once))
+    let look = c.len_as-left.ensures.rule.1 in (
+      (λ no. absurd (true≢false (sym no))),
+      λ once. absurd (not_all_held _ _ look.0 _ look.2 (let n = i.parts in let m = i.seats in omega arith) i.limit
+          (λ h. let n = i.numbers h in let z = ends (λ s. total h (held s)) _ none in omega arith) (let t = c.if-left-eq0.false in let l = look.1 in omega arith) once),
+    )
 
 pub returns-clause-drawn : goal.returns-clause-drawn
 returns-clause-drawn g c = let i = c.loop-next.invariant in let none : length c.loop-next.seats.items ≡ 0 = (let a = c.in_default-pop.ensures.cases in omega (arith, c.loop-next.seats.ok)) in

@@ -26,7 +26,8 @@ pub loop-number-preserved : goal.loop-number-preserved
 loop-number-preserved g c = let i = c.loop-number.invariant in let x : ℕ = c.loop-number.number in let e = c.give.ensures in let k = i.knows in let v = view c.loop-number.pass in record {
   pass = (e.pass.0 ∙ i.pass.0, e.pass.2 ∙ i.pass.1);
   knows = e.view ∙ (λ j. share (k j).limit (k j).seats (k j).parts (sym e.view j).held (sym e.view j).drawn (sym e.view j).put);
-  left = λ h. (let w = total-without h x v.held (first_left x c.args.n v.held i.left c.loop-number-test.true) in let a = ap (λ (u : Share). total h u.held) e.view in let m : x + 1 ≡ suc x = omega arith in let b = ap (total_below h) m in let s = i.left h in omega arith);
+  left = λ h. (let w = total-without h x v.held (first_left x c.args.n v.held i.left c.loop-number-test.true) in let a = ap (λ (u : Share). total h u.held) e.view in
+      let m : x + 1 ≡ suc x = omega arith in let b = ap (total_below h) m in let s = i.left h in omega arith);
   drawn = ap (λ (u : Share). u.drawn) e.view ∙ i.drawn;
   put = ap (λ (u : Share). u.put) e.view ∙ ap (λ l. l ++ stripe x 0 ∷ []) i.put ∙ (let m : suc x ≡ x + 1 = omega arith in ap opening m);
 }
