@@ -1,5 +1,6 @@
 -- What has arrived once what was taken is followed by the rest.
-use Rattle.std.proofs.Common.{◌≡◌, ℕ, zero, suc, ◌<◌, ◌≤◌, ◌+◌, ◌*◌, ◌⊎◌, inl, inr, List, [], ◌∷◌, ◌++◌, length, map, get_or, sym, refl, ap, ◌∙◌, subst, arith, lt_of_not-le, mul-le-mul_right, take, drop, set, length-append, length-take-le, length-drop, get_or-set_same, get_or-set_other}
+use Rattle.std.proofs.Common.{◌≡◌, ℕ, zero, suc, ◌<◌, ◌≤◌, ◌+◌, ◌*◌, ◌⊎◌, inl, inr, List, [], ◌∷◌, ◌++◌, length, map, get_or, sym, refl, ap, ◌∙◌, subst, arith, lt_of_not-le, mul-le-mul_right, take}
+use Rattle.std.proofs.Common.{drop, set, length-append, length-take-le, length-drop, get_or-set_same, get_or-set_other}
 use Rattle.std.specs.Prelude.{Contains}
 use Rattle.std.proofs.lemmas.List.{length-map, get_or-take, take_more, drop_more}
 use Rattle.std.proofs.lemmas.List.Elements.{Contains-append_left, Contains-append_right, Contains-append_cases}
@@ -10,7 +11,7 @@ use Rattle.rj_exchange.specs.declared.posted.Posted.{Posted}
 use Rattle.rj_exchange.specs.declared.boxes.Stub.{Stub}
 use Rattle.rj_exchange.specs.Passing.{of, posted_by}
 use Rattle.rj_exchange.specs.Boxes.{PostedVec, sent_of, IsAllSent}
-use Rattle.rj_workers.proofs.Lists.{pick, any_default, row_fits, get_or-map}
+use Rattle.rj_workers.proofs.Lists.{pick, any_default, row_fits, get_or-map, along}
 use Rattle.rj_workers.proofs.Lists.{chosen, passed, past_end, before_end}
 use Rattle.rj_workers.specs.Posts.{Posts, posts_at}
 use Rattle.rj_workers.specs.Arrivals.{Takes, takes_at, IsArrived, IsAllArrived, parcel_of, parcels_of}
@@ -29,9 +30,6 @@ module _ {A : Type 0} where
   pub cons_cases : (x y : A) (xs : List A) → Contains (x ∷ xs) y → (x ≡ y) ⊎ Contains xs y
   cons_cases x y xs (zero, l, e) = inl e
   cons_cases x y xs (suc k, l, e) = inr (k, omega arith, e)
-
-  pub along : (xs ys : List A) (x : A) → xs ≡ ys → Contains xs x → Contains ys x
-  along xs ys x e h = subst (λ l. Contains l x) e h
 
 -- what is of an outbox
 pub of_in : (o : ℕ) (x : Parcel) (xs : List Posted) → Contains xs (posted_by o x) → Contains (of o xs) x
@@ -91,7 +89,8 @@ module _ (outboxes lanes : ℕ) (ss : List Stub) (ts : Takes) (rests : List Post
   ps : Posts
   ps = map sent_of ss
 
-  known : (o k : ℕ) (v : PostedVec) (x : Parcel) → k < lanes → Contains (takes_at ts k ++ (get_or rests k v).items) (posted_by o x) → (o' : ℕ) × (k' : ℕ) × (o' < outboxes) × (k' < lanes) × Contains (posts_at (map sent_of ss) (o' * lanes + k')) x
+  known : (o k : ℕ) (v : PostedVec) (x : Parcel) → k < lanes → Contains (takes_at ts k ++ (get_or rests k v).items) (posted_by o x) → (o' : ℕ) × (k' : ℕ) × (o' < outboxes) × (k' < lanes)
+      × Contains (posts_at (map sent_of ss) (o' * lanes + k')) x
   known o k v x lt h =
       let here : Contains (posts_at (map sent_of ss) (o * lanes + k)) x = along _ _ x (all k v lt o) (of_in o x _ h) in
       let inside : o * lanes + k < length (map sent_of ss) = place_within (map sent_of ss) (o * lanes + k) x here in

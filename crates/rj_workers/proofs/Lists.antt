@@ -1,7 +1,11 @@
 -- Places of lists.
-use Rattle.std.proofs.Common.{◌≡◌, ◌≢◌, ℕ, zero, suc, ◌+◌, ◌*◌, ◌<◌, ◌≤◌, cond, eqb, List, [], ◌∷◌, ◌++◌, length, map, get_or, refl, ap, arith, mul-le-mul_right, eq-eqb, ne_eqb}
+use Rattle.std.proofs.Common.{◌≡◌, ◌≢◌, ℕ, zero, suc, ◌+◌, ◌*◌, ◌<◌, ◌≤◌, cond, eqb, List, [], ◌∷◌, ◌++◌, length, map, get_or, refl, ap, arith, mul-le-mul_right, eq-eqb, ne_eqb, subst}
+use Rattle.std.specs.Prelude.{Contains}
 
 module _ {A : Type 0} where
+  pub along : (xs ys : List A) (x : A) → xs ≡ ys → Contains xs x → Contains ys x
+  along xs ys x e h = subst (λ l. Contains l x) e h
+
   pub any_default : (xs : List A) (i : ℕ) (d e : A) → i < length xs → get_or xs i d ≡ get_or xs i e
   any_default [] i d e lt = absurd (omega arith)
   any_default (x ∷ xs) zero d e lt = refl

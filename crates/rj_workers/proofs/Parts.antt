@@ -8,15 +8,12 @@ use Rattle.rj_exchange.specs.declared.boxes.Stub.{Stub}
 use Rattle.rj_exchange.specs.declared.boxes.Outbox.{Outbox}
 use Rattle.rj_exchange.specs.declared.boxes.Exchange.{Exchange}
 use Rattle.rj_exchange.specs.Boxes.{sent_of, where_at, IsStubOf, AreStubsOf}
-use Rattle.rj_workers.proofs.Lists.{pick, row_fits, get_or-map}
+use Rattle.rj_workers.proofs.Lists.{pick, row_fits, get_or-map, along}
 use Rattle.rj_workers.proofs.Lists.{at_end, before_end}
 use mathlib.Core.Logic.{dite}
 use native.Mathlib.Decide.{ℕ_discrete}
 use Rattle.rj_workers.specs.Posts.{posts_at}
 use Rattle.rj_workers.specs.Arrivals.{IsAllArrived, IsPartition, AreFirstOf, AreOutboxes, stub_lists}
-
-along : (xs ys : List Parcel) (x : Parcel) → xs ≡ ys → Contains xs x → Contains ys x
-along xs ys x e h = subst (λ l. Contains l x) e h
 
 drop_drop : {A : Type 0} (m n k : ℕ) (xs : List A) → k ≡ m + n → drop n (drop m xs) ≡ drop k xs
 drop_drop zero n k xs e = ap (λ i. drop i xs) (let z : n ≡ k = omega arith in z)
@@ -72,10 +69,12 @@ module _ {X : Type 0} (f : X → List Stub) (e : Exchange) (os : List Outbox) (p
       let n = ap length is in let m = length-drop (p * e.lanes) (get_or (stub_lists os) o []) in let k = lists_long e os outs o ol in
       let r : (p + 1) * e.lanes ≤ e.partitions * e.lanes = mul-le-mul_right e.lanes (omega arith) in let t : (p + 1) * e.lanes ≡ p * e.lanes + e.lanes = grind arith in omega arith
 
-  pub left_more : length new ≡ length old → ((o : ℕ) (d : X) → o < length old → f (get_or new o d) ≡ drop e.lanes (f (get_or old o d))) → (q : ℕ) → q ≡ p + 1 → (o : ℕ) → o < e.outboxes → get_or (map f new) o [] ≡ drop (q * e.lanes) (get_or (stub_lists os) o [])
+  pub left_more : length new ≡ length old → ((o : ℕ) (d : X) → o < length old → f (get_or new o d) ≡ drop e.lanes (f (get_or old o d))) → (q : ℕ) → q ≡ p + 1 → (o : ℕ) → o < e.outboxes
+      → get_or (map f new) o [] ≡ drop (q * e.lanes) (get_or (stub_lists os) o [])
   left_more same step q is o ol =
       let lt : o < length old = omega arith in let lt' : o < length new = omega arith in let d : X = pick old o lt in
-      get_or-map f new o d [] lt' ∙ step o d lt ∙ ap (drop e.lanes) (sym (get_or-map f old o d [] lt) ∙ left o ol) ∙ drop_drop (p * e.lanes) e.lanes (q * e.lanes) (get_or (stub_lists os) o []) (ap (λ n. n * e.lanes) is ∙ (let t : (p + 1) * e.lanes ≡ p * e.lanes + e.lanes = grind arith in t))
+      get_or-map f new o d [] lt' ∙ step o d lt ∙ ap (drop e.lanes) (sym (get_or-map f old o d [] lt) ∙ left o ol)
+      ∙ drop_drop (p * e.lanes) e.lanes (q * e.lanes) (get_or (stub_lists os) o []) (ap (λ n. n * e.lanes) is ∙ (let t : (p + 1) * e.lanes ≡ p * e.lanes + e.lanes = grind arith in t))
 
 pub more_each : {A : Type 0} (P : ℕ → A → Type 0) (xs : List A) (x : A) (n : ℕ) → length xs ≡ n → ((p : ℕ) (d : A) → p < n → P p (get_or xs p d)) → P n x → (p : ℕ) (d : A) → p < n + 1 → P p (get_or (xs ++ x ∷ []) p d)
 more_each P xs x n len each now p d lt = dite (ℕ_discrete p n)

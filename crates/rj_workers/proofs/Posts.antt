@@ -1,5 +1,6 @@
 -- How what an outbox has posted grows.
-use Rattle.std.proofs.Common.{◌≡◌, ◌≢◌, ℕ, zero, suc, ◌+◌, ◌*◌, ◌%◌, ◌<◌, ◌≤◌, inl, inr, List, [], ◌∷◌, ◌++◌, length, get_or, set, sym, refl, ap, ◌∙◌, subst, arith, get_or-set_same, get_or-set_other, append_assoc, append-nil, length-append, Some, slice_get}
+use Rattle.std.proofs.Common.{◌≡◌, ◌≢◌, ℕ, zero, suc, ◌+◌, ◌*◌, ◌%◌, ◌<◌, ◌≤◌, inl, inr, List, [], ◌∷◌, ◌++◌, length, get_or, set, sym, refl, ap, ◌∙◌, subst, arith, get_or-set_same, get_or-set_other}
+use Rattle.std.proofs.Common.{append_assoc, append-nil, length-append, Some, slice_get}
 use Rattle.std.proofs.lemmas.List.{get_or_at}
 use Rattle.std.specs.Prelude.{All, Contains}
 use Rattle.std.proofs.lemmas.List.Elements.{Contains-append_left, Contains-push, Contains-push_cases}
@@ -10,11 +11,8 @@ use Rattle.rj_ledger.specs.declared.parcel.Parcel.{Parcel}
 use Rattle.rj_ledger.specs.Cutting.{bodies, numbered, plan}
 use Rattle.rj_exchange.specs.declared.boxes.Exchange.{Exchange}
 use Rattle.rj_exchange.specs.Boxes.{queue_of}
-use Rattle.rj_workers.proofs.Lists.{row_fits, any_default}
+use Rattle.rj_workers.proofs.Lists.{row_fits, any_default, along}
 use Rattle.rj_workers.specs.Posts.{Due, Posts, posts_at, KeepsPosts, AddsLeft, IsPosted, OnlyPlanned, AreAllAt, HasPosted, NothingPosted}
-
-pub along : {A : Type 0} (xs ys : List A) (x : A) → xs ≡ ys → Contains xs x → Contains ys x
-along xs ys x e h = subst (λ l. Contains l x) e h
 
 -- one parcel is posted
 module _ (e : Exchange) (x : Parcel) (old new : Posts) (lt : queue_of e x < length old) (is : new ≡ set old (queue_of e x) (posts_at old (queue_of e x) ++ x ∷ [])) where

@@ -1,12 +1,13 @@
 -- What lists that are posted bit by bit have left.
-use Rattle.std.proofs.Common.{◌≡◌, ℕ, ◌+◌, ◌<◌, ◌≤◌, ◌⊎◌, inl, inr, List, [], ◌∷◌, ◌++◌, length, get_or, set, length-set, sym, refl, ap, ◌∙◌, subst, arith, get_or-set_same, get_or-set_other, length-append, lt_of_not-le, Option, None, Some, slice_get, Bool, true, false, zero, suc}
-use Rattle.std.proofs.lemmas.List.{get_or_at, get_or_append_left}
+use Rattle.std.proofs.Common.{◌≡◌, ℕ, ◌+◌, ◌<◌, ◌≤◌, ◌⊎◌, inl, inr, List, [], ◌∷◌, ◌++◌, length, get_or, set, length-set, sym, refl, ap, ◌∙◌, subst, arith, get_or-set_same, get_or-set_other}
+use Rattle.std.proofs.Common.{length-append, lt_of_not-le, Option, None, Some, slice_get, Bool, true, false, zero, suc}
+use Rattle.std.proofs.lemmas.List.{get_or_at, get_or_append_left, nil_from_length}
 use Rattle.std.proofs.lemmas.List.Elements.{All-contains, Contains-append_left, Contains-push, Contains-push_cases}
 use Rattle.std.specs.Prelude.{Contains, option_to_list, is_some, not, vec_len, ◌&&◌, ◌==◌}
 use Rattle.std.specs.List.{list_all}
 use Rattle.std.specs.List.Sorted.{IsPermutation}
 use Rattle.std.proofs.lemmas.List.Sorted.{Contains-permutation, IsPermutation-sym}
-use Rattle.std.proofs.lemmas.Bool.{eqb-true}
+use Rattle.std.proofs.lemmas.Bool.{eqb-true, and_parts}
 use mathlib.Core.Logic.{dite}
 use native.Mathlib.Decide.{ℕ_discrete, dec_le}
 use Rattle.rj_ledger.specs.declared.parcel.Parcel.{Parcel}
@@ -14,10 +15,10 @@ use Rattle.rj_ledger.specs.Cutting.{plan}
 use Rattle.rj_ledger.specs.Lawful.{IsPlanned}
 use Rattle.rj_exchange.specs.declared.boxes.Exchange.{Exchange}
 use Rattle.rj_exchange.specs.Boxes.{queue_of}
-use Rattle.rj_workers.proofs.Lists.{any_default}
+use Rattle.rj_workers.proofs.Lists.{any_default, along}
 use Rattle.rj_workers.specs.declared.post.Sending.{Sending}
 use Rattle.rj_workers.specs.Posts.{Due, Posts, posts_at, Sent, IsLeft, IsPosted, HasCut, HasPosted, AreInRange, is_sent, to_post}
-use Rattle.rj_workers.proofs.Ends.{none_in, cons_cases, along}
+use Rattle.rj_workers.proofs.Ends.{none_in, cons_cases}
 use Rattle.rj_workers.proofs.Posts.{step_keeps, step_adds, step_has, found_at, cut_placed, all_at}
 
 -- nothing is posted
@@ -39,7 +40,8 @@ sent_more e P Q R a b c f g = record {
 }
 
 -- the last parcel of a list is posted
-pub sent_one : (e : Exchange) (x : Parcel) (xs ys : List Parcel) (old new : Posts) → queue_of e x < length old → new ≡ set old (queue_of e x) (posts_at old (queue_of e x) ++ x ∷ []) → xs ≡ ys ++ x ∷ [] → Sent e (Contains xs) (Contains ys) old new
+pub sent_one : (e : Exchange) (x : Parcel) (xs ys : List Parcel) (old new : Posts) → queue_of e x < length old → new ≡ set old (queue_of e x) (posts_at old (queue_of e x) ++ x ∷ [])
+    → xs ≡ ys ++ x ∷ [] → Sent e (Contains xs) (Contains ys) old new
 sent_one e x xs ys old new lt is all = record {
   kept = step_keeps e x old new lt is;
   added = λ q y h. elim (step_adds e x old new lt is q y h) [
@@ -141,25 +143,17 @@ cut_posted due block sender n e ss ps some cut done p lt =
 eq_zero : (n : ℕ) → (n == 0) ≡ true → n ≡ 0
 eq_zero n e = eqb-true n 0 e
 
-nil_of : {A : Type 0} (xs : List A) → length xs ≡ 0 → xs ≡ []
-nil_of [] e = refl
-nil_of (x ∷ xs) e = absurd (omega arith)
-
 none_next : (o : Option Parcel) → not (is_some o) ≡ true → option_to_list o ≡ []
 none_next None e = refl
 none_next (Some y) e = cc
 
-both : (a b : Bool) → (a && b) ≡ true → (a ≡ true) × (b ≡ true)
-both true b e = (refl, e)
-both false b e = cc
-
 none_sent : (s : Sending) (x : Parcel) → is_sent s ≡ true → Contains (to_post s) x → ⊥
 none_sent s x e h =
-    let t = both (not (is_some s.next)) (vec_len s.rest == 0) e in let n = eq_zero (vec_len s.rest) t.1 in let k = s.rest.ok.0 in
-    let nil : s.rest.items ≡ [] = nil_of s.rest.items (omega arith) in
+    let t = and_parts (not (is_some s.next)) (vec_len s.rest == 0) e in let n = eq_zero (vec_len s.rest) t.1 in let k = s.rest.ok.0 in
+    let nil : s.rest.items ≡ [] = nil_from_length s.rest.items (omega arith) in
     none_in x (along _ _ x (ap (λ (l : List Parcel). l ++ option_to_list s.next) nil ∙ none_next s.next t.0) h)
 
 pub none_left : (ss : List Sending) (x : Parcel) → list_all is_sent ss ≡ true → IsLeft ss x → ⊥
 none_left [] x all h = absurd (let l = h.1 in omega arith)
-none_left (s ∷ ss) x all (zero, l, g) = none_sent s x (both (is_sent s) (list_all is_sent ss) all).0 (g s)
-none_left (s ∷ ss) x all (suc i, l, g) = none_left ss x (both (is_sent s) (list_all is_sent ss) all).1 (i, omega arith, g)
+none_left (s ∷ ss) x all (zero, l, g) = none_sent s x (and_parts (is_sent s) (list_all is_sent ss) all).0 (g s)
+none_left (s ∷ ss) x all (suc i, l, g) = none_left ss x (and_parts (is_sent s) (list_all is_sent ss) all).1 (i, omega arith, g)

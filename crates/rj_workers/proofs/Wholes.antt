@@ -24,7 +24,7 @@ use Rattle.rj_exchange.specs.Halt.{IsHaltSeatOf, AnyRaised, AnySeen}
 use Rattle.rj_exchange.specs.Stripes.{held, Holds}
 use Rattle.rj_exchange.specs.Tickets.{times, EachOnce}
 use Rattle.rj_exchange.specs.Totals.{total}
-use Rattle.rj_workers.proofs.Lists.{pick, any_default, get_or-map}
+use Rattle.rj_workers.proofs.Lists.{pick, any_default, get_or-map, along}
 use Rattle.rj_workers.specs.declared.scan.Scanner.{Scanner}
 use Rattle.rj_workers.specs.declared.take.Taker.{Taker}
 use Rattle.rj_workers.specs.declared.ending.Ended.{Ended}
@@ -34,9 +34,6 @@ use Rattle.rj_workers.specs.Scans.{Stopped, AreScans, HasPostedStripe}
 use Rattle.rj_workers.specs.Takes.{Builds, IsHeldOf, AreTakes}
 use Rattle.rj_workers.specs.Ends.{IsEnded, IsSettled}
 use Rattle.rj_workers.proofs.Parts.{lists_at}
-
-along : (xs ys : List Parcel) (x : Parcel) → xs ≡ ys → Contains xs x → Contains ys x
-along xs ys x e h = subst (λ l. Contains l x) e h
 
 -- seats that have neither raised nor seen the word
 abbrev pub IsCalm : HaltSeat → Type 0
@@ -85,11 +82,13 @@ module _ {T : Type 0} (due : Due) (builds : Builds T) (stripes block : ℕ) (e :
 
   pub scans_calm : (ss : List HaltSeat) → ss ≡ seats_of_all rs ts own → All IsCalm ss → (o : ℕ) (d : Scanner) → o < e.outboxes → IsCalm (get_or rs o d).seat
   scans_calm ss is calm o d lt = All_of_map rs (λ (r : Scanner). r.seat) IsCalm
-      (All_left IsCalm (map (λ (r : Scanner). r.seat) rs) (map (λ (t : Taker T). t.seat) ts) (All_left IsCalm (map (λ (r : Scanner). r.seat) rs ++ map (λ (t : Taker T). t.seat) ts) (own ∷ []) (subst (All IsCalm) is calm))) o d (let n = scans.0 in omega arith)
+      (All_left IsCalm (map (λ (r : Scanner). r.seat) rs) (map (λ (t : Taker T). t.seat) ts)
+      (All_left IsCalm (map (λ (r : Scanner). r.seat) rs ++ map (λ (t : Taker T). t.seat) ts) (own ∷ []) (subst (All IsCalm) is calm))) o d (let n = scans.0 in omega arith)
 
   pub takes_held : (ss : List HaltSeat) → ss ≡ seats_of_all rs ts own → All IsCalm ss → All (λ (t : Taker T). All (IsHeldOf builds e stripes block) t.all.items) ts
   takes_held ss is calm i d lt =
-      let quiet = All_of_map ts (λ (t : Taker T). t.seat) IsCalm (All_right IsCalm (map (λ (r : Scanner). r.seat) rs) (map (λ (t : Taker T). t.seat) ts) (All_left IsCalm (map (λ (r : Scanner). r.seat) rs ++ map (λ (t : Taker T). t.seat) ts) (own ∷ []) (subst (All IsCalm) is calm))) i d lt in
+      let quiet = All_of_map ts (λ (t : Taker T). t.seat) IsCalm
+      (All_right IsCalm (map (λ (r : Scanner). r.seat) rs) (map (λ (t : Taker T). t.seat) ts) (All_left IsCalm (map (λ (r : Scanner). r.seat) rs ++ map (λ (t : Taker T). t.seat) ts) (own ∷ []) (subst (All IsCalm) is calm))) i d lt in
       elim (takes.1 i d lt).held [ inl s ↦ absurd (quiet s) | inr a ↦ a ]
 
 -- a stripe that is held is some scanner's
@@ -117,7 +116,9 @@ module _ (due : Due) (stripes block : ℕ) (e : Exchange) (h : Halt) (st : Strip
 
 -- what scanners that are calm have posted is planned, and is all of the stripes, which they hold each once
 module _ (due : Due) (stripes block : ℕ) (e : Exchange) (h : Halt) (st : Stripes) (rs : List Scanner) (scans : AreScans due block stripes e h st rs)
-    (calm : (o : ℕ) (d : Scanner) → o < e.outboxes → IsCalm (get_or rs o d).seat) (once : EachOnce stripes (map held (map (λ (r : Scanner). r.draws) rs))) (suffice : (q : ℕ) (xs : List Parcel) → All (IsPlanned due block) xs → ((s : ℕ) → s < stripes + stripes → All (Contains xs) (plan block (due s q) s q)) → DeliversAll due q (stripes + stripes) (after_all (opened q (stripes + stripes) block) xs)) where
+    (calm : (o : ℕ) (d : Scanner) → o < e.outboxes → IsCalm (get_or rs o d).seat) (once : EachOnce stripes (map held (map (λ (r : Scanner). r.draws) rs)))
+    (suffice : (q : ℕ) (xs : List Parcel) → All (IsPlanned due block) xs → ((s : ℕ) → s < stripes + stripes → All (Contains xs) (plan block (due s q) s q))
+    → DeliversAll due q (stripes + stripes) (after_all (opened q (stripes + stripes) block) xs)) where
   -- each stripe was posted by the scanner that holds it
   posted_by_some : (x : ℕ) → x < stripes → (o : ℕ) × (o < e.outboxes) × ((d : Scanner) → HasPostedStripe due block stripes e x (sents (get_or rs o d).outbox))
   posted_by_some x lt =

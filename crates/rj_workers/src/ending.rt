@@ -156,7 +156,8 @@ pub(crate) fn finish_all<R: Wait, J: Job>(
     ensures len { IfOk result (λ v. length v.items ≡ shared.now.exchange.now.partitions) }
     ensures each { let senders = shared.now.crew.workers + shared.now.crew.workers in
         IfOk result (λ v. (p : ℕ) (d : _) → p < shared.now.exchange.now.partitions →
-        IsEnded (J.builds shared.now.job.now) senders shared.now.crew.block shared.now.exchange.now (stub_lists outboxes.items) p (slice_index_or v.items p d)) }
+        IsEnded (J.builds shared.now.job.now) senders shared.now.crew.block shared.now.exchange.now (stub_lists outboxes.items) p
+        (slice_index_or v.items p d)) }
 {
     let mut lists = lists_of(alloc, outboxes)?;
     let mut all = Vec::new(alloc);

@@ -18,18 +18,23 @@ ended_at builds due senders n xs ys zs all x is parts len each =
 
 pub build_one-requires-clause-senders : goal.build_one-requires-clause-senders
 build_one-requires-clause-senders g c =
-    let s = ended_at (g.J.Job.builds c.args.job.now) (g.J.Job.due c.args.job.now) (g.J.Job.stripes c.args.job.now + g.J.Job.stripes c.args.job.now) (g.J.Job.partitions c.args.job.now) c.loop-ended.yielded (into_iter_items c.loop-ended.ended-iterator) (into_iter_items c.next.new.self) c.args.all.items c.in-Some.ended c.in-Some.ensures.steps.0 c.loop-ended.invariant.rest c.requires.len c.requires.each in
+    let s = ended_at (g.J.Job.builds c.args.job.now) (g.J.Job.due c.args.job.now) (g.J.Job.stripes c.args.job.now + g.J.Job.stripes c.args.job.now)
+    (g.J.Job.partitions c.args.job.now) c.loop-ended.yielded (into_iter_items c.loop-ended.ended-iterator)
+    (into_iter_items c.next.new.self) c.args.all.items c.in-Some.ended c.in-Some.ensures.steps.0 c.loop-ended.invariant.rest c.requires.len c.requires.each in
     s.1.delivered.0
 
 pub build_one-requires-clause-rows : goal.build_one-requires-clause-rows
 build_one-requires-clause-rows g c =
     let due : Due = g.J.Job.due c.args.job.now in let senders : ℕ = g.J.Job.stripes c.args.job.now + g.J.Job.stripes c.args.job.now in
-    let s = ended_at (g.J.Job.builds c.args.job.now) due senders (g.J.Job.partitions c.args.job.now) c.loop-ended.yielded (into_iter_items c.loop-ended.ended-iterator) (into_iter_items c.next.new.self) c.args.all.items c.in-Some.ended c.in-Some.ensures.steps.0 c.loop-ended.invariant.rest c.requires.len c.requires.each in
+    let s = ended_at (g.J.Job.builds c.args.job.now) due senders (g.J.Job.partitions c.args.job.now) c.loop-ended.yielded (into_iter_items c.loop-ended.ended-iterator)
+    (into_iter_items c.next.new.self) c.args.all.items c.in-Some.ended c.in-Some.ensures.steps.0 c.loop-ended.invariant.rest c.requires.len c.requires.each in
     subst (g.J.Job.joinable c.args.job.now) (sym (delivered_rows due senders (length c.loop-ended.yielded) c.in-Some.ended.ledger s.1.delivered)) (c.requires.due (length c.loop-ended.yielded) s.0)
 
 pub build_one-requires-clause-built : goal.build_one-requires-clause-built
 build_one-requires-clause-built g c =
-    let s = ended_at (g.J.Job.builds c.args.job.now) (g.J.Job.due c.args.job.now) (g.J.Job.stripes c.args.job.now + g.J.Job.stripes c.args.job.now) (g.J.Job.partitions c.args.job.now) c.loop-ended.yielded (into_iter_items c.loop-ended.ended-iterator) (into_iter_items c.next.new.self) c.args.all.items c.in-Some.ended c.in-Some.ensures.steps.0 c.loop-ended.invariant.rest c.requires.len c.requires.each in
+    let s = ended_at (g.J.Job.builds c.args.job.now) (g.J.Job.due c.args.job.now) (g.J.Job.stripes c.args.job.now + g.J.Job.stripes c.args.job.now)
+    (g.J.Job.partitions c.args.job.now) c.loop-ended.yielded (into_iter_items c.loop-ended.ended-iterator)
+    (into_iter_items c.next.new.self) c.args.all.items c.in-Some.ended c.in-Some.ensures.steps.0 c.loop-ended.invariant.rest c.requires.len c.requires.each in
     subst (λ (p : ℕ). IsBuilding (g.J.Job.builds c.args.job.now) p c.in-Some.ended.ledger c.in-Some.ended.building) (sym s.1.number) s.1.built
 
 pub loop-ended-preserved : goal.loop-ended-preserved
@@ -41,7 +46,8 @@ loop-ended-preserved g c =
     let long : length (xs ++ x ∷ []) ≡ length xs + 1 = length-append xs (x ∷ []) in
     let r = c.in_ok-ledger.ensures in let p : ℕ = length xs in
     let here : IsDelivered due senders p c.in_ok-ledger.ledger = subst (IsDelivered due senders p) (sym r.ledger) s.1.delivered in
-    let kept = subst (λ (rows : List (List ℕ)). builds p rows c.in_ok-ledger.one) (delivered_rows due senders p x.ledger s.1.delivered) (subst (λ (q : ℕ). builds q (rows_by_sender x.ledger) c.in_ok-ledger.one) s.1.number r.built) in record {
+    let kept = subst (λ (rows : List (List ℕ)). builds p rows c.in_ok-ledger.one) (delivered_rows due senders p x.ledger s.1.delivered)
+    (subst (λ (q : ℕ). builds q (rows_by_sender x.ledger) c.in_ok-ledger.one) s.1.number r.built) in record {
       rest = next_is xs ys zs c.args.all.items x steps.0 v.rest;
       rest_len = next_len ys zs x _ _ steps.0 v.rest_len steps.1;
       ledgers_len = kept_len c.loop-ended.ledgers.items c.push.new.self.items c.in_ok-ledger.ledger p (length (xs ++ x ∷ [])) c.in_ok-push.ensures.items v.ledgers_len long;

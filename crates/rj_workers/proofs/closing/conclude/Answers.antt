@@ -19,7 +19,8 @@ use Rattle.rj_workers.proofs.Wholes.{seats_of_all, seats_are, seats_many, all_ca
 use Rattle.rj_workers.proofs.closing.conclude.Goals as goal
 
 -- the seats of all, from how they were put behind one another
-all_seats : {T : Type 0} (old a b c : List HaltSeat) (rs : List Scanner) (ts : List (Taker T)) (own : HaltSeat) → old ≡ [] → a ≡ old ++ map (λ (r : Scanner). r.seat) rs → b ≡ a ++ map (λ (t : Taker T). t.seat) ts → c ≡ b ++ own ∷ [] → c ≡ seats_of_all rs ts own
+all_seats : {T : Type 0} (old a b c : List HaltSeat) (rs : List Scanner) (ts : List (Taker T)) (own : HaltSeat) → old ≡ [] → a ≡ old ++ map (λ (r : Scanner). r.seat) rs
+    → b ≡ a ++ map (λ (t : Taker T). t.seat) ts → c ≡ b ++ own ∷ [] → c ≡ seats_of_all rs ts own
 all_seats old a b c rs ts own e f g h = h ∙ ap (λ (l : List HaltSeat). l ++ own ∷ []) (g ∙ ap (λ (l : List HaltSeat). l ++ map (λ (t : Taker _). t.seat) ts) (f ∙ ap (λ (l : List HaltSeat). l ++ map (λ (r : Scanner). r.seat) rs) e))
 
 all_draws : (old a : List StripeSeat) (rs : List Scanner) → old ≡ [] → a ≡ old ++ map (λ (r : Scanner). r.draws) rs → a ≡ map (λ (r : Scanner). r.draws) rs
@@ -27,44 +28,54 @@ all_draws old a rs e f = f ∙ ap (λ (l : List StripeSeat). l ++ map (λ (r : S
 
 pub are_calm-requires : goal.are_calm-requires
 are_calm-requires g c =
-    let is = all_seats c.new-seats.result.items c.hand_scanned.new.seats.items c.hand_taken.new.seats.items c.add.new.list.items c.args.back.scanners.items c.args.back.takers.items c.args.own c.new-seats.ensures.items c.in_ok-outboxes.ensures.seats c.in_ok-groups.ensures.seats c.in_ok-add.ensures in
+    let is = all_seats c.new-seats.result.items c.hand_scanned.new.seats.items c.hand_taken.new.seats.items c.add.new.list.items c.args.back.scanners.items c.args.back.takers.items c.args.own
+    c.new-seats.ensures.items c.in_ok-outboxes.ensures.seats c.in_ok-groups.ensures.seats c.in_ok-add.ensures in
     let due : Due = g.J.Job.due c.args.shared.now.job.now in let builds : Builds _ = g.J.Job.builds c.args.shared.now.job.now in let e : Exchange = c.args.shared.now.exchange.now in let r = c.requires in (
-      seats_many due builds c.args.shared.now.crew.workers c.args.shared.now.crew.block e c.args.words.halt c.args.words.stripes c.args.back.scanners.items c.args.back.takers.items c.args.own r.back.scanned r.back.taken r.own c.add.new.list.items is ∙ ap (λ (n : ℕ). n + n + 1) r.words.1 ∙ sym r.words.0.halt_seats,
-      seats_are due builds c.args.shared.now.crew.workers c.args.shared.now.crew.block e c.args.words.halt c.args.words.stripes c.args.back.scanners.items c.args.back.takers.items c.args.own r.back.scanned r.back.taken r.own c.add.new.list.items is,
+      seats_many due builds c.args.shared.now.crew.workers c.args.shared.now.crew.block e c.args.words.halt c.args.words.stripes c.args.back.scanners.items c.args.back.takers.items
+          c.args.own r.back.scanned r.back.taken r.own c.add.new.list.items is ∙ ap (λ (n : ℕ). n + n + 1) r.words.1 ∙ sym r.words.0.halt_seats,
+      seats_are due builds c.args.shared.now.crew.workers c.args.shared.now.crew.block e c.args.words.halt c.args.words.stripes c.args.back.scanners.items c.args.back.takers.items
+          c.args.own r.back.scanned r.back.taken r.own c.add.new.list.items is,
     )
 
 pub are_scanned-requires : goal.are_scanned-requires
 are_scanned-requires g c =
     let rs : List Scanner = c.args.back.scanners.items in let scans = c.requires.back.scanned in let e : Exchange = c.args.shared.now.exchange.now in
     let is = all_draws c.new-draws.result.items c.hand_scanned.new.draws.items rs c.new-draws.ensures.items c.in_ok-outboxes.ensures.draws in
-    subst (AreAllStripeSeats c.args.words.stripes) (sym is)
-    (length-map rs (λ (r : Scanner). r.draws) ∙ scans.0 ∙ sym (c.requires.words.0.stripe_seats ∙ sym c.requires.words.1), All-map (IsStripeSeatOf c.args.words.stripes) (λ (r : Scanner). r.draws) rs (λ i d lt. (scans.1 i d (subst (λ (n : ℕ). i < n) scans.0 lt)).scanner.draws))
+    subst (AreAllStripeSeats c.args.words.stripes) (sym is) (
+      length-map rs (λ (r : Scanner). r.draws) ∙ scans.0 ∙ sym (c.requires.words.0.stripe_seats ∙ sym c.requires.words.1),
+      All-map (IsStripeSeatOf c.args.words.stripes) (λ (r : Scanner). r.draws) rs (λ i d lt. (scans.1 i d (subst (λ (n : ℕ). i < n) scans.0 lt)).scanner.draws),
+    )
 
 pub place_all-requires : goal.place_all-requires
 place_all-requires g c =
-    let is = all_seats c.new-seats.result.items c.hand_scanned.new.seats.items c.hand_taken.new.seats.items c.add.new.list.items c.args.back.scanners.items c.args.back.takers.items c.args.own c.new-seats.ensures.items c.in_ok-outboxes.ensures.seats c.in_ok-groups.ensures.seats c.in_ok-add.ensures in
+    let is = all_seats c.new-seats.result.items c.hand_scanned.new.seats.items c.hand_taken.new.seats.items c.add.new.list.items c.args.back.scanners.items c.args.back.takers.items c.args.own
+    c.new-seats.ensures.items c.in_ok-outboxes.ensures.seats c.in_ok-groups.ensures.seats c.in_ok-add.ensures in
     let due : Due = g.J.Job.due c.args.shared.now.job.now in let builds : Builds _ = g.J.Job.builds c.args.shared.now.job.now in let e : Exchange = c.args.shared.now.exchange.now in let r = c.requires in
     let count : ℕ = c.args.shared.now.crew.workers in let block : ℕ = c.args.shared.now.crew.block in
     let calm = all_calm c.add.new.list.items (c.if-not-are_calm.ensures.raised refl) (c.if-not-are_calm.ensures.seen refl) in
     let held = takes_held due builds count block e c.args.words.halt c.args.words.stripes c.args.back.scanners.items c.args.back.takers.items c.args.own r.back.scanned r.back.taken r.own c.add.new.list.items is calm in
-    subst (All (λ (v : Vec (Held _) Global). All (IsHeldOf builds e count block) v.items)) (sym c.in_ok-groups.ensures.groups) (All-map (λ (v : Vec (Held _) Global). All (IsHeldOf builds e count block) v.items) (λ (t : Taker _). t.all) c.args.back.takers.items held)
+    subst (All (λ (v : Vec (Held _) Global). All (IsHeldOf builds e count block) v.items)) (sym c.in_ok-groups.ensures.groups)
+    (All-map (λ (v : Vec (Held _) Global). All (IsHeldOf builds e count block) v.items) (λ (t : Taker _). t.all) c.args.back.takers.items held)
 
 pub finish_all-requires-clause-outboxes : goal.finish_all-requires-clause-outboxes
 finish_all-requires-clause-outboxes g c =
-    let is = all_seats c.new-seats.result.items c.hand_scanned.new.seats.items c.hand_taken.new.seats.items c.add.new.list.items c.args.back.scanners.items c.args.back.takers.items c.args.own c.new-seats.ensures.items c.in_ok-outboxes.ensures.seats c.in_ok-groups.ensures.seats c.in_ok-add.ensures in
+    let is = all_seats c.new-seats.result.items c.hand_scanned.new.seats.items c.hand_taken.new.seats.items c.add.new.list.items c.args.back.scanners.items c.args.back.takers.items c.args.own
+    c.new-seats.ensures.items c.in_ok-outboxes.ensures.seats c.in_ok-groups.ensures.seats c.in_ok-add.ensures in
     let due : Due = g.J.Job.due c.args.shared.now.job.now in let builds : Builds _ = g.J.Job.builds c.args.shared.now.job.now in let e : Exchange = c.args.shared.now.exchange.now in let r = c.requires in
     let count : ℕ = c.args.shared.now.crew.workers in let block : ℕ = c.args.shared.now.crew.block in
     subst (AreOutboxes e) (sym c.in_ok-outboxes.ensures.outboxes) (scans_outboxes due count block e c.args.words.halt c.args.words.stripes c.args.back.scanners.items r.back.scanned)
 
 pub returns-clause-each : goal.returns-clause-each
 returns-clause-each g c =
-    let is = all_seats c.new-seats.result.items c.hand_scanned.new.seats.items c.hand_taken.new.seats.items c.add.new.list.items c.args.back.scanners.items c.args.back.takers.items c.args.own c.new-seats.ensures.items c.in_ok-outboxes.ensures.seats c.in_ok-groups.ensures.seats c.in_ok-add.ensures in
+    let is = all_seats c.new-seats.result.items c.hand_scanned.new.seats.items c.hand_taken.new.seats.items c.add.new.list.items c.args.back.scanners.items c.args.back.takers.items c.args.own
+    c.new-seats.ensures.items c.in_ok-outboxes.ensures.seats c.in_ok-groups.ensures.seats c.in_ok-add.ensures in
     let due : Due = g.J.Job.due c.args.shared.now.job.now in let builds : Builds _ = g.J.Job.builds c.args.shared.now.job.now in let e : Exchange = c.args.shared.now.exchange.now in let r = c.requires in
     let count : ℕ = c.args.shared.now.crew.workers in let block : ℕ = c.args.shared.now.crew.block in let rs : List Scanner = c.args.back.scanners.items in
     let calm = all_calm c.add.new.list.items (c.if-not-are_calm.ensures.raised refl) (c.if-not-are_calm.ensures.seen refl) in
     let quiet = scans_calm due builds count block e c.args.words.halt c.args.words.stripes rs c.args.back.takers.items c.args.own r.back.scanned r.back.taken r.own c.add.new.list.items is calm in
     let drew = all_draws c.new-draws.result.items c.hand_scanned.new.draws.items rs c.new-draws.ensures.items c.in_ok-outboxes.ensures.draws in
     let each : EachOnce c.args.words.stripes.limit (map held c.hand_scanned.new.draws.items) = c.if-not-are_scanned.ensures refl in
-    let once : EachOnce count (map held (map (λ (z : Scanner). z.draws) rs)) = subst (λ (n : ℕ). EachOnce n (map held (map (λ (z : Scanner). z.draws) rs))) r.words.0.drawn (subst (λ (l : List StripeSeat). EachOnce c.args.words.stripes.limit (map held l)) drew each) in
+    let once : EachOnce count (map held (map (λ (z : Scanner). z.draws) rs)) = subst (λ (n : ℕ). EachOnce n (map held (map (λ (z : Scanner). z.draws) rs))) r.words.0.drawn
+    (subst (λ (l : List StripeSeat). EachOnce c.args.words.stripes.limit (map held l)) drew each) in
     λ p d pl. settled_of due count block e c.args.words.halt c.args.words.stripes rs r.back.scanned quiet once (λ q xs. c.contained_suffice.ensures due block q (count + count) r.block xs) builds p (get_or c.in_ok-all.all.items p d) pl
     (subst (λ (l : List Outbox). IsEnded builds (count + count) block e (stub_lists l) p (get_or c.in_ok-all.all.items p d)) c.in_ok-outboxes.ensures.outboxes (c.in_ok-all.ensures.each p d pl))

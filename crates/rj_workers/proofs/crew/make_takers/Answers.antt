@@ -16,7 +16,8 @@ loop-draws-preserved g c =
     let long : length (xs ++ x ∷ []) ≡ length xs + 1 = length-append xs (x ∷ []) in
     let here = subst (IsSeatOf c.args.words.now.tickets) n.1 (c.requires.draws (length xs) x n.0) in
     let new : Taker _ = record { all = c.new.result; seat = c.in-Some-next_seat.seat; look = c.in-Some-next_seat-2.look; draws = x } in
-    let is : IsNewTaker c.args.words.now.halt c.args.words.now.done c.args.words.now.tickets new = (record { seat = c.in-Some-next_seat.ensures.seat; look = c.in-Some-next_seat-2.ensures.seat; draws = here }, c.new.ensures.items) in record {
+    let is : IsNewTaker c.args.words.now.halt c.args.words.now.done c.args.words.now.tickets new =
+    (record { seat = c.in-Some-next_seat.ensures.seat; look = c.in-Some-next_seat-2.ensures.seat; draws = here }, c.new.ensures.items) in record {
       rest = next_is xs ys zs all x steps.0 v.rest;
       rest_len = next_len ys zs x _ _ steps.0 v.rest_len steps.1;
       seats = c.in-Some-next_seat.ensures.seats;

@@ -22,4 +22,5 @@ returns-clause-arrived g c =
 pub returns-clause-built : goal.returns-clause-built
 returns-clause-built g c =
     let h = c.requires.held in let v : LedgerValue = c.args.held.ledger in
-    building_kept (g.J.Job.builds c.args.shared.now.job.now) c.args.held.inbox.partition v c.offer_rests.new.ledger (λ whole. c.in_ok-offer_rests.ensures ∙ c.complete_stays.ensures.stays v (parcels_of c.in-Ok.finished.rest.items) whole) c.args.held.building h.built
+    building_kept (g.J.Job.builds c.args.shared.now.job.now) c.args.held.inbox.partition v c.offer_rests.new.ledger
+    (λ whole. c.in_ok-offer_rests.ensures ∙ c.complete_stays.ensures.stays v (parcels_of c.in-Ok.finished.rest.items) whole) c.args.held.building h.built

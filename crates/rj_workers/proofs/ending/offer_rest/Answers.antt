@@ -9,7 +9,8 @@ use Rattle.rj_workers.proofs.ending.offer_rest.Goals as goal
 
 pub loop-posted-preserved : goal.loop-posted-preserved
 loop-posted-preserved c =
-    let v = c.loop-posted.invariant in let x : Posted = c.in-Some.posted in let xs : List Posted = c.loop-posted.yielded in let ys : List Posted = into_iter_items c.loop-posted.posted-iterator in let zs : List Posted = into_iter_items c.next.new.self in
+    let v = c.loop-posted.invariant in let x : Posted = c.in-Some.posted in let xs : List Posted = c.loop-posted.yielded in let ys : List Posted = into_iter_items c.loop-posted.posted-iterator in
+    let zs : List Posted = into_iter_items c.next.new.self in
     let steps = c.in-Some.ensures.steps in let first : LedgerValue = c.args.ledger.now in record {
       ledger = c.in_ok-offer.ensures ∙ ap (λ (u : LedgerValue). after_offer u x.parcel) v.ledger ∙ sym (after_append first (map parcel_of xs) (x.parcel ∷ [])) ∙ ap (after_all first) (sym (parcels_snoc xs x));
       rest = next_is xs ys zs c.args.rest.items x steps.0 v.rest;

@@ -7,7 +7,7 @@ use Rattle.rj_exchange.specs.declared.boxes.Exchange.{Exchange}
 use Rattle.rj_exchange.specs.Boxes.{sents, sent_of, queue_of}
 use Rattle.rj_workers.specs.declared.post.Sending.{Sending}
 use Rattle.rj_workers.specs.Posts.{Posts, to_post}
-use Rattle.rj_workers.proofs.Ends.{along}
+use Rattle.rj_workers.proofs.Lists.{along}
 use Rattle.rj_workers.proofs.Posts.{queue_fits}
 use Rattle.rj_workers.proofs.Sends.{sent_none, sent_one}
 use Rattle.rj_workers.proofs.post.post_next.Goals as goal

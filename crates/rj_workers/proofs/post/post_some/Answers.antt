@@ -9,12 +9,15 @@ pub post_next-requires-clause-parcels : goal.post_next-requires-clause-parcels
 post_next-requires-clause-parcels g c = λ x h. c.requires.parcels x (c.loop.invariant.sent.within x h)
 
 pub returns-then-not-post_next-clause-sent : goal.returns-then-not-post_next-clause-sent
-returns-then-not-post_next-clause-sent g c = sent_more c.args.shared.now.exchange.now (Contains (to_post c.args.list.now)) (Contains (to_post c.loop.list)) (Contains (to_post c.post_next.new.list)) (sents c.args.me.now.outbox) (sents c.loop.me.outbox) (sents c.post_next.new.me.outbox) c.loop.invariant.sent c.post_next.ensures.sent
+returns-then-not-post_next-clause-sent g c =
+    sent_more c.args.shared.now.exchange.now (Contains (to_post c.args.list.now)) (Contains (to_post c.loop.list)) (Contains (to_post c.post_next.new.list)) (sents c.args.me.now.outbox)
+    (sents c.loop.me.outbox) (sents c.post_next.new.me.outbox) c.loop.invariant.sent c.post_next.ensures.sent
 
 pub loop-preserved : goal.loop-preserved
 loop-preserved g c =
     let v = c.loop.invariant in let o = c.post_next.ensures in record {
       me = o.me.0;
       same = (o.me.1.0 ∙ v.same.0, o.me.1.1 ∙ v.same.1);
-      sent = sent_more c.args.shared.now.exchange.now (Contains (to_post c.args.list.now)) (Contains (to_post c.loop.list)) (Contains (to_post c.post_next.new.list)) (sents c.args.me.now.outbox) (sents c.loop.me.outbox) (sents c.post_next.new.me.outbox) v.sent o.sent;
+      sent = sent_more c.args.shared.now.exchange.now (Contains (to_post c.args.list.now)) (Contains (to_post c.loop.list)) (Contains (to_post c.post_next.new.list)) (sents c.args.me.now.outbox)
+          (sents c.loop.me.outbox) (sents c.post_next.new.me.outbox) v.sent o.sent;
     }

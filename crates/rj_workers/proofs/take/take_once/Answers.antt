@@ -38,5 +38,6 @@ returns g c =
           now ∙ ap (λ (p : ℕ). after_all (opened p senders block) (xs ++ x ∷ [])) (sym c.take.ensures.same.1),
         ),
       );
-      built = subst (λ (p : ℕ). IsBuilding (g.J.Job.builds c.args.shared.now.job.now) p w c.args.held.now.building) (sym c.take.ensures.same.1) (building_kept (g.J.Job.builds c.args.shared.now.job.now) inbox.partition v w (λ whole. is ∙ c.complete_stays.ensures.stays v (x ∷ []) whole) c.args.held.now.building h.built);
+      built = subst (λ (p : ℕ). IsBuilding (g.J.Job.builds c.args.shared.now.job.now) p w c.args.held.now.building) (sym c.take.ensures.same.1)
+          (building_kept (g.J.Job.builds c.args.shared.now.job.now) inbox.partition v w (λ whole. is ∙ c.complete_stays.ensures.stays v (x ∷ []) whole) c.args.held.now.building h.built);
     }
