@@ -49,4 +49,6 @@ range-more null rows from i low h =
 -- the text of a header and then that of all rows
 pub header-rows : (null : List ℕ) (header : List (List ℕ)) (rows : List (List Content)) → row_text default_writer header ++ range_text null rows 0 (length rows) ≡ table_text null header rows
 unfolding rows_text
-header-rows null header rows = let all = take_all (length rows) rows (omega arith) in rw all refl
+header-rows null header rows =
+    let all : take (length rows - 0) rows ≡ rows = take_all (length rows - 0) rows (omega arith) in
+    ap (λ (r : List (List Content)). row_text default_writer header ++ rows_text (map (map (shown null)) r)) all

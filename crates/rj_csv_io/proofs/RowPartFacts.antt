@@ -1,9 +1,9 @@
 -- Where the parts of rows begin, and the texts of the parts put together.
-use Rattle.std.proofs.Common.{◌≡◌, ◌∙◌, ◌<◌, ◌≤◌, ◌+◌, ◌*◌, ◌++◌, ◌∷◌, [], ℕ, List, map, take, length, sym, ap, arith, Vec, Global}
+use Rattle.std.proofs.Common.{◌≡◌, ◌∙◌, ◌<◌, ◌≤◌, ◌+◌, ◌*◌, ◌++◌, ◌∷◌, [], ℕ, List, map, take, length, sym, ap, arith, drop, Vec, Global}
 use Rattle.std.specs.Prelude.{◌/◌, ◌%◌, slice_index_or}
 use Rattle.std.specs.List.{concat}
 use Rattle.std.proofs.Math.Nat.{mul-le-mul_left}
-use Rattle.std.proofs.lemmas.List.{append-nil, map-append, take_more}
+use Rattle.std.proofs.lemmas.List.{append-nil, get_or-drop, map-append, take_more}
 use Rattle.std.proofs.lemmas.List.Folds.{concat-append}
 use Rattle.rj_csv_io.specs.RowParts.{part_start}
 
@@ -41,3 +41,10 @@ pub concat-take : (texts : List (Vec ℕ Global)) (i : ℕ) (t : Vec ℕ Global)
 concat-take texts i t h e =
     let more : take (i + 1) texts ≡ take i texts ++ t ∷ [] = take_more texts i t h ∙ ap (λ (x : Vec ℕ Global). take i texts ++ x ∷ []) (sym e) in
     rw more (concat-more (take i texts) t)
+
+-- the first of those that are left
+pub head-at : {X : Type 0} (all left : List X) (i : ℕ) (x : X) → left ≡ drop i all → x ≡ slice_index_or left 0 x → slice_index_or all i x ≡ x
+head-at all left i x e h =
+    let none : i + 0 ≡ i = omega arith in
+    let at = get_or-drop i all 0 x in
+    sym (h ∙ (ap (λ l. slice_index_or l 0 x) e ∙ (rw none at at)))
