@@ -17,8 +17,8 @@ use std::thread::{self, Threads};
 // Fewer rows than these are no work for a thread of their own.
 const LEAST_ROWS: u64 = 4096;
 
-// How many parts to make of rows: no more than asked for or than can have so many rows each, and at least one.
-fn part_count(rows: u64, parts: usize, least: u64) -> usize
+/// How many parts to make of rows: no more than asked for or than can have so many rows each, and at least one.
+pub(crate) fn part_count(rows: u64, parts: usize, least: u64) -> usize
     ensures { 0 < result }
 {
     (rows / least.max(1)).min(parts as u64).max(1) as usize

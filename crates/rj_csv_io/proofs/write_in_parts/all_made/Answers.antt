@@ -13,7 +13,7 @@ loop-part-init g c = record {
   done =
       let rows = g.S.RowSource.contents c.args.source.now in
       let none : range_text c.args.null.now rows 0 (part_start (length rows) (length c.args.made.items) 0) ≡ range_text c.args.null.now rows 0 0 =
-          ap (λ n. range_text c.args.null.now rows 0 n) (start-none (length rows) (length c.args.made.items) c.requires.some) in
+      ap (λ n. range_text c.args.null.now rows 0 n) (start-none (length rows) (length c.args.made.items) c.requires.some) in
       rw c.new-texts.ensures.items (sym (none ∙ range-none c.args.null.now rows 0));
 }
 
