@@ -36,8 +36,12 @@ fn text_of_rows<S: RowSource>(
 /// stands in double quotes, null is the null text, a decimal has exactly its scale's digits after the point, and
 /// each record ends with LF.
 ///
-/// The whole text is made before it is put, by one call of the device. After `Memory` the device is as it was;
-/// after `WriteDevice` nothing is known of how much it took.
+/// The whole text is made before it is put, by one call of the device.
+///
+/// # Errors
+///
+/// `Memory` where a growth of the text was refused: the device is as it was. `WriteDevice` where the device failed:
+/// nothing is known of how much it took.
 pub fn write_rows<O: Output, S: RowSource>(
     alloc: Global,
     output: &mut O,

@@ -106,7 +106,7 @@ fn put_all<O: Output>(output: &mut O, texts: &[Vec<u8>]) -> Result<(), Failed>
     Ok(())
 }
 
-/// Writes a header and the rows of a source as `write_rows` does, with the rows in so many parts.
+/// The same with so many parts, however few rows they have.
 pub(crate) fn write_parts<R: Threads + Sync, O: Output, S: RowSource + Sync>(
     rt: &R,
     alloc: Global,
@@ -138,9 +138,13 @@ pub(crate) fn write_parts<R: Threads + Sync, O: Output, S: RowSource + Sync>(
 /// Writes a header and the rows of a source as `write_rows` does, with the texts of shares of the rows made by up
 /// to so many threads. Few rows take fewer threads.
 ///
-/// All texts are made before the first is put; then they are put in order, each by a call of the device, up to the
-/// first call that fails. After `Memory` the device is as it was; after `WriteDevice` nothing is known of how much
-/// it took.
+/// All texts are made before the first is put. Then the header's and each share's are put in order, each by a call
+/// of the device, up to the first call that fails.
+///
+/// # Errors
+///
+/// `Memory` where a growth of a text was refused: the device is as it was. `WriteDevice` where the device failed:
+/// nothing is known of how much it took.
 pub fn write_rows_in_parts<R: Threads + Sync, O: Output, S: RowSource + Sync>(
     rt: &R,
     alloc: Global,
