@@ -7,17 +7,20 @@ mod block;
 mod fields;
 mod input;
 mod output;
+mod range;
 mod read;
 mod refused;
 mod table;
 mod text;
 mod write;
+mod write_in_parts;
 
 pub use input::{CountedReader, Input, read_all};
 pub use output::{Counted, Failed, Output};
 pub use refused::ReadRefused;
 pub use table::{is_lawful_null, read_table};
 pub use write::{WriteRefused, write_rows};
+pub use write_in_parts::write_rows_in_parts;
 
 #[cfg(test)]
 mod tests;

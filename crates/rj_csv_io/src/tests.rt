@@ -3,6 +3,8 @@
 ghost use Rattle.std.specs.Prelude.{[], ◌∷◌};
 ghost use Rattle.rj_columns.specs.Contents.{decimal};
 
+mod parts_written;
+
 use crate::{
     Counted, CountedReader, Failed, Input, Output, ReadRefused, WriteRefused, is_lawful_null,
     read_all, read_table, write_rows,
