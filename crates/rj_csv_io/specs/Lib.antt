@@ -6,3 +6,5 @@ pub mod Shown
 pub mod Written
 pub mod Blocks
 pub mod Devices
+pub mod Cuts
+pub mod Parts

@@ -4,11 +4,14 @@
 #![tactic(auto)]
 
 mod block;
+mod cut;
 mod fields;
 mod header;
 mod input;
 mod null_text;
 mod output;
+mod part;
+mod place;
 mod read_parts;
 mod read_rows;
 mod read_whole;
