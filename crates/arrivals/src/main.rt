@@ -4,7 +4,7 @@
 
 use clap::{Arg, ArgAction, Command, Error, value_parser};
 use rj_command::{Fault, VERSION, arrivals};
-use rj_csv_io::{CountedWriter, CountedReader, ReadRefused, read_all};
+use rj_csv_io::{CountedReader, CountedWriter, ReadRefused, read_all};
 use std::alloc::{AllocError, Global};
 use std::env::{self, Env};
 use std::io;

@@ -3,7 +3,7 @@
 #![tactic(auto)]
 
 use rj_command::{Fault, Open, Side, read_line, run};
-use rj_csv_io::{CountedWriter, CountedReader, ReadRefused, read_all};
+use rj_csv_io::{CountedReader, CountedWriter, ReadRefused, read_all};
 use std::alloc::Global;
 use std::env::{self, Env};
 use std::fs::{self, Files};

@@ -60,6 +60,7 @@ AreAlike (t ∷ tables) = All (λ u. (u.names ≡ t.names) × (u.types ≡ t.typ
 abbrev pub concatenated : List TableValue → TableValue
 concatenated [] = record { names = []; types = []; rows = [] }
 concatenated (t ∷ tables) = record t { rows = rows_of_all (t ∷ tables) }
+
 -- END
 
 -- tables with the header's columns, whose rows put together are those that the records read as

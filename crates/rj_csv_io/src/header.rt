@@ -80,7 +80,8 @@ pub(crate) fn begin_table(
     rows: usize,
 ) -> Result<TableBuilder, ReadRefused>
     ensures table { IfOk result (λ b. (begun (fields_of header.now) types.now ≡ Ok b.table) × (b.row ≡ [])) }
-    ensures fault { IfErr result (λ e. e ≢ ReadRefused.Memory → (f : BuildRefused) × (begun (fields_of header.now) types.now ≡ Err f) × (e ≡ of_begun f)) }
+    ensures fault { IfErr result (λ e. e ≢ ReadRefused.Memory
+        → (f : BuildRefused) × (begun (fields_of header.now) types.now ≡ Err f) × (e ≡ of_begun f)) }
 {
     let Ok(names) = fields_of_record(alloc, header) else {
         return Err(ReadRefused::Memory);

@@ -29,3 +29,5 @@ pub use write::{WriteRefused, write_rows};
 
 #[cfg(test)]
 mod tests;
+#[cfg(test)]
+mod tests_parts;

@@ -57,9 +57,9 @@ fn tables_of_parts(
 
 // TEMP
 fn concat<R: Threads + Sync>(_rt: &R, _alloc: Global, _parts: &[Table]) -> Result<Table, AllocError>
-        requires alike { AreAlike _parts.now }
-        requires room { length (rows_of_all _parts.now) < 2 ^ 31 }
-        ensures { IfOk result (λ t. t ≡ concatenated _parts.now) }
+    requires alike { AreAlike _parts.now }
+    requires room { length (rows_of_all _parts.now) < 2 ^ 31 }
+    ensures { IfOk result (λ t. t ≡ concatenated _parts.now) }
 {
     Err(AllocError)
 }

@@ -38,7 +38,12 @@ fn fault_under(
 }
 
 // What is written of a table, where the header fits it and the device doesn't fail.
-fn text_of(alloc: Global, table: &Table, header: &[&str], null: &str) -> Option<Vec<u8>> {
+pub(crate) fn text_of(
+    alloc: Global,
+    table: &Table,
+    header: &[&str],
+    null: &str,
+) -> Option<Vec<u8>> {
     if header.len() != table.columns() || !is_lawful_null(null) {
         return None;
     }

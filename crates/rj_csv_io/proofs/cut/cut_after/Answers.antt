@@ -27,7 +27,7 @@ returns-then-not-starts_with_bom-clause-unmarked c =
     strip-plain (drop next text) (ap has_bom (sym (rest-drop text next)) ∙ plain)
 
 pub loop-turn-preserved : goal.loop-turn-preserved
-loop-turn-preserved c = 
+loop-turn-preserved c =
     let at = c.loop-turn.at in
     let k = c.in-Some.k in
     let text = c.args.text.now in
