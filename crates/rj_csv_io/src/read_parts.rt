@@ -135,7 +135,7 @@ fn read_in_parts<R: Threads + Sync>(
 }
 
 // Reads a table in up to so many parts, none of fewer than so many bytes.
-fn read_in_parts_of<R: Threads + Sync>(
+pub(crate) fn read_in_parts_of<R: Threads + Sync>(
     rt: &R,
     alloc: Global,
     bytes: &[u8],
