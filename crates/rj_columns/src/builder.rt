@@ -57,7 +57,7 @@ fn reserve_all(columns: &mut Vec<Column>, rows: usize)
     ensures { columns.new.items ≡ columns.old.items }
 {
     for i in 0..columns.len() {
-        if columns[i].reserve(rows).is_err() {
+        if columns[i].reserve(rows, 0).is_err() {
             return;
         }
     }

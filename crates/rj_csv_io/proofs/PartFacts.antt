@@ -10,13 +10,13 @@ use Rattle.rj_columns.specs.declared.refused.BuildRefused.{BuildRefused}
 use Rattle.rj_columns.specs.declared.refused.BuildRefused.TheVariants as build
 use Rattle.rj_columns.specs.Contents.{Content}
 use Rattle.rj_columns.specs.Names.{begun, name_fault}
-use Rattle.rj_columns.specs.Tables.{TableValue}
+use Rattle.rj_columns.specs.Tables.{AreAlike, TableValue, concatenated, rows_of_all}
 use Rattle.rj_csv_io.specs.declared.refused.ReadRefused.{ReadRefused}
 use Rattle.rj_csv_io.specs.declared.refused.ReadRefused.TheVariants as refused
 use Rattle.rj_csv_io.specs.Rows.{read_rows}
 use Rattle.rj_csv_io.proofs.PartRowFacts.{part-rows, part-many, part-fault, fault-first}
 use Rattle.rj_csv_io.specs.Cuts.{records_in, records_in_all}
-use Rattle.rj_csv_io.specs.Parts.{AreAlike, AreReadings, AreTables, concatenated, moved, row_records, rows_of_all, under_header}
+use Rattle.rj_csv_io.specs.Parts.{AreReadings, AreTables, IsReading, moved, row_records, under_header}
 
 all-append : (a b : List (List ℕ)) → records_in_all (a ++ b) ≡ records_in_all a ++ records_in_all b
 unfolding records_in_all

@@ -1,9 +1,8 @@
 -- Tables that are read from the texts that one text was cut into.
 use Rattle.std.specs.Prelude.{ℕ, ◌+◌, ◌-◌, ◌^◌, ◌==◌, ◌≡◌, ◌≢◌, ◌<◌, ◌≤◌, nat_le, if◌then◌else◌, Bool, true, false, List, [], ◌∷◌, ◌++◌, length, drop, slice_index_or, Result, Ok, Err, All}
-use Rattle.std.specs.List.{flat_map}
 use Rattle.rj_columns.specs.declared.cell.ColumnType.{ColumnType}
 use Rattle.rj_columns.specs.Contents.{Content}
-use Rattle.rj_columns.specs.Tables.{TableValue}
+use Rattle.rj_columns.specs.Tables.{TableValue, rows_of_all}
 use Rattle.rj_columns.specs.Names.{begun}
 use Rattle.rj_csv_io.specs.Cuts.{records_in, records_in_all}
 use Rattle.rj_csv_io.specs.Rows.{read_rows}
@@ -48,20 +47,6 @@ IsReading null types header records (Err e) = e ≢ refused.Memory → (t : Tabl
 abbrev pub AreReadings : List ℕ → List ColumnType → List (List ℕ) → List (List ℕ) → List (Result TableValue ReadRefused) → Type 0
 AreReadings null types header texts parts = (i : ℕ) (d : Result TableValue ReadRefused) → i < length texts
     → IsReading null types header (row_records (i == 0) (slice_index_or texts i [])) (slice_index_or parts i d)
-
--- TEMP
-abbrev pub rows_of_all : List TableValue → List (List Content)
-rows_of_all tables = flat_map (λ t. t.rows) tables
-
-abbrev pub AreAlike : List TableValue → Type 0
-AreAlike [] = ⊥
-AreAlike (t ∷ tables) = All (λ u. (u.names ≡ t.names) × (u.types ≡ t.types)) tables
-
-abbrev pub concatenated : List TableValue → TableValue
-concatenated [] = record { names = []; types = []; rows = [] }
-concatenated (t ∷ tables) = record t { rows = rows_of_all (t ∷ tables) }
-
--- END
 
 -- tables with the header's columns, whose rows put together are those that the records read as
 pub record AreTables (null : List ℕ) (types : List ColumnType) (header : List (List ℕ)) (records : List (List (List ℕ))) (tables : List TableValue) : Type 0 where

@@ -1,8 +1,8 @@
 // Reading a table in parts, each by a thread.
 
-ghost use Rattle.std.specs.Prelude.{◌≡◌, ◌≢◌, ◌<◌, ◌^◌, length, map, IfOk, IfErr, OnOk, Ok, Err, IsTrue};
+ghost use Rattle.std.specs.Prelude.{◌≡◌, ◌≢◌, ◌<◌, length, map, IfOk, IfErr, OnOk, Ok, Err, IsTrue};
 ghost use Rattle.csv.specs.Records.{fields_of};
-ghost use Rattle.rj_csv_io.specs.Parts.{AreAlike, AreReadings, AreTables, IsReading, concatenated, rows_of_all, under_header};
+ghost use Rattle.rj_csv_io.specs.Parts.{AreReadings, AreTables, IsReading, under_header};
 ghost use Rattle.rj_csv_io.specs.Tables.{is_null_text, read_of};
 
 use super::cut::cut_text;
@@ -14,7 +14,7 @@ use super::read_whole::read_table;
 use super::refused::ReadRefused;
 use csv::ByteRecord;
 use rj_columns::{ColumnType, Table};
-use std::alloc::{AllocError, Global};
+use std::alloc::Global;
 use std::thread::{self, Threads};
 
 // The least bytes of a part: fewer take less time than a thread's start.
@@ -55,16 +55,6 @@ fn tables_of_parts(
     Ok(tables)
 }
 
-// TEMP
-fn concat<R: Threads + Sync>(_rt: &R, _alloc: Global, _parts: &[Table]) -> Result<Table, AllocError>
-    requires alike { AreAlike _parts.now }
-    requires room { length (rows_of_all _parts.now) < 2 ^ 31 }
-    ensures { IfOk result (λ t. t ≡ concatenated _parts.now) }
-{
-    Err(AllocError)
-}
-// END
-
 // The table of the texts' records under the header, which is the first record of the first text.
 fn read_texts<R: Threads + Sync>(
     rt: &R,
@@ -90,7 +80,7 @@ fn read_texts<R: Threads + Sync>(
         Ok(tables) => tables,
         Err(e) => return Err(e),
     };
-    match concat(rt, alloc, tables.as_slice()) {
+    match Table::concat(rt, alloc, tables.as_slice()) {
         Ok(table) => Ok(table),
         Err(_) => Err(ReadRefused::Memory),
     }

@@ -1,6 +1,7 @@
 use Rattle.std.proofs.Common.{◌≡◌, length, map, take, drop}
 use Rattle.csv.specs.Records.{fields_of}
-use Rattle.rj_csv_io.specs.Parts.{AreTables, rows_of_all, under_header}
+use Rattle.rj_columns.specs.Tables.{rows_of_all}
+use Rattle.rj_csv_io.specs.Parts.{AreTables, under_header}
 use Rattle.rj_csv_io.proofs.read_parts.tables_of_parts.Given as goal
 
 abbrev pub invariant-loop-i : goal.invariant-loop-i
