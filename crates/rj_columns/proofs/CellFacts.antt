@@ -19,7 +19,7 @@ range-more values from row x low inside e =
     let more = take_more (drop from values) (row - from) x (omega arith) in
     let place : from + (row - from) ≡ row = omega arith in
     let at : get_or (drop from values) (row - from) x ≡ x =
-        get_or-drop from values (row - from) x ∙ (ap (λ k. get_or values k x) place ∙ get_or_from_slice_get values row x x e) in
+    get_or-drop from values (row - from) x ∙ (ap (λ k. get_or values k x) place ∙ get_or_from_slice_get values row x x e) in
     rw step (more ∙ ap (λ y. take (row - from) (drop from values) ++ y ∷ []) at)
 
 pub cells-more : {A : Type 0} (f : A → Content) (values : List A) (from row : ℕ) (x : A) (cells : List Cell) (new : Cell) (base : List Content) → from ≤ row → row < length values → slice_get values row ≡ Some x
@@ -43,7 +43,7 @@ part-range rows col from (suc n) h =
     let rest = length-drop from (column_in rows col) in
     let next = take-suc (drop from (column_in rows col)) n nothing (omega arith) in
     let at : get_or (drop from (column_in rows col)) n nothing ≡ cell_in rows (from + n) col =
-        get_or-drop from (column_in rows col) n nothing ∙ get_or-map (λ r. get_or r col nothing) rows (from + n) [] nothing (omega arith) in
+    get_or-drop from (column_in rows col) n nothing ∙ get_or-map (λ r. get_or r col nothing) rows (from + n) [] nothing (omega arith) in
     rw (next, at, part-range rows col from n (omega arith)) refl
 
 -- the cells of a column whose contents are made of values

@@ -1,6 +1,6 @@
 -- A column of a table, and a table from its columns.
-use Rattle.std.proofs.Common.{◌≡◌, ◌≤◌, ◌<◌, ◌+◌, ◌^◌, ◌∙◌, ℕ, zero, suc, List, [], ◌∷◌, ◌++◌, map, length, take, Some, None, refl, sym, ap, subst, arith, get_or}
-use Rattle.std.specs.Prelude.{All, slice_get}
+use Rattle.std.proofs.Common.{◌≡◌, ◌≤◌, ◌<◌, ◌+◌, ◌^◌, ◌∙◌, ℕ, zero, suc, List, [], ◌∷◌, ◌++◌, map, length, take, Some, None, Result, Ok, refl, sym, ap, subst, arith, get_or}
+use Rattle.std.specs.Prelude.{All, slice_get, IfOk}
 use Rattle.std.specs.List.{flat_map}
 use Rattle.std.proofs.lemmas.List.{length-append, length-map, append-nil, map-append, take_more, get_or-map, take_all, ext_get_or}
 use Rattle.std.proofs.lemmas.List.Concat.{flat_map-append}
@@ -8,12 +8,13 @@ use Rattle.std.proofs.lemmas.List.Folds.{length-flat_map-take}
 use Rattle.std.proofs.lemmas.Option.{get_or_from_slice_get}
 use Rattle.std.proofs.lemmas.List.Elements.{All-head, All-tail, All-append}
 use Rattle.std.proofs.Math.Seq.{take-suc}
+use Rattle.std.specs.declared.alloc.AllocError.{AllocError}
 use Rattle.rj_columns.specs.declared.cell.ColumnType.{ColumnType}
 use Rattle.rj_columns.specs.declared.cell.ColumnType.TheVariants.{Int}
 use Rattle.rj_columns.specs.Contents.{Content, nothing}
 use Rattle.rj_columns.specs.Names.{name_fault}
 use Rattle.rj_columns.specs.Tables.{TableValue, FitsTypes, column_in, rows_of_all, AreAlike, concatenated}
-use Rattle.rj_columns.specs.Columns.{ColumnValue, row_at, rows_of, AreFull, Filling, IsTyped, IsColumnOf, AreColumns}
+use Rattle.rj_columns.specs.Columns.{ColumnValue, row_at, rows_of, AreFull, Filling, IsTyped, IsColumnOf, AreColumnsOf, AreColumns}
 use Rattle.rj_columns.proofs.RowFacts.{length-rows_of, rows_of-at, Filling-full, Filling-start}
 
 -- the kind of a column by its number
@@ -30,7 +31,7 @@ cells-to columns n col (suc m) c h e size low =
     let before = cells-to columns n col m c h e size (omega arith) in
     let next = take-suc c.cells m nothing (omega arith) in
     let cell : get_or (row_at columns m) col nothing ≡ get_or c.cells m nothing =
-        get_or-map (λ (v : ColumnValue). get_or v.cells m nothing) columns col c nothing h ∙ ap (λ (v : ColumnValue). get_or v.cells m nothing) (sym e) in
+    get_or-map (λ (v : ColumnValue). get_or v.cells m nothing) columns col c nothing h ∙ ap (λ (v : ColumnValue). get_or v.cells m nothing) (sym e) in
     map-append (λ r. get_or r col nothing) (rows_of columns m) (row_at columns m ∷ []) ∙ (ap (λ t. t ++ get_or (row_at columns m) col nothing ∷ []) before ∙ (ap (λ x. take m c.cells ++ x ∷ []) cell ∙ sym next))
 
 pub column-of : (columns : List ColumnValue) (n col : ℕ) (c : ColumnValue) → Filling columns 0 n → All IsTyped columns → col < length (map (λ c. c.kind) columns) → c ≡ get_or columns col c
@@ -95,10 +96,14 @@ same-kind tables i col t kind other a h e k o =
     let same : Some other ≡ Some kind = sym o ∙ (ap (λ l. slice_get l col) types ∙ k) in
     cc
 
--- columns that are each that of a table
-abbrev AreColumnsOf : TableValue → List ColumnValue → Type 0
-AreColumnsOf t columns = (i : ℕ) (d : ColumnValue) → i < length columns → IsColumnOf t i (get_or columns i d)
+-- the columns that were each made
+pub each-made : (t : TableValue) (columns : List ColumnValue) (made : List (Result ColumnValue AllocError)) → map (λ c. Ok c) columns ≡ made
+    → ((i : ℕ) (d : Result ColumnValue AllocError) → i < length t.types → IfOk (get_or made i d) (IsColumnOf t i)) → length columns ≡ length t.types → AreColumnsOf t columns
+each-made t columns made e each many = λ i d h.
+    let at : get_or made i (Ok d) ≡ Ok (get_or columns i d) = ap (λ l. get_or l i (Ok d)) (sym e) ∙ get_or-map (λ c. Ok c) columns i d (Ok d) h in
+    rw at at (each i (Ok d) (omega arith))
 
+-- columns that are each that of a table
 each-full : (t : TableValue) (columns : List ColumnValue) → AreColumnsOf t columns → AreFull columns (length t.rows)
 each-full t columns each = λ k d h. ap length (each k d h).1 ∙ length-map t.rows (λ r. get_or r k nothing)
 

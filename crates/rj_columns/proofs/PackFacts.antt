@@ -169,8 +169,8 @@ middle-removed : (front text back : List ℕ) → take (length front) (front ++ 
 middle-removed front text back =
     let low = take-append_seam front (text ++ back) in
     let high : drop (length front + length text) (front ++ (text ++ back)) ≡ back =
-        ap (λ l. drop (length front + length text) l) (sym (append_assoc front text back))
-        ∙ (ap (λ k. drop k ((front ++ text) ++ back)) (sym (length-append front text)) ∙ drop-append_seam (front ++ text) back) in
+    ap (λ l. drop (length front + length text) l) (sym (append_assoc front text back))
+    ∙ (ap (λ k. drop k ((front ++ text) ++ back)) (sym (length-append front text)) ∙ drop-append_seam (front ++ text) back) in
     rw (low, high) refl
 
 pub remove-packed : (bytes ends : List ℕ) (texts : List (List ℕ)) (i start end : ℕ) → Packs bytes ends texts → i < length ends → start ≡ start_at 0 ends i → end ≡ get_or ends i 0
@@ -241,6 +241,7 @@ lowered-each old new from by h size low high =
   where
     le_or_lt : (from k : ℕ) → (from ≤ k) ⊎ (k < from)
     le_or_lt from k = grind arith
+
     by_place : (old new : List ℕ) (from by k : ℕ) → from ≤ length old → length new ≡ length old → ((k : ℕ) → k < from → get_or new k 0 ≡ get_or old k 0)
         → ((k : ℕ) → from ≤ k → k < length old → get_or new k 0 ≡ get_or old k 0 - by) → k < length new → ((from ≤ k) ⊎ (k < from)) → get_or new k 0 ≡ get_or (take from old ++ map (λ e. e - by) (drop from old)) k 0
     by_place old new from by k h size low high inside (inr below) =

@@ -1,7 +1,7 @@
 // One table of the rows of several.
 
 ghost use Rattle.std.specs.Prelude.{◌≡◌, ◌<◌, ◌^◌, ℕ, [], Some, Ok, length, map, slice_get, slice_index_or, All, IfOk};
-ghost use Rattle.rj_columns.specs.Columns.{ColumnValue, IsColumnOf};
+ghost use Rattle.rj_columns.specs.Columns.{IsColumnOf, AreColumnsOf};
 ghost use Rattle.rj_columns.specs.Tables.{AreAlike, concatenated, rows_of_all};
 
 use super::column::Column;
@@ -66,7 +66,25 @@ fn all_made(alloc: Global, made: Vec<Result<Column, AllocError>>) -> Result<Vec<
     Ok(columns)
 }
 
-// The columns of the table that several make, each of them made by one thread.
+// The columns of the table that several make, each made by one thread or refused.
+fn make_columns<R: Threads + Sync>(
+    rt: &R,
+    alloc: Global,
+    parts: &[Table],
+) -> Result<Vec<Result<Column, AllocError>>, AllocError>
+    requires { AreAlike parts.now }
+    ensures count { IfOk result (λ v. length v.items ≡ length (concatenated parts.now).types) }
+    ensures each { IfOk result (λ v. (i : ℕ) (d : _) → i < length (concatenated parts.now).types → IfOk (slice_index_or v.items i d) (IsColumnOf (concatenated parts.now) i)) }
+{
+    thread::map_indices(
+        rt,
+        alloc,
+        parts[0].columns(),
+        &|col| concat_column(alloc, parts, col),
+    )
+}
+
+// The same, where each was made.
 fn concat_columns<R: Threads + Sync>(
     rt: &R,
     alloc: Global,
@@ -74,15 +92,9 @@ fn concat_columns<R: Threads + Sync>(
 ) -> Result<Vec<Column>, AllocError>
     requires { AreAlike parts.now }
     ensures count { IfOk result (λ v. length v.items ≡ length (concatenated parts.now).types) }
-    ensures each { IfOk result (λ v. (i : ℕ) (d : ColumnValue) → i < length v.items → IsColumnOf (concatenated parts.now) i (slice_index_or v.items i d)) }
+    ensures each { IfOk result (λ v. AreColumnsOf (concatenated parts.now) v.items) }
 {
-    let made = thread::map_indices(
-        rt,
-        alloc,
-        parts[0].columns(),
-        &|col| concat_column(alloc, parts, col),
-    )?;
-    all_made(alloc, made)
+    all_made(alloc, make_columns(rt, alloc, parts)?)
 }
 
 impl Table {
