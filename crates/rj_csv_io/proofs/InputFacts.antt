@@ -1,8 +1,9 @@
 -- Bytes that a device gives, piece by piece.
-use Rattle.std.proofs.Common.{◌≡◌, ◌∙◌, ℕ, List, [], ◌++◌, Option, Some, None, refl, sym, ap, append_assoc}
-use Rattle.std.specs.Prelude.{IfSome}
+use Rattle.std.proofs.Common.{◌≡◌, ◌≤◌, ◌+◌, ◌-◌, ◌∙◌, ℕ, List, [], ◌++◌, length, take, drop, Option, Some, None, Result, Ok, Err, refl, sym, ap, subst, append_assoc, arith}
+use Rattle.std.specs.Prelude.{IfOk, IfSome}
 use Rattle.std.specs.Io.KnownBytes.{Consumes, IsAtEnd, Keeps}
-use Rattle.std.proofs.lemmas.List.{append-nil}
+use Rattle.std.proofs.Math.Seq.{drop-append_seam, take-add, take-append_seam}
+use Rattle.std.proofs.lemmas.List.{append-nil, take-append-le, take-take, take_all}
 
 pub keeps-refl : (a : Option (List ℕ)) → Keeps a a
 keeps-refl None = tt
@@ -38,3 +39,27 @@ pub consumes-all : (a b : Option (List ℕ)) (xs : List ℕ) → Consumes a b xs
 consumes-all None b xs p q = tt
 consumes-all (Some x) None xs p q = absurd p
 consumes-all (Some x) (Some y) xs p q = sym (p ∙ ap (λ l. xs ++ l) q ∙ append-nil xs)
+
+-- what was got into a part of a buffer stands behind the bytes before it
+pub consumes-behind : {E : Type 0} (a b : Option (List ℕ)) (r : Result ℕ E) (front part rest : List ℕ) (at : ℕ) → length front ≡ at → IfOk r (λ n. n ≤ length part)
+    → IfOk r (λ n. Consumes a b (take n part)) → IfOk r (λ n. Consumes a b (take n (drop at (front ++ (part ++ rest)))))
+consumes-behind a b (Ok n) front part rest at size fits read =
+    let behind : drop at (front ++ (part ++ rest)) ≡ part ++ rest = ap (λ m. drop m (front ++ (part ++ rest))) (sym size) ∙ drop-append_seam front (part ++ rest) in
+    subst (Consumes a b) (sym (ap (take n) behind ∙ take-append-le n part rest fits)) read
+consumes-behind a b (Err e) front part rest at size fits read = tt
+
+-- a list after more room was made
+pub room-front : (old more : List ℕ) (f n : ℕ) → f ≡ length old → f ≤ n → take f (take n old ++ more) ≡ old
+room-front old more f n e h =
+    let all = take_all n old (omega (arith, e, h)) in
+    rw (all, e) (take-append_seam old more)
+
+-- a list that was cut behind the bytes that were got
+pub consumes-cut : (start a b : Option (List ℕ)) (old room buffer : List ℕ) (n f k : ℕ) → take f room ≡ old → take f buffer ≡ take f room → f + k ≤ length buffer → length buffer ≤ n
+    → Consumes start a old → Consumes a b (take k (drop f buffer)) → Consumes start b (take (f + k) (take n (buffer ++ drop (length buffer) room)))
+consumes-cut start a b old room buffer n f k e g h long before read =
+    let cut : take (f + k) (take n (buffer ++ drop (length buffer) room)) ≡ old ++ take k (drop f buffer) =
+    take-take (f + k) n (buffer ++ drop (length buffer) room) (omega (arith, h, long))
+    ∙ (take-append-le (f + k) buffer (drop (length buffer) room) h
+    ∙ (take-add f k buffer ∙ ap (λ t. t ++ take k (drop f buffer)) (g ∙ e))) in
+    subst (Consumes start b) (sym cut) (consumes-more start a b old (take k (drop f buffer)) before read)

@@ -3,7 +3,7 @@ use Rattle.std.proofs.Common.{◌≡◌, ◌<◌, ◌≤◌, ◌+◌, ◌-◌, �
 use Rattle.std.specs.Prelude.{◌&&◌, if◌then◌else◌, nat_lt, ℤ, pos, neg_ℤ, Option, option_map, slice_index_or, unsigned_abs}
 use Rattle.std.specs.Str.{bytes_eq, is_utf8}
 use Rattle.std.specs.Str.Parse.{signed_digits_value, starts_with_minus, without_leading_sign}
-use Rattle.std.proofs.lemmas.Bool.{le-leb, lt-leb, ltb-true, eq-eqb, ne_eqb}
+use Rattle.std.proofs.lemmas.Bool.{and_parts, le-leb, lt-leb, ltb-true, eq-eqb, ne_eqb}
 use Rattle.rj_decimal.specs.Read.{after_point, are_zeros, before_point, fits, is_numeric_text, is_unsigned_text, numeric_of, signed_size, size_at, units_in}
 use Rattle.rj_columns.specs.declared.cell.ColumnType.{ColumnType}
 use Rattle.rj_columns.specs.declared.cell.ColumnType.TheVariants as kind
@@ -13,10 +13,6 @@ use Rattle.rj_csv_io.specs.declared.refused.ReadRefused.{ReadRefused}
 use Rattle.rj_csv_io.specs.declared.refused.ReadRefused.TheVariants as refused
 use Rattle.rj_csv_io.specs.Typed.{read_cell, typed_cell, read_cells, is_int_text}
 use Rattle.rj_csv_io.specs.Rows.{read_row, read_rows}
-
-both : (a b : Bool) → a && b ≡ true → (a ≡ true) × (b ≡ true)
-both true b e = (refl, e)
-both false b e = cc
 
 -- a sign leaves the size
 size-signed : (f : List ℕ) (n : ℕ) → unsigned_abs (signed_size f n) ≡ n
@@ -38,8 +34,8 @@ numeric-below p s f u e = go (is_numeric_text p s f) refl e
     go true holds e =
         let q : units_in s f ≡ u = cc in
         let text = without_leading_sign f in
-        let fit = both (is_unsigned_text text) (fits p s (before_point text) (after_point text)) holds in
-        let small = both (are_zeros (drop s (after_point text))) (nat_lt size (10 ^ p)) fit.1 in
+        let fit = and_parts (is_unsigned_text text) (fits p s (before_point text) (after_point text)) holds in
+        let small = and_parts (are_zeros (drop s (after_point text))) (nat_lt size (10 ^ p)) fit.1 in
         let below : size < 10 ^ p = ltb-true size (10 ^ p) small.1 in
         let same : unsigned_abs u ≡ size = ap unsigned_abs (sym q) ∙ size-signed f size in
         omega (arith, below, same)

@@ -1,9 +1,11 @@
 pub mod Typed
 pub mod Rows
-pub mod Left
+pub mod Remaining
 pub mod Tables
 pub mod Shown
 pub mod Written
 pub mod Blocks
 pub mod RowParts
 pub mod Devices
+pub mod Cuts
+pub mod Parts

@@ -1,6 +1,6 @@
 // Devices that give bytes.
 
-ghost use Rattle.std.specs.Prelude.{◌≡◌, ◌≢◌, ◌<◌, ◌≤◌, ◌+◌, ◌-◌, ◌^◌, ℕ, List, Option, None, Some, Ok, Err, true, false, take, length, vec_len, IfOk, IfErr, IfSome, OnOk, OnErr};
+ghost use Rattle.std.specs.Prelude.{◌≡◌, ◌≢◌, ◌<◌, ◌≤◌, ◌+◌, ◌-◌, ◌^◌, ℕ, List, Option, None, Some, Ok, Err, true, false, [], take, drop, length, vec_len, IfOk, IfErr, IfSome, OnOk, OnErr};
 ghost use Rattle.std.specs.Io.KnownBytes.{Consumes, IsAtEnd};
 ghost use Rattle.rj_csv_io.specs.Devices.{reader_of, read_failures_of};
 
@@ -31,6 +31,12 @@ pub trait Input {
     /// How often it failed so far.
     fn failures(&self) -> u64
         ensures { result ≡ count self.now };
+
+    /// About how many bytes it will give, or 0 where it can't tell. It promises nothing: it may give more bytes or
+    /// fewer.
+    fn likely_size(&self) -> u64 {
+        0
+    }
 }
 
 /// A reader of std with the count of its failures. It tells the bytes that the reader tells, and
@@ -39,6 +45,7 @@ pub trait Input {
 pub struct CountedReader<R: Read> {
     reader: R,
     failures: u64,
+    likely_size: u64,
 }
 
 impl<R: Read> CountedReader<R> {
@@ -47,9 +54,19 @@ impl<R: Read> CountedReader<R> {
         ensures reader { reader_of result ≡ reader }
         ensures failures { read_failures_of result ≡ 0 }
     {
+        CountedReader::with_likely_size(reader, 0)
+    }
+
+    /// The reader, with no failure so far, and about how many bytes it will give, so that [`read_all`] asks for
+    /// their room at once. The number changes nothing of what is read.
+    pub fn with_likely_size(reader: R, likely_size: u64) -> CountedReader<R>
+        ensures reader { reader_of result ≡ reader }
+        ensures failures { read_failures_of result ≡ 0 }
+    {
         CountedReader {
             reader,
             failures: 0,
+            likely_size,
         }
     }
 }
@@ -91,35 +108,61 @@ impl<R: Read> Input for CountedReader<R> {
     fn failures(&self) -> u64 {
         self.failures
     }
+
+    fn likely_size(&self) -> u64 {
+        self.likely_size
+    }
 }
 
 // How many bytes are asked of a device at once.
 const PIECE: usize = 65536;
 
-// Adds the next piece of a device's bytes, and says whether there was one.
-fn read_piece<I: Input>(
-    input: &mut I,
-    piece: &mut Vec<u8>,
-    bytes: &mut Vec<u8>,
-) -> Result<bool, ReadRefused>
+// Gets the next bytes of a device into a buffer, behind its first so many, and says how many they are.
+fn get_behind<I: Input>(input: &mut I, buffer: &mut [u8], filled: usize) -> Result<usize, Failed>
     requires failures { I.count input.old < 2 ^ 64 - 1 }
-    requires room { 0 < vec_len piece.old }
-    ensures piece { vec_len piece.new ≡ vec_len piece.old }
-    ensures bytes { OnOk result ((start : Option (List ℕ)) → Consumes start (I.tells input.old) bytes.old.items → Consumes start (I.tells input.new) bytes.new.items) }
+    requires room { filled < length buffer.old }
+    ensures size { length buffer.new ≡ length buffer.old }
+    ensures front { take filled buffer.new ≡ take filled buffer.old }
+    ensures fits { IfOk result (λ k. filled + k ≤ length buffer.new) }
+    ensures bytes { IfOk result (λ k. Consumes (I.tells input.old) (I.tells input.new) (take k (drop filled buffer.new))) }
+    ensures end { result ≡ Ok 0 → IsAtEnd (I.tells input.new) }
+    ensures kept { OnOk result (I.count input.new ≡ I.count input.old) }
+    ensures failed { OnErr result (I.count input.new ≡ I.count input.old + 1) }
+{
+    input.get(&mut buffer[filled..])
+}
+
+// Adds the next piece of a device's bytes, and says whether there was one.
+fn read_piece<I: Input>(input: &mut I, bytes: &mut Vec<u8>) -> Result<bool, ReadRefused>
+    requires failures { I.count input.old < 2 ^ 64 - 1 }
+    ensures bytes { OnOk result ((start : Option (List ℕ)) → Consumes start (I.tells input.old) bytes.old.items
+        → Consumes start (I.tells input.new) bytes.new.items) }
     ensures more { result ≡ Ok true → vec_len bytes.old < vec_len bytes.new }
     ensures end { result ≡ Ok false → IsAtEnd (I.tells input.new) }
     ensures device { result ≡ Err ReadRefused.ReadDevice → I.count input.new ≡ I.count input.old + 1 }
     ensures kept { result ≢ Err ReadRefused.ReadDevice → I.count input.new ≡ I.count input.old }
     ensures fault { IfErr result (λ e. e ≢ ReadRefused.Memory → e ≡ ReadRefused.ReadDevice) }
 {
-    match input.get(piece.as_mut_slice()) {
-        Ok(0) => Ok(false),
-        Ok(k) => match bytes.extend_from_slice(&piece.as_slice()[..k]) {
-            Ok(()) => Ok(true),
-            Err(_) => Err(ReadRefused::Memory),
-        },
+    let filled = bytes.len();
+    if bytes.resize(filled + PIECE, 0).is_err() {
+        return Err(ReadRefused::Memory);
+    }
+    match get_behind(input, bytes.as_mut_slice(), filled) {
+        Ok(k) => {
+            bytes.truncate(filled + k);
+            Ok(k > 0)
+        }
         Err(Failed) => Err(ReadRefused::ReadDevice),
     }
+}
+
+// An empty list with room for about so many bytes and a piece more, where that room can be had.
+fn likely_room(alloc: Global, size: u64) -> Vec<u8>
+    ensures { result.items ≡ [] }
+{
+    let mut bytes = Vec::new(alloc);
+    let _ = bytes.reserve((size as usize).saturating_add(PIECE));
+    bytes
 }
 
 /// All bytes of a device, to its end. `ReadDevice` is answered where the device failed, `Memory` where
@@ -132,12 +175,9 @@ pub fn read_all<I: Input>(alloc: Global, input: &mut I) -> Result<Vec<u8>, ReadR
     ensures kept { result ≢ Err ReadRefused.ReadDevice → I.count input.new ≡ I.count input.old }
     ensures fault { IfErr result (λ e. e ≢ ReadRefused.Memory → e ≡ ReadRefused.ReadDevice) }
 {
-    let Ok(mut piece) = vec![in alloc; 0u8; PIECE] else {
-        return Err(ReadRefused::Memory);
-    };
-    let mut bytes = Vec::new(alloc);
+    let mut bytes = likely_room(alloc, input.likely_size());
     for _turn in 0..u64::MAX {
-        match read_piece(input, &mut piece, &mut bytes) {
+        match read_piece(input, &mut bytes) {
             Ok(true) => {}
             Ok(false) => return Ok(bytes),
             Err(e) => return Err(e),

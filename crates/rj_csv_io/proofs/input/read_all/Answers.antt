@@ -5,10 +5,9 @@ use Rattle.rj_csv_io.proofs.input.read_all.Goals as goal
 
 pub loop-turn-init : goal.loop-turn-init
 loop-turn-init g c = record {
-  bytes = rw c.new-bytes.ensures.items (consumes-none (g.I.Input.tells c.args.input.now));
+  bytes = rw c.likely_room-bytes.ensures (consumes-none (g.I.Input.tells c.args.input.now));
   count = refl;
   turns = omega arith;
-  room = omega (arith, c.in-Ok.ensures.len);
 }
 
 pub returns-in-Ok-false-clause-bytes : goal.returns-in-Ok-false-clause-bytes
@@ -28,5 +27,4 @@ loop-turn-preserved g c =
       bytes = c.in-Ok-true.ensures.bytes (g.I.Input.tells c.args.input.now) c.loop-turn.invariant.bytes;
       count = c.in-Ok-true.ensures.kept (λ q. cc q) ∙ c.loop-turn.invariant.count;
       turns = omega (arith, more, c.loop-turn.invariant.turns);
-      room = omega (arith, c.in-Ok-true.ensures.piece, c.loop-turn.invariant.room);
     }

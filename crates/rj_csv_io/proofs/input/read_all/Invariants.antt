@@ -8,5 +8,4 @@ invariant-loop-turn g l = record {
   bytes : Consumes (g.I.Input.tells l.fn.input) (g.I.Input.tells l.input) l.bytes.items;
   count : g.I.Input.count l.input ≡ g.I.Input.count l.fn.input;
   turns : l._turn ≤ vec_len l.bytes;
-  room : 0 < vec_len l.piece;
 }

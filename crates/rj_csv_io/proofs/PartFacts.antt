@@ -1,0 +1,192 @@
+-- The records under a header, text by text.
+use Rattle.std.proofs.Common.{◌≡◌, ◌≢◌, ◌<◌, ◌≤◌, ◌+◌, ◌-◌, ◌^◌, ℕ, zero, suc, List, [], ◌∷◌, ◌++◌, length, take, drop, true, false, Bool, Option, Some, None, Result, Ok, Err, refl, sym, ap, ◌∙◌, arith, append_assoc, inl, inr, min, map, Bor}
+use Rattle.std.specs.Prelude.{All, if◌then◌else◌, nat_lt, ◌==◌, slice_index_or}
+use Rattle.std.proofs.lemmas.Bool.{cases_Bool, ne_eqb, false≢true}
+use Rattle.std.proofs.lemmas.List.{append-nil, length-take, take_more, take-append-drop, get_or-drop, get_or-map, length-map}
+use Rattle.std.proofs.lemmas.List.{flat_map_more, length-append}
+use Rattle.std.proofs.lemmas.List.Elements.{All-head, All-nil, All-push, All-tail, All-weaker}
+use Rattle.rj_columns.specs.declared.cell.ColumnType.{ColumnType}
+use Rattle.rj_columns.specs.declared.refused.BuildRefused.{BuildRefused}
+use Rattle.rj_columns.specs.declared.refused.BuildRefused.TheVariants as build
+use Rattle.rj_columns.specs.Contents.{Content}
+use Rattle.rj_columns.specs.Names.{begun, name_fault}
+use Rattle.rj_columns.specs.Tables.{AreAlike, TableValue, concatenated, rows_of_all}
+use Rattle.rj_csv_io.specs.declared.refused.ReadRefused.{ReadRefused}
+use Rattle.rj_csv_io.specs.declared.refused.ReadRefused.TheVariants as refused
+use Rattle.rj_csv_io.specs.Rows.{read_rows}
+use Rattle.rj_csv_io.proofs.PartRowFacts.{part-rows, part-many, part-fault, fault-first}
+use Rattle.rj_csv_io.specs.Cuts.{records_in, records_in_all}
+use Rattle.rj_csv_io.specs.Parts.{AreReadings, AreTables, IsReading, moved, row_records, under_header}
+
+all-append : (a b : List (List ℕ)) → records_in_all (a ++ b) ≡ records_in_all a ++ records_in_all b
+unfolding records_in_all
+all-append [] b = refl
+all-append (p ∷ a) b = ap (λ r. records_in p ++ r) (all-append a b) ∙ sym (append_assoc (records_in p) (records_in_all a) (records_in_all b))
+
+all-of-one : (p : List ℕ) → records_in_all (p ∷ []) ≡ records_in p
+unfolding records_in_all
+all-of-one p = append-nil (records_in p)
+
+under-more : (texts : List (List ℕ)) (p : List ℕ) → under_header (texts ++ p ∷ []) ≡ under_header texts ++ row_records (length texts == 0) p
+unfolding under_header records_in_all
+under-more [] p = append-nil (drop 1 (records_in p))
+under-more (q ∷ texts) p =
+    let some : (length (q ∷ texts) == 0) ≡ false = ne_eqb (length (q ∷ texts)) 0 (λ z. absurd (omega (arith, z))) in
+    rw some (ap (λ r. drop 1 (records_in q) ++ r) (all-append texts (p ∷ []) ∙ ap (λ r. records_in_all texts ++ r) (all-of-one p))
+    ∙ sym (append_assoc (drop 1 (records_in q)) (records_in_all texts) (records_in p)))
+
+-- one more text
+pub under-next : (texts : List (List ℕ)) (i : ℕ) → i < length texts
+    → under_header (take (i + 1) texts) ≡ under_header (take i texts) ++ row_records (i == 0) (slice_index_or texts i [])
+under-next texts i h =
+    let size = length-take i texts in
+    let same : length (take i texts) ≡ i = omega (arith, size, h) in
+    ap under_header (take_more texts i [] h) ∙ (under-more (take i texts) (slice_index_or texts i [])
+    ∙ ap (λ n. under_header (take i texts) ++ row_records (n == 0) (slice_index_or texts i [])) same)
+
+under-append : (p : List ℕ) (a b : List (List ℕ)) → under_header ((p ∷ a) ++ b) ≡ under_header (p ∷ a) ++ records_in_all b
+unfolding under_header
+under-append p a b = ap (λ r. drop 1 (records_in p) ++ r) (all-append a b) ∙ sym (append_assoc (drop 1 (records_in p)) (records_in_all a) (records_in_all b))
+
+-- the texts from one on
+pub under-rest : (texts : List (List ℕ)) (i : ℕ) → i < length texts → under_header texts ≡ under_header (take (i + 1) texts) ++ records_in_all (drop (i + 1) texts)
+under-rest [] i h = absurd (omega arith)
+under-rest (p ∷ texts) i h =
+    let n : i + 1 ≡ suc i = omega arith in
+    rw n (ap (λ t. under_header (p ∷ t)) (sym (take-append-drop i texts)) ∙ under-append p (take i texts) (drop i texts))
+
+pub under-none : under_header [] ≡ []
+unfolding under_header
+under-none = refl
+
+-- the records of a text are its header and those under it
+pub header-first : (text : List ℕ) (texts : List (List ℕ)) (header : List (List ℕ)) (rest : List (List (List ℕ))) → records_in text ≡ header ∷ rest
+    → records_in_all (text ∷ texts) ≡ header ∷ under_header (text ∷ texts)
+unfolding under_header records_in_all
+header-first text texts header rest e = rw e refl
+
+pub no-rows : (null : List ℕ) (types : List ColumnType) → read_rows null types [] [] ≡ Ok []
+unfolding read_rows
+no-rows null types = refl
+
+pub begun-rows : (names : List (List ℕ)) (types : List ColumnType) (t : TableValue) → begun names types ≡ Ok t → t.rows ≡ []
+begun-rows names types t e = elim (cases_Bool (nat_lt 256 (length names))) [
+  | inl many ↦ let no : Err build.TooManyColumns ≡ Ok t = rw many at e in absurd cc
+  | inr few ↦ go few (name_fault [] names) refl
+]
+  where
+    go : nat_lt 256 (length names) ≡ false → (o : Option BuildRefused) → name_fault [] names ≡ o → t.rows ≡ []
+    go few (Some x) f = let no : Err x ≡ Ok t = rw (few, f) at e in absurd cc
+    go few None f = elim (cases_Bool (length names == length types)) [
+      | inl same ↦
+          let is : Ok record { names = names; types = types; rows = [] } ≡ Ok t = rw (few, f, same) at e in
+          let q : record { names = names; types = types; rows = [] } ≡ t = cc in
+          sym (ap (λ (v : TableValue). v.rows) q)
+      | inr other ↦ let no : Err build.TypeCount ≡ Ok t = rw (few, f, other) at e in absurd cc
+    ]
+
+-- the next of the parts that remain
+pub head-at : {X : Type 0} (parts items : List X) (i : ℕ) (x : X) → items ≡ drop i parts → x ≡ slice_index_or items 0 x → slice_index_or parts i x ≡ x
+head-at parts items i x e h =
+    let none : i + 0 ≡ i = omega arith in
+    let at = get_or-drop i parts 0 x in
+    sym (h ∙ (ap (λ l. slice_index_or l 0 x) e ∙ (rw none at at)))
+
+pub table-of-none : (null : List ℕ) (types : List ColumnType) (header : List (List ℕ)) (records : List (List (List ℕ))) (t u : TableValue)
+    → begun header types ≡ Ok t → t.rows ≡ [] → u ≡ t → records ≡ []
+    → (begun header types ≡ Ok record u { rows = [] }) × (read_rows null types [] records ≡ Ok u.rows)
+table-of-none null types header records t u b e same none =
+    let again : record t { rows = [] } ≡ t = ap (λ (r : List (List Content)). record t { rows = r }) (sym e) in
+    rw (same, none) (b ∙ ap Ok (sym again), rw e (no-rows null types))
+
+not-memory : (n : ℕ) (e : ReadRefused) → moved n e ≢ refused.Memory → e ≢ refused.Memory
+not-memory n e ne q = ne (ap (moved n) q)
+
+-- how many rows there are with one more table's
+pub rows-more : (tables : List TableValue) (t : TableValue) → length (rows_of_all (tables ++ t ∷ [])) ≡ length (rows_of_all tables) + length t.rows
+rows-more tables t =
+    let more : rows_of_all tables ++ t.rows ≡ rows_of_all (tables ++ t ∷ []) = flat_map_more (λ (t : TableValue). t.rows) [] tables t in
+    rw (← more) (length-append (rows_of_all tables) t.rows)
+
+-- the reading of no records
+pub none-read : (null : List ℕ) (types : List ColumnType) (header : List (List ℕ)) → AreTables null types header (under_header []) []
+none-read null types header = record { columns = All-nil _; rows = rw under-none (no-rows null types); few = omega arith }
+
+module _ (null : List ℕ) (types : List ColumnType) (header : List (List ℕ)) (texts : List (List ℕ)) (parts : List (Result TableValue ReadRefused))
+    (are : AreReadings null types header texts parts) (i : ℕ) (h : i < length texts) (tables : List TableValue)
+    (read : AreTables null types header (under_header (take i texts)) tables) where
+  -- one more part
+  pub part-more : (t : TableValue) → slice_index_or parts i (Ok t) ≡ Ok t → length (rows_of_all tables) + length t.rows ≤ 2 ^ 31 - 1
+      → AreTables null types header (under_header (take (i + 1) texts)) (tables ++ t ∷ [])
+  part-more t e fits =
+      let is = rw e at (are i (Ok t) h) in
+      let more : rows_of_all tables ++ t.rows ≡ rows_of_all (tables ++ t ∷ []) = flat_map_more (λ (t : TableValue). t.rows) [] tables t in
+      let size = length-append (rows_of_all tables) t.rows in
+      record {
+        columns = All-push (λ (t : TableValue). begun header types ≡ Ok record t { rows = [] }) tables t read.columns is.0;
+        rows = rw (under-next texts i h, ← more) (part-rows null types (under_header (take i texts)) _ (rows_of_all tables) t.rows read.rows is.1 fits);
+        few = rw (← more) (omega (arith, size, fits));
+      }
+
+  rest-on : under_header texts ≡ (under_header (take i texts) ++ row_records (i == 0) (slice_index_or texts i [])) ++ records_in_all (drop (i + 1) texts)
+  rest-on = under-rest texts i h ∙ ap (λ r. r ++ records_in_all (drop (i + 1) texts)) (under-next texts i h)
+
+  -- a part with too many rows
+  pub part-past : (t : TableValue) → slice_index_or parts i (Ok t) ≡ Ok t → 2 ^ 31 - 1 < length (rows_of_all tables) + length t.rows
+      → read_rows null types [] (under_header texts) ≡ Err refused.TooManyRows
+  part-past t e many =
+      let is = rw e at (are i (Ok t) h) in
+      let so = part-many null types (under_header (take i texts)) _ (rows_of_all tables) t.rows read.rows is.1 read.few many in
+      rw rest-on (fault-first null types (under_header (take i texts) ++ row_records (i == 0) (slice_index_or texts i [])) _ refused.TooManyRows so)
+
+  -- a part with a fault
+  pub part-bad : (x : ReadRefused) (t : TableValue) → slice_index_or parts i (Err x) ≡ Err x → begun header types ≡ Ok t → moved (length (rows_of_all tables)) x ≢ refused.Memory
+      → read_rows null types [] (under_header texts) ≡ Err (moved (length (rows_of_all tables)) x)
+  part-bad x t e b ne =
+      let is = rw e at (are i (Err x) h) in
+      let so = part-fault null types (under_header (take i texts)) _ (rows_of_all tables) x read.rows (is (not-memory _ x ne) t b) read.few in
+      rw rest-on (fault-first null types (under_header (take i texts) ++ row_records (i == 0) (slice_index_or texts i [])) _ _ so)
+
+-- the records of a text by its texts
+pub records-by : (texts : List (List ℕ)) (bytes : List ℕ) (header : List (List ℕ)) (rest : List (List (List ℕ))) → 0 < length texts
+    → records_in (slice_index_or texts 0 []) ≡ header ∷ rest → records_in_all texts ≡ records_in bytes → records_in bytes ≡ header ∷ under_header texts
+records-by [] bytes header rest h e all = absurd (omega arith)
+records-by (p ∷ texts) bytes header rest h e all = sym all ∙ header-first p texts header rest e
+
+pub some-there : {X : Type 0} (xs : List X) → false ≡ (length xs == 0) → 0 < length xs
+some-there [] e = absurd (false≢true e)
+some-there (x ∷ xs) e = omega arith
+
+pub head-records : (texts : List (Bor (List ℕ))) (d : Bor (List ℕ)) (bytes : List ℕ) (header : List (List ℕ)) (rest : List (List (List ℕ)))
+    → false ≡ (length texts == 0) → records_in (slice_index_or texts 0 d).now ≡ header ∷ rest
+    → records_in_all (map (λ p. p.now) texts) ≡ records_in bytes → records_in bytes ≡ header ∷ under_header (map (λ p. p.now) texts)
+head-records texts d bytes header rest some e all =
+    let h = some-there texts some in
+    let size = length-map texts (λ (p : Bor (List ℕ)). p.now) in
+    let one = get_or-map (λ (p : Bor (List ℕ)). p.now) texts 0 d [] h in
+    records-by (map (λ (p : Bor (List ℕ)). p.now) texts) bytes header rest (omega (arith, size, h)) (ap records_in one ∙ e) all
+
+-- tables that one header begins are alike
+module _ (header : List (List ℕ)) (types : List ColumnType) where
+  begun-alike : (t u : TableValue) → begun header types ≡ Ok record t { rows = [] } → begun header types ≡ Ok record u { rows = [] } → (u.names ≡ t.names) × (u.types ≡ t.types)
+  begun-alike t u a b =
+      let q = sym a ∙ b in
+      let r : record t { rows = [] } ≡ record u { rows = [] } = cc in
+      (sym (ap (λ (v : TableValue). v.names) r), sym (ap (λ (v : TableValue). v.types) r))
+
+  pub tables-alike : (tables : List TableValue) → 0 < length tables → All (λ (t : TableValue). begun header types ≡ Ok record t { rows = [] }) tables → AreAlike tables
+  tables-alike [] h a = absurd (omega arith)
+  tables-alike (t ∷ tables) h a =
+      let first = All-head (λ (t : TableValue). begun header types ≡ Ok record t { rows = [] }) t tables a in
+      All-weaker (λ (u : TableValue). begun header types ≡ Ok record u { rows = [] }) (λ (u : TableValue). (u.names ≡ t.names) × (u.types ≡ t.types)) (λ u b. begun-alike t u first b) tables
+      (All-tail (λ (t : TableValue). begun header types ≡ Ok record t { rows = [] }) t tables a)
+
+  -- and so is their rows' table
+  pub whole-begun : (tables : List TableValue) → 0 < length tables → All (λ (t : TableValue). begun header types ≡ Ok record t { rows = [] }) tables
+      → begun header types ≡ Ok record (concatenated tables) { rows = [] }
+  whole-begun [] h a = absurd (omega arith)
+  whole-begun (t ∷ tables) h a = All-head (λ (t : TableValue). begun header types ≡ Ok record t { rows = [] }) t tables a
+
+pub whole-rows : (tables : List TableValue) → 0 < length tables → (concatenated tables).rows ≡ rows_of_all tables
+whole-rows [] h = absurd (omega arith)
+whole-rows (t ∷ tables) h = refl

@@ -1,0 +1,29 @@
+use Rattle.std.proofs.Common.{rules, ◌≡◌, ◌≤◌, ◌<◌, ◌+◌, ◌++◌, List, ℕ, Bor, map, take, drop, sym, ap, ◌∙◌, arith, refl, length, false, true, append_assoc}
+use Rattle.std.proofs.lemmas.List.{map-append, append-nil, take-append-drop}
+use Rattle.csv.specs.Reading.{strip_bom}
+use Rattle.rj_csv_io.specs.Cuts.{records_in, records_in_all}
+use Rattle.rj_csv_io.proofs.CutFacts.{strip-plain, all-more, text-step, all-none, all-one}
+use Rattle.rj_csv_io.proofs.cut.cut_text.Goals as goal
+
+pub returns-then-starts_with_bom : goal.returns-then-starts_with_bom
+returns-then-starts_with_bom c = rw (c.in_ok-push.ensures.items, c.new-parts.ensures.items) (all-one c.args.text.now)
+
+pub loop-k-init : goal.loop-k-init
+loop-k-init c =
+    let plain = strip-plain c.without_bom-rest.result.now (sym c.starts_with_bom.ensures.value ∙ c.if-starts_with_bom.false) in
+    record {
+      unmarked = plain;
+      records = rw (c.new-parts.ensures.items, all-none, plain, c.without_bom-rest.ensures) refl;
+    }
+
+pub loop-k-preserved : goal.loop-k-preserved
+loop-k-preserved c =
+    let done = map (λ (p : Bor (List ℕ)). p.now) c.loop-k.parts.items in
+    let step = text-step done c.loop-k.rest.now c.args.text.now c.in-Some.cut c.loop-k.invariant.unmarked c.in-Some.ensures.unmarked c.in-Some.ensures.ends c.loop-k.invariant.records in
+    record {
+      unmarked = rw c.split_at.ensures.back c.in-Some.ensures.unmarked;
+      records = rw (c.in_ok-push-2.ensures.items, map-append, c.split_at.ensures.front, c.split_at.ensures.back) step;
+    }
+
+pub returns : goal.returns
+returns c = rw (c.in_ok-push-3.ensures.items, map-append, all-more (map (λ (p : Bor (List ℕ)). p.now) c.loop-k.parts.items) c.loop-k.rest.now) c.loop-k.invariant.records

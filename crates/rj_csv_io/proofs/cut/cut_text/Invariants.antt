@@ -1,0 +1,10 @@
+use Rattle.std.proofs.Common.{◌≡◌, ◌++◌, map}
+use Rattle.csv.specs.Reading.{strip_bom}
+use Rattle.rj_csv_io.specs.Cuts.{records_in, records_in_all}
+use Rattle.rj_csv_io.proofs.cut.cut_text.Given as goal
+
+abbrev pub invariant-loop-k : goal.invariant-loop-k
+invariant-loop-k l = record {
+  unmarked : strip_bom l.rest ≡ l.rest;
+  records : records_in_all (map (λ p. p.now) l.parts.items) ++ records_in l.rest ≡ records_in l.fn.text;
+}

@@ -1,0 +1,55 @@
+-- Tables that are read from the texts that one text was cut into.
+use Rattle.std.specs.Prelude.{ℕ, ◌+◌, ◌-◌, ◌^◌, ◌==◌, ◌≡◌, ◌≢◌, ◌<◌, ◌≤◌, nat_le, if◌then◌else◌, Bool, true, false, List, [], ◌∷◌, ◌++◌, length, drop, slice_index_or, Result, Ok, Err, All}
+use Rattle.rj_columns.specs.declared.cell.ColumnType.{ColumnType}
+use Rattle.rj_columns.specs.Contents.{Content}
+use Rattle.rj_columns.specs.Tables.{TableValue, rows_of_all}
+use Rattle.rj_columns.specs.Names.{begun}
+use Rattle.rj_csv_io.specs.Cuts.{records_in, records_in_all}
+use Rattle.rj_csv_io.specs.Rows.{read_rows}
+use Rattle.rj_csv_io.specs.declared.refused.ReadRefused.{ReadRefused}
+use Rattle.rj_csv_io.specs.declared.refused.ReadRefused.TheVariants as refused
+
+-- the fault at a row, where the rows count from the first one, or TooManyRows where there is no such row
+abbrev pub at_row : ℕ → ReadRefused → ReadRefused
+at_row row e = if nat_le row (2 ^ 31 - 1) then e else refused.TooManyRows
+
+-- a fault of a part that has this many rows before it
+abbrev pub moved : ℕ → ReadRefused → ReadRefused
+moved n refused.NoHeader = refused.NoHeader
+moved n (refused.BadName column) = refused.BadName column
+moved n (refused.RepeatedName column) = refused.RepeatedName column
+moved n refused.TypeCount = refused.TypeCount
+moved n (refused.RaggedRow row) = at_row (n + row) (refused.RaggedRow (n + row))
+moved n (refused.BadInteger row column) = at_row (n + row) (refused.BadInteger (n + row) column)
+moved n (refused.BadText row column) = at_row (n + row) (refused.BadText (n + row) column)
+moved n refused.TooManyRows = refused.TooManyRows
+moved n refused.TooManyColumns = refused.TooManyColumns
+moved n refused.BadNull = refused.BadNull
+moved n refused.ReadDevice = refused.ReadDevice
+moved n refused.Memory = refused.Memory
+
+-- the records of rows in a text: all but the first one where that is the header
+abbrev pub row_records : Bool → List ℕ → List (List (List ℕ))
+row_records true text = drop 1 (records_in text)
+row_records false text = records_in text
+
+-- the records under the header, which stands in the first of the texts
+unfoldable pub under_header : List (List ℕ) → List (List (List ℕ))
+under_header [] = []
+under_header (text ∷ texts) = drop 1 (records_in text) ++ records_in_all texts
+
+-- what the reading of records under a header gives
+abbrev pub IsReading : List ℕ → List ColumnType → List (List ℕ) → List (List (List ℕ)) → Result TableValue ReadRefused → Type 0
+IsReading null types header records (Ok t) = (begun header types ≡ Ok record t { rows = [] }) × (read_rows null types [] records ≡ Ok t.rows)
+IsReading null types header records (Err e) = e ≢ refused.Memory → (t : TableValue) → begun header types ≡ Ok t → read_rows null types [] records ≡ Err e
+
+-- each part is what the reading of its text gives
+abbrev pub AreReadings : List ℕ → List ColumnType → List (List ℕ) → List (List ℕ) → List (Result TableValue ReadRefused) → Type 0
+AreReadings null types header texts parts = (i : ℕ) (d : Result TableValue ReadRefused) → i < length texts
+    → IsReading null types header (row_records (i == 0) (slice_index_or texts i [])) (slice_index_or parts i d)
+
+-- tables with the header's columns, whose rows put together are those that the records read as
+pub record AreTables (null : List ℕ) (types : List ColumnType) (header : List (List ℕ)) (records : List (List (List ℕ))) (tables : List TableValue) : Type 0 where
+  pub columns : All (λ (t : TableValue). begun header types ≡ Ok record t { rows = [] }) tables
+  pub rows : read_rows null types [] records ≡ Ok (rows_of_all tables)
+  pub few : length (rows_of_all tables) ≤ 2 ^ 31 - 1

@@ -1,0 +1,98 @@
+// One of the parts that a table is read in.
+
+ghost use Rattle.std.specs.Prelude.{◌≡◌, ◌<◌, ◌^◌, [], drop, ◌∷◌, List, ℕ, IfOk, Some, MatchOption};
+ghost use Rattle.csv.specs.Records.{fields_of};
+ghost use Rattle.rj_csv_io.specs.Cuts.{records_in};
+ghost use Rattle.rj_csv_io.specs.Remaining.{IsBetween, records_remaining};
+ghost use Rattle.rj_csv_io.specs.Parts.{IsReading, moved, row_records};
+
+use super::header::{begin_table, likely_rows, open_reader};
+use super::read_rows::{MAX_ROWS, rows_of_reader};
+use super::refused::ReadRefused;
+use csv::{ByteRecord, Reader};
+use rj_columns::{ColumnType, Table};
+use std::alloc::{AllocError, Global};
+
+/// The first record of a text, if it has one.
+pub(crate) fn header_of(alloc: Global, text: &[u8]) -> Result<Option<ByteRecord>, AllocError>
+    ensures { IfOk result (λ o. MatchOption o (records_in text.now ≡ [])
+        (λ h. (rest : List (List (List ℕ))) × (records_in text.now ≡ fields_of h ∷ rest))) }
+{
+    let mut reader = open_reader(alloc, text);
+    let mut header = ByteRecord::new(alloc);
+    match reader.read_byte_record(&mut header) {
+        Ok(true) => Ok(Some(header)),
+        Ok(false) => Ok(None),
+        Err(_) => Err(AllocError),
+    }
+}
+
+// A reader of a text's records, but for the first one where that is the header; none where there are none.
+fn reader_of_part<'a>(
+    alloc: Global,
+    text: &'a [u8],
+    has_header: bool,
+) -> Result<Option<Reader<&'a [u8]>>, AllocError>
+    ensures { IfOk result (λ o. MatchOption o (row_records has_header text.now ≡ [])
+        (λ r. IsBetween (λ s. Some s.now) r × (records_remaining (λ s. Some s.now) r ≡ row_records has_header text.now))) }
+{
+    let mut reader = open_reader(alloc, text);
+    if !has_header {
+        return Ok(Some(reader));
+    }
+    let mut header = ByteRecord::new(alloc);
+    match reader.read_byte_record(&mut header) {
+        Ok(true) => Ok(Some(reader)),
+        Ok(false) => Ok(None),
+        Err(_) => Err(AllocError),
+    }
+}
+
+/// The table of a text's records under this header, which is the first of them where the text has it.
+/// The rows in a fault count from the text's first one.
+pub(crate) fn read_part(
+    alloc: Global,
+    text: &[u8],
+    has_header: bool,
+    header: &ByteRecord,
+    types: &[ColumnType],
+    null: &[u8],
+) -> Result<Table, ReadRefused>
+    ensures { IsReading null.now types.now (fields_of header.now) (row_records has_header text.now) result }
+{
+    let builder = match begin_table(alloc, header, types, likely_rows(text, types.len())) {
+        Ok(builder) => builder,
+        Err(e) => return Err(e),
+    };
+    let Ok(reader) = reader_of_part(alloc, text, has_header) else {
+        return Err(ReadRefused::Memory);
+    };
+    let Some(reader) = reader else {
+        return Ok(builder.finish());
+    };
+    match rows_of_reader(alloc, reader, builder, null, types) {
+        Ok(table) => Ok(table),
+        Err(e) => Err(e),
+    }
+}
+
+/// A fault of a part that has this many rows before it, with its row counted from the whole table's first one.
+pub(crate) fn moved_on(before: u64, fault: ReadRefused) -> ReadRefused
+    requires { before < 2 ^ 31 }
+    ensures { result ≡ moved before fault }
+{
+    let most = MAX_ROWS - before;
+    match fault {
+        ReadRefused::RaggedRow(row) if row <= most => ReadRefused::RaggedRow(before + row),
+        ReadRefused::BadInteger(row, column) if row <= most => {
+            ReadRefused::BadInteger(before + row, column)
+        }
+        ReadRefused::BadText(row, column) if row <= most => {
+            ReadRefused::BadText(before + row, column)
+        }
+        ReadRefused::RaggedRow(_) | ReadRefused::BadInteger(_, _) | ReadRefused::BadText(_, _) => {
+            ReadRefused::TooManyRows
+        }
+        other => other,
+    }
+}

@@ -1,0 +1,81 @@
+// Where a text of CSV stands after its bytes, as far as quotes go.
+
+ghost use Rattle.std.specs.Prelude.{◌≡◌, ◌<◌, ◌≤◌, ◌==◌, ℕ, false, length, take, slice_index};
+ghost use Rattle.rj_csv_io.specs.Cuts.{after_quote, after_run, is_separator, is_open_place, place_after};
+
+use memchr::memchr;
+
+/// A place in a text: at the start of a field, in one, between quotes, after the quote that closed.
+#[derive(Clone, Copy, Debug, PartialEq, Eq)]
+pub(crate) enum Place {
+    Fresh,
+    Inside,
+    Open,
+    Closed,
+}
+
+/// Whether a place is between quotes.
+pub(crate) fn is_open(place: Place) -> bool
+    ensures { result ≡ is_open_place place }
+{
+    match place {
+        Place::Open => true,
+        Place::Fresh | Place::Inside | Place::Closed => false,
+    }
+}
+
+// The place after a quote.
+fn quoted(place: Place) -> Place
+    ensures { result ≡ after_quote place }
+{
+    match place {
+        Place::Fresh => Place::Open,
+        Place::Inside => Place::Inside,
+        Place::Open => Place::Closed,
+        Place::Closed => Place::Open,
+    }
+}
+
+// The place after bytes without a quote, of which this is the last.
+fn plain(place: Place, byte: u8) -> Place
+    ensures { result ≡ after_run place byte }
+{
+    if place == Place::Open {
+        return Place::Open;
+    }
+    if byte == b',' || byte == b'\r' || byte == b'\n' {
+        return Place::Fresh;
+    }
+    Place::Inside
+}
+
+// The place after more bytes, of which none is a quote.
+fn run(place: Place, text: &[u8], from: usize, to: usize) -> Place
+    requires order { from ≤ to }
+    requires within { to ≤ length text.now }
+    requires plain { (i : ℕ) → from ≤ i → i < to → (slice_index text.now i == 34) ≡ false }
+    ensures { (p : Place) → place ≡ place_after p (take from text.now) → result ≡ place_after p (take to text.now) }
+{
+    if from == to {
+        return place;
+    }
+    plain(place, text[to - 1])
+}
+
+/// The place after a text that begins at this place.
+pub(crate) fn scan(start: Place, text: &[u8]) -> Place
+    ensures { result ≡ place_after start text.now }
+{
+    let mut place = start;
+    let mut at = 0usize;
+    for _turn in 0..text.len() {
+        match memchr(b'"', &text[at..]) {
+            None => return run(place, text, at, text.len()),
+            Some(k) => {
+                place = quoted(run(place, text, at, at + k));
+                at += k + 1;
+            }
+        }
+    }
+    place
+}

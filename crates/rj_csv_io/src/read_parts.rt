@@ -1,0 +1,165 @@
+// Reading a table in parts, each by a thread.
+
+ghost use Rattle.std.specs.Prelude.{◌≡◌, ◌≢◌, ◌<◌, length, map, IfOk, IfErr, OnOk, Ok, Err, IsTrue};
+ghost use Rattle.csv.specs.Records.{fields_of};
+ghost use Rattle.rj_csv_io.specs.Parts.{AreReadings, AreTables, IsReading, under_header};
+ghost use Rattle.rj_csv_io.specs.Tables.{is_null_text, read_of};
+
+use super::cut::cut_text;
+use super::header::begin_table;
+use super::null_text::is_lawful_null;
+use super::part::{header_of, moved_on, read_part};
+use super::read_rows::MAX_ROWS;
+use super::read_whole::read_table;
+use super::refused::ReadRefused;
+use csv::ByteRecord;
+use rj_columns::{ColumnType, Table};
+use std::alloc::Global;
+use std::thread::{self, Threads};
+
+// The least bytes of a part: fewer take less time than a thread's start.
+const LEAST_PART: usize = 262144;
+
+// The tables of the parts, in order, or the first fault of all.
+fn tables_of_parts(
+    alloc: Global,
+    mut parts: Vec<Result<Table, ReadRefused>>,
+    texts: &[&[u8]],
+    header: &ByteRecord,
+    types: &[ColumnType],
+    null: &[u8],
+) -> Result<Vec<Table>, ReadRefused>
+    requires count { length parts.items ≡ length texts.now }
+    requires parts { AreReadings null.now types.now (fields_of header.now) (map (λ t. t.now) texts.now) parts.items }
+    ensures count { IfOk result (λ v. length v.items ≡ length texts.now) }
+    ensures tables { IfOk result (λ v. AreTables null.now types.now (fields_of header.now) (under_header (map (λ t. t.now) texts.now)) v.items) }
+    ensures fault { IfErr result (λ e. IsReading null.now types.now (fields_of header.now) (under_header (map (λ t. t.now) texts.now)) (Err e)) }
+{
+    let mut tables = Vec::new(alloc);
+    let mut rows = 0u64;
+    for _i in 0..parts.len() {
+        match parts.remove(0) {
+            Ok(table) => {
+                let more = rows + table.rows();
+                if more > MAX_ROWS {
+                    return Err(ReadRefused::TooManyRows);
+                }
+                match tables.push(table) {
+                    Ok(()) => rows = more,
+                    Err(_) => return Err(ReadRefused::Memory),
+                }
+            }
+            Err(e) => return Err(moved_on(rows, e)),
+        }
+    }
+    Ok(tables)
+}
+
+// The table of the texts' records under the header, which is the first record of the first text.
+fn read_texts<R: Threads + Sync>(
+    rt: &R,
+    alloc: Global,
+    texts: &[&[u8]],
+    header: &ByteRecord,
+    types: &[ColumnType],
+    null: &[u8],
+) -> Result<Table, ReadRefused>
+    requires some { 0 < length texts.now }
+    ensures { IsReading null.now types.now (fields_of header.now) (under_header (map (λ t. t.now) texts.now)) result }
+{
+    let read = thread::map_indices(
+        rt,
+        alloc,
+        texts.len(),
+        &|i| read_part(alloc, texts[i], i == 0, header, types, null),
+    );
+    let Ok(parts) = read else {
+        return Err(ReadRefused::Memory);
+    };
+    let tables = match tables_of_parts(alloc, parts, texts, header, types, null) {
+        Ok(tables) => tables,
+        Err(e) => return Err(e),
+    };
+    match Table::concat(rt, alloc, tables.as_slice()) {
+        Ok(table) => Ok(table),
+        Err(_) => Err(ReadRefused::Memory),
+    }
+}
+
+// Reads a table in up to so many parts.
+fn read_in_parts<R: Threads + Sync>(
+    rt: &R,
+    alloc: Global,
+    bytes: &[u8],
+    types: &[ColumnType],
+    null: &str,
+    parts: usize,
+) -> Result<Table, ReadRefused>
+    ensures table { IfOk result (λ t. read_of bytes.now types.now null.now ≡ Ok t) }
+    ensures fault { IfErr result (λ e. e ≢ ReadRefused.Memory → read_of bytes.now types.now null.now ≡ Err e) }
+    ensures lawful { OnOk result (IsTrue (is_null_text null.now)) }
+{
+    if !is_lawful_null(null) {
+        return Err(ReadRefused::BadNull);
+    }
+    let Ok(texts) = cut_text(alloc, bytes, parts) else {
+        return Err(ReadRefused::Memory);
+    };
+    let texts = texts.as_slice();
+    if texts.is_empty() {
+        return read_table(alloc, bytes, types, null);
+    }
+    let header = match header_of(alloc, texts[0]) {
+        Ok(Some(header)) => header,
+        Ok(None) => return read_table(alloc, bytes, types, null),
+        Err(_) => return Err(ReadRefused::Memory),
+    };
+    match begin_table(alloc, &header, types, 0) {
+        Ok(_) => {}
+        Err(e) => return Err(e),
+    }
+    match read_texts(rt, alloc, texts, &header, types, null.as_bytes()) {
+        Ok(table) => Ok(table),
+        Err(e) => Err(e),
+    }
+}
+
+// Reads a table in up to so many parts, none of fewer than so many bytes.
+pub(crate) fn read_in_parts_of<R: Threads + Sync>(
+    rt: &R,
+    alloc: Global,
+    bytes: &[u8],
+    types: &[ColumnType],
+    null: &str,
+    parts: usize,
+    least: usize,
+) -> Result<Table, ReadRefused>
+    requires { 0 < least }
+    ensures table { IfOk result (λ t. read_of bytes.now types.now null.now ≡ Ok t) }
+    ensures fault { IfErr result (λ e. e ≢ ReadRefused.Memory → read_of bytes.now types.now null.now ≡ Err e) }
+    ensures lawful { OnOk result (IsTrue (is_null_text null.now)) }
+{
+    let parts = parts.min(bytes.len() / least);
+    if parts <= 1 {
+        return read_table(alloc, bytes, types, null);
+    }
+    read_in_parts(rt, alloc, bytes, types, null, parts)
+}
+
+/// Reads a table as [`read_table`] does, in up to so many parts at a time, each by a thread.
+///
+/// A part has at least 256 KiB, so that no thread is started for few bytes. The answer doesn't depend on the parts.
+pub fn read_table_in_parts<R: Threads + Sync>(
+    rt: &R,
+    alloc: Global,
+    bytes: &[u8],
+    types: &[ColumnType],
+    null: &str,
+    parts: usize,
+) -> Result<Table, ReadRefused>
+    ensures table { IfOk result (λ t. read_of bytes.now types.now null.now ≡ Ok t) }
+    ensures fault { IfErr result (λ e. e ≢ ReadRefused.Memory → read_of bytes.now types.now null.now ≡ Err e) }
+    ensures lawful { OnOk result (IsTrue (is_null_text null.now)) }
+{
+    read_in_parts_of(rt, alloc, bytes, types, null, parts, LEAST_PART)
+}
