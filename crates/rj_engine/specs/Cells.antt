@@ -14,7 +14,7 @@ use Rattle.rj_engine.specs.declared.origin.Origin.TheVariants.{Coalesced, Left, 
 use Rattle.rj_engine.specs.Origins.{origins_of}
 use Rattle.rj_engine.specs.Results.{result_of}
 
--- how many digits stand after the point in the values of a type: none in a whole number, and none where there is no such column
+-- the scale of the values of a type, which is how many decimal places they have: none in a whole number, and none where there is no such column
 abbrev pub scale_of : Option ColumnType → ℕ
 scale_of None = 0
 scale_of (Some kind.Int) = 0
@@ -79,7 +79,7 @@ view_of join l r = record {
   width = length (columns_of join r);
 }
 
--- a cell that can be given in this scale: it has no more digits after the point, and is within the limits of a comparison
+-- a cell that can be given in this scale: it has no more decimal places, and is within the limits of a comparison
 abbrev pub IsScaledWithin : ℕ → Content → Type 0
 IsScaledWithin scale x = IsInLimits x × HasScaleWithin scale x
 

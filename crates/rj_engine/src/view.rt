@@ -190,7 +190,7 @@ fn scale_at(left: &Table, right: &Table, origin: Origin) -> u8
     }
 }
 
-// How many digits stand after the point in the values of a type.
+// The scale of the values of a type: how many decimal places they have.
 fn scale_of_type(column_type: ColumnType) -> u8
     ensures { result ≡ scale_of (Some column_type) }
 {
