@@ -1,6 +1,7 @@
 //! The joined table of SQL-92 (7.5) over two tables: its rows by their numbers, its header and its cells.
 #![tactic(auto)]
 
+mod cells;
 mod collecting;
 mod dealing;
 mod gathering;
