@@ -8,6 +8,7 @@ pub mod Rising
 pub mod Parts
 pub mod Sources
 pub mod Scaled
+pub mod Sections
 pub mod Grown
 pub mod Stripes
 pub mod Starts

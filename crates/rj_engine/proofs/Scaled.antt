@@ -25,7 +25,7 @@ fits_scaled [] i x f = absurd f
 fits_scaled (t ∷ types) zero x f = (FitsType-limits t x f, fits_scale t x f)
 fits_scaled (t ∷ types) (suc i) x f = fits_scaled types i x f
 
-wider : (s t : ℕ) (x : Content) → s ≤ t → IsScaledWithin s x → IsScaledWithin t x
+pub wider : (s t : ℕ) (x : Content) → s ≤ t → IsScaledWithin s x → IsScaledWithin t x
 wider s t nothing l h = h
 wider s t (whole n) l h = h
 wider s t (decimal units scale) l h = (h.0, omega (arith, l, h.1))

@@ -2,7 +2,7 @@
 use Rattle.std.proofs.Common.{◌≡◌, ◌<◌, ℕ, zero, suc, ◌+◌, ◌&&◌, ◌==◌, not, List, [], ◌∷◌, Bool, true, false, Option, Some, None, All, refl, arith, length, map, inl, inr}
 use Rattle.std.specs.Prelude.{slice_get, slice_index_or, is_some, cond}
 use Rattle.std.specs.List.{range_with_len, list_all, list_any, flat_map}
-use Rattle.std.proofs.lemmas.Bool.{cases_lt}
+use Rattle.std.proofs.lemmas.Bool.{and_parts, cases_lt}
 use borrow.Author.Tests.{eqb-true}
 use Rattle.std.proofs.lemmas.Option.{slice_get_past}
 use Rattle.std.proofs.lemmas.List.{length-map}
@@ -70,12 +70,6 @@ members-there join l r =
     let three = All-map (IsMemberOf l r) (λ j. RightOnly j) (joined_of join l r).lone_right (All-weaker (λ j. j < n) (λ j. IsMemberOf l r (RightOnly j)) (λ j low. (tt, low)) (joined_of join l r).lone_right rights) in
     All-append (IsMemberOf l r) _ _ (All-append (IsMemberOf l r) _ _ one two) three
 
--- what a fact of two tests says
-both : (a b : Bool) → (a && b) ≡ true → (a ≡ true) × (b ≡ true)
-both true true e = (refl, refl)
-both true false e = cc
-both false b e = cc
-
 none_right : (a : Option ColumnType) → are_one_type a None ≡ true → ⊥
 none_right None h = cc
 none_right (Some kind.Int) h = cc
@@ -98,7 +92,7 @@ pair-there xs ys i j h = elim (cases_lt i (length xs)) [
 pairs-there : (l r : TableValue) (ps : List (ℕ × ℕ)) → list_all (pair_fits l.types r.types) ps ≡ true → All (λ p. IsColumnOf l r (Coalesced p.0 p.1)) ps
 pairs-there l r [] h = All-nil (λ p. IsColumnOf l r (Coalesced p.0 p.1))
 pairs-there l r (p ∷ ps) h =
-    let (one, rest) = both (pair_fits l.types r.types p) (list_all (pair_fits l.types r.types) ps) h in
+    let (one, rest) = and_parts (pair_fits l.types r.types p) (list_all (pair_fits l.types r.types) ps) h in
     All-cons (λ p. IsColumnOf l r (Coalesced p.0 p.1)) p ps (pair-there l.types r.types p.0 p.1 one) (pairs-there l r ps rest)
 
 -- each column of the joined table is one of the tables, where the join was bound to them
@@ -106,8 +100,8 @@ pub columns-there : (join : BoundJoin) (l r : TableValue) → fits join l.types 
 unfolding origins_of
 columns-there join l r h =
     let partners = partners_of join in
-    let (columns, rule) = both (length partners == length l.types && list_all (pair_fits l.types r.types) (pairs_of partners)) (rule_fits l.types r.types join.rule) h in
-    let (size, pairs) = both (length partners == length l.types) (list_all (pair_fits l.types r.types) (pairs_of partners)) columns in
+    let (columns, rule) = and_parts (length partners == length l.types && list_all (pair_fits l.types r.types) (pairs_of partners)) (rule_fits l.types r.types join.rule) h in
+    let (size, pairs) = and_parts (length partners == length l.types) (list_all (pair_fits l.types r.types) (pairs_of partners)) columns in
     let same : length partners ≡ length l.types = eqb-true (length partners) (length l.types) size in
     let one = All-map (IsColumnOf l r) (λ p. Coalesced p.0 p.1) (pairs_of partners) (pairs-there l r (pairs_of partners) pairs) in
     let two = All-map (IsColumnOf l r) (λ i. Left i) (other_lefts partners)

@@ -1,20 +1,22 @@
 -- The header and the cells of a joined table (SQL-92, 7.5 and 6.9).
-use Rattle.std.specs.Prelude.{ℕ, ◌<◌, List, [], map, length, max, Option, None, Some, slice_get, slice_index_or}
+use Rattle.std.specs.Prelude.{ℕ, zero, suc, ◌+◌, ◌<◌, List, [], ◌∷◌, ◌++◌, map, length, max, Option, None, Some, slice_get, slice_index_or}
 use Rattle.rj_columns.specs.Contents.{Content, nothing, IsInLimits}
 use Rattle.rj_columns.specs.Scales.{in_scale, coalesced, HasScaleWithin}
-use Rattle.rj_columns.specs.Tables.{TableValue, cell_of}
+use Rattle.rj_columns.specs.Tables.{TableValue, cell_in, cell_of}
 use Rattle.rj_columns.specs.declared.cell.ColumnType.{ColumnType}
 use Rattle.rj_columns.specs.declared.cell.ColumnType.TheVariants as kind
 use Rattle.rj_condition.specs.Joins.{partners_of}
 use Rattle.rj_condition.specs.declared.bound.BoundJoin.{BoundJoin}
+use Rattle.rj_engine.specs.declared.joined.Members.{Members}
 use Rattle.rj_engine.specs.declared.joined.JoinedRow.{JoinedRow}
 use Rattle.rj_engine.specs.declared.joined.JoinedRow.TheVariants.{Both, LeftOnly, RightOnly}
 use Rattle.rj_engine.specs.declared.origin.Origin.{Origin}
 use Rattle.rj_engine.specs.declared.origin.Origin.TheVariants.{Coalesced, Left, Right}
 use Rattle.rj_engine.specs.Origins.{origins_of}
+use Rattle.rj_engine.specs.Join.{rows_in}
 use Rattle.rj_engine.specs.Results.{result_of}
 
--- how many digits stand after the point in the values of a type: none in a whole number, and none where there is no such column
+-- the scale of the values of a type, which is how many decimal places they have: none in a whole number, and none where there is no such column
 abbrev pub scale_of : Option ColumnType → ℕ
 scale_of None = 0
 scale_of (Some kind.Int) = 0
@@ -24,6 +26,10 @@ scale_of (Some kind.Text) = 0
 -- the scale of a coalesced column: the greater one of the two columns
 abbrev pub coalesced_scale : TableValue → TableValue → ℕ → ℕ → ℕ
 coalesced_scale l r a b = max (scale_of (slice_get l.types a)) (scale_of (slice_get r.types b))
+
+-- members that follow each other, in order
+abbrev pub members_rows : Members → List JoinedRow
+members_rows m = rows_in (record { pairs = m.pairs.now; lone_left = m.lone_left.now; lone_right = m.lone_right.now })
 
 -- the cell of the left row, null where that is missing
 abbrev pub left_cell : TableValue → JoinedRow → ℕ → Content
@@ -79,7 +85,7 @@ view_of join l r = record {
   width = length (columns_of join r);
 }
 
--- a cell that can be given in this scale: it has no more digits after the point, and is within the limits of a comparison
+-- a cell that can be given in this scale: it has no more decimal places, and is within the limits of a comparison
 abbrev pub IsScaledWithin : ℕ → Content → Type 0
 IsScaledWithin scale x = IsInLimits x × HasScaleWithin scale x
 
@@ -104,3 +110,8 @@ abbrev pub IsColumnOf : TableValue → TableValue → Origin → Type 0
 IsColumnOf l r (Coalesced a b) = (a < length l.types) × (b < length r.types)
 IsColumnOf l r (Left a) = a < length l.types
 IsColumnOf l r (Right b) = b < length r.types
+
+-- the cells of one column from a row on
+unfoldable pub part_of : List (List Content) → ℕ → ℕ → ℕ → List Content
+part_of rows col from zero = []
+part_of rows col from (suc n) = part_of rows col from n ++ cell_in rows (from + n) col ∷ []

@@ -1,15 +1,16 @@
 //! The joined table of SQL-92 (7.5) over two tables: its rows by their numbers, its header and its cells.
 #![tactic(auto)]
 
+mod cells;
 mod collecting;
 mod dealing;
 mod gathering;
 mod joined;
 mod marks;
+mod nested_loops;
 mod origin;
 mod partitions;
 mod pieces;
-mod plain;
 mod scattering;
 mod settings;
 mod sizes;
@@ -21,8 +22,8 @@ mod working;
 pub use gathering::gather;
 pub use joined::{Joined, JoinedRow, Rows};
 pub use marks::unmatched;
+pub use nested_loops::nested_loop;
 pub use partitions::run_join;
-pub use plain::nested_loop;
 pub use rj_workers::{Gate, Open, Place};
 pub use settings::Settings;
 pub use view::{View, header};

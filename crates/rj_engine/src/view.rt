@@ -1,11 +1,13 @@
 // The header and the cells of a joined table, lent by its two tables.
 
-ghost use Rattle.std.specs.Prelude.{◌≡◌, ◌<◌, map, length, true, Some, slice_get, IfOk, All};
+ghost use Rattle.std.specs.Prelude.{◌≡◌, ◌<◌, ◌≤◌, ◌-◌, ◌++◌, map, length, true, Some, slice_get, IfOk, OnOk, All};
 ghost use Rattle.rj_columns.specs.Contents.{content_of};
 ghost use Rattle.rj_condition.specs.Fits.{fits};
 ghost use Rattle.rj_engine.specs.Results.{joined_of};
-ghost use Rattle.rj_engine.specs.Cells.{header_of, view_of, columns_of, name_of, joined_cell, left_cell, right_cell, scale_of, shown_scale, IsScaledWithin, IsLeftRow, IsRightRow, IsMemberOf, IsColumnOf};
+ghost use Rattle.rj_engine.specs.Cells.{header_of, part_of, view_of, columns_of, name_of, joined_cell, left_cell, right_cell};
+ghost use Rattle.rj_engine.specs.Cells.{scale_of, shown_scale, IsScaledWithin, IsLeftRow, IsRightRow, IsMemberOf, IsColumnOf};
 
+use super::cells::{add_coalesced, add_left, add_right};
 use super::joined::{Joined, JoinedRow};
 use super::origin::{Origin, origins};
 use rj_columns::{Cell, ColumnType, RowSource, Table, coalesce, in_scale};
@@ -30,7 +32,10 @@ impl<'a> Model for View<'a> {
 
     ghost Value = { ViewValue };
 
-    ghost view = { λ a. record { cells = map (joined_cells a.left.now a.right.now a.origins.items) (rows_in a.joined.now.members); width = length a.origins.items } };
+    ghost view = { λ a. record {
+      cells = map (joined_cells a.left.now a.right.now a.origins.items) (rows_in a.joined.now.members);
+      width = length a.origins.items;
+    } };
 
     ghost invariant = { λ a. All (IsMemberOf a.left.now a.right.now) (rows_in a.joined.now.members) × All (IsColumnOf a.left.now a.right.now) a.origins.items
         × (a.scales.items ≡ map (shown_scale a.left.now a.right.now) a.origins.items) };
@@ -74,6 +79,36 @@ impl<'a> View<'a> {
             origins,
             scales,
         })
+    }
+
+    /// Adds the cells of a column at the rows from one up to another. It fails only where memory is refused, and then some
+    /// of the cells may have been added.
+    pub fn cells<'s>(
+        &'s self,
+        cells: &mut Vec<Cell<'s>>,
+        col: usize,
+        from: u64,
+        to: u64,
+    ) -> Result<(), AllocError>
+        requires order { from ≤ to }
+        requires rows { to ≤ length self.now.cells }
+        requires col { col < self.now.width }
+        ensures { OnOk result (map content_of cells.new.items ≡ map content_of cells.old.items ++ part_of self.now.cells col from (to - from)) }
+    {
+        let members = self.joined.members(from as usize, to as usize);
+        match self.origins[col] {
+            Origin::Coalesced(a, b) => add_coalesced(
+                cells,
+                self.left,
+                a,
+                self.right,
+                b,
+                members,
+                self.scales[col],
+            ),
+            Origin::Left(a) => add_left(cells, self.left, a, members),
+            Origin::Right(b) => add_right(cells, self.right, b, members),
+        }
     }
 }
 
@@ -190,7 +225,7 @@ fn scale_at(left: &Table, right: &Table, origin: Origin) -> u8
     }
 }
 
-// How many digits stand after the point in the values of a type.
+// The scale of the values of a type: how many decimal places they have.
 fn scale_of_type(column_type: ColumnType) -> u8
     ensures { result ≡ scale_of (Some column_type) }
 {

@@ -1,0 +1,207 @@
+// The cells of a column, at members that follow each other.
+
+ghost use Rattle.std.specs.Prelude.{◌≡◌, ◌<◌, ◌≤◌, ◌++◌, All, OnOk, length, map, slice_get};
+ghost use Rattle.rj_columns.specs.Contents.{content_of, nothing};
+ghost use Rattle.rj_columns.specs.Scales.{coalesced, in_scale};
+ghost use Rattle.rj_columns.specs.Tables.{cell_of};
+ghost use Rattle.rj_engine.specs.Cells.{coalesced_scale, joined_cell, left_cell, members_rows, right_cell, scale_of};
+ghost use Rattle.rj_engine.specs.Cells.{IsLeftRow, IsMemberOf, IsRightRow};
+ghost use Rattle.rj_engine.specs.declared.origin.Origin.TheVariants as origin;
+
+use super::joined::Members;
+use rj_columns::{Cell, Table, in_scale};
+use std::alloc::AllocError;
+
+// Adds the cells of a column at these rows.
+fn add_rows<'s>(
+    cells: &mut Vec<Cell<'s>>,
+    table: &'s Table,
+    col: usize,
+    rows: &[u32],
+) -> Result<(), AllocError>
+    requires rows { All (λ i. i < length table.now.rows) rows.now }
+    requires col { col < length table.now.types }
+    ensures { OnOk result (map content_of cells.new.items ≡ map content_of cells.old.items ++ map (λ i. cell_of table.now i col) rows.now) }
+{
+    for row in rows {
+        cells.push(table.cell(u64::from(*row), col))?;
+    }
+    Ok(())
+}
+
+// Adds the cells of a column at the left rows of these pairs.
+fn add_lefts<'s>(
+    cells: &mut Vec<Cell<'s>>,
+    left: &'s Table,
+    col: usize,
+    pairs: &[(u32, u32)],
+) -> Result<(), AllocError>
+    requires rows { All (λ p. p.0 < length left.now.rows) pairs.now }
+    requires col { col < length left.now.types }
+    ensures { OnOk result (map content_of cells.new.items ≡ map content_of cells.old.items ++ map (λ p. cell_of left.now p.0 col) pairs.now) }
+{
+    for pair in pairs {
+        cells.push(left.cell(u64::from(pair.0), col))?;
+    }
+    Ok(())
+}
+
+// Adds the cells of a column at the right rows of these pairs.
+fn add_rights<'s>(
+    cells: &mut Vec<Cell<'s>>,
+    right: &'s Table,
+    col: usize,
+    pairs: &[(u32, u32)],
+) -> Result<(), AllocError>
+    requires rows { All (λ p. p.1 < length right.now.rows) pairs.now }
+    requires col { col < length right.now.types }
+    ensures { OnOk result (map content_of cells.new.items ≡ map content_of cells.old.items ++ map (λ p. cell_of right.now p.1 col) pairs.now) }
+{
+    for pair in pairs {
+        cells.push(right.cell(u64::from(pair.1), col))?;
+    }
+    Ok(())
+}
+
+// Adds a null for each of these rows.
+fn add_nulls(cells: &mut Vec<Cell<'_>>, rows: &[u32]) -> Result<(), AllocError>
+    ensures { OnOk result (map content_of cells.new.items ≡ map content_of cells.old.items ++ map (λ i. nothing) rows.now) }
+{
+    for _row in rows {
+        cells.push(Cell::Null)?;
+    }
+    Ok(())
+}
+
+/// Adds the cells of a column of the left table: null where a member has no left row.
+pub(crate) fn add_left<'s>(
+    cells: &mut Vec<Cell<'s>>,
+    left: &'s Table,
+    col: usize,
+    members: Members<'_>,
+) -> Result<(), AllocError>
+    requires rows { All (IsLeftRow left.now) (members_rows members) }
+    requires col { col < length left.now.types }
+    ensures { OnOk result (map content_of cells.new.items
+        ≡ map content_of cells.old.items ++ map (λ m. left_cell left.now m col) (members_rows members.entry)) }
+{
+    add_lefts(cells, left, col, members.pairs)?;
+    add_rows(cells, left, col, members.lone_left)?;
+    add_nulls(cells, members.lone_right)?;
+    Ok(())
+}
+
+/// Adds the cells of a column of the right table: null where a member has no right row.
+pub(crate) fn add_right<'s>(
+    cells: &mut Vec<Cell<'s>>,
+    right: &'s Table,
+    col: usize,
+    members: Members<'_>,
+) -> Result<(), AllocError>
+    requires rows { All (IsRightRow right.now) (members_rows members) }
+    requires col { col < length right.now.types }
+    ensures { OnOk result (map content_of cells.new.items
+        ≡ map content_of cells.old.items ++ map (λ m. right_cell right.now m col) (members_rows members.entry)) }
+{
+    add_rights(cells, right, col, members.pairs)?;
+    add_nulls(cells, members.lone_left)?;
+    add_rows(cells, right, col, members.lone_right)?;
+    Ok(())
+}
+
+// The cell at a row, in a scale that its column's values have at most.
+#[tactic(auto, using(crate::proofs::Scaled::fits_scaled, crate::proofs::Scaled::wider))]
+fn cell_in_scale<'s>(table: &'s Table, row: u32, col: usize, scale: u8) -> Cell<'s>
+    requires row { row < length table.now.rows }
+    requires col { col < length table.now.types }
+    requires scale { (scale_of (slice_get table.now.types col) ≤ scale) × (scale ≤ 18) }
+    ensures { content_of result ≡ in_scale scale (cell_of table.now row col) }
+{
+    in_scale(table.cell(u64::from(row), col), scale)
+}
+
+// Adds the cells of a column at these rows, in a scale that its values have at most.
+fn add_rows_in_scale<'s>(
+    cells: &mut Vec<Cell<'s>>,
+    table: &'s Table,
+    col: usize,
+    rows: &[u32],
+    scale: u8,
+) -> Result<(), AllocError>
+    requires rows { All (λ i. i < length table.now.rows) rows.now }
+    requires col { col < length table.now.types }
+    requires scale { (scale_of (slice_get table.now.types col) ≤ scale) × (scale ≤ 18) }
+    ensures { OnOk result (map content_of cells.new.items ≡ map content_of cells.old.items ++ map (λ i. in_scale scale (cell_of table.now i col)) rows.now) }
+{
+    for row in rows {
+        cells.push(cell_in_scale(table, *row, col, scale))?;
+    }
+    Ok(())
+}
+
+// The first cell of a pair that is not null, in the greater scale. The right row is looked at only where the left cell
+// is null.
+#[tactic(auto, using(crate::proofs::Scaled::fits_scaled, crate::proofs::Scaled::wider, crate::proofs::Scaled::small_coalesced))]
+fn coalesced_cell<'s>(
+    left: &'s Table,
+    a: usize,
+    right: &'s Table,
+    b: usize,
+    pair: (u32, u32),
+    scale: u8,
+) -> Cell<'s>
+    requires rows { (pair.0 < length left.now.rows) × (pair.1 < length right.now.rows) }
+    requires cols { (a < length left.now.types) × (b < length right.now.types) }
+    requires scale { scale ≡ coalesced_scale left.now right.now a b }
+    ensures { content_of result ≡ in_scale scale (coalesced (cell_of left.now pair.0 a) (cell_of right.now pair.1 b)) }
+{
+    let first = left.cell(u64::from(pair.0), a);
+    if first.is_null() {
+        return cell_in_scale(right, pair.1, b, scale);
+    }
+    in_scale(first, scale)
+}
+
+// Adds the coalesced cells of these pairs.
+fn add_coalesced_pairs<'s>(
+    cells: &mut Vec<Cell<'s>>,
+    left: &'s Table,
+    a: usize,
+    right: &'s Table,
+    b: usize,
+    pairs: &[(u32, u32)],
+    scale: u8,
+) -> Result<(), AllocError>
+    requires rows { All (λ p. (p.0 < length left.now.rows) × (p.1 < length right.now.rows)) pairs.now }
+    requires cols { (a < length left.now.types) × (b < length right.now.types) }
+    requires scale { scale ≡ coalesced_scale left.now right.now a b }
+    ensures { OnOk result (map content_of cells.new.items ≡ map content_of cells.old.items
+        ++ map (λ p. in_scale scale (coalesced (cell_of left.now p.0 a) (cell_of right.now p.1 b))) pairs.now) }
+{
+    for pair in pairs {
+        cells.push(coalesced_cell(left, a, right, b, *pair, scale))?;
+    }
+    Ok(())
+}
+
+/// Adds the cells of two coalesced columns: the first that is not null, in the greater scale.
+pub(crate) fn add_coalesced<'s>(
+    cells: &mut Vec<Cell<'s>>,
+    left: &'s Table,
+    a: usize,
+    right: &'s Table,
+    b: usize,
+    members: Members<'_>,
+    scale: u8,
+) -> Result<(), AllocError>
+    requires rows { All (IsMemberOf left.now right.now) (members_rows members) }
+    requires cols { (a < length left.now.types) × (b < length right.now.types) }
+    requires scale { scale ≡ coalesced_scale left.now right.now a b }
+    ensures { OnOk result (map content_of cells.new.items ≡ map content_of cells.old.items
+        ++ map (λ m. joined_cell left.now right.now m (origin.Coalesced a b)) (members_rows members.entry)) }
+{
+    add_coalesced_pairs(cells, left, a, right, b, members.pairs, scale)?;
+    add_rows_in_scale(cells, left, a, members.lone_left, scale)?;
+    add_rows_in_scale(cells, right, b, members.lone_right, scale)?;
+    Ok(())
+}
