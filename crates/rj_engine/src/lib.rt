@@ -13,6 +13,7 @@ mod partitions;
 mod pieces;
 mod scattering;
 mod settings;
+mod shards;
 mod sizes;
 #[cfg(test)]
 mod tests;
@@ -26,4 +27,5 @@ pub use nested_loops::nested_loop;
 pub use partitions::run_join;
 pub use rj_workers::{Gate, Open, Place};
 pub use settings::Settings;
+pub use shards::{rows_stand_once, shard_is_part, shard_of_row, shards_merge};
 pub use view::{View, header};
