@@ -2,7 +2,7 @@
 //! Statistics and faults go to standard error.
 #![tactic(auto)]
 
-use rj_command::{Fault, Open, Side, read_line, run};
+use rj_command::{Fault, Open, Side, read_line, run_owned};
 use rj_csv_io::{Counted, CountedReader, ReadRefused, read_all};
 use std::alloc::Global;
 use std::env::{self, Env};
@@ -58,15 +58,7 @@ fn join<R: Env + Files + AllocGlobal + Print + Eprint + Threads + Wait + Clock +
     let left = read_file(rt, line.left, Side::Left)?;
     let right = read_file(rt, line.right, Side::Right)?;
     let mut writer = Counted::new(io::writer(rt));
-    let stats = run(
-        rt,
-        alloc,
-        left.as_slice(),
-        right.as_slice(),
-        &line.request,
-        &Open,
-        &mut writer,
-    )?;
+    let stats = run_owned(rt, alloc, left, right, &line.request, &Open, &mut writer)?;
     if line.stats {
         let _ = eprintln!(rt; "{stats}");
     }

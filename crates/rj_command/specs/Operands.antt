@@ -13,7 +13,7 @@ use Rattle.rj_command.specs.declared.fault.Fault.{Fault}
 use Rattle.rj_command.specs.declared.fault.Fault.TheVariants as fault
 use Rattle.rj_command.specs.declared.fault.Side.{Side}
 use Rattle.rj_command.specs.declared.fault.Side.TheVariants as side
-use Rattle.rj_command.specs.declared.request.Request.{Request}
+use Rattle.rj_command.specs.declared.join.request.Request.{Request}
 use Rattle.rj_condition.specs.Clauses.{HasClause, IsFault}
 use Rattle.rj_condition.specs.declared.fault.ParseRefused.{ParseRefused}
 use Rattle.rj_condition.specs.declared.fault.ParseRefused.TheVariants as parse

@@ -34,7 +34,7 @@ pub enum Fault {
     /// A word of the command line isn't text.
     #[error("radixjoin: an argument is not text")]
     NotText,
-    /// A type list has another form than `int,text,..`.
+    /// A type list has another form than `int,num(9,2),text`.
     #[error("radixjoin: bad type list {0}")]
     BadTypeList(Side),
     /// A file has no record at all.
