@@ -4,7 +4,7 @@
 
 use clap::{Arg, ArgAction, Command, Error, value_parser};
 use rj_command::{Fault, VERSION, arrivals};
-use rj_csv_io::{Counted, CountedReader, ReadRefused, read_all};
+use rj_csv_io::{CountedWriter, CountedReader, ReadRefused, read_all};
 use std::alloc::{AllocError, Global};
 use std::env::{self, Env};
 use std::io;
@@ -152,7 +152,7 @@ fn replay<R: Env + Input + AllocGlobal + Print>(rt: &R) -> Result<bool, Failure>
     let words = read_words(rt)?;
     let line = parse_words(rt.alloc(), words.as_slice())?;
     let script = read_script(rt)?;
-    let mut writer = Counted::new(io::writer(rt));
+    let mut writer = CountedWriter::new(io::writer(rt));
     let Line {
         partition,
         senders,

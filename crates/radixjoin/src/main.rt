@@ -3,7 +3,7 @@
 #![tactic(auto)]
 
 use rj_command::{Fault, Open, Side, read_line, run_owned};
-use rj_csv_io::{Counted, CountedReader, ReadRefused, read_all};
+use rj_csv_io::{CountedReader, CountedWriter, ReadRefused, read_all};
 use std::alloc::Global;
 use std::env::{self, Env};
 use std::fs::{self, Files};
@@ -57,7 +57,7 @@ fn join<R: Env + Files + AllocGlobal + Print + Eprint + Threads + Wait + Clock +
     let line = read_line(alloc, texts.as_slice())?;
     let left = read_file(rt, line.left, Side::Left)?;
     let right = read_file(rt, line.right, Side::Right)?;
-    let mut writer = Counted::new(io::writer(rt));
+    let mut writer = CountedWriter::new(io::writer(rt));
     let stats = run_owned(rt, alloc, left, right, &line.request, &Open, &mut writer)?;
     if line.stats {
         let _ = eprintln!(rt; "{stats}");

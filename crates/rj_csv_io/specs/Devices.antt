@@ -1,14 +1,14 @@
 -- What clauses read of a writer or a reader of std whose failures are counted.
 use Rattle.std.specs.Prelude.{ℕ}
 use Rattle.rj_csv_io.specs.declared.input.CountedReader.{CountedReader}
-use Rattle.rj_csv_io.specs.declared.output.Counted.{Counted}
+use Rattle.rj_csv_io.specs.declared.output.CountedWriter.{CountedWriter}
 
 -- the writer
-abbrev pub writer_of : {W : Type 0} → Counted W → W
+abbrev pub writer_of : {W : Type 0} → CountedWriter W → W
 writer_of c = c.writer
 
 -- how often it failed
-abbrev pub write_failures_of : {W : Type 0} → Counted W → ℕ
+abbrev pub write_failures_of : {W : Type 0} → CountedWriter W → ℕ
 write_failures_of c = c.failures
 
 -- the reader

@@ -1,6 +1,6 @@
 pub mod Typed
 pub mod Rows
-pub mod Left
+pub mod Remaining
 pub mod Tables
 pub mod Shown
 pub mod Written

@@ -5,18 +5,23 @@
 
 mod block;
 mod fields;
+mod header;
 mod input;
+mod null_text;
 mod output;
-mod read;
+mod read_parts;
+mod read_rows;
+mod read_whole;
 mod refused;
-mod table;
 mod text;
 mod write;
 
 pub use input::{CountedReader, Input, read_all};
-pub use output::{Counted, Failed, Output};
+pub use null_text::is_lawful_null;
+pub use output::{CountedWriter, Failed, Output};
+pub use read_parts::read_table_in_parts;
+pub use read_whole::read_table;
 pub use refused::ReadRefused;
-pub use table::{is_lawful_null, read_table};
 pub use write::{WriteRefused, write_rows};
 
 #[cfg(test)]

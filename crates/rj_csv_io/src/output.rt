@@ -34,18 +34,18 @@ pub trait Output {
 /// A writer of std with the count of its failures. It tells the bytes that the writer tells, and
 /// writes again where a signal broke a write off.
 #[derive(Drop)]
-pub struct Counted<W: Write> {
+pub struct CountedWriter<W: Write> {
     writer: W,
     failures: u64,
 }
 
-impl<W: Write> Counted<W> {
+impl<W: Write> CountedWriter<W> {
     /// The writer, with no failure so far.
-    pub fn new(writer: W) -> Counted<W>
+    pub fn new(writer: W) -> CountedWriter<W>
         ensures writer { writer_of result ≡ writer }
         ensures failures { write_failures_of result ≡ 0 }
     {
-        Counted {
+        CountedWriter {
             writer,
             failures: 0,
         }
@@ -55,7 +55,7 @@ impl<W: Write> Counted<W> {
     pub fn into_inner(self) -> W
         ensures { result ≡ writer_of self }
     {
-        let Counted {
+        let CountedWriter {
             writer,
             failures: _,
         } = self;
@@ -111,7 +111,7 @@ fn write_through<W: Write>(writer: &mut W, bytes: &[u8]) -> Result<(), Failed>
     Ok(())
 }
 
-impl<W: Write> Output for Counted<W> {
+impl<W: Write> Output for CountedWriter<W> {
     ghost told = { λ c. W.contents c.writer };
 
     ghost count = { λ c. c.failures };

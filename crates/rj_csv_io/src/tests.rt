@@ -4,7 +4,7 @@ ghost use Rattle.std.specs.Prelude.{[], ◌∷◌};
 ghost use Rattle.rj_columns.specs.Contents.{decimal};
 
 use crate::{
-    Counted, CountedReader, Failed, Input, Output, ReadRefused, WriteRefused, is_lawful_null,
+    CountedReader, CountedWriter, Failed, Input, Output, ReadRefused, WriteRefused, is_lawful_null,
     read_all, read_table, write_rows,
 };
 use rj_columns::{Cell, ColumnType, NumericType, RowSource, Table};
@@ -42,7 +42,7 @@ fn text_of(alloc: Global, table: &Table, header: &[&str], null: &str) -> Option<
     if header.len() != table.columns() || !is_lawful_null(null) {
         return None;
     }
-    let mut output = Counted::new(Vec::new(alloc));
+    let mut output = CountedWriter::new(Vec::new(alloc));
     match write_rows(alloc, &mut output, header, table, null) {
         Ok(()) => Some(output.into_inner()),
         Err(_) => None,
@@ -248,7 +248,7 @@ impl RowSource for OneDecimal {
 
 // Whether a decimal is written as this text.
 fn is_decimal_written(alloc: Global, units: i128, scale: u8, want: &str) -> Result<bool, Fail> {
-    let mut output = Counted::new(Vec::new(alloc));
+    let mut output = CountedWriter::new(Vec::new(alloc));
     write_rows(alloc, &mut output, &["k"], &OneDecimal { units, scale }, "")?;
     Ok(output.into_inner().as_slice() == file_of(alloc, want)?.as_bytes())
 }
@@ -497,7 +497,7 @@ impl Write for Broken {
 #[test]
 fn broken_writers(rt: HostRuntime) {
     for writes in [false, true] {
-        let mut device = Counted::new(Broken { writes });
+        let mut device = CountedWriter::new(Broken { writes });
         assert!(rt; device.failures() == 0);
         assert!(rt; device.put(b"a") == Err(Failed));
         assert!(rt; device.failures() == 1);
@@ -536,7 +536,7 @@ fn is_told(alloc: Global, table: &Table, left: u64) -> bool {
     if table.columns() != 1 {
         return false;
     }
-    let mut device = Counted::new(Tires { left });
+    let mut device = CountedWriter::new(Tires { left });
     match write_rows(alloc, &mut device, &["a"], table, "") {
         Ok(()) => left >= 5 && device.failures() == 0,
         Err(e) => left < 5 && e == WriteRefused::WriteDevice && device.failures() == 1,
@@ -554,7 +554,7 @@ fn tiring_writer_sweep(rt: HostRuntime) -> Result<(), Fail> {
 
 #[test]
 fn counted_writer(rt: HostRuntime) {
-    let mut device = Counted::new(Vec::new(rt.alloc()));
+    let mut device = CountedWriter::new(Vec::new(rt.alloc()));
     assert!(rt; device.put(b"ab") == Ok(()));
     assert!(rt; device.put(b"c") == Ok(()));
     assert!(rt; device.failures() == 0);
@@ -583,7 +583,7 @@ impl Write for HoldsBack {
 
 #[test]
 fn writes_that_are_held_back_and_lost(rt: HostRuntime) {
-    let mut device = Counted::new(HoldsBack { holds: false });
+    let mut device = CountedWriter::new(HoldsBack { holds: false });
     assert!(rt; device.put(b"") == Ok(()));
     assert!(rt; device.failures() == 0);
     assert!(rt; device.put(b"a") == Err(Failed));
@@ -731,7 +731,7 @@ impl Write for Interrupted {
 #[test]
 fn interrupted_writers(rt: HostRuntime) {
     for fails in [false, true] {
-        let mut device = Counted::new(Interrupted {
+        let mut device = CountedWriter::new(Interrupted {
             signals: 500,
             fails,
         });

@@ -1,16 +1,17 @@
 // The two tables of a run and the join bound to them.
 
 ghost use Rattle.std.specs.Prelude.{◌≡◌, ◌≢◌, IfOk, IfErr, OnOk, Ok, Err, IsTrue, true};
-ghost use Rattle.rj_csv_io.specs.Tables.{is_null_text, read_of};
+ghost use Rattle.rj_csv_io.specs.Tables.{is_null_text};
 ghost use Rattle.rj_condition.specs.Fits.{fits};
-ghost use Rattle.rj_command.specs.Operands.{AreOperands, IsFirstFault, IsJoinFault, IsJoinOf, bind_fault, parse_fault, read_fault};
+ghost use Rattle.rj_command.specs.Operands.{AreOperands, IsFirstFault, IsJoinFault, IsJoinOf, bind_fault, parse_fault, read_fault, side_read, types_of};
 
 use super::request::Request;
 use crate::fault::{Fault, Side};
 use rj_columns::{ColumnType, Table};
 use rj_condition::{BindRefused, BoundJoin, ParseRefused, bind, parse};
-use rj_csv_io::{ReadRefused, read_table};
+use rj_csv_io::{ReadRefused, read_table_in_parts};
 use std::alloc::Global;
+use std::thread::Threads;
 
 // The tables that the bytes denote, and the clause bound to them.
 #[derive(Drop)]
@@ -62,39 +63,56 @@ fn fault_of_read(side: Side, refused: ReadRefused) -> Fault
     }
 }
 
-// The table of one side.
-fn read_side(
+fn types_of(request: &Request<'_>, side: Side) -> &[ColumnType]
+    ensures { result.now ≡ types_of request.now side }
+{
+    match side {
+        Side::Left => request.left_types.as_slice(),
+        Side::Right => request.right_types.as_slice(),
+    }
+}
+
+// The table of one side, read by as many threads as the request has workers.
+fn read_side<R: Threads + Sync>(
+    rt: &R,
     alloc: Global,
     bytes: &[u8],
-    types: &[ColumnType],
-    null: &str,
+    request: &Request<'_>,
     side: Side,
 ) -> Result<Table, Fault>
-    ensures table { IfOk result (λ t. read_of bytes.now types.now null.now ≡ Ok t) }
+    ensures table { IfOk result (λ t. side_read request.now side bytes.now ≡ Ok t) }
     ensures fault { IfErr result (λ f. f ≢ Fault.Memory →
-        (e : ReadRefused) × (read_of bytes.now types.now null.now ≡ Err e) × (f ≡ read_fault side e)) }
-    ensures lawful { OnOk result (IsTrue (is_null_text null.now)) }
+        (e : ReadRefused) × (side_read request.now side bytes.now ≡ Err e) × (f ≡ read_fault side e)) }
+    ensures lawful { OnOk result (IsTrue (is_null_text request.now.null.now)) }
 {
-    match read_table(alloc, bytes, types, null) {
+    let parts = request.settings.workers as usize;
+    match read_table_in_parts(
+        rt,
+        alloc,
+        bytes,
+        types_of(request, side),
+        request.null,
+        parts,
+    ) {
         Ok(table) => Ok(table),
         Err(refused) => Err(fault_of_read(side, refused)),
     }
 }
 
-// The table of one side, whose bytes are given back before it returns.
-fn read_owned_side(
+// The same, of bytes that are given back before it returns.
+fn read_owned_side<R: Threads + Sync>(
+    rt: &R,
     alloc: Global,
     bytes: Vec<u8>,
-    types: &[ColumnType],
-    null: &str,
+    request: &Request<'_>,
     side: Side,
 ) -> Result<Table, Fault>
-    ensures table { IfOk result (λ t. read_of bytes.items types.now null.now ≡ Ok t) }
+    ensures table { IfOk result (λ t. side_read request.now side bytes.items ≡ Ok t) }
     ensures fault { IfErr result (λ f. f ≢ Fault.Memory →
-        (e : ReadRefused) × (read_of bytes.items types.now null.now ≡ Err e) × (f ≡ read_fault side e)) }
-    ensures lawful { OnOk result (IsTrue (is_null_text null.now)) }
+        (e : ReadRefused) × (side_read request.now side bytes.items ≡ Err e) × (f ≡ read_fault side e)) }
+    ensures lawful { OnOk result (IsTrue (is_null_text request.now.null.now)) }
 {
-    read_side(alloc, bytes.as_slice(), types, null, side)
+    read_side(rt, alloc, bytes.as_slice(), request, side)
 }
 
 // The join that a clause asks of two tables.
@@ -125,7 +143,9 @@ fn bind_tables(alloc: Global, text: &str, left: Table, right: Table) -> Result<O
 }
 
 // Reads both tables and binds the clause to them, or tells the first fault.
-pub(crate) fn read_operands(
+#[tactic(auto, using(crate::proofs::OperandFacts::left_fault, crate::proofs::OperandFacts::right_fault, crate::proofs::OperandFacts::clause_fault))]
+pub(crate) fn read_operands<R: Threads + Sync>(
+    rt: &R,
     alloc: Global,
     left: &[u8],
     right: &[u8],
@@ -136,20 +156,15 @@ pub(crate) fn read_operands(
     ensures lawful { OnOk result (IsTrue (is_null_text request.now.null.now)) }
     ensures bound { IfOk result (λ o. fits o.join o.left.types o.right.types ≡ true) }
 {
-    let (left_types, right_types) = (&request.left_types, &request.right_types);
-    let left = read_side(alloc, left, left_types.as_slice(), request.null, Side::Left)?;
-    let right = read_side(
-        alloc,
-        right,
-        right_types.as_slice(),
-        request.null,
-        Side::Right,
-    )?;
+    let left = read_side(rt, alloc, left, request, Side::Left)?;
+    let right = read_side(rt, alloc, right, request, Side::Right)?;
     bind_tables(alloc, request.clause, left, right)
 }
 
 // The same, of bytes that are given back as soon as their table stands.
-pub(crate) fn read_owned_operands(
+#[tactic(auto, using(crate::proofs::OperandFacts::left_fault, crate::proofs::OperandFacts::right_fault, crate::proofs::OperandFacts::clause_fault))]
+pub(crate) fn read_owned_operands<R: Threads + Sync>(
+    rt: &R,
     alloc: Global,
     left: Vec<u8>,
     right: Vec<u8>,
@@ -160,14 +175,7 @@ pub(crate) fn read_owned_operands(
     ensures lawful { OnOk result (IsTrue (is_null_text request.now.null.now)) }
     ensures bound { IfOk result (λ o. fits o.join o.left.types o.right.types ≡ true) }
 {
-    let (left_types, right_types) = (&request.left_types, &request.right_types);
-    let left = read_owned_side(alloc, left, left_types.as_slice(), request.null, Side::Left)?;
-    let right = read_owned_side(
-        alloc,
-        right,
-        right_types.as_slice(),
-        request.null,
-        Side::Right,
-    )?;
+    let left = read_owned_side(rt, alloc, left, request, Side::Left)?;
+    let right = read_owned_side(rt, alloc, right, request, Side::Right)?;
     bind_tables(alloc, request.clause, left, right)
 }

@@ -2,9 +2,9 @@ use Rattle.std.proofs.Common.{◌≡◌, ◌+◌, ◌∷◌, [], ℕ, List, leng
 use Rattle.std.proofs.lemmas.List.{length-append}
 use Rattle.csv.specs.Records.{fields_of}
 use Rattle.rj_columns.specs.Tables.{BuilderValue}
-use Rattle.rj_csv_io.proofs.LeftFacts.{read-more, read-none}
+use Rattle.rj_csv_io.proofs.RemainingFacts.{read-more, read-none}
 use Rattle.rj_csv_io.proofs.RowsFacts.{rows-end, rows-step, rows-fault, row-too_many, row-ragged, row-cells, ended}
-use Rattle.rj_csv_io.proofs.read.next_row.Goals as goal
+use Rattle.rj_csv_io.proofs.read_rows.next_row.Goals as goal
 
 pub returns-in-Ok-false-clause-row : goal.returns-in-Ok-false-clause-row
 returns-in-Ok-false-clause-row c =

@@ -1,0 +1,95 @@
+// What begins the reading of a table: its reader, its header, and the room for its rows.
+
+ghost use Rattle.std.specs.Prelude.{◌≡◌, ◌≢◌, ◌≤◌, ◌*◌, [], length, map, IfOk, IfErr, Ok, Err, Some};
+ghost use Rattle.csv.specs.Reading.{default_config, records, strip_bom};
+ghost use Rattle.csv.specs.Records.{fields_of};
+ghost use Rattle.rj_columns.specs.Names.{begun};
+ghost use Rattle.rj_columns.specs.declared.refused.BuildRefused.{BuildRefused};
+ghost use Rattle.rj_csv_io.specs.Remaining.{records_remaining, IsBetween};
+ghost use Rattle.rj_csv_io.specs.Tables.{of_begun};
+
+use super::refused::ReadRefused;
+use csv::{ByteRecord, Reader, ReaderBuilder};
+use rj_columns::{BuildRefused, ColumnType, TableBuilder};
+use std::alloc::{AllocError, Global};
+
+// How many of the first bytes show how long a line is.
+const SAMPLE: usize = 65536;
+
+/// A reader of all the records of these bytes.
+pub(crate) fn open_reader<'a>(alloc: Global, bytes: &'a [u8]) -> Reader<&'a [u8]>
+    ensures between { IsBetween (λ s. Some s.now) result }
+    ensures records { records_remaining (λ s. Some s.now) result ≡ records default_config (strip_bom bytes.now) }
+{
+    ReaderBuilder::new()
+        .has_headers(false)
+        .flexible(true)
+        .from_reader(alloc, bytes)
+}
+
+// The fields of a record, in order.
+fn fields_of_record<'r>(alloc: Global, fields: &'r ByteRecord) -> Result<Vec<&'r [u8]>, AllocError>
+    ensures { IfOk result (λ v. map (λ f. f.now) v.items ≡ fields_of fields.now) }
+{
+    let mut all = Vec::new(alloc);
+    for i in 0..fields.len() {
+        let Some(field) = fields.get(i) else {
+            unreachable!()
+        };
+        all.push(field)?;
+    }
+    Ok(all)
+}
+
+fn refused_of(e: BuildRefused) -> ReadRefused
+    ensures { result ≡ of_begun e }
+{
+    match e {
+        BuildRefused::TooManyColumns => ReadRefused::TooManyColumns,
+        BuildRefused::BadName(column) => ReadRefused::BadName(column),
+        BuildRefused::RepeatedName(column) => ReadRefused::RepeatedName(column),
+        BuildRefused::TypeCount => ReadRefused::TypeCount,
+        BuildRefused::Memory => ReadRefused::Memory,
+    }
+}
+
+/// About the rows of the bytes, by the lines of their first part; no more than have place.
+pub(crate) fn likely_rows(bytes: &[u8], columns: usize) -> usize
+    ensures { result * columns ≤ length bytes.now }
+{
+    if columns == 0 {
+        return 0;
+    }
+    let head = match bytes.get(..SAMPLE) {
+        Some(head) => head,
+        None => bytes,
+    };
+    let lines = head.iter().filter(|b| **b == b'\n').count();
+    let rows = lines
+        .saturating_add(1)
+        .saturating_mul((bytes.len() / SAMPLE).saturating_add(1));
+    let most = bytes.len() / columns;
+    if rows < most { rows } else { most }
+}
+
+/// A table with the header's columns and no rows.
+pub(crate) fn begin_table(
+    alloc: Global,
+    header: &ByteRecord,
+    types: &[ColumnType],
+    rows: usize,
+) -> Result<TableBuilder, ReadRefused>
+    ensures table { IfOk result (λ b. (begun (fields_of header.now) types.now ≡ Ok b.table) × (b.row ≡ [])) }
+    ensures fault { IfErr result (λ e. e ≢ ReadRefused.Memory → (f : BuildRefused) × (begun (fields_of header.now) types.now ≡ Err f) × (e ≡ of_begun f)) }
+{
+    let Ok(names) = fields_of_record(alloc, header) else {
+        return Err(ReadRefused::Memory);
+    };
+    match TableBuilder::new(alloc, names.as_slice(), types) {
+        Ok(mut builder) => {
+            builder.reserve(rows);
+            Ok(builder)
+        }
+        Err(e) => Err(refused_of(e)),
+    }
+}

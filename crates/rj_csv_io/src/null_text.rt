@@ -1,0 +1,28 @@
+// Which texts may stand for null.
+
+ghost use Rattle.std.specs.Prelude.{◌≡◌};
+ghost use Rattle.std.specs.List.{list_all};
+ghost use Rattle.rj_csv_io.specs.Tables.{is_null_text, may_stand_in_null};
+
+// The longest null text, in bytes.
+const MAX_NULL: usize = 16;
+
+fn is_null_byte(byte: u8) -> bool
+    ensures { result ≡ may_stand_in_null byte }
+{
+    byte > b' ' && byte < 127 && !byte.is_ascii_digit() && byte != b',' && byte != b'"'
+}
+
+fn all_null_bytes(bytes: &[u8]) -> bool
+    ensures { result ≡ list_all may_stand_in_null bytes.now }
+{
+    bytes.iter().all(|b| is_null_byte(*b))
+}
+
+/// Whether a text may stand for null: it has at most 16 bytes, all printable ASCII, and no digit, comma,
+/// double quote or space.
+pub fn is_lawful_null(null: &str) -> bool
+    ensures { result ≡ is_null_text null.now }
+{
+    null.len() <= MAX_NULL && all_null_bytes(null.as_bytes())
+}

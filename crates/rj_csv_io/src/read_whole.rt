@@ -1,0 +1,53 @@
+// Reading a whole table, on one thread.
+
+ghost use Rattle.std.specs.Prelude.{◌≡◌, ◌≢◌, IfOk, IfErr, OnOk, Ok, Err, IsTrue};
+ghost use Rattle.rj_csv_io.specs.Tables.{is_null_text, read_of};
+
+use super::header::{begin_table, likely_rows, open_reader};
+use super::null_text::is_lawful_null;
+use super::read_rows::rows_of_reader;
+use super::refused::ReadRefused;
+use csv::ByteRecord;
+use rj_columns::{ColumnType, Table};
+use std::alloc::Global;
+
+/// Reads a table from CSV (RFC 4180), or tells the first fault in it.
+///
+/// Records are those that `csv` reads with comma, double quote, no trimming and its default line ends, after one
+/// byte order mark. The first is the header. A cell whose bytes equal the null text is null; another is read as
+/// its column's type: an optional sign and decimal digits in the range of i64; a number of the numeric type, with
+/// an optional sign, digits, and perhaps a point and digits, of which those past the scale are zeros; or UTF-8 as
+/// it stands.
+///
+/// Faults are tested in this order: the null text, no header, too many columns, the names from left to right, the
+/// count of types; then record by record too many rows, the record's length, and its cells from left to right.
+/// `Memory` is answered where a growth was refused, and then nothing is known of the faults.
+pub fn read_table(
+    alloc: Global,
+    bytes: &[u8],
+    types: &[ColumnType],
+    null: &str,
+) -> Result<Table, ReadRefused>
+    ensures table { IfOk result (λ t. read_of bytes.now types.now null.now ≡ Ok t) }
+    ensures fault { IfErr result (λ e. e ≢ ReadRefused.Memory → read_of bytes.now types.now null.now ≡ Err e) }
+    ensures lawful { OnOk result (IsTrue (is_null_text null.now)) }
+{
+    if !is_lawful_null(null) {
+        return Err(ReadRefused::BadNull);
+    }
+    let mut reader = open_reader(alloc, bytes);
+    let mut header = ByteRecord::new(alloc);
+    match reader.read_byte_record(&mut header) {
+        Ok(true) => {}
+        Ok(false) => return Err(ReadRefused::NoHeader),
+        Err(_) => return Err(ReadRefused::Memory),
+    }
+    let builder = match begin_table(alloc, &header, types, likely_rows(bytes, types.len())) {
+        Ok(builder) => builder,
+        Err(e) => return Err(e),
+    };
+    match rows_of_reader(alloc, reader, builder, null.as_bytes(), types) {
+        Ok(table) => Ok(table),
+        Err(e) => Err(e),
+    }
+}
