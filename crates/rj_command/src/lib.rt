@@ -4,11 +4,13 @@
 mod fault;
 mod join;
 mod script;
+mod words;
 
 pub use fault::{Fault, Side};
 pub use join::{Hash, Line, PartitionRows, Request, Stats, read_line, run, run_owned};
 pub use rj_engine::Open;
 pub use script::arrivals;
+pub use words::{read_words, texts_of};
 
 /// The version of both programs, which `--version` prints.
 pub const VERSION: &str = "1.0.0";

@@ -63,7 +63,7 @@ fn fault_of_read(side: Side, refused: ReadRefused) -> Fault
     }
 }
 
-fn types_of(request: &Request<'_>, side: Side) -> &[ColumnType]
+fn types_of<'a>(request: &'a Request<'_>, side: Side) -> &'a [ColumnType]
     ensures { result.now ≡ types_of request.now side }
 {
     match side {
