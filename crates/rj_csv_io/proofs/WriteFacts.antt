@@ -13,25 +13,6 @@ use Rattle.rj_columns.specs.Contents.{Content}
 use Rattle.rj_csv_io.specs.Shown.{rows_text, shown, table_text}
 use Rattle.rj_csv_io.specs.Written.{HasWritten}
 
-rows_text-append : (xs : List (List (List ℕ))) (r : List (List ℕ)) → rows_text (xs ++ r ∷ []) ≡ rows_text xs ++ row_text default_writer r
-unfolding rows_text
-rows_text-append [] r = rw append-nil refl
-rows_text-append (x ∷ xs) r = ap (λ t. row_text default_writer x ++ t) (rows_text-append xs r) ∙ sym (append_assoc (row_text default_writer x) (rows_text xs) (row_text default_writer r))
-
-rows_text-first : (r : List (List ℕ)) → rows_text (r ∷ []) ≡ row_text default_writer r
-unfolding rows_text
-rows_text-first r = rw append-nil refl
-
--- one more row
-pub table_text-more : (null : List ℕ) (header : List (List ℕ)) (rows : List (List Content)) (i : ℕ) → i < length rows
-    → table_text null header (take (i + 1) rows) ≡ table_text null header (take i rows) ++ row_text default_writer (map (shown null) (slice_index_or rows i []))
-table_text-more null header rows i h =
-    let more = take_more rows i [] h in
-    rw (more, map-append) (rows_text-append (header ∷ map (map (shown null)) (take i rows)) (map (shown null) (slice_index_or rows i [])))
-
-pub table_text-header : (null : List ℕ) (header : List (List ℕ)) → table_text null header [] ≡ row_text default_writer header
-table_text-header null header = rows_text-first header
-
 abbrev known : Vec ℕ Global → Option (List ℕ)
 known v = Some v.items
 
@@ -43,11 +24,11 @@ appended (Some x) (Some y) t bs e h = let q : x ≡ t = cc in rw (h, q) refl
 plain-style : (cfg : WriterBuilder) → cfg ≡ default_writer → cfg.style ≢ style.NonNumeric
 plain-style cfg e = rw e (λ h. cc h)
 
--- a new writer has written nothing
-pub nothing-written : (w : Writer (Vec ℕ Global)) → writer_setup w ≡ default_writer → fields_written w ≡ 0 → has_written w ≡ false
-    → text_written known w ≡ Some [] → HasWritten w [] []
+-- a new writer behind a text
+pub nothing-written : (w : Writer (Vec ℕ Global)) (text : List ℕ) → writer_setup w ≡ default_writer → fields_written w ≡ 0 → has_written w ≡ false
+    → text_written known w ≡ Some text → HasWritten w text []
 unfolding is_blank
-nothing-written w setup fields wrote bytes = record { setup = setup; count = fields; blank = rw wrote refl; bytes = bytes }
+nothing-written w text setup fields wrote bytes = record { setup = setup; count = fields; blank = rw wrote refl; bytes = bytes ∙ ap Some (sym (append-nil text)) }
 
 -- one more field of a record
 pub field-written : (a b : Writer (Vec ℕ Global)) (text : List ℕ) (fields : List (List ℕ)) (f : List ℕ) → length fields < 2 ^ 64 - 1 → HasWritten a text fields

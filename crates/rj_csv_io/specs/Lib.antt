@@ -5,4 +5,5 @@ pub mod Tables
 pub mod Shown
 pub mod Written
 pub mod Blocks
+pub mod RowParts
 pub mod Devices

@@ -1,5 +1,5 @@
 -- Text: the CSV text of a header and of rows (RFC 4180, section 2, as csv's writer writes a record).
-use Rattle.std.specs.Prelude.{ℕ, List, [], ◌∷◌, ◌++◌, map}
+use Rattle.std.specs.Prelude.{ℕ, ◌-◌, List, [], ◌∷◌, ◌++◌, map, take, drop}
 use Rattle.std.specs.Fmt.{signed_decimal}
 use Rattle.csv.specs.Writing.{default_writer, row_text}
 use Rattle.rj_decimal.specs.Written.{text_of}
@@ -20,3 +20,7 @@ rows_text (r ∷ rows) = row_text default_writer r ++ rows_text rows
 -- the text of a header and of the rows under it
 abbrev pub table_text : List ℕ → List (List ℕ) → List (List Content) → List ℕ
 table_text null header rows = rows_text (header ∷ map (map (shown null)) rows)
+
+-- the text of the rows from one to another
+abbrev pub range_text : List ℕ → List (List Content) → ℕ → ℕ → List ℕ
+range_text null rows from to = rows_text (map (map (shown null)) (take (to - from) (drop from rows)))

@@ -10,13 +10,13 @@ use csv::{Writer, WriterBuilder};
 use itoa::Buffer;
 use rj_columns::Cell;
 use rj_decimal::DecimalBuffer;
-use std::alloc::{AllocError, Global};
+use std::alloc::AllocError;
 
-/// A writer that has written nothing.
-pub(crate) fn open_text(alloc: Global) -> Writer<Vec<u8>>
-    ensures { HasWritten result [] [] }
+/// A writer behind a text.
+pub(crate) fn open_text(text: Vec<u8>) -> Writer<Vec<u8>>
+    ensures { HasWritten result text.items [] }
 {
-    WriterBuilder::new().from_writer(Vec::new(alloc))
+    WriterBuilder::new().from_writer(text)
 }
 
 /// Writes one more field of a record.

@@ -1,17 +1,12 @@
 // Writing a header and the rows of a source.
 
-ghost use Rattle.std.specs.Prelude.{◌≡◌, ◌≢◌, ◌<◌, ◌≤◌, ◌+◌, ◌++◌, ◌^◌, ◌-◌, List, ℕ, [], map, length, slice_index_or, IsTrue, OnOk, IfOk};
+ghost use Rattle.std.specs.Prelude.{◌≡◌, ◌≢◌, ◌<◌, ◌+◌, ◌^◌, ◌-◌, map, length, IsTrue, OnOk, IfOk};
 ghost use Rattle.std.specs.Io.KnownBytes.{Appends};
-ghost use Rattle.csv.specs.Writing.{default_writer, row_text};
-ghost use Rattle.rj_csv_io.specs.Blocks.{Holds};
-ghost use Rattle.rj_csv_io.specs.Shown.{shown, table_text};
+ghost use Rattle.rj_csv_io.specs.Shown.{table_text};
 ghost use Rattle.rj_csv_io.specs.Tables.{is_null_text};
-ghost use Rattle.rj_csv_io.specs.Written.{HasWritten};
 
-use super::block::{Block, no_rows, reach};
 use super::output::{Failed, Output};
-use super::text::{close_text, end_record, open_text, write_cell, write_field};
-use csv::Writer;
+use super::range::{add_range, text_of_header};
 use rj_columns::RowSource;
 use std::alloc::{AllocError, Global};
 
@@ -24,43 +19,6 @@ pub enum WriteRefused {
     WriteDevice,
 }
 
-// Writes the record of the names.
-fn write_header(writer: &mut Writer<Vec<u8>>, header: &[&str]) -> Result<(), AllocError>
-    ensures { (text : List ℕ) → HasWritten writer.old text []
-        → OnOk result (HasWritten writer.new (text ++ row_text default_writer (map (λ n. n.now) header.now)) []) }
-{
-    for i in 0..header.len() {
-        write_field(writer, header[i].as_bytes())?;
-    }
-    end_record(writer)?;
-    Ok(())
-}
-
-// Writes the record of a row whose cells stand in a block.
-fn write_row<S: RowSource>(
-    writer: &mut Writer<Vec<u8>>,
-    block: &Block<'_>,
-    source: &S,
-    row: u64,
-    null: &str,
-) -> Result<(), AllocError>
-    requires holds { Holds (S.contents source.now) (S.width source.now) block.now }
-    requires from { block.now.from ≤ row }
-    requires to { row < block.now.to }
-    ensures { (text : List ℕ) → HasWritten writer.old text []
-        → OnOk result (HasWritten writer.new (text ++ row_text default_writer (map (shown null.now) (slice_index_or (S.contents source.now) row []))) []) }
-{
-    let step = (block.to - block.from) as usize;
-    let at = (row - block.from) as usize;
-    let mut base = 0usize;
-    for _col in 0..source.columns() {
-        write_cell(writer, block.cells[base + at], null)?;
-        base += step;
-    }
-    end_record(writer)?;
-    Ok(())
-}
-
 // The text of a header and of a source's rows.
 fn text_of_rows<S: RowSource>(
     alloc: Global,
@@ -70,14 +28,8 @@ fn text_of_rows<S: RowSource>(
 ) -> Result<Vec<u8>, AllocError>
     ensures { IfOk result (λ v. v.items ≡ table_text null.now (map (λ n. n.now) header.now) (S.contents source.now)) }
 {
-    let mut writer = open_text(alloc);
-    write_header(&mut writer, header)?;
-    let mut block = no_rows(alloc);
-    for row in 0..source.rows() {
-        reach(&mut block, source, row)?;
-        write_row(&mut writer, &block, source, row, null)?;
-    }
-    close_text(writer)
+    let text = text_of_header(alloc, header)?;
+    add_range(alloc, text, source, 0, source.rows(), null)
 }
 
 /// Writes a header and the rows of a source as CSV (RFC 4180): a field with a comma, a double quote, CR or LF

@@ -1,8 +1,9 @@
 use Rattle.std.proofs.Common.{◌∙◌, refl}
+use Rattle.std.proofs.lemmas.List.{append-nil}
 use Rattle.rj_csv_io.proofs.WriteFacts.{nothing-written}
 use Rattle.rj_csv_io.proofs.text.open_text.Goals as goal
 
 pub returns : goal.returns
 returns c =
     let made = c.from_writer.ensures in
-    nothing-written c.from_writer.result (made.cfg ∙ c.new.ensures) made.fields made.wrote (rw (made.wtr, c.new-2.ensures.items, made.empty) refl)
+    nothing-written c.from_writer.result c.args.text.items (made.cfg ∙ c.new.ensures) made.fields made.wrote (rw (made.wtr, made.empty, append-nil) refl)

@@ -11,8 +11,8 @@ use Rattle.std.proofs.lemmas.List.{length-map}
 use Rattle.rj_engine.specs.Cells.{ViewValue, columns_of, header_of, name_of}
 use Rattle.rj_command.proofs.join.running.write_joined.Goals as goal
 
-pub write_rows-requires-clause-header : goal.write_rows-requires-clause-header
-write_rows-requires-clause-header g c =
+pub write_rows_in_parts-requires-clause-header : goal.write_rows_in_parts-requires-clause-header
+write_rows_in_parts-requires-clause-header g c =
     let l = c.args.operands.now.left in
     let r = c.args.operands.now.right in
     let join = c.args.operands.now.join in
@@ -35,7 +35,7 @@ returns-clause-ok g c =
     let names = ap (map (λ (n : Bor (List ℕ)). n.now)) c.as_slice.ensures.value ∙ c.in_ok-names.ensures in
     let text =
     ap (λ header. table_text null header c.in_ok-view.view.cells) names ∙ ap (λ (v : ViewValue). table_text null (header_of join l r) v.cells) c.in_ok-view.ensures in
-    let Writes : List ℕ → Type 0 = λ t. Appends (g.O.Output.told c.args.writer.now) (g.O.Output.told c.write_rows.new.output) t in (
+    let Writes : List ℕ → Type 0 = λ t. Appends (g.O.Output.told c.args.writer.now) (g.O.Output.told c.write_rows_in_parts.new.output) t in (
       record {
         pairs = c.pairs.ensures ∙ ap (λ (m : JoinedValue). length m.pairs) joined.members;
         lone_left = c.lone_left.ensures ∙ ap (λ (m : JoinedValue). length m.lone_left) joined.members;
@@ -46,5 +46,5 @@ returns-clause-ok g c =
         pieces = c.pieces.ensures ∙ (joined.pieces ∙ ap₂ (pieces_of_sizes c.args.request.now.settings.piece) (sym rows.lefts) (sym rows.rights));
         tells_pieces = refl;
       },
-      subst Writes text c.in_ok-write_rows.ensures.ok,
+      subst Writes text c.in_ok-write_rows_in_parts.ensures.ok,
     )

@@ -2,7 +2,7 @@ use Rattle.std.proofs.Common.{◌≡◌, ◌∙◌, ◌<◌, ◌-◌, ◌^◌, �
 use Rattle.std.specs.Prelude.{slice_index_or}
 use Rattle.std.proofs.lemmas.List.{length-map, length-take, take_more, get_or-map}
 use Rattle.rj_csv_io.specs.Written.{HasWritten}
-use Rattle.rj_csv_io.proofs.write.write_header.Goals as goal
+use Rattle.rj_csv_io.proofs.range.write_header.Goals as goal
 
 pub loop-i-preserved : goal.loop-i-preserved
 loop-i-preserved c =

@@ -5,7 +5,7 @@ use Rattle.rj_columns.specs.Contents.{content_of}
 use Rattle.rj_csv_io.specs.Shown.{shown}
 use Rattle.rj_csv_io.specs.Written.{HasWritten}
 use Rattle.rj_csv_io.proofs.BlockFacts.{place, placed, row-more, offset-none, offset-more}
-use Rattle.rj_csv_io.proofs.write.write_row.Goals as goal
+use Rattle.rj_csv_io.proofs.range.write_row.Goals as goal
 
 pub loop-col-init : goal.loop-col-init
 loop-col-init g c = record {

@@ -3,7 +3,7 @@ use Rattle.std.specs.Prelude.{slice_index_or}
 use Rattle.rj_csv_io.specs.Blocks.{offset}
 use Rattle.rj_csv_io.specs.Shown.{shown}
 use Rattle.rj_csv_io.specs.Written.{HasWritten}
-use Rattle.rj_csv_io.proofs.write.write_row.Given as goal
+use Rattle.rj_csv_io.proofs.range.write_row.Given as goal
 
 abbrev pub invariant-loop-col : goal.invariant-loop-col
 invariant-loop-col g l = record {

@@ -1,6 +1,6 @@
 use Rattle.std.proofs.Common.{◌≡◌, List, ℕ, [], map, take, length}
 use Rattle.rj_csv_io.specs.Written.{HasWritten}
-use Rattle.rj_csv_io.proofs.write.write_header.Given as goal
+use Rattle.rj_csv_io.proofs.range.write_header.Given as goal
 
 abbrev pub invariant-loop-i : goal.invariant-loop-i
 invariant-loop-i l = record {

@@ -1,0 +1,54 @@
+-- The text of rows in ranges that follow each other.
+use Rattle.std.proofs.Common.{◌≡◌, ◌∙◌, ◌<◌, ◌≤◌, ◌+◌, ◌-◌, ℕ, List, [], ◌∷◌, ◌++◌, map, take, drop, length, refl, sym, ap, append_assoc, arith}
+use Rattle.std.specs.Prelude.{slice_index_or}
+use Rattle.std.proofs.Math.Seq.{take-add}
+use Rattle.std.proofs.lemmas.List.{append-nil, map-append, take_more, take_all, length-drop, get_or-drop, drop-drop}
+use Rattle.csv.specs.Writing.{default_writer, row_text}
+use Rattle.rj_columns.specs.Contents.{Content}
+use Rattle.rj_csv_io.specs.Shown.{range_text, rows_text, shown, table_text}
+
+-- the texts of records in two parts
+rows_text-append : (xs ys : List (List (List ℕ))) → rows_text (xs ++ ys) ≡ rows_text xs ++ rows_text ys
+unfolding rows_text
+rows_text-append [] ys = refl
+rows_text-append (x ∷ xs) ys = ap (λ t. row_text default_writer x ++ t) (rows_text-append xs ys) ∙ sym (append_assoc (row_text default_writer x) (rows_text xs) (rows_text ys))
+
+rows_text-one : (r : List (List ℕ)) → rows_text (r ∷ []) ≡ row_text default_writer r
+unfolding rows_text
+rows_text-one r = rw append-nil refl
+
+-- no row
+pub range-none : (null : List ℕ) (rows : List (List Content)) (from : ℕ) → range_text null rows from from ≡ []
+unfolding rows_text
+range-none null rows from = let none : from - from ≡ 0 = omega arith in rw none refl
+
+-- two ranges that follow each other
+pub range-join : (null : List ℕ) (rows : List (List Content)) (a b c : ℕ) → a ≤ b → b ≤ c → range_text null rows a b ++ range_text null rows b c ≡ range_text null rows a c
+range-join null rows a b c h k =
+    let size : (b - a) + (c - b) ≡ c - a = omega arith in
+    let back : a + (b - a) ≡ b = omega arith in
+    let rest : drop (b - a) (drop a rows) ≡ drop b rows = drop-drop (b - a) a rows ∙ ap (λ n. drop n rows) back in
+    let whole : take (c - a) (drop a rows) ≡ take (b - a) (drop a rows) ++ take (c - b) (drop b rows) =
+    ap (λ n. take n (drop a rows)) (sym size) ∙ (take-add (b - a) (c - b) (drop a rows) ∙ ap (λ t. take (b - a) (drop a rows) ++ take (c - b) t) rest) in
+    rw (whole, map-append) (sym (rows_text-append (map (map (shown null)) (take (b - a) (drop a rows))) (map (map (shown null)) (take (c - b) (drop b rows)))))
+
+-- one more row
+pub range-more : (null : List ℕ) (rows : List (List Content)) (from i : ℕ) → from ≤ i → i < length rows
+    → range_text null rows from (i + 1) ≡ range_text null rows from i ++ row_text default_writer (map (shown null) (slice_index_or rows i []))
+range-more null rows from i low h =
+    let size = length-drop from rows in
+    let here : i - from < length (drop from rows) = omega arith in
+    let next : i + 1 - from ≡ i - from + 1 = omega arith in
+    let more = take_more (drop from rows) (i - from) [] here in
+    let at : slice_index_or (drop from rows) (i - from) [] ≡ slice_index_or rows i [] =
+    get_or-drop from rows (i - from) [] ∙ ap (λ k. slice_index_or rows k []) (omega arith) in
+    let row = map (shown null) (slice_index_or rows i []) in
+    rw (next, more, map-append, at)
+    (rows_text-append (map (map (shown null)) (take (i - from) (drop from rows))) (row ∷ []) ∙ ap (λ t. rows_text (map (map (shown null)) (take (i - from) (drop from rows))) ++ t) (rows_text-one row))
+
+-- the text of a header and then that of all rows
+pub header-rows : (null : List ℕ) (header : List (List ℕ)) (rows : List (List Content)) → row_text default_writer header ++ range_text null rows 0 (length rows) ≡ table_text null header rows
+unfolding rows_text
+header-rows null header rows =
+    let all : take (length rows - 0) rows ≡ rows = take_all (length rows - 0) rows (omega arith) in
+    ap (λ (r : List (List Content)). row_text default_writer header ++ rows_text (map (map (shown null)) r)) all

@@ -1,0 +1,30 @@
+use Rattle.std.proofs.Common.{◌≡◌, ◌∙◌, ◌<◌, ◌≤◌, ◌++◌, [], length, refl, sym, ap, subst, append_assoc, arith}
+use Rattle.std.proofs.lemmas.List.{append-nil}
+use Rattle.rj_csv_io.specs.Shown.{range_text}
+use Rattle.rj_csv_io.specs.Written.{HasWritten}
+use Rattle.rj_csv_io.proofs.RangeFacts.{range-none, range-join}
+use Rattle.rj_csv_io.proofs.range.add_blocks.Goals as goal
+
+pub loop-row-init : goal.loop-row-init
+loop-row-init g c = record {
+  written =
+      let none = range-none c.args.null.now (g.S.RowSource.contents c.args.source.now) c.args.from in
+      subst (λ t. HasWritten c.open_text-writer.result t []) (sym (ap (λ t. c.args.text.items ++ t) none ∙ append-nil c.args.text.items)) c.open_text-writer.ensures;
+  low = omega arith;
+  high = c.requires.order;
+}
+
+pub loop-row-preserved : goal.loop-row-preserved
+loop-row-preserved g c =
+    let rows = g.S.RowSource.contents c.args.source.now in
+    let text = c.args.text.items in
+    let null = c.args.null.now in
+    let now = c.in_ok-write_block.ensures (text ++ range_text null rows c.args.from c.loop-row.row) c.loop-row.invariant.written in
+    let next : c.next_block.new.block.from ≡ c.loop-row.row = c.in_ok-next_block.ensures.from in
+    let here = rw next at now in
+    let more = range-join null rows c.args.from c.loop-row.row c.next_block.new.block.to c.loop-row.invariant.low (omega (arith, c.in_ok-next_block.ensures.to)) in
+    record {
+      written = subst (λ t. HasWritten c.write_block.new.writer t []) (append_assoc text (range_text null rows c.args.from c.loop-row.row) _ ∙ ap (λ t. text ++ t) more) here;
+      low = omega (arith, c.loop-row.invariant.low, c.in_ok-next_block.ensures.to);
+      high = c.in_ok-next_block.ensures.end;
+    }

@@ -1,0 +1,150 @@
+// The text of a header, and of the rows of a source from one to another.
+
+ghost use Rattle.std.specs.Prelude.{◌≡◌, ◌<◌, ◌≤◌, ◌++◌, ◌-◌, List, ℕ, [], map, length, slice_index_or, OnOk, IfOk};
+ghost use Rattle.csv.specs.Writing.{default_writer, row_text};
+ghost use Rattle.rj_csv_io.specs.Blocks.{Holds};
+ghost use Rattle.rj_csv_io.specs.Shown.{range_text, shown};
+ghost use Rattle.rj_csv_io.specs.Written.{HasWritten};
+
+use super::block::{BLOCK_ROWS, Block, next_block, no_rows};
+use super::text::{close_text, end_record, open_text, write_cell, write_field};
+use csv::Writer;
+use rj_columns::RowSource;
+use std::alloc::{AllocError, Global};
+
+/// The most bytes that a text asks room for before it has grown to them.
+const MOST_ROOM: u64 = 1 << 30;
+
+// Writes the record of the names.
+fn write_header(writer: &mut Writer<Vec<u8>>, header: &[&str]) -> Result<(), AllocError>
+    ensures { (text : List ℕ) → HasWritten writer.old text []
+        → OnOk result (HasWritten writer.new (text ++ row_text default_writer (map (λ n. n.now) header.now)) []) }
+{
+    for i in 0..header.len() {
+        write_field(writer, header[i].as_bytes())?;
+    }
+    end_record(writer)?;
+    Ok(())
+}
+
+/// The text of a header.
+pub(crate) fn text_of_header(alloc: Global, header: &[&str]) -> Result<Vec<u8>, AllocError>
+    ensures { IfOk result (λ v. v.items ≡ row_text default_writer (map (λ n. n.now) header.now)) }
+{
+    let mut writer = open_text(Vec::new(alloc));
+    write_header(&mut writer, header)?;
+    close_text(writer)
+}
+
+// Writes the record of a row whose cells stand in a block.
+fn write_row<S: RowSource>(
+    writer: &mut Writer<Vec<u8>>,
+    block: &Block<'_>,
+    source: &S,
+    row: u64,
+    null: &str,
+) -> Result<(), AllocError>
+    requires holds { Holds (S.contents source.now) (S.width source.now) block.now }
+    requires from { block.now.from ≤ row }
+    requires to { row < block.now.to }
+    ensures { (text : List ℕ) → HasWritten writer.old text []
+        → OnOk result (HasWritten writer.new (text ++ row_text default_writer (map (shown null.now) (slice_index_or (S.contents source.now) row []))) []) }
+{
+    let step = (block.to - block.from) as usize;
+    let at = (row - block.from) as usize;
+    let mut base = 0usize;
+    for _col in 0..source.columns() {
+        write_cell(writer, block.cells[base + at], null)?;
+        base += step;
+    }
+    end_record(writer)?;
+    Ok(())
+}
+
+// Writes the records of a block's rows.
+fn write_block<S: RowSource>(
+    writer: &mut Writer<Vec<u8>>,
+    block: &Block<'_>,
+    source: &S,
+    null: &str,
+) -> Result<(), AllocError>
+    requires { Holds (S.contents source.now) (S.width source.now) block.now }
+    ensures { (text : List ℕ) → HasWritten writer.old text []
+        → OnOk result (HasWritten writer.new (text ++ range_text null.now (S.contents source.now) block.now.from block.now.to) []) }
+{
+    for row in block.from..block.to {
+        write_row(writer, block, source, row, null)?;
+    }
+    Ok(())
+}
+
+// A text with the records of rows added, block by block.
+fn add_blocks<S: RowSource>(
+    alloc: Global,
+    text: Vec<u8>,
+    source: &S,
+    from: u64,
+    to: u64,
+    null: &str,
+) -> Result<Vec<u8>, AllocError>
+    requires order { from ≤ to }
+    requires within { to ≤ length (S.contents source.now) }
+    ensures { IfOk result (λ v. v.items ≡ text.items ++ range_text null.now (S.contents source.now) from to) }
+{
+    let mut writer = open_text(text);
+    let mut block = no_rows(alloc);
+    let mut row = from;
+    while row < to {
+        next_block(&mut block, source, row, to)?;
+        write_block(&mut writer, &block, source, null)?;
+        row = block.to;
+    }
+    close_text(writer)
+}
+
+// About how many bytes the records of rows take, by those of a block amid them. Few rows ask for nothing.
+fn likely_room<S: RowSource>(
+    alloc: Global,
+    source: &S,
+    from: u64,
+    to: u64,
+    null: &str,
+) -> Result<usize, AllocError>
+    requires order { from ≤ to }
+    requires within { to ≤ length (S.contents source.now) }
+{
+    let rows = to - from;
+    if rows < 4 * BLOCK_ROWS {
+        return Ok(0);
+    }
+    let middle = from + rows / 2;
+    let sample = add_blocks(
+        alloc,
+        Vec::new(alloc),
+        source,
+        middle,
+        middle + BLOCK_ROWS,
+        null,
+    )?;
+    let likely = (sample.len() as u64 / BLOCK_ROWS + 1).saturating_mul(rows);
+    Ok(likely.min(MOST_ROOM) as usize)
+}
+
+/// A text with the records of a source's rows added, from one row to another.
+pub(crate) fn add_range<S: RowSource>(
+    alloc: Global,
+    mut text: Vec<u8>,
+    source: &S,
+    from: u64,
+    to: u64,
+    null: &str,
+) -> Result<Vec<u8>, AllocError>
+    requires order { from ≤ to }
+    requires within { to ≤ length (S.contents source.now) }
+    ensures { IfOk result (λ v. v.items ≡ text.items ++ range_text null.now (S.contents source.now) from to) }
+{
+    let room = likely_room(alloc, source, from, to, null)?;
+    // Where this room is refused, the text still grows as it has to.
+    let _ = text.reserve(room);
+    add_blocks(alloc, text, source, from, to, null)
+}
