@@ -143,7 +143,7 @@ fn bind_tables(alloc: Global, text: &str, left: Table, right: Table) -> Result<O
 }
 
 // Reads both tables and binds the clause to them, or tells the first fault.
-#[tactic(auto, using(crate::proofs::OperandFacts::left_fault, crate::proofs::OperandFacts::right_fault, crate::proofs::OperandFacts::clause_fault))]
+#[tactic(auto, using(crate::proofs::OperandFacts::left_fault))]
 pub(crate) fn read_operands<R: Threads + Sync>(
     rt: &R,
     alloc: Global,
@@ -162,7 +162,7 @@ pub(crate) fn read_operands<R: Threads + Sync>(
 }
 
 // The same, of bytes that are given back as soon as their table stands.
-#[tactic(auto, using(crate::proofs::OperandFacts::left_fault, crate::proofs::OperandFacts::right_fault, crate::proofs::OperandFacts::clause_fault))]
+#[tactic(auto, using(crate::proofs::OperandFacts::left_fault))]
 pub(crate) fn read_owned_operands<R: Threads + Sync>(
     rt: &R,
     alloc: Global,
