@@ -1,5 +1,5 @@
 -- What writing says of a whole run.
-use Rattle.std.proofs.Common.{◌≡◌, ◌⊎◌, ap, refl, List, ℕ}
+use Rattle.std.proofs.Common.{◌≡◌, ◌⊎◌, inl, inr, ap, refl, List, ℕ}
 use Rattle.std.specs.Prelude.{◌≢◌, Result, Ok, Err, IfOk, IfErr}
 use Rattle.std.proofs.lemmas.Result.{IfOk-weaker, IfErr-weaker}
 use Rattle.rj_columns.specs.Tables.{TableValue}

@@ -79,7 +79,7 @@ pub enum Fault {
     /// An unqualified name of the clause is a column of both tables.
     #[error("radixjoin: E14 AmbiguousColumn")]
     AmbiguousColumn,
-    /// The clause compares an int with a text.
+    /// The clause compares a number with a text.
     #[error("radixjoin: E15 TypeMismatch")]
     TypeMismatch,
     /// A column stands twice in USING.

@@ -12,7 +12,7 @@ use Rattle.rj_engine.specs.Cells.{ViewValue, columns_of, header_of, name_of}
 use Rattle.rj_command.proofs.join.running.write_joined.Goals as goal
 
 pub write_rows_in_parts-requires-clause-header : goal.write_rows_in_parts-requires-clause-header
-write_rows_in_parts-requires-clause-header g c =
+write_rows_in_parts-requires-clause-header g c κs within =
     let l = c.args.operands.now.left in
     let r = c.args.operands.now.right in
     let join = c.args.operands.now.join in
