@@ -2,8 +2,8 @@
 complete -c radixjoin -f
 complete -c radixjoin -l left -r -F -d 'File of the left table'
 complete -c radixjoin -l right -r -F -d 'File of the right table'
-complete -c radixjoin -l left-types -x -d 'Types of the left columns, as int,text'
-complete -c radixjoin -l right-types -x -d 'Types of the right columns, as int,text'
+complete -c radixjoin -l left-types -x -d 'Types of the left columns, as int,num(9,2),text'
+complete -c radixjoin -l right-types -x -d 'Types of the right columns, as int,num(9,2),text'
 complete -c radixjoin -l join -x -d 'Clause of the join'
 complete -c radixjoin -l null -x -d 'Text that stands for null'
 complete -c radixjoin -l stats -d 'Tell how many rows were joined and written'

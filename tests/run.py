@@ -25,6 +25,7 @@ PARTS = (
     "examples",
     "devices",
     "sizes",
+    "parts",
     "installation",
     "pages",
     "options",

@@ -3,10 +3,10 @@
 #![tactic(auto)]
 
 use clap::{Arg, ArgAction, Command, Error, value_parser};
-use rj_command::{Fault, VERSION, arrivals};
+use rj_command::{Fault, VERSION, arrivals, read_words, texts_of};
 use rj_csv_io::{CountedReader, CountedWriter, ReadRefused, read_all};
 use std::alloc::{AllocError, Global};
-use std::env::{self, Env};
+use std::env::Env;
 use std::io;
 use std::process::ExitCode;
 
@@ -24,6 +24,12 @@ enum Failure {
     ReadDevice,
     #[error("arrivals: E20 WriteDevice")]
     WriteDevice,
+}
+
+impl From<AllocError> for Failure {
+    fn from(_error: AllocError) -> Failure {
+        Failure::Memory
+    }
 }
 
 impl Failure {
@@ -108,26 +114,6 @@ fn read_line(alloc: Global, words: &[&str]) -> Result<Line, Error> {
     })
 }
 
-// The words after the program's name.
-fn read_words<R: Env + AllocGlobal>(rt: &R) -> Result<Vec<String>, Failure> {
-    match env::args(rt) {
-        Ok(words) => match words.skip(1).collect(rt.alloc()) {
-            Ok(words) => Ok(words),
-            Err(_) => Err(Failure::Memory),
-        },
-        Err(error) if error.kind() == io::ErrorKind::OutOfMemory => Err(Failure::Memory),
-        Err(_) => Err(Failure::NotText),
-    }
-}
-
-// The words as texts.
-fn texts_of<'a>(alloc: Global, words: &'a [String]) -> Result<Vec<&'a str>, Failure> {
-    match words.iter().map(|word| word.as_str()).collect(alloc) {
-        Ok(texts) => Ok(texts),
-        Err(_) => Err(Failure::Memory),
-    }
-}
-
 fn parse_words(alloc: Global, words: &[String]) -> Result<Line, Failure> {
     let texts = texts_of(alloc, words)?;
     match read_line(alloc, texts.as_slice()) {
@@ -149,7 +135,9 @@ fn read_script<R: Input + AllocGlobal>(rt: &R) -> Result<Vec<u8>, Failure> {
 
 // Reads the command line and the script, and prints; whether every line was readable.
 fn replay<R: Env + Input + AllocGlobal + Print>(rt: &R) -> Result<bool, Failure> {
-    let words = read_words(rt)?;
+    let Some(words) = read_words(rt)? else {
+        return Err(Failure::NotText);
+    };
     let line = parse_words(rt.alloc(), words.as_slice())?;
     let script = read_script(rt)?;
     let mut writer = CountedWriter::new(io::writer(rt));

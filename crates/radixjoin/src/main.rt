@@ -2,36 +2,15 @@
 //! Statistics and faults go to standard error.
 #![tactic(auto)]
 
-use rj_command::{Fault, Open, Side, read_line, run};
+use rj_command::{Fault, Open, Side, read_line, read_words, run_owned, texts_of};
 use rj_csv_io::{CountedReader, CountedWriter, ReadRefused, read_all};
-use std::alloc::Global;
-use std::env::{self, Env};
+use std::env::Env;
 use std::fs::{self, Files};
 use std::io;
 use std::process::ExitCode;
 use std::sync::Wait;
 use std::thread::Threads;
 use std::time::Clock;
-
-// The words after the program's name.
-fn read_words<R: Env + AllocGlobal>(rt: &R) -> Result<Vec<String>, Fault> {
-    match env::args(rt) {
-        Ok(words) => match words.skip(1).collect(rt.alloc()) {
-            Ok(words) => Ok(words),
-            Err(_) => Err(Fault::Memory),
-        },
-        Err(error) if error.kind() == io::ErrorKind::OutOfMemory => Err(Fault::Memory),
-        Err(_) => Err(Fault::NotText),
-    }
-}
-
-// The words as texts.
-fn texts_of<'a>(alloc: Global, words: &'a [String]) -> Result<Vec<&'a str>, Fault> {
-    match words.iter().map(|word| word.as_str()).collect(alloc) {
-        Ok(texts) => Ok(texts),
-        Err(_) => Err(Fault::Memory),
-    }
-}
 
 // The bytes of a file, to its end.
 fn read_file<R: Files + AllocGlobal>(rt: &R, name: &str, side: Side) -> Result<Vec<u8>, Fault> {
@@ -52,21 +31,15 @@ fn join<R: Env + Files + AllocGlobal + Print + Eprint + Threads + Wait + Clock +
     rt: &R,
 ) -> Result<(), Fault> {
     let alloc = rt.alloc();
-    let words = read_words(rt)?;
+    let Some(words) = read_words(rt)? else {
+        return Err(Fault::NotText);
+    };
     let texts = texts_of(alloc, words.as_slice())?;
     let line = read_line(alloc, texts.as_slice())?;
     let left = read_file(rt, line.left, Side::Left)?;
     let right = read_file(rt, line.right, Side::Right)?;
     let mut writer = CountedWriter::new(io::writer(rt));
-    let stats = run(
-        rt,
-        alloc,
-        left.as_slice(),
-        right.as_slice(),
-        &line.request,
-        &Open,
-        &mut writer,
-    )?;
+    let stats = run_owned(rt, alloc, left, right, &line.request, &Open, &mut writer)?;
     if line.stats {
         let _ = eprintln!(rt; "{stats}");
     }

@@ -1,9 +1,10 @@
 -- What a chain of options keeps.
-use Rattle.std.proofs.Common.{◌≡◌, ◌∙◌, ◌&&◌, ◌<◌, ◌≤◌, ◌++◌, ℕ, Bool, zero, suc, true, false, not, refl, sym, ap, subst, inl, inr, arith, List, [], ◌∷◌, map, take, length, ◌+◌, ap₂, Option, Some, None, is_some, codes, true≢false}
-use Rattle.std.specs.Prelude.{◌||◌}
+use Rattle.std.proofs.Common.{◌≡◌, ◌∙◌, ◌&&◌, ◌<◌, ◌≤◌, ◌++◌, ◌+◌, ◌∷◌, [], ℕ, Bool, List, Option, Some, None, zero, suc, true, false, inl, inr}
+use Rattle.std.proofs.Common.{not, refl, sym, ap, ap₂, subst, arith, map, take, length, is_some, codes, true≢false}
 use Rattle.std.specs.Str.{bytes_eq}
 use Rattle.std.specs.List.{All, list_all, list_any, slice_index_or}
 use Rattle.std.proofs.lemmas.Slice.Eq.{bytes_eq-Decides}
+use Rattle.std.proofs.lemmas.Bool.{or_parts}
 use Rattle.std.proofs.lemmas.List.{map-append, length-map}
 use Rattle.clap.specs.Facts.{unwrap_or_range}
 use Rattle.clap.specs.Matches.{first_value, found_of}
@@ -21,7 +22,7 @@ use Rattle.clap.proofs.SimpleLemmas.{is_false, is_nil}
 use Rattle.clap.proofs.TakesLemmas.{each_rule}
 use Rattle.clap.proofs.WalkLemmas.{both}
 use Rattle.rj_command.specs.Options.{IsBare, IsChain, rule_of_option, with_rules}
-use Rattle.rj_command.specs.declared.options.LineOption.{LineOption}
+use Rattle.rj_command.specs.declared.join.options.LineOption.{LineOption}
 use Rattle.std.proofs.Math.Seq.{take-suc}
 
 turn_more : (start command new : Command) (xs : List Arg) (a : Arg) → AddsInTurn AddsArg start xs command → AddsArg command a new → AddsInTurn AddsArg start (xs ++ a ∷ []) new
@@ -91,10 +92,6 @@ pub chain_app : (start command : Command) (rules : List Rule) → IsChain start 
 chain_app start command rules chain fits =
     turns_app start command chain.0 chain.1 (all_fit chain.0 rules chain.2 fits) ∙ ap (with_rules (app_of start)) chain.2
 
-neither : (a b : Bool) → (a || b) ≡ false → (a ≡ false) × (b ≡ false)
-neither true b e = absurd (true≢false e)
-neither false b e = (refl, e)
-
 -- no two rules have one id
 abbrev pub are_distinct : List Rule → Bool
 are_distinct [] = true
@@ -102,8 +99,8 @@ are_distinct (r ∷ rules) = not (list_any (λ s. bytes_eq s.id r.id) rules) && 
 
 none_at : (p : Rule → Bool) (rules : List Rule) (k : ℕ) (d : Rule) → list_any p rules ≡ false → k < length rules → p (slice_index_or rules k d) ≡ false
 none_at p [] k d none lt = absurd (omega arith)
-none_at p (r ∷ rules) zero d none lt = (neither (p r) (list_any p rules) none).0
-none_at p (r ∷ rules) (suc k) d none lt = none_at p rules k d (neither (p r) (list_any p rules) none).1 (omega arith)
+none_at p (r ∷ rules) zero d none lt = (or_parts (p r) (list_any p rules) none).0
+none_at p (r ∷ rules) (suc k) d none lt = none_at p rules k d (or_parts (p r) (list_any p rules) none).1 (omega arith)
 
 flipped : (a b : Text) → bytes_eq a b ≡ true → bytes_eq b a ≡ true
 flipped a b e = (bytes_eq-Decides b a).1 (sym ((bytes_eq-Decides a b).0 e))

@@ -2,6 +2,7 @@ mod ChainFacts
 mod LineFacts
 mod NumberFacts
 mod OperandFacts
+mod RunFacts
 mod TypeFacts
 pub mod NumeralFacts
 pub mod ReadingFacts

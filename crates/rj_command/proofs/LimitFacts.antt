@@ -1,21 +1,18 @@
 -- Numbers that options give are within the limits of settings.
 use Rattle.std.proofs.Common.{◌≡◌, ◌≤◌, ℕ, Bool, true, false, ◌&&◌, nat_le, subst, arith, Option, Some, None}
 use Rattle.std.specs.Prelude.{ℤ, pos, ◌≤ℤ◌}
+use Rattle.std.specs.Cmp.Derive.{both_true}
 use Rattle.std.proofs.lemmas.Bool.Decides.{nat_tests}
 use Rattle.std.proofs.lemmas.Int.{ints}
 use Rattle.clap.specs.Words.{Text}
 use Rattle.rj_engine.specs.Limits.{between, in_limits}
 use Rattle.rj_command.specs.Line.{IsNumberIn, IsNumberOr}
 
-both_true : (a b : Bool) → a ≡ true → b ≡ true → (a && b) ≡ true
-both_true true b x y = y
-both_true false b x y = x
-
 between_true : (low high n : ℕ) → low ≤ n → n ≤ high → between low high n ≡ true
 between_true low high n l h =
     let a : nat_le low n ≡ true = grind (arith, nat_tests, l) in
     let b : nat_le n high ≡ true = grind (arith, nat_tests, h) in
-    both_true (nat_le low n) (nat_le n high) a b
+    both_true a b
 
 -- a number that an option gives, or that stands for it, is in the option's limits
 pub number_between : (low high other : ℕ) (o : Option Text) (n : ℕ) → low ≤ other → other ≤ high → IsNumberIn low high o → IsNumberOr other o n → between low high n ≡ true
@@ -29,4 +26,4 @@ pub all_between : (workers bits1 bits2 block lanes capacity retries : ℕ) → b
     → between 1 65536 block ≡ true → between 1 4 lanes ≡ true → between 1 4096 capacity ≡ true → between 0 3 retries ≡ true
     → in_limits workers bits1 bits2 block lanes capacity retries ≡ true
 all_between workers bits1 bits2 block lanes capacity retries a b c d e f g =
-    both_true _ _ (both_true _ _ (both_true _ _ (both_true _ _ (both_true _ _ (both_true _ _ a b) c) d) e) f) g
+    both_true (both_true (both_true (both_true (both_true (both_true a b) c) d) e) f) g

@@ -25,7 +25,7 @@ use Rattle.clap.proofs.WalkLemmas.{list_any-map}
 use Rattle.clap.proofs.CallerLemmas.{added_plain, entry_by_id, same_rules_by_id}
 use Rattle.rj_command.specs.Line.{IsHashName, IsNumberIn}
 use Rattle.rj_command.specs.Options.{HashWords, IsBare, IsChain}
-use Rattle.rj_command.specs.declared.request.Hash.TheVariants as hash
+use Rattle.rj_command.specs.declared.join.request.Hash.TheVariants as hash
 use Rattle.rj_command.proofs.ChainFacts.{all_distinct, all_fit, are_distinct, fits_option, rule_at}
 
 no_value : {X : Type 0} (x : X) → None ≡ Some x → ⊥

@@ -1,5 +1,6 @@
 -- A list cut at the first element that passes a test.
-use Rattle.std.proofs.Common.{◌≡◌, ℕ, ◌+◌, ◌<◌, ◌≤◌, ◌==◌, ◌≢◌, Bool, true, false, cond, if◌then◌else◌, List, [], ◌∷◌, ◌++◌, length, take, drop, get_or, refl, ap, sym, ◌∙◌, arith, subst, drop-cons, add-one}
+use Rattle.std.proofs.Common.{◌≡◌, ◌≢◌, ◌∙◌, ◌+◌, ◌<◌, ◌≤◌, ◌==◌, ◌++◌, ◌∷◌, [], ℕ, Bool, List, true, false, cond, if◌then◌else◌}
+use Rattle.std.proofs.Common.{length, take, drop, get_or, refl, ap, sym, arith, subst, drop-cons, add-one}
 use Rattle.std.specs.Prelude.{All}
 use Rattle.std.specs.List.{slice_split, onto_first}
 use Rattle.std.proofs.lemmas.Bool.Decides.{nat_tests}
@@ -8,11 +9,11 @@ use Rattle.std.proofs.lemmas.List.{take_all, take-append-drop}
 use Rattle.std.proofs.lemmas.List.Splits.{slice_split_at, slice_split_none}
 
 -- a list is what is before an index, the element there, and what follows
-pub around : (xs : List ℕ) (i : ℕ) → i < length xs → xs ≡ take i xs ++ get_or xs i 0 ∷ drop (i + 1) xs
-around xs i h = sym (take-append-drop i xs) ∙ ap (λ (t : List ℕ). take i xs ++ t) (rw add-one (drop-cons xs i 0 h))
+pub around : {A : Type 0} (xs : List A) (i : ℕ) (d : A) → i < length xs → xs ≡ take i xs ++ get_or xs i d ∷ drop (i + 1) xs
+around {A} xs i d h = sym (take-append-drop i xs) ∙ ap (λ (t : List A). take i xs ++ t) (rw add-one (drop-cons xs i d h))
 
 pub split_at_index : (p : ℕ → Bool) (xs : List ℕ) (i : ℕ) → i < length xs → All (λ b. p b ≡ false) (take i xs) → p (get_or xs i 0) ≡ true → slice_split p xs ≡ take i xs ∷ slice_split p (drop (i + 1) xs)
-split_at_index p xs i h none hit = ap (slice_split p) (around xs i h) ∙ slice_split_at p (take i xs) (get_or xs i 0) (drop (i + 1) xs) none hit
+split_at_index p xs i h none hit = ap (slice_split p) (around xs i 0 h) ∙ slice_split_at p (take i xs) (get_or xs i 0) (drop (i + 1) xs) none hit
 
 pub none_found : (p : ℕ → Bool) (xs : List ℕ) (i : ℕ) → length xs ≤ i → All (λ b. p b ≡ false) (take i xs) → slice_split p xs ≡ xs ∷ []
 none_found p xs i h none = slice_split_none p xs (subst (All (λ b. p b ≡ false)) (take_all i xs h) none)

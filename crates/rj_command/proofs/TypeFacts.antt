@@ -1,11 +1,12 @@
 -- What a type list is cut into.
-use Rattle.std.proofs.Common.{◌≡◌, ◌≢◌, ◌∙◌, ◌<◌, ◌≤◌, ◌+◌, ◌-◌, ◌*◌, ◌/◌, ◌%◌, ◌^◌, ◌++◌, ◌⊎◌, ℕ, zero, suc, true, false, not, refl, sym, ap, arith, eqb, List, [], ◌∷◌, map, length, drop, take, get_or, slice_index_or, drop-cons, add-one, inl, inr, Option, Some, None, codes}
+use Rattle.std.proofs.Common.{◌≡◌, ◌≢◌, ◌∙◌, ◌<◌, ◌≤◌, ◌+◌, ◌-◌, ◌*◌, ◌/◌, ◌%◌, ◌^◌, ◌++◌, ◌⊎◌, ◌∷◌, [], ℕ, List, Option, Some, None, zero, suc, true, false, inl, inr}
+use Rattle.std.proofs.Common.{not, refl, sym, ap, arith, eqb, map, length, drop, take, get_or, slice_index_or, codes}
 use Rattle.std.specs.Prelude.{IfSome, IfNone, SomeIff}
 use Rattle.std.specs.Fmt.{decimal}
 use Rattle.std.specs.List.{All, count_by, join_with_byte, list_all, slice_split}
 use Rattle.std.proofs.lemmas.Bool.{cases_lt, ne_eqb}
 use Rattle.std.proofs.lemmas.Fmt.{decimal_digit, decimal_step, decimal_injective}
-use Rattle.std.proofs.lemmas.List.{append_assoc, append-nil, append_cancel_right, take-append-drop}
+use Rattle.std.proofs.lemmas.List.{append_assoc, append-nil, append_cancel_right}
 use Rattle.std.proofs.lemmas.List.Elements.{All-nil, All-cons, All-append}
 use Rattle.std.proofs.lemmas.List.Splits.{join_with_byte-slice_split, length-slice_split, slice_split_at, slice_split_none}
 use Rattle.clap.proofs.SimpleLemmas.{is_false}
@@ -13,6 +14,7 @@ use Rattle.clap.proofs.WalkLemmas.{both}
 use Rattle.rj_columns.specs.declared.cell.ColumnType.{ColumnType}
 use Rattle.rj_columns.specs.declared.cell.ColumnType.TheVariants as kind
 use Rattle.rj_decimal.specs.declared.numeric.NumericType.{NumericType}
+use Rattle.rj_command.proofs.SplitFacts.{around}
 use Rattle.rj_command.specs.Types.{IsTypeList, type_word, begin_word, end_word, word_pieces, begun_pieces}
 
 -- a number of one digit, and one of two
@@ -156,10 +158,6 @@ pub no_end : (text : List ℕ) (types : List ColumnType) (p : ℕ) → pieces te
 no_end text types p cut all list =
     let follows = after_types types (begin_word p ∷ []) all (sym cut ∙ list-cut text all list) in
     no_half p follows.0 follows.1
-
--- a list is what is before an index, the element there, and what follows
-around : (xs : List (List ℕ)) (i : ℕ) (d : List ℕ) → i < length xs → xs ≡ take i xs ++ get_or xs i d ∷ drop (i + 1) xs
-around xs i d h = sym (take-append-drop i xs) ∙ ap (λ (t : List (List ℕ)). take i xs ++ t) (rw add-one (drop-cons xs i d h))
 
 -- the pieces of a text, where these were seen and this one is next
 pub cut_at : (text : List ℕ) (seen : List (List ℕ)) (piece : List ℕ) (k : ℕ) → seen ≡ take k (pieces text) → (k < length (pieces text)) × (piece ≡ get_or (pieces text) k piece)

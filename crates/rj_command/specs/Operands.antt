@@ -1,5 +1,6 @@
 -- The operands of a run: two tables and a join bound to them, or the first fault.
-use Rattle.std.specs.Prelude.{◌≡◌, ◌≢◌, List, ℕ, Ok, Err}
+use Rattle.std.specs.Prelude.{◌≡◌, ◌≢◌, List, ℕ, Result, Ok, Err}
+use Rattle.rj_columns.specs.declared.cell.ColumnType.{ColumnType}
 use Rattle.rj_columns.specs.Tables.{TableValue}
 use Rattle.rj_csv_io.specs.Tables.{read_of}
 use Rattle.rj_csv_io.specs.declared.refused.ReadRefused.{ReadRefused}
@@ -13,7 +14,7 @@ use Rattle.rj_command.specs.declared.fault.Fault.{Fault}
 use Rattle.rj_command.specs.declared.fault.Fault.TheVariants as fault
 use Rattle.rj_command.specs.declared.fault.Side.{Side}
 use Rattle.rj_command.specs.declared.fault.Side.TheVariants as side
-use Rattle.rj_command.specs.declared.request.Request.{Request}
+use Rattle.rj_command.specs.declared.join.request.Request.{Request}
 use Rattle.rj_condition.specs.Clauses.{HasClause, IsFault}
 use Rattle.rj_condition.specs.declared.refused.ParseRefused.{ParseRefused}
 use Rattle.rj_condition.specs.declared.refused.ParseRefused.TheVariants as parse
@@ -48,6 +49,15 @@ bind_fault bind.TypeMismatch = fault.TypeMismatch
 bind_fault bind.RepeatedUsing = fault.RepeatedUsing
 bind_fault bind.Memory = fault.Memory
 
+-- the types of a table's columns
+abbrev pub types_of : Request → Side → List ColumnType
+types_of q side.Left = q.left_types.items
+types_of q side.Right = q.right_types.items
+
+-- what the bytes of a table's file denote
+abbrev pub side_read : Request → Side → List ℕ → Result TableValue ReadRefused
+side_read q s bytes = read_of bytes (types_of q s) q.null.now
+
 -- the text has a clause, which binds to the tables as this join
 abbrev pub IsJoinOf : List ℕ → TableValue → TableValue → BoundJoin → Type 0
 IsJoinOf text l r join = (c : Clause) × HasClause text c × (bound c l r ≡ Ok join)
@@ -59,14 +69,14 @@ pub data IsJoinFault (text : List ℕ) (l r : TableValue) : Fault → Type 0 whe
 
 -- the tables that the bytes denote, and the join that the clause asks of them
 pub record AreOperands (left right : List ℕ) (q : Request) (l r : TableValue) (join : BoundJoin) : Type 0 where
-  pub left_read : read_of left q.left_types.items q.null.now ≡ Ok l
-  pub right_read : read_of right q.right_types.items q.null.now ≡ Ok r
+  pub left_read : side_read q side.Left left ≡ Ok l
+  pub right_read : side_read q side.Right right ≡ Ok r
   pub join_bound : IsJoinOf q.clause.now l r join
 
 -- the first fault: of the left table, of the right one, of the clause
 pub data IsFirstFault (left right : List ℕ) (q : Request) : Fault → Type 0 where
-  in_left : (e : ReadRefused) → read_of left q.left_types.items q.null.now ≡ Err e → IsFirstFault left right q (read_fault side.Left e)
-  in_right : (l : TableValue) (e : ReadRefused) → read_of left q.left_types.items q.null.now ≡ Ok l
-      → read_of right q.right_types.items q.null.now ≡ Err e → IsFirstFault left right q (read_fault side.Right e)
-  in_clause : (l r : TableValue) (f : Fault) → read_of left q.left_types.items q.null.now ≡ Ok l
-      → read_of right q.right_types.items q.null.now ≡ Ok r → IsJoinFault q.clause.now l r f → IsFirstFault left right q f
+  in_left : (e : ReadRefused) → side_read q side.Left left ≡ Err e → IsFirstFault left right q (read_fault side.Left e)
+  in_right : (l : TableValue) (e : ReadRefused) → side_read q side.Left left ≡ Ok l
+      → side_read q side.Right right ≡ Err e → IsFirstFault left right q (read_fault side.Right e)
+  in_clause : (l r : TableValue) (f : Fault) → side_read q side.Left left ≡ Ok l
+      → side_read q side.Right right ≡ Ok r → IsJoinFault q.clause.now l r f → IsFirstFault left right q f

@@ -9,9 +9,9 @@ use Rattle.clap.specs.declared.builder.arg.Arg.{Arg}
 use Rattle.clap.specs.declared.builder.command.Command.{Command}
 use Rattle.clap.specs.declared.builder.command.Command.TheViews.{out-Command}
 use Rattle.clap.specs.declared.builder.value_parser.ValueParser.TheVariants as parser
-use Rattle.rj_command.specs.declared.options.LineOption.{LineOption}
-use Rattle.rj_command.specs.declared.options.Takes.{Takes}
-use Rattle.rj_command.specs.declared.options.Takes.TheVariants as takes
+use Rattle.rj_command.specs.declared.join.options.LineOption.{LineOption}
+use Rattle.rj_command.specs.declared.join.options.Takes.{Takes}
+use Rattle.rj_command.specs.declared.join.options.Takes.TheVariants as takes
 
 -- a long option with one value, or with none
 abbrev pub rule_for : Text → Takes → Rule

@@ -16,10 +16,10 @@ use Rattle.rj_engine.specs.Results.{joined_of}
 use Rattle.rj_command.specs.Operands.{AreOperands}
 use Rattle.rj_command.specs.declared.fault.Fault.{Fault}
 use Rattle.rj_command.specs.declared.fault.Fault.TheVariants as fault
-use Rattle.rj_command.specs.declared.request.Hash.{Hash}
-use Rattle.rj_command.specs.declared.request.Hash.TheVariants as hash
-use Rattle.rj_command.specs.declared.request.Request.{Request}
-use Rattle.rj_command.specs.declared.stats.Stats.{Stats}
+use Rattle.rj_command.specs.declared.join.request.Hash.{Hash}
+use Rattle.rj_command.specs.declared.join.request.Hash.TheVariants as hash
+use Rattle.rj_command.specs.declared.join.request.Request.{Request}
+use Rattle.rj_command.specs.declared.join.stats.Stats.{Stats}
 
 -- the text of the joined table of two tables by a bound join
 abbrev pub joined_text : List ℕ → BoundJoin → TableValue → TableValue → List ℕ

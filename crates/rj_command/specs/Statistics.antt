@@ -1,8 +1,8 @@
 -- The text of what a join counts.
 use Rattle.std.specs.Prelude.{ℕ, if◌then◌else◌, List, [], ◌∷◌, ◌++◌, codes, decimal}
 use Rattle.std.specs.List.{flat_map}
-use Rattle.rj_command.specs.declared.stats.PartitionRows.{PartitionRows}
-use Rattle.rj_command.specs.declared.stats.Stats.{Stats}
+use Rattle.rj_command.specs.declared.join.stats.PartitionRows.{PartitionRows}
+use Rattle.rj_command.specs.declared.join.stats.Stats.{Stats}
 
 -- the line of a partition
 abbrev pub partition_text : PartitionRows → List ℕ

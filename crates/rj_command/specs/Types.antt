@@ -4,8 +4,8 @@ use Rattle.std.specs.Fmt.{decimal}
 use Rattle.std.specs.List.{join_with_byte}
 use Rattle.rj_columns.specs.declared.cell.ColumnType.{ColumnType}
 use Rattle.rj_columns.specs.declared.cell.ColumnType.TheVariants as kind
-use Rattle.rj_command.specs.declared.types.Piece.{Piece}
-use Rattle.rj_command.specs.declared.types.Piece.TheVariants.{Last, First}
+use Rattle.rj_command.specs.declared.join.types.Piece.{Piece}
+use Rattle.rj_command.specs.declared.join.types.Piece.TheVariants.{Last, First}
 
 -- what stands before the comma of a numeric type's word
 abbrev pub begin_word : ℕ → List ℕ

@@ -34,7 +34,7 @@ pub enum Fault {
     /// A word of the command line isn't text.
     #[error("radixjoin: an argument is not text")]
     NotText,
-    /// A type list has another form than `int,text,..`.
+    /// A type list has another form than `int,num(9,2),text`.
     #[error("radixjoin: bad type list {0}")]
     BadTypeList(Side),
     /// A file has no record at all.
@@ -79,7 +79,7 @@ pub enum Fault {
     /// An unqualified name of the clause is a column of both tables.
     #[error("radixjoin: E14 AmbiguousColumn")]
     AmbiguousColumn,
-    /// The clause compares an int with a text.
+    /// The clause compares a number with a text.
     #[error("radixjoin: E15 TypeMismatch")]
     TypeMismatch,
     /// A column stands twice in USING.

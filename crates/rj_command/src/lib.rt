@@ -2,22 +2,15 @@
 #![tactic(auto)]
 
 mod fault;
-mod line;
-mod operands;
-mod options;
-mod request;
-mod running;
+mod join;
 mod script;
-mod stats;
-mod types;
+mod words;
 
 pub use fault::{Fault, Side};
-pub use line::{Line, read_line};
-pub use request::{Hash, Request};
+pub use join::{Hash, Line, PartitionRows, Request, Stats, read_line, run, run_owned};
 pub use rj_engine::Open;
-pub use running::run;
 pub use script::arrivals;
-pub use stats::{PartitionRows, Stats};
+pub use words::{read_words, texts_of};
 
 /// The version of both programs, which `--version` prints.
 pub const VERSION: &str = "1.0.0";

@@ -7,7 +7,8 @@ use Rattle.rj_command.proofs.script.answer_script.Given as goal
 
 abbrev pub invariant-loop-rest : goal.invariant-loop-rest
 invariant-loop-rest l = record {
-  written : string_bytes l.fn.out ++ text_of_lines (answer_lines (readings l.script) (answers l.fn.ledger (parcels_of (readings l.script)))) ≡ string_bytes l.out ++ text_of_lines (answer_lines (readings l.rest) (answers l.ledger (parcels_of (readings l.rest))));
+  written : string_bytes l.fn.out ++ text_of_lines (answer_lines (readings l.script) (answers l.fn.ledger (parcels_of (readings l.script))))
+      ≡ string_bytes l.out ++ text_of_lines (answer_lines (readings l.rest) (answers l.ledger (parcels_of (readings l.rest))));
   ledger : after_all l.fn.ledger (parcels_of (readings l.script)) ≡ after_all l.ledger (parcels_of (readings l.rest));
   readable : are_readable (readings l.script) ≡ (l.readable && are_readable (readings l.rest));
   senders : length l.ledger.senders ≡ length l.fn.ledger.senders;

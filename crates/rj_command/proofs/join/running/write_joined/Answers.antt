@@ -1,0 +1,50 @@
+use Rattle.std.proofs.Common.{◌∙◌, ◌^◌, refl, ap, ap₂, sym, subst, map, length, ℕ, List, Bor}
+use Rattle.std.specs.List.{range_with_len}
+use Rattle.std.specs.Io.KnownBytes.{Appends}
+use Rattle.std.proofs.lemmas.List.FromFn.{length-map-range_with_len}
+use Rattle.rj_csv_io.specs.Shown.{table_text}
+use Rattle.rj_condition.specs.Splits.{keys_of}
+use Rattle.rj_engine.specs.Join.{JoinedValue}
+use Rattle.rj_engine.specs.Partitioned.{rows_of_partition}
+use Rattle.rj_engine.specs.Pools.{pieces_of_sizes}
+use Rattle.std.proofs.lemmas.List.{length-map}
+use Rattle.rj_engine.specs.Cells.{ViewValue, columns_of, header_of, name_of}
+use Rattle.rj_command.proofs.join.running.write_joined.Goals as goal
+
+pub write_rows_in_parts-requires-clause-header : goal.write_rows_in_parts-requires-clause-header
+write_rows_in_parts-requires-clause-header g c κs within =
+    let l = c.args.operands.now.left in
+    let r = c.args.operands.now.right in
+    let join = c.args.operands.now.join in
+    let names = c.in_ok-names.names.items in
+    ap length c.as_slice.ensures.value
+    ∙ (sym (length-map names (λ (n : Bor (List ℕ)). n.now))
+    ∙ (ap length c.in_ok-names.ensures ∙ (length-map (columns_of join r) (name_of l r) ∙ sym (ap (λ (v : ViewValue). v.width) c.in_ok-view.ensures))))
+
+pub returns-clause-ok : goal.returns-clause-ok
+returns-clause-ok g c =
+    let l = c.args.operands.now.left in
+    let r = c.args.operands.now.right in
+    let join = c.args.operands.now.join in
+    let null = c.args.request.now.null.now in
+    let value = g.H.KeyHash.value c.args.hash.now in
+    let bits = c.args.request.now.settings.bits1 in
+    let joined = c.in_ok-joined.ensures in
+    let rows = c.in_ok-partitions.ensures in
+    let many = ap length joined.left_sizes ∙ length-map-range_with_len (λ p. length (rows_of_partition value bits l (map (λ (k : ℕ × ℕ). k.0) (keys_of join)) p)) 0 (2 ^ bits) in
+    let names = ap (map (λ (n : Bor (List ℕ)). n.now)) c.as_slice.ensures.value ∙ c.in_ok-names.ensures in
+    let text =
+    ap (λ header. table_text null header c.in_ok-view.view.cells) names ∙ ap (λ (v : ViewValue). table_text null (header_of join l r) v.cells) c.in_ok-view.ensures in
+    let Writes : List ℕ → Type 0 = λ t. Appends (g.O.Output.told c.args.writer.now) (g.O.Output.told c.write_rows_in_parts.new.output) t in (
+      record {
+        pairs = c.pairs.ensures ∙ ap (λ (m : JoinedValue). length m.pairs) joined.members;
+        lone_left = c.lone_left.ensures ∙ ap (λ (m : JoinedValue). length m.lone_left) joined.members;
+        lone_right = c.lone_right.ensures ∙ ap (λ (m : JoinedValue). length m.lone_right) joined.members;
+        numbers = rows.numbers ∙ ap (range_with_len 0) many;
+        lefts = rows.lefts ∙ joined.left_sizes;
+        rights = rows.rights ∙ joined.right_sizes;
+        pieces = c.pieces.ensures ∙ (joined.pieces ∙ ap₂ (pieces_of_sizes c.args.request.now.settings.piece) (sym rows.lefts) (sym rows.rights));
+        tells_pieces = refl;
+      },
+      subst Writes text c.in_ok-write_rows_in_parts.ensures.ok,
+    )

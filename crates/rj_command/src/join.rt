@@ -1,0 +1,14 @@
+// The program `radixjoin`: its command line, and a run from the bytes of two tables to the bytes of their joined table.
+
+mod line;
+mod operands;
+mod options;
+mod request;
+mod running;
+mod stats;
+mod types;
+
+pub use self::line::{Line, read_line};
+pub use self::request::{Hash, Request};
+pub use self::running::{run, run_owned};
+pub use self::stats::{PartitionRows, Stats};

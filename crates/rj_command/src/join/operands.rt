@@ -1,0 +1,181 @@
+// The two tables of a run and the join bound to them.
+
+ghost use Rattle.std.specs.Prelude.{◌≡◌, ◌≢◌, IfOk, IfErr, OnOk, Ok, Err, IsTrue, true};
+ghost use Rattle.rj_csv_io.specs.Tables.{is_null_text};
+ghost use Rattle.rj_condition.specs.Fits.{fits};
+ghost use Rattle.rj_command.specs.Operands.{AreOperands, IsFirstFault, IsJoinFault, IsJoinOf, bind_fault, parse_fault, read_fault, side_read, types_of};
+
+use super::request::Request;
+use crate::fault::{Fault, Side};
+use rj_columns::{ColumnType, Table};
+use rj_condition::{BindRefused, BoundJoin, ParseRefused, bind, parse};
+use rj_csv_io::{ReadRefused, read_table_in_parts};
+use std::alloc::Global;
+use std::thread::Threads;
+
+// The tables that the bytes denote, and the clause bound to them.
+#[derive(Drop)]
+pub(crate) struct Operands {
+    pub(crate) left: Table,
+    pub(crate) right: Table,
+    pub(crate) join: BoundJoin,
+}
+
+fn fault_of_bind(refused: BindRefused) -> Fault
+    ensures { result ≡ bind_fault refused }
+{
+    match refused {
+        BindRefused::UnknownColumn => Fault::UnknownColumn,
+        BindRefused::AmbiguousColumn => Fault::AmbiguousColumn,
+        BindRefused::TypeMismatch => Fault::TypeMismatch,
+        BindRefused::RepeatedUsing => Fault::RepeatedUsing,
+        BindRefused::Memory => Fault::Memory,
+    }
+}
+
+fn fault_of_parse(refused: ParseRefused) -> Fault
+    ensures { result ≡ parse_fault refused }
+{
+    match refused {
+        ParseRefused::Syntax(byte) => Fault::Syntax(byte),
+        ParseRefused::TooDeep => Fault::TooDeep,
+        ParseRefused::TooLong => Fault::ClauseTooLong,
+        ParseRefused::Memory => Fault::Memory,
+    }
+}
+
+fn fault_of_read(side: Side, refused: ReadRefused) -> Fault
+    ensures { result ≡ read_fault side refused }
+{
+    match refused {
+        ReadRefused::NoHeader => Fault::NoHeader(side),
+        ReadRefused::BadName(column) => Fault::BadName(side, column),
+        ReadRefused::RepeatedName(column) => Fault::RepeatedName(side, column),
+        ReadRefused::TypeCount => Fault::TypeCount(side),
+        ReadRefused::RaggedRow(row) => Fault::RaggedRow(side, row),
+        ReadRefused::BadInteger(row, column) => Fault::BadInteger(side, row, column),
+        ReadRefused::BadText(row, column) => Fault::BadText(side, row, column),
+        ReadRefused::TooManyRows => Fault::TooManyRows(side),
+        ReadRefused::TooManyColumns => Fault::TooManyColumns(side),
+        ReadRefused::BadNull => Fault::BadNull,
+        ReadRefused::ReadDevice => Fault::ReadDevice(side),
+        ReadRefused::Memory => Fault::Memory,
+    }
+}
+
+fn types_of<'a>(request: &'a Request<'_>, side: Side) -> &'a [ColumnType]
+    ensures { result.now ≡ types_of request.now side }
+{
+    match side {
+        Side::Left => request.left_types.as_slice(),
+        Side::Right => request.right_types.as_slice(),
+    }
+}
+
+// The table of one side, read by as many threads as the request has workers.
+fn read_side<R: Threads + Sync>(
+    rt: &R,
+    alloc: Global,
+    bytes: &[u8],
+    request: &Request<'_>,
+    side: Side,
+) -> Result<Table, Fault>
+    ensures table { IfOk result (λ t. side_read request.now side bytes.now ≡ Ok t) }
+    ensures fault { IfErr result (λ f. f ≢ Fault.Memory →
+        (e : ReadRefused) × (side_read request.now side bytes.now ≡ Err e) × (f ≡ read_fault side e)) }
+    ensures lawful { OnOk result (IsTrue (is_null_text request.now.null.now)) }
+{
+    let parts = request.settings.workers as usize;
+    match read_table_in_parts(
+        rt,
+        alloc,
+        bytes,
+        types_of(request, side),
+        request.null,
+        parts,
+    ) {
+        Ok(table) => Ok(table),
+        Err(refused) => Err(fault_of_read(side, refused)),
+    }
+}
+
+// The same, of bytes that are given back before it returns.
+fn read_owned_side<R: Threads + Sync>(
+    rt: &R,
+    alloc: Global,
+    bytes: Vec<u8>,
+    request: &Request<'_>,
+    side: Side,
+) -> Result<Table, Fault>
+    ensures table { IfOk result (λ t. side_read request.now side bytes.items ≡ Ok t) }
+    ensures fault { IfErr result (λ f. f ≢ Fault.Memory →
+        (e : ReadRefused) × (side_read request.now side bytes.items ≡ Err e) × (f ≡ read_fault side e)) }
+    ensures lawful { OnOk result (IsTrue (is_null_text request.now.null.now)) }
+{
+    read_side(rt, alloc, bytes.as_slice(), request, side)
+}
+
+// The join that a clause asks of two tables.
+#[tactic(auto, using(crate::proofs::OperandFacts::unread_fault, crate::proofs::OperandFacts::unbound_fault))]
+fn bind_clause(alloc: Global, text: &str, left: &Table, right: &Table) -> Result<BoundJoin, Fault>
+    ensures join { IfOk result (IsJoinOf text.now left.now right.now) }
+    ensures fault { IfErr result (λ f. f ≢ Fault.Memory → IsJoinFault text.now left.now right.now f) }
+    ensures bound { IfOk result (λ join. fits join left.now.types right.now.types ≡ true) }
+{
+    let clause = match parse(alloc, text) {
+        Ok(clause) => clause,
+        Err(refused) => return Err(fault_of_parse(refused)),
+    };
+    match bind(alloc, &clause, left, right) {
+        Ok(join) => Ok(join),
+        Err(refused) => Err(fault_of_bind(refused)),
+    }
+}
+
+// Both tables with the clause bound to them.
+fn bind_tables(alloc: Global, text: &str, left: Table, right: Table) -> Result<Operands, Fault>
+    ensures tables { IfOk result (λ o. (o.left ≡ left) × (o.right ≡ right) × IsJoinOf text.now left right o.join) }
+    ensures fault { IfErr result (λ f. f ≢ Fault.Memory → IsJoinFault text.now left right f) }
+    ensures bound { IfOk result (λ o. fits o.join o.left.types o.right.types ≡ true) }
+{
+    let join = bind_clause(alloc, text, &left, &right)?;
+    Ok(Operands { left, right, join })
+}
+
+// Reads both tables and binds the clause to them, or tells the first fault.
+#[tactic(auto, using(crate::proofs::OperandFacts::left_fault))]
+pub(crate) fn read_operands<R: Threads + Sync>(
+    rt: &R,
+    alloc: Global,
+    left: &[u8],
+    right: &[u8],
+    request: &Request<'_>,
+) -> Result<Operands, Fault>
+    ensures operands { IfOk result (λ o. AreOperands left.now right.now request.now o.left o.right o.join) }
+    ensures fault { IfErr result (λ f. f ≢ Fault.Memory → IsFirstFault left.now right.now request.now f) }
+    ensures lawful { OnOk result (IsTrue (is_null_text request.now.null.now)) }
+    ensures bound { IfOk result (λ o. fits o.join o.left.types o.right.types ≡ true) }
+{
+    let left = read_side(rt, alloc, left, request, Side::Left)?;
+    let right = read_side(rt, alloc, right, request, Side::Right)?;
+    bind_tables(alloc, request.clause, left, right)
+}
+
+// The same, of bytes that are given back as soon as their table stands.
+#[tactic(auto, using(crate::proofs::OperandFacts::left_fault))]
+pub(crate) fn read_owned_operands<R: Threads + Sync>(
+    rt: &R,
+    alloc: Global,
+    left: Vec<u8>,
+    right: Vec<u8>,
+    request: &Request<'_>,
+) -> Result<Operands, Fault>
+    ensures operands { IfOk result (λ o. AreOperands left.items right.items request.now o.left o.right o.join) }
+    ensures fault { IfErr result (λ f. f ≢ Fault.Memory → IsFirstFault left.items right.items request.now f) }
+    ensures lawful { OnOk result (IsTrue (is_null_text request.now.null.now)) }
+    ensures bound { IfOk result (λ o. fits o.join o.left.types o.right.types ≡ true) }
+{
+    let left = read_owned_side(rt, alloc, left, request, Side::Left)?;
+    let right = read_owned_side(rt, alloc, right, request, Side::Right)?;
+    bind_tables(alloc, request.clause, left, right)
+}
