@@ -7,8 +7,8 @@ use Rattle.rj_columns.specs.Contents.{Content, content_of, nothing}
 use Rattle.rj_columns.specs.declared.cell.Cell.{Cell}
 use Rattle.rj_csv_io.specs.declared.block.Block.{Block}
 use Rattle.rj_csv_io.specs.Shown.{shown}
-use Rattle.rj_columns.specs.Tables.{cell_in}
-use Rattle.rj_csv_io.specs.Blocks.{part_of, block_of, offset, Holds}
+use Rattle.rj_columns.specs.Tables.{cell_in, part_of}
+use Rattle.rj_csv_io.specs.Blocks.{block_of, offset, Holds}
 
 lt_or_eq : (i n : ℕ) → i < suc n → (i < n) ⊎ (i ≡ n)
 lt_or_eq i n h = grind arith

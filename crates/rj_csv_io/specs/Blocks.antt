@@ -1,13 +1,8 @@
 -- The cells of a block of rows, column by column.
-use Rattle.std.specs.Prelude.{ℕ, zero, suc, ◌+◌, ◌-◌, ◌≡◌, ◌≤◌, List, [], ◌∷◌, ◌++◌, map, length}
+use Rattle.std.specs.Prelude.{ℕ, zero, suc, ◌+◌, ◌-◌, ◌≡◌, ◌≤◌, List, [], ◌++◌, map, length}
 use Rattle.rj_columns.specs.Contents.{Content, content_of}
-use Rattle.rj_columns.specs.Tables.{cell_in}
+use Rattle.rj_columns.specs.Tables.{part_of}
 use Rattle.rj_csv_io.specs.declared.block.Block.{Block}
-
--- the cells of one column from a row on
-unfoldable pub part_of : List (List Content) → ℕ → ℕ → ℕ → List Content
-part_of rows col from zero = []
-part_of rows col from (suc n) = part_of rows col from n ++ cell_in rows (from + n) col ∷ []
 
 -- the parts of the first columns, one after the other
 unfoldable pub block_of : List (List Content) → ℕ → ℕ → ℕ → List Content

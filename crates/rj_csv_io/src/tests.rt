@@ -251,6 +251,19 @@ impl RowSource for OneDecimal {
             scale: self.scale,
         }
     }
+
+    fn cells<'s>(
+        &'s self,
+        cells: &mut Vec<Cell<'s>>,
+        col: usize,
+        from: u64,
+        to: u64,
+    ) -> Result<(), AllocError> {
+        for row in from..to {
+            cells.push(self.cell(row, col))?;
+        }
+        Ok(())
+    }
 }
 
 // Whether a decimal is written as this text.

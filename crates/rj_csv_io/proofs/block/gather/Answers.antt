@@ -7,6 +7,6 @@ loop-col-init g c = record { cells = rw c.clear.ensures.items (sym (block-none (
 
 pub loop-col-preserved : goal.loop-col-preserved
 loop-col-preserved g c = record {
-  cells = block-step (g.S.RowSource.contents c.args.source.now) c.args.from _ c.loop-col.col _ _ c.in_ok-gather_column.ensures c.loop-col.invariant.cells;
+  cells = block-step (g.S.RowSource.contents c.args.source.now) c.args.from _ c.loop-col.col _ _ c.in_ok-cells.ensures c.loop-col.invariant.cells;
   end = c.loop-col.invariant.end;
 }
