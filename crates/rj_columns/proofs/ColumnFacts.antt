@@ -83,14 +83,16 @@ pub wide-more : (tables : List TableValue) (i w : ℕ) (t : TableValue) → i < 
     → All (λ r. length r ≡ w) (rows_of_all (take (i + 1) tables))
 wide-more tables i w t h e before wide = rw (rows-more tables i t h e) (All-append (λ r. length r ≡ w) (rows_of_all (take i tables)) t.rows before wide)
 
-pub column-more : (tables : List TableValue) (i col : ℕ) (t : TableValue) (cells more : List Content) → i < length tables → t ≡ get_or tables i t → cells ≡ column_in (rows_of_all (take i tables)) col → more ≡ column_in t.rows col
+pub column-more : (tables : List TableValue) (i col : ℕ) (t : TableValue) (cells more : List Content) → i < length tables → t ≡ get_or tables i t
+    → cells ≡ column_in (rows_of_all (take i tables)) col → more ≡ column_in t.rows col
     → cells ++ more ≡ column_in (rows_of_all (take (i + 1) tables)) col
 column-more tables i col t cells more h e before at =
     ap (λ l. l ++ more) before ∙ (ap (λ l. column_in (rows_of_all (take i tables)) col ++ l) at
     ∙ (sym (map-append (λ r. get_or r col nothing) (rows_of_all (take i tables)) t.rows) ∙ ap (λ rows. column_in rows col) (sym (rows-more tables i t h e))))
 
 -- the kind of a column of one of the tables
-pub same-kind : (tables : List TableValue) (i col : ℕ) (t : TableValue) (kind other : ColumnType) → AreAlike tables → i < length tables → t ≡ get_or tables i t → slice_get (concatenated tables).types col ≡ Some kind → slice_get t.types col ≡ Some other → other ≡ kind
+pub same-kind : (tables : List TableValue) (i col : ℕ) (t : TableValue) (kind other : ColumnType) → AreAlike tables → i < length tables → t ≡ get_or tables i t
+    → slice_get (concatenated tables).types col ≡ Some kind → slice_get t.types col ≡ Some other → other ≡ kind
 same-kind tables i col t kind other a h e k o =
     let types = alike-types tables i t a h e in
     let same : Some other ≡ Some kind = sym o ∙ (ap (λ l. slice_get l col) types ∙ k) in
@@ -131,7 +133,8 @@ kind-shown t columns many each =
         let d : ColumnValue = record { kind = Int; cells = [] } in
         get_or-map (λ (c : ColumnValue). c.kind) columns i d Int h ∙ sym (get_or_from_slice_get t.types i (get_or columns i d).kind Int (each i d h).0)
 
-row-shown : (t : TableValue) (columns : List ColumnValue) (i : ℕ) → length columns ≡ length t.types → AreColumnsOf t columns → i < length t.rows → length (get_or t.rows i []) ≡ length t.types → row_at columns i ≡ get_or t.rows i []
+row-shown : (t : TableValue) (columns : List ColumnValue) (i : ℕ) → length columns ≡ length t.types → AreColumnsOf t columns → i < length t.rows → length (get_or t.rows i []) ≡ length t.types
+    → row_at columns i ≡ get_or t.rows i []
 row-shown t columns i many each h wide =
     let size : length (row_at columns i) ≡ length columns = length-map columns (λ (c : ColumnValue). get_or c.cells i nothing) in
     ext_get_or nothing (row_at columns i) (get_or t.rows i []) (size ∙ (many ∙ sym wide)) (λ k l. at k (omega arith))
@@ -148,7 +151,8 @@ rows-shown t columns many each wide =
     ext_get_or [] (rows_of columns (length t.rows)) t.rows size
     (λ i h. let low : i < length t.rows = omega arith in rows_of-at columns (length t.rows) i low ∙ row-shown t columns i many each low (wide i [] low))
 
-pub columns-show : (t : TableValue) (names : List (List ℕ)) (columns : List ColumnValue) (n : ℕ) → names ≡ t.names → length columns ≡ length t.types → AreColumnsOf t columns → All (λ r. length r ≡ length t.types) t.rows → n ≡ length t.rows
+pub columns-show : (t : TableValue) (names : List (List ℕ)) (columns : List ColumnValue) (n : ℕ) → names ≡ t.names → length columns ≡ length t.types → AreColumnsOf t columns
+    → All (λ r. length r ≡ length t.types) t.rows → n ≡ length t.rows
     → record { names = names; types = map (λ c. c.kind) columns; rows = rows_of columns n } ≡ t
 columns-show t names columns n same many each wide rows =
     rw (same, rows, kind-shown t columns many each, rows-shown t columns many each wide) refl

@@ -1,7 +1,7 @@
 // One table of the rows of several.
 
 ghost use Rattle.std.specs.Prelude.{◌≡◌, ◌<◌, ◌^◌, ℕ, [], Some, Ok, length, map, slice_get, slice_index_or, All, IfOk};
-ghost use Rattle.rj_columns.specs.Columns.{IsColumnOf, AreColumnsOf};
+ghost use Rattle.rj_columns.specs.Columns.{AreColumnsOf, GiveColumnsOf, IsColumnOf};
 ghost use Rattle.rj_columns.specs.Tables.{AreAlike, concatenated, rows_of_all};
 
 use super::column::Column;
@@ -74,7 +74,7 @@ fn make_columns<R: Threads + Sync>(
 ) -> Result<Vec<Result<Column, AllocError>>, AllocError>
     requires { AreAlike parts.now }
     ensures count { IfOk result (λ v. length v.items ≡ length (concatenated parts.now).types) }
-    ensures each { IfOk result (λ v. (i : ℕ) (d : _) → i < length (concatenated parts.now).types → IfOk (slice_index_or v.items i d) (IsColumnOf (concatenated parts.now) i)) }
+    ensures each { IfOk result (λ v. GiveColumnsOf (concatenated parts.now) v.items) }
 {
     thread::map_indices(
         rt,

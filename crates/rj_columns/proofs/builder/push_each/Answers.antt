@@ -73,5 +73,7 @@ loop-i-preserved c =
     let content = get_or-map content_of c.args.cells.now c.loop-i.i Null nothing low in
     let next = take-suc (map content_of c.args.cells.now) c.loop-i.i nothing (omega arith) in
     let made : c.push.new.self ≡ record c.index_mut.result.now { cells = c.index_mut.result.now.cells ++ content_of (slice_index_or c.args.cells.now c.loop-i.i Null) ∷ [] } = search rules in
-    let step = grown_by-step (take c.loop-i.i (map content_of c.args.cells.now)) c.args.columns.now.items c.loop-i.columns.items (content_of (slice_index_or c.args.cells.now c.loop-i.i Null)) c.index_mut.result.now c.push.new.self c.loop-i.i size (omega arith) c.loop-i.invariant.state c.index_mut.ensures.value made in
+    let step =
+    grown_by-step (take c.loop-i.i (map content_of c.args.cells.now)) c.args.columns.now.items c.loop-i.columns.items
+    (content_of (slice_index_or c.args.cells.now c.loop-i.i Null)) c.index_mut.result.now c.push.new.self c.loop-i.i size (omega arith) c.loop-i.invariant.state c.index_mut.ensures.value made in
     record { state = step ∙ ap (λ t. grown_by t c.args.columns.now.items) (sym (rw (add-one) (next ∙ ap (λ x. take c.loop-i.i (map content_of c.args.cells.now) ++ x ∷ []) content))); end = refl }

@@ -11,6 +11,7 @@ pub loop-row-preserved : goal.loop-row-preserved
 loop-row-preserved c = record {
   cells =
       rw c.in_ok-push.ensures.items
-      (cells-more (decimal_content c.args.scale) c.args.numbers.now c.args.from c.loop-row.row c.get.result c.loop-row.cells.items c.decimal_cell.result _ c.loop-row.invariant.low (omega (arith, c.loop-row-test.true, c.requires.rows)) c.get.ensures c.loop-row.invariant.cells c.decimal_cell.ensures);
+      (cells-more (decimal_content c.args.scale) c.args.numbers.now c.args.from c.loop-row.row c.get.result c.loop-row.cells.items c.decimal_cell.result _
+      c.loop-row.invariant.low (omega (arith, c.loop-row-test.true, c.requires.rows)) c.get.ensures c.loop-row.invariant.cells c.decimal_cell.ensures);
   low = omega (arith, c.loop-row.invariant.low);
 }

@@ -11,6 +11,7 @@ pub loop-row-preserved : goal.loop-row-preserved
 loop-row-preserved c = record {
   cells =
       rw c.in_ok-push.ensures.items
-      (cells-more number_content c.args.numbers.now c.args.from c.loop-row.row c.get.result c.loop-row.cells.items c.int_cell.result _ c.loop-row.invariant.low (omega (arith, c.loop-row-test.true, c.requires.rows)) c.get.ensures c.loop-row.invariant.cells c.int_cell.ensures);
+      (cells-more number_content c.args.numbers.now c.args.from c.loop-row.row c.get.result c.loop-row.cells.items c.int_cell.result _
+      c.loop-row.invariant.low (omega (arith, c.loop-row-test.true, c.requires.rows)) c.get.ensures c.loop-row.invariant.cells c.int_cell.ensures);
   low = omega (arith, c.loop-row.invariant.low);
 }

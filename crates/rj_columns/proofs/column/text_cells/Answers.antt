@@ -12,6 +12,7 @@ pub loop-row-preserved : goal.loop-row-preserved
 loop-row-preserved c = record {
   cells =
       rw c.in_ok-push.ensures.items
-      (cells-more text_content c.args.texts.now c.args.from c.loop-row.row (option_copied c.get.result) c.loop-row.cells.items c.text_cell.result _ c.loop-row.invariant.low (omega (arith, c.loop-row-test.true, c.requires.rows)) c.get.ensures c.loop-row.invariant.cells c.text_cell.ensures);
+      (cells-more text_content c.args.texts.now c.args.from c.loop-row.row (option_copied c.get.result) c.loop-row.cells.items c.text_cell.result _
+      c.loop-row.invariant.low (omega (arith, c.loop-row-test.true, c.requires.rows)) c.get.ensures c.loop-row.invariant.cells c.text_cell.ensures);
   low = omega (arith, c.loop-row.invariant.low);
 }

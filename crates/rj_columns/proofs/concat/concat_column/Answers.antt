@@ -9,7 +9,9 @@ use Rattle.rj_columns.proofs.concat.concat_column.Goals as goal
 pub loop-part-preserved : goal.loop-part-preserved
 loop-part-preserved c =
     let made = c.in_ok-append.ensures in
-    let kind = same-kind c.args.parts.now c.loop-part.part-index c.args.col c.part-item.result c.loop-part.column.kind c.column.result.now.kind c.requires.alike c.loop-part-test.true c.part-item.is c.loop-part.invariant.kind c.column.ensures.0 in
+    let kind =
+    same-kind c.args.parts.now c.loop-part.part-index c.args.col c.part-item.result c.loop-part.column.kind c.column.result.now.kind
+    c.requires.alike c.loop-part-test.true c.part-item.is c.loop-part.invariant.kind c.column.ensures.0 in
     rw made record {
       kind = c.loop-part.invariant.kind;
       cells = column-more c.args.parts.now c.loop-part.part-index c.args.col c.part-item.result c.loop-part.column.cells c.column.result.now.cells c.loop-part-test.true c.part-item.is c.loop-part.invariant.cells c.column.ensures.1;

@@ -12,4 +12,5 @@ returns-clause-count g c =
 
 pub returns-clause-each : goal.returns-clause-each
 returns-clause-each g c =
-    IfOk-weaker c.all_made.result _ _ (λ v e. each-made (concatenated c.args.parts.now) v.items c.in_ok-make_columns.field-0.items e c.in_ok-make_columns.ensures.each (sym (length-map v.items (λ (x : ColumnValue). Ok x)) ∙ (ap length e ∙ c.in_ok-make_columns.ensures.count))) c.all_made.ensures
+    IfOk-weaker c.all_made.result _ _ (λ v e. each-made (concatenated c.args.parts.now) v.items c.in_ok-make_columns.field-0.items e c.in_ok-make_columns.ensures.each
+    (sym (length-map v.items (λ (x : ColumnValue). Ok x)) ∙ (ap length e ∙ c.in_ok-make_columns.ensures.count))) c.all_made.ensures

@@ -11,7 +11,8 @@ invariant_of-result g c =
     let types : map (λ (c : ColumnValue). c.kind) c.first.inside.columns.items ≡ (concatenated c.args.parts.now).types = ap (λ (t : TableValue). t.types) c.first.view_is ∙ first in
     let rows : c.count_rows.result ≡ length (concatenated c.args.parts.now).rows = c.count_rows.ensures.count ∙ ap length (sym (concatenated-rows c.args.parts.now c.requires.alike)) in
     columns-fit (concatenated c.args.parts.now) c.in_ok-copy.field-0 c.in_ok-concat_columns.field-0.items c.first.inside.columns.items c.count_rows.result c.first.invariant.few
-    (rw c.in_ok-copy.ensures c.first.invariant.named) (rw c.in_ok-copy.ensures c.first.invariant.lawful) types c.in_ok-concat_columns.ensures.count c.in_ok-concat_columns.ensures.each rows (omega (arith, c.requires.room, c.count_rows.ensures.count))
+    (rw c.in_ok-copy.ensures c.first.invariant.named) (rw c.in_ok-copy.ensures c.first.invariant.lawful) types c.in_ok-concat_columns.ensures.count c.in_ok-concat_columns.ensures.each rows
+    (omega (arith, c.requires.room, c.count_rows.ensures.count))
 
 pub returns : goal.returns
 returns g c =
