@@ -1,5 +1,6 @@
 -- The records under a header, text by text.
-use Rattle.std.proofs.Common.{◌≡◌, ◌≢◌, ◌<◌, ◌≤◌, ◌+◌, ◌-◌, ◌^◌, ℕ, zero, suc, List, [], ◌∷◌, ◌++◌, length, take, drop, true, false, Bool, Option, Some, None, Result, Ok, Err, refl, sym, ap, ◌∙◌, arith, append_assoc, inl, inr, min, map, Bor}
+use Rattle.std.proofs.Common.{◌≡◌, ◌≢◌, ◌<◌, ◌≤◌, ◌+◌, ◌-◌, ◌^◌, ℕ, zero, suc, List, [], ◌∷◌, ◌++◌, length, take, drop, true}
+use Rattle.std.proofs.Common.{false, Bool, Option, Some, None, Result, Ok, Err, refl, sym, ap, ◌∙◌, arith, append_assoc, inl, inr, min, map, Bor}
 use Rattle.std.specs.Prelude.{All, if◌then◌else◌, nat_lt, ◌==◌, slice_index_or}
 use Rattle.std.proofs.lemmas.Bool.{cases_Bool, ne_eqb, false≢true}
 use Rattle.std.proofs.lemmas.List.{append-nil, length-take, take_more, take-append-drop, get_or-drop, get_or-map, length-map}
@@ -16,7 +17,7 @@ use Rattle.rj_csv_io.specs.declared.refused.ReadRefused.TheVariants as refused
 use Rattle.rj_csv_io.specs.Rows.{read_rows}
 use Rattle.rj_csv_io.proofs.PartRowFacts.{part-rows, part-many, part-fault, fault-first}
 use Rattle.rj_csv_io.specs.Cuts.{records_in, records_in_all}
-use Rattle.rj_csv_io.specs.Parts.{AreReadings, AreTables, IsReading, moved, row_records, under_header}
+use Rattle.rj_csv_io.specs.Parts.{AreReadings, AreTables, moved, row_records, under_header}
 
 all-append : (a b : List (List ℕ)) → records_in_all (a ++ b) ≡ records_in_all a ++ records_in_all b
 unfolding records_in_all
