@@ -17,3 +17,8 @@ pub mod Delivered
 pub mod Books
 pub mod Pools
 pub mod Crosses
+pub mod ShardRows
+pub mod ShardPairs
+pub mod ShardLone
+pub mod ShardMerges
+pub mod ShardFacts

@@ -7,3 +7,4 @@ pub mod Limits
 pub mod Partitioned
 pub mod Stripes
 pub mod Pools
+pub mod Shards

@@ -12,6 +12,7 @@ mod pieces;
 mod plain;
 mod scattering;
 mod settings;
+mod shards;
 mod sizes;
 #[cfg(test)]
 mod tests;
@@ -25,4 +26,5 @@ pub use partitions::run_join;
 pub use plain::nested_loop;
 pub use rj_workers::{Gate, Open, Place};
 pub use settings::Settings;
+pub use shards::{rows_stand_once, shard_is_part, shard_of_row, shards_merge};
 pub use view::{View, header};
