@@ -2,7 +2,7 @@
 
 use super::arrivals;
 use crate::Fault;
-use rj_csv_io::{Counted, Failed, Output};
+use rj_csv_io::{CountedWriter, Failed, Output};
 use std::alloc::Global;
 
 // Whether a script is printed so, with no line unreadable or with one.
@@ -16,7 +16,7 @@ fn is_printed(
     want: &str,
     readable: bool,
 ) -> bool {
-    let mut writer = Counted::new(Vec::new(alloc));
+    let mut writer = CountedWriter::new(Vec::new(alloc));
     match arrivals(
         alloc,
         script.as_bytes(),

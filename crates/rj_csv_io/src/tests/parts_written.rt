@@ -2,7 +2,7 @@
 
 use super::{FailsOnce, INT, TEXT, text_of};
 use crate::write_in_parts::{part_count, write_parts};
-use crate::{Counted, Output, WriteRefused, read_table, write_rows_in_parts};
+use crate::{CountedWriter, Output, WriteRefused, read_table, write_rows_in_parts};
 use rj_columns::Table;
 use std::alloc::{AllocError, Global};
 use std::test::Fail;
@@ -23,7 +23,7 @@ fn is_written_in_parts<R: Threads + Sync>(
     if table.columns() != 2 || parts == 0 {
         return false;
     }
-    let mut output = Counted::new(Vec::new(alloc));
+    let mut output = CountedWriter::new(Vec::new(alloc));
     match write_parts(rt, alloc, &mut output, HEADER.as_slice(), table, "", parts) {
         Ok(()) => output.into_inner().as_slice() == want,
         Err(_) => false,
@@ -114,7 +114,7 @@ fn many_rows(rt: HostRuntime) -> Result<(), Fail> {
     let table = read_table(alloc, file.as_slice(), &[INT, TEXT], "")?;
     assert!(rt; table.columns() == 2);
     for parts in 0..6 {
-        let mut output = Counted::new(Vec::new(alloc));
+        let mut output = CountedWriter::new(Vec::new(alloc));
         let done = write_rows_in_parts(
             &rt,
             alloc,
