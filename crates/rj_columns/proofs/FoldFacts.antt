@@ -6,7 +6,8 @@ use Rattle.std.specs.Str.{bytes_eq, str_eq_ignore_ascii_case, str_to_ascii_lower
 use Rattle.std.specs.Map.{keys_of, values_of, lookup}
 use Rattle.std.specs.Option.{is_some}
 use Rattle.std.specs.String.{string_eq}
-use Rattle.std.proofs.lemmas.List.Elements.{All-head, All-tail, All-push}
+use Rattle.std.specs.List.{AllZip}
+use Rattle.std.proofs.lemmas.List.Elements.{All-head, All-tail, All-cons, All-nil, All-push}
 use Rattle.std.proofs.lemmas.Map.Made.{is_some-lookup}
 use Rattle.indexmap.specs.IndexMap.{IndexMap, insert_entry}
 use Rattle.indexmap.proofs.CallerLemmas.{insert_entry-new}
@@ -57,3 +58,20 @@ none_of (Some a) e = cc
 pub added : {S : Type 0} (m : IndexMap (String Global) (String Global) S) (now : List Entry) (k v : String Global) (r : Bool) → r ≡ is_some (lookup (string_eq k) m.entries) → r ≡ false
     → now ≡ insert_entry string_eq m.entries k v → now ≡ m.entries ++ (k, v) ∷ []
 added m now k v r t f e = e ∙ insert_entry-new string_eq m k v (none_of (lookup (string_eq k) m.entries) (sym t ∙ f))
+
+-- a copy has the same names
+abbrev AreCopies : List Entry → List Entry → Type 0
+AreCopies entries copies = AllZip (λ (p q : Entry). (string_bytes q.0 ≡ string_bytes p.0) × (string_bytes q.1 ≡ string_bytes p.1)) entries copies
+
+pub copied-names : (entries copies : List Entry) → AreCopies entries copies → map string_bytes (values_of copies) ≡ map string_bytes (values_of entries)
+copied-names [] [] h = refl
+copied-names [] (q ∷ copies) h = absurd h
+copied-names (p ∷ entries) [] h = absurd h
+copied-names (p ∷ entries) (q ∷ copies) h = rw (h.0.1, copied-names entries copies h.1) refl
+
+pub copied-folded : (entries copies : List Entry) → AreCopies entries copies → AreFolded entries → AreFolded copies
+copied-folded [] [] h f = All-nil Folded
+copied-folded [] (q ∷ copies) h f = absurd h
+copied-folded (p ∷ entries) [] h f = absurd h
+copied-folded (p ∷ entries) (q ∷ copies) h f =
+    All-cons Folded q copies (h.0.0 ∙ (All-head Folded p entries f ∙ ap str_to_ascii_lowercase (sym h.0.1))) (copied-folded entries copies h.1 (All-tail Folded p entries f))

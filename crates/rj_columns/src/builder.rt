@@ -57,7 +57,7 @@ fn reserve_all(columns: &mut Vec<Column>, rows: usize)
     ensures { columns.new.items ≡ columns.old.items }
 {
     for i in 0..columns.len() {
-        if columns[i].reserve(rows).is_err() {
+        if columns[i].reserve(rows, 0).is_err() {
             return;
         }
     }
@@ -120,6 +120,7 @@ impl TableBuilder {
         types: &[ColumnType],
     ) -> Result<TableBuilder, BuildRefused>
         ensures table { IfOk result (λ b. (begun (map (λ n. n.now) names.now) types.now ≡ Ok b.table) × (b.row ≡ [])) }
+        ensures names { IfOk result (λ b. b.table.names ≡ map (λ n. n.now) names.now) }
         ensures columns { IfOk result (λ b. (b.table.types ≡ types.now) × (b.table.rows ≡ [])) }
         ensures fault { IfErr result (λ e. e ≢ BuildRefused.Memory → begun (map (λ n. n.now) names.now) types.now ≡ Err e) }
     {

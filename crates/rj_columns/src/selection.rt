@@ -53,7 +53,7 @@ impl Table {
         ensures typed { IfOk result IsTyped }
     {
         let mut column = Column::new(alloc, self.column_type(col));
-        column.reserve(rows.len())?;
+        column.reserve(rows.len(), 0)?;
         for row in rows {
             column.push(self.cell(u64::from(*row), col))?;
         }

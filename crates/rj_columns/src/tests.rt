@@ -1,4 +1,5 @@
-ghost use Rattle.std.specs.Prelude.{◌≡◌, length, IfOk};
+ghost use Rattle.std.specs.Prelude.{◌≡◌, ◌∷◌, [], length, IfOk};
+ghost use Rattle.rj_columns.specs.declared.cell.ColumnType.TheVariants.{Int, Text};
 ghost use Rattle.rj_columns.specs.Contents.{content_of, decimal};
 
 use super::{
@@ -123,6 +124,80 @@ fn a_row_in_place_of_the_row_at_hand(rt: HostRuntime) -> Result<(), Fail> {
     assert!(rt; table.cell(0, 0) == Cell::Null && table.cell(0, 1) == Cell::Text("a"));
     assert!(rt; table.cell(1, 0) == Cell::Int(6) && table.cell(1, 1) == Cell::Text("b"));
     assert!(rt; table.cell(2, 0) == Cell::Int(7) && table.cell(2, 1) == Cell::Null);
+    Ok(())
+}
+
+// A row with a number and a text, and a row of nulls.
+#[tactic(auto, unfolding(crate::specs::Tables::FitsTypes, crate::specs::Tables::FitsAt))]
+fn part(alloc: Global, number: i64, text: &str) -> Result<Table, Fail>
+    ensures names { IfOk result (λ t. t.names ≡ (105 ∷ 100 ∷ []) ∷ (119 ∷ []) ∷ []) }
+    ensures types { IfOk result (λ t. t.types ≡ Int ∷ Text ∷ []) }
+    ensures rows { IfOk result (λ t. length t.rows ≡ 2) }
+{
+    let names = [b"id".as_slice(), b"w".as_slice()];
+    let types = [INT, TEXT];
+    let mut builder = TableBuilder::new(alloc, names.as_slice(), types.as_slice())?;
+    builder.push_row([Cell::Int(number), Cell::Text(text)].as_slice())?;
+    builder.push_row([Cell::Null, Cell::Null].as_slice())?;
+    Ok(builder.finish())
+}
+
+// The cell there, if there is one.
+fn cell_if(table: &Table, row: u64, col: usize) -> Option<Cell<'_>> {
+    if row < table.rows() && col < table.columns() {
+        Some(table.cell(row, col))
+    } else {
+        None
+    }
+}
+
+#[test]
+fn tables_put_together(rt: HostRuntime) -> Result<(), Fail> {
+    let alloc = rt.alloc();
+    let parts = [
+        part(alloc, 1, "a")?,
+        part(alloc, -2, "")?,
+        part(alloc, 3, "\u{e4}b")?,
+    ];
+    let table = Table::concat(&rt, alloc, parts.as_slice())?;
+    assert!(rt; table.rows() == 6 && table.columns() == 2);
+    for (row, number, text) in [(0, 1, "a"), (2, -2, ""), (4, 3, "\u{e4}b")] {
+        assert!(rt; cell_if(&table, row, 0) == Some(Cell::Int(number)));
+        assert!(rt; cell_if(&table, row, 1) == Some(Cell::Text(text)));
+    }
+    for row in [1, 3, 5] {
+        assert!(rt; cell_if(&table, row, 0) == Some(Cell::Null));
+        assert!(rt; cell_if(&table, row, 1) == Some(Cell::Null));
+    }
+    Ok(())
+}
+
+// The cells of a column at the rows from one on, where there are such rows.
+fn block<'s, S: RowSource>(
+    source: &'s S,
+    alloc: Global,
+    col: usize,
+    from: u64,
+) -> Result<Vec<Cell<'s>>, AllocError> {
+    let mut cells = Vec::new(alloc);
+    let rows = source.rows();
+    if col < source.columns() && from <= rows {
+        source.cells(&mut cells, col, from, rows)?;
+    }
+    Ok(cells)
+}
+
+#[test]
+fn cells_of_a_block(rt: HostRuntime) -> Result<(), Fail> {
+    let table = sample(rt.alloc())?;
+    let numbers = block(&table, rt.alloc(), 0, 0)?;
+    assert!(rt; numbers.len() == 2);
+    assert!(rt; numbers[0] == Cell::Int(-7) && numbers[1] == Cell::Null);
+    let texts = block(&table, rt.alloc(), 1, 0)?;
+    assert!(rt; texts.len() == 2);
+    assert!(rt; texts[0] == Cell::Text("\u{e4},") && texts[1] == Cell::Null);
+    assert!(rt; block(&table, rt.alloc(), 1, 1)?.len() == 1);
+    assert!(rt; block(&table, rt.alloc(), 0, 2)?.is_empty());
     Ok(())
 }
 

@@ -1,6 +1,6 @@
 use Rattle.std.proofs.Common.{arith}
 use Rattle.std.proofs.lemmas.List.{length-take}
-use Rattle.rj_columns.proofs.NumberFacts.{take-numbers}
+use Rattle.rj_columns.proofs.NullFacts.{take-values}
 use Rattle.rj_columns.proofs.ints.Ints.truncate.Goals as goal
 
 pub invariant_of-self : goal.invariant_of-self
@@ -10,4 +10,4 @@ invariant_of-self c =
     rw (c.truncate.ensures.items, c.truncate-2.ensures.items, values, nulls) (grind (arith, c.self.invariant))
 
 pub returns : goal.returns
-returns c = rw (c.truncate.ensures.items, c.truncate-2.ensures.items, ← c.self.view_is) (take-numbers c.self.inside.values.items c.self.inside.nulls.items c.args.rows)
+returns c = rw (c.truncate.ensures.items, c.truncate-2.ensures.items, ← c.self.view_is) (take-values c.self.inside.values.items c.self.inside.nulls.items c.args.rows)

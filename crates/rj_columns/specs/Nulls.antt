@@ -1,0 +1,20 @@
+-- Values and the marks of nulls, which reach no further than the last null.
+use Rattle.std.specs.Prelude.{ℕ, ◌-◌, List, [], ◌∷◌, ◌++◌, length, replicate, Option, None, Some, Bool, true, false, if◌then◌else◌}
+
+-- the value, or nothing where it is marked
+abbrev pub unless : {A : Type 0} → Bool → A → Option A
+unless null x = if null then None else Some x
+
+unfoldable pub with_nulls : {A : Type 0} → List A → List Bool → List (Option A)
+with_nulls [] nulls = []
+with_nulls (x ∷ values) [] = Some x ∷ with_nulls values []
+with_nulls (x ∷ values) (n ∷ nulls) = unless n x ∷ with_nulls values nulls
+
+-- the marks of some rows, and a mark at a row behind them
+abbrev pub marked_at : List Bool → ℕ → List Bool
+marked_at nulls row = nulls ++ replicate (row - length nulls) false ++ true ∷ []
+
+-- the marks of some rows, and then more from a row on
+abbrev pub marks_joined : List Bool → ℕ → List Bool → List Bool
+marks_joined nulls row [] = nulls
+marks_joined nulls row (m ∷ more) = nulls ++ replicate (row - length nulls) false ++ m ∷ more

@@ -1,0 +1,51 @@
+// Marks of nulls, which reach no further than the last null.
+
+ghost use Rattle.std.specs.Prelude.{◌≡◌, ◌≤◌, ◌+◌, length, false, slice_index_or, OnOk, OnErr};
+ghost use Rattle.rj_columns.specs.Nulls.{marked_at, marks_joined};
+
+use std::alloc::AllocError;
+
+// Whether a row is marked.
+#[inline]
+pub(crate) fn is_marked(nulls: &Vec<bool>, row: usize) -> bool
+    ensures { result ≡ slice_index_or nulls.now.items row false }
+{
+    if row < nulls.len() {
+        return nulls[row];
+    }
+    false
+}
+
+// Marks a row behind all that are marked. Where memory is refused the marks are as they were.
+pub(crate) fn mark(nulls: &mut Vec<bool>, row: usize) -> Result<(), AllocError>
+    requires { length nulls.old.items ≤ row }
+    ensures ok { OnOk result (nulls.new.items ≡ marked_at nulls.old.items row) }
+    ensures err { OnErr result (nulls.new.items ≡ nulls.old.items) }
+{
+    let marks = nulls.len();
+    nulls.resize(row, false)?;
+    if nulls.push(true).is_err() {
+        nulls.truncate(marks);
+        return Err(AllocError);
+    }
+    Ok(())
+}
+
+// Adds marks from a row on, which stands behind all that are marked. Where memory is refused none was added, and the
+// marks may reach up to that row.
+pub(crate) fn add_marks(
+    nulls: &mut Vec<bool>,
+    row: usize,
+    more: &Vec<bool>,
+) -> Result<(), AllocError>
+    requires { length nulls.old.items ≤ row }
+    ensures ok { OnOk result (nulls.new.items ≡ marks_joined nulls.old.items row more.now.items) }
+    ensures within { length nulls.new.items ≤ row + length more.now.items }
+{
+    let marks = more.as_slice();
+    if marks.is_empty() {
+        return Ok(());
+    }
+    nulls.resize(row, false)?;
+    nulls.extend_from_slice(marks)
+}
