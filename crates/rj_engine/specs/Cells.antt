@@ -1,8 +1,8 @@
 -- The header and the cells of a joined table (SQL-92, 7.5 and 6.9).
-use Rattle.std.specs.Prelude.{ℕ, zero, suc, ◌+◌, ◌<◌, List, [], ◌∷◌, ◌++◌, map, length, max, Option, None, Some, slice_get, slice_index_or}
+use Rattle.std.specs.Prelude.{ℕ, ◌<◌, List, [], map, length, max, Option, None, Some, slice_get, slice_index_or}
 use Rattle.rj_columns.specs.Contents.{Content, nothing, IsInLimits}
 use Rattle.rj_columns.specs.Scales.{in_scale, coalesced, HasScaleWithin}
-use Rattle.rj_columns.specs.Tables.{TableValue, cell_in, cell_of}
+use Rattle.rj_columns.specs.Tables.{TableValue, cell_of}
 use Rattle.rj_columns.specs.declared.cell.ColumnType.{ColumnType}
 use Rattle.rj_columns.specs.declared.cell.ColumnType.TheVariants as kind
 use Rattle.rj_condition.specs.Joins.{partners_of}
@@ -110,8 +110,3 @@ abbrev pub IsColumnOf : TableValue → TableValue → Origin → Type 0
 IsColumnOf l r (Coalesced a b) = (a < length l.types) × (b < length r.types)
 IsColumnOf l r (Left a) = a < length l.types
 IsColumnOf l r (Right b) = b < length r.types
-
--- the cells of one column from a row on
-unfoldable pub part_of : List (List Content) → ℕ → ℕ → ℕ → List Content
-part_of rows col from zero = []
-part_of rows col from (suc n) = part_of rows col from n ++ cell_in rows (from + n) col ∷ []

@@ -1,10 +1,10 @@
 // The header and the cells of a joined table, lent by its two tables.
 
-ghost use Rattle.std.specs.Prelude.{◌≡◌, ◌<◌, ◌≤◌, ◌-◌, ◌++◌, map, length, true, Some, slice_get, IfOk, OnOk, All};
+ghost use Rattle.std.specs.Prelude.{◌≡◌, ◌<◌, map, length, true, Some, slice_get, IfOk, All};
 ghost use Rattle.rj_columns.specs.Contents.{content_of};
 ghost use Rattle.rj_condition.specs.Fits.{fits};
 ghost use Rattle.rj_engine.specs.Results.{joined_of};
-ghost use Rattle.rj_engine.specs.Cells.{header_of, part_of, view_of, columns_of, name_of, joined_cell, left_cell, right_cell};
+ghost use Rattle.rj_engine.specs.Cells.{header_of, view_of, columns_of, name_of, joined_cell, left_cell, right_cell};
 ghost use Rattle.rj_engine.specs.Cells.{scale_of, shown_scale, IsScaledWithin, IsLeftRow, IsRightRow, IsMemberOf, IsColumnOf};
 
 use super::cells::{add_coalesced, add_left, add_right};
@@ -80,36 +80,6 @@ impl<'a> View<'a> {
             scales,
         })
     }
-
-    /// Adds the cells of a column at the rows from one up to another. It fails only where memory is refused, and then some
-    /// of the cells may have been added.
-    pub fn cells<'s>(
-        &'s self,
-        cells: &mut Vec<Cell<'s>>,
-        col: usize,
-        from: u64,
-        to: u64,
-    ) -> Result<(), AllocError>
-        requires order { from ≤ to }
-        requires rows { to ≤ length self.now.cells }
-        requires col { col < self.now.width }
-        ensures { OnOk result (map content_of cells.new.items ≡ map content_of cells.old.items ++ part_of self.now.cells col from (to - from)) }
-    {
-        let members = self.joined.members(from as usize, to as usize);
-        match self.origins[col] {
-            Origin::Coalesced(a, b) => add_coalesced(
-                cells,
-                self.left,
-                a,
-                self.right,
-                b,
-                members,
-                self.scales[col],
-            ),
-            Origin::Left(a) => add_left(cells, self.left, a, members),
-            Origin::Right(b) => add_right(cells, self.right, b, members),
-        }
-    }
 }
 
 impl<'a> RowSource for View<'a> {
@@ -134,6 +104,29 @@ impl<'a> RowSource for View<'a> {
             self.origins[col],
             self.scales[col],
         )
+    }
+
+    fn cells<'s>(
+        &'s self,
+        cells: &mut Vec<Cell<'s>>,
+        col: usize,
+        from: u64,
+        to: u64,
+    ) -> Result<(), AllocError> {
+        let members = self.joined.members(from as usize, to as usize);
+        match self.origins[col] {
+            Origin::Coalesced(a, b) => add_coalesced(
+                cells,
+                self.left,
+                a,
+                self.right,
+                b,
+                members,
+                self.scales[col],
+            ),
+            Origin::Left(a) => add_left(cells, self.left, a, members),
+            Origin::Right(b) => add_right(cells, self.right, b, members),
+        }
     }
 }
 

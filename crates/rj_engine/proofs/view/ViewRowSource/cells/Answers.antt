@@ -4,7 +4,7 @@ use Rattle.rj_columns.specs.Contents.{content_of}
 use Rattle.rj_engine.specs.Join.{rows_in}
 use Rattle.rj_engine.specs.declared.origin.Origin.TheVariants as origin
 use Rattle.rj_engine.proofs.Sections.{column_is}
-use Rattle.rj_engine.proofs.view.View.cells.Goals as goal
+use Rattle.rj_engine.proofs.view.ViewRowSource.cells.Goals as goal
 
 pub returns-in-Left : goal.returns-in-Left
 returns-in-Left c =
