@@ -1,7 +1,7 @@
-use Rattle.std.proofs.Common.{◌≡◌}
+use Rattle.std.proofs.Common.{◌≡◌, rules}
 use Rattle.std.specs.Io.KnownBytes.{Appends}
 use Rattle.rj_command.specs.Operands.{IsFirstFault}
-use Rattle.rj_command.proofs.RunFacts.{after_memory, joined_of_operands, no_other}
+use Rattle.rj_command.proofs.RunFacts.{after_memory, joined_of_operands, no_other, not_of_device}
 use Rattle.rj_command.proofs.join.running.run_owned.Goals as goal
 
 pub returns-clause-joined : goal.returns-clause-joined
@@ -20,3 +20,13 @@ pub returns-clause-failed : goal.returns-clause-failed
 returns-clause-failed g c = λ failed.
     let operands = c.in_ok-operands.operands in
     (operands.left, operands.right, operands.join, c.in_ok-operands.ensures.operands)
+
+pub returns-in_err-operands-clause-failed : goal.returns-in_err-operands-clause-failed
+returns-in_err-operands-clause-failed g c =
+    let other = not_of_device c.args.left.items c.args.right.items c.args.request.now c.in_err-operands.field-0.0 c.in_err-operands.ensures.fault in
+    search (rules, other)
+
+pub returns-in_err-operands-clause-device : goal.returns-in_err-operands-clause-device
+returns-in_err-operands-clause-device g c =
+    let other = not_of_device c.args.left.items c.args.right.items c.args.request.now c.in_err-operands.field-0.0 c.in_err-operands.ensures.fault in
+    search (rules, other)
