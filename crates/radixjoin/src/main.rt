@@ -5,7 +5,7 @@
 use rj_command::{Fault, Open, Side, read_line, read_words, run_owned, texts_of};
 use rj_csv_io::{CountedReader, CountedWriter, ReadRefused, read_all};
 use std::env::Env;
-use std::fs::{self, Files};
+use std::fs::{self, Files, OpenFile};
 use std::io;
 use std::process::ExitCode;
 use std::sync::Wait;
@@ -15,7 +15,13 @@ use std::time::Clock;
 // The bytes of a file, to its end.
 fn read_file<R: Files + AllocGlobal>(rt: &R, name: &str, side: Side) -> Result<Vec<u8>, Fault> {
     let mut reader = match fs::open(rt, name) {
-        Ok(file) => CountedReader::new(file),
+        Ok(file) => {
+            let likely_size = match file.metadata() {
+                Ok(metadata) => metadata.len(),
+                Err(_) => 0,
+            };
+            CountedReader::with_likely_size(file, likely_size)
+        }
         Err(error) if error.kind() == io::ErrorKind::OutOfMemory => return Err(Fault::Memory),
         Err(_) => return Err(Fault::ReadDevice(side)),
     };
