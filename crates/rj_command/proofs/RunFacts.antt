@@ -4,8 +4,8 @@ use Rattle.std.specs.Prelude.{◌≢◌, Result, Ok, Err, IfOk, IfErr}
 use Rattle.std.proofs.lemmas.Result.{IfOk-weaker, IfErr-weaker}
 use Rattle.rj_columns.specs.Tables.{TableValue}
 use Rattle.rj_condition.specs.declared.bound.BoundJoin.{BoundJoin}
-use Rattle.rj_condition.specs.declared.fault.ParseRefused.{ParseRefused}
-use Rattle.rj_condition.specs.declared.fault.ParseRefused.TheVariants as parse
+use Rattle.rj_condition.specs.declared.refused.ParseRefused.{ParseRefused}
+use Rattle.rj_condition.specs.declared.refused.ParseRefused.TheVariants as parse
 use Rattle.rj_condition.specs.declared.refused.BindRefused.{BindRefused}
 use Rattle.rj_condition.specs.declared.refused.BindRefused.TheVariants as bind
 use Rattle.rj_csv_io.specs.declared.refused.ReadRefused.{ReadRefused}
