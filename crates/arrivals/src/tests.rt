@@ -1,6 +1,6 @@
 // The line and the exit status of each failure, typed from docs/specification.md.
 
-use super::{Failure, read_line};
+use crate::{Failure, read_line};
 use std::alloc::Global;
 use std::test::Fail;
 

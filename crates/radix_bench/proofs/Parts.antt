@@ -4,7 +4,6 @@ use Rattle.std.specs.Prelude.{slice_range}
 use Rattle.std.specs.List.{filter, range_with_len, zip}
 use Rattle.std.specs.List.Sorted.{IsStrictlyIncreasing}
 use Rattle.std.proofs.lemmas.List.Elements.{All-filter, All-same}
-use Rattle.std.proofs.lemmas.List.FromFn.{length-map-range_with_len}
 use Rattle.std.proofs.lemmas.List.Kept.{IsStrictlyIncreasing-filter}
 use Rattle.rj_columns.specs.Tables.{TableValue}
 use Rattle.rj_hashjoin.specs.Joining.{AreRows}
@@ -23,10 +22,6 @@ group_own : (f : ℕ → Option ℕ) (p : ℕ) (xs : List ℕ) → group xs (map
 unfolding group
 group_own f p xs = own f p xs
 
-starts_long : (routes : List (Option ℕ)) (parts : ℕ) → length (starts_of (counts_of routes parts)) ≡ parts
-unfolding starts_of counts_of
-starts_long routes parts = length-map-range_with_len _ _ _ ∙ length-map-range_with_len _ _ _
-
 -- one part of grouped rows
 rising_part : (table : TableValue) (f : ℕ → Option ℕ) (rows : List ℕ) (srows starts : List ℕ) (p : ℕ) → AreRows table rows → IsStrictlyIncreasing rows → IsPart srows starts p (group rows (map f rows) p) → IsRisingPart table srows starts p
 rising_part table f rows srows starts p in' rising is =
@@ -40,9 +35,9 @@ rising_part table f rows srows starts p in' rising is =
 
 -- all parts of rows that were scattered by their routes
 pub rising_parts : (table : TableValue) (bits parts : ℕ) (f : ℕ → Option ℕ) (rows : List ℕ) (routes given : List (Option ℕ)) (srows starts : List ℕ) → parts ≡ 2 ^ bits → AreRows table rows → IsStrictlyIncreasing rows → routes ≡ map f rows → given ≡ routes
-    → starts ≡ starts_of (counts_of given parts) → ((p : ℕ) → p < parts → IsPart srows starts p (group rows given p)) → AreRisingParts table bits srows starts
+    → length starts ≡ parts → ((p : ℕ) → p < parts → IsPart srows starts p (group rows given p)) → AreRisingParts table bits srows starts
 rising_parts table bits parts f rows routes given srows starts n in' rising e g s each = record {
-  count = ap length s ∙ (starts_long given parts ∙ n);
+  count = s ∙ n;
   each = λ p h.
       let P : List (Option ℕ) → Type 0 = λ os. IsPart srows starts p (group rows os p) in
       rising_part table f rows srows starts p in' rising (subst P (g ∙ e) (each p (omega arith)));

@@ -6,8 +6,8 @@ ghost use Rattle.rj_condition.specs.Parts.{split_fits};
 ghost use Rattle.rj_hashjoin.specs.Joining.{AreRows};
 ghost use Rattle.radix_bench.specs.Parts.{AreRisingParts};
 
-use super::round::Round;
-use super::rows::{all_rows, part_rows};
+use crate::round::Round;
+use crate::rows::{all_rows, part_rows};
 use rj_columns::Table;
 use rj_condition::Split;
 use rj_hashjoin::join_partition;

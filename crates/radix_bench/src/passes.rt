@@ -4,8 +4,8 @@ ghost use Rattle.std.specs.Prelude.{◌≡◌, ◌<◌, ◌≤◌, ◌^◌, ◌�
 ghost use Rattle.rj_radix.specs.Keys.{InTable};
 ghost use Rattle.rj_hashjoin.specs.Joining.{AreRows};
 
-use super::round::Round;
-use super::rows::KEY;
+use crate::round::Round;
+use crate::rows::KEY;
 use rj_columns::Table;
 use rj_radix::{Digits, Mixed, Plain, routes, scatter, scatter_two};
 use std::alloc::Global;

@@ -4,8 +4,8 @@ ghost use Rattle.std.specs.Prelude.{◌≡◌, ◌<◌, ◌≤◌, ◌^◌, true
 ghost use Rattle.rj_condition.specs.Parts.{split_fits};
 ghost use Rattle.radix_bench.specs.Parts.{AreRisingParts};
 
-use super::joins::pairs_sum;
-use super::round::Round;
+use crate::joins::pairs_sum;
+use crate::round::Round;
 use rj_columns::Table;
 use rj_condition::Split;
 use rj_hashjoin::{Built, PieceBook};

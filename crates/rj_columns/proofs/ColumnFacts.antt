@@ -1,7 +1,6 @@
 -- A column of a table, and a table from its columns.
 use Rattle.std.proofs.Common.{◌≡◌, ◌≤◌, ◌<◌, ◌+◌, ◌^◌, ◌∙◌, ℕ, zero, suc, List, [], ◌∷◌, ◌++◌, map, length, take, Some, None, Result, Ok, refl, sym, ap, subst, arith, get_or}
 use Rattle.std.specs.Prelude.{All, slice_get, IfOk}
-use Rattle.std.specs.List.{flat_map}
 use Rattle.std.proofs.lemmas.List.{length-append, length-map, append-nil, map-append, take_more, get_or-map, take_all, ext_get_or}
 use Rattle.std.proofs.lemmas.List.Concat.{flat_map-append}
 use Rattle.std.proofs.lemmas.List.Folds.{length-flat_map-take}
@@ -13,7 +12,7 @@ use Rattle.rj_columns.specs.declared.cell.ColumnType.{ColumnType}
 use Rattle.rj_columns.specs.declared.cell.ColumnType.TheVariants.{Int}
 use Rattle.rj_columns.specs.Contents.{Content, nothing}
 use Rattle.rj_columns.specs.Names.{name_fault}
-use Rattle.rj_columns.specs.Tables.{TableValue, FitsTypes, column_in, rows_of_all, AreAlike, concatenated}
+use Rattle.rj_columns.specs.Tables.{TableValue, column_in, rows_of_all, AreAlike, concatenated}
 use Rattle.rj_columns.specs.Columns.{ColumnValue, row_at, rows_of, AreFull, Filling, IsTyped, IsColumnOf, AreColumnsOf, AreColumns}
 use Rattle.rj_columns.proofs.RowFacts.{length-rows_of, rows_of-at, Filling-full, Filling-start}
 

@@ -4,8 +4,8 @@ use Rattle.std.specs.Prelude.{◌↔◌}
 use Rattle.std.specs.Str.{bytes_eq}
 use Rattle.std.specs.Ordering.{int_eq, nat_cmp, is_eq}
 use Rattle.std.specs.Cmp.Lexicographic.{slice_cmp}
-use Rattle.std.specs.declared.cmp.Ordering.{Ordering}
-use Rattle.std.specs.declared.cmp.Ordering.TheVariants.{Less, Equal, Greater}
+use Rattle.std.specs.Cmp.{Equal-is}
+use Rattle.std.specs.declared.cmp.Ordering.TheVariants.{Equal}
 use Rattle.std.proofs.lemmas.Slice.Eq.{bytes_eq-Decides}
 use Rattle.std.proofs.lemmas.Map.Text.{is_eq-slice_cmp}
 use Rattle.rj_decimal.specs.Numbers.{Number}
@@ -14,17 +14,11 @@ use Rattle.rj_decimal.proofs.Laws.{ordered-equal, same-reflexive, same-symmetric
 use Rattle.rj_columns.specs.Contents.{Content, nothing, whole, decimal, word}
 use Rattle.rj_columns.specs.Compare.{Comparand, absent, number, text, seen, order_of, are_one, compared, are_equal, is_null}
 
--- an order that says equal
-is_eq-Equal : (o : Ordering) → is_eq o ≡ true → o ≡ Equal
-is_eq-Equal Less e = cc
-is_eq-Equal Equal e = refl
-is_eq-Equal Greater e = cc
-
 -- cells are equal exactly where their order says so
 pub equal_texts : (s t : List ℕ) → (Some (slice_cmp nat_cmp s t) ≡ Some Equal) ↔ (bytes_eq s t ≡ true)
 equal_texts s t =
     let e = is_eq-slice_cmp s t in
-    (λ o. let same : slice_cmp nat_cmp s t ≡ Equal = cc in sym e ∙ ap is_eq same, λ b. ap (λ r. Some r) (is_eq-Equal (slice_cmp nat_cmp s t) (e ∙ b)))
+    (λ o. let same : slice_cmp nat_cmp s t ≡ Equal = cc in sym e ∙ ap is_eq same, λ b. ap (λ r. Some r) ((Equal-is (slice_cmp nat_cmp s t)).0 (e ∙ b)))
 
 equal_numbers : (m n : Number) → (Some (ordered m n) ≡ Some Equal) ↔ (are_same m n ≡ true)
 equal_numbers m n = (λ o. let same : ordered m n ≡ Equal = cc in (ordered-equal m n).0 same, λ b. ap (λ r. Some r) ((ordered-equal m n).1 b))

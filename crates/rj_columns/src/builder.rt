@@ -4,13 +4,13 @@ ghost use Rattle.std.specs.Prelude.{◌≡◌, ◌<◌, ◌≤◌, ◌+◌, ◌-
 ghost use Rattle.rj_columns.specs.Names.{begun};
 ghost use Rattle.rj_columns.specs.Contents.{content_of};
 ghost use Rattle.rj_columns.specs.Columns.{AreFull, cut, changed, popped, without, grown_by};
-ghost use Rattle.rj_columns.specs.Tables.{FitsAt, FitsTypes};
+ghost use Rattle.rj_columns.specs.Tables.{FitsAt, FitsTypes, with_row};
 
-use super::cell::{Cell, ColumnType};
-use super::column::Column;
-use super::names::{Names, lawful_names};
-use super::refused::BuildRefused;
-use super::table::Table;
+use crate::cell::{Cell, ColumnType};
+use crate::column::Column;
+use crate::names::{Names, lawful_names};
+use crate::refused::BuildRefused;
+use crate::table::Table;
 use std::alloc::{AllocError, Global};
 use std::marker::Model;
 
@@ -29,14 +29,14 @@ pub struct TableBuilder {
 }
 
 impl Model for TableBuilder {
-    ghost use Rattle.std.specs.Prelude.{map, take};
+    ghost use Rattle.std.specs.Prelude.{take};
     ghost use Rattle.rj_columns.specs.Tables.{BuilderValue};
 
     ghost Value = { BuilderValue };
 
-    ghost use Rattle.rj_columns.specs.Columns.{rows_of, row_at, AreColumns};
+    ghost use Rattle.rj_columns.specs.Columns.{table_of, row_at, AreColumns};
 
-    ghost view = { λ a. record { table = record { names = a.names; types = map (λ c. c.kind) a.columns.items; rows = rows_of a.columns.items a.rows }; row = row_at (take a.filled a.columns.items) a.rows } };
+    ghost view = { λ a. record { table = table_of a.names a.columns.items a.rows; row = row_at (take a.filled a.columns.items) a.rows } };
 
     ghost invariant = { λ a. AreColumns a.names a.columns.items a.filled a.rows };
 }
@@ -111,9 +111,11 @@ fn push_each(columns: &mut Vec<Column>, cells: &[Cell<'_>]) -> Result<(), AllocE
 impl TableBuilder {
     /// A table with these columns and no rows yet.
     ///
-    /// Faults are told in this order: TooManyColumns, over 256; name by name from the left BadName, where
-    /// one isn't 1 to 128 bytes of UTF-8, and RepeatedName, where one before it is alike when ASCII case
-    /// is ignored; TypeCount, where types and names differ in number. Memory stands for a refused growth.
+    /// # Errors
+    ///
+    /// Faults are told in this order: `TooManyColumns`, over 256; name by name from the left `BadName`, where
+    /// one isn't 1 to 128 bytes of UTF-8, and `RepeatedName`, where one before it is alike when ASCII case
+    /// is ignored; `TypeCount`, where types and names differ in number. `Memory` stands for a refused growth.
     pub fn new(
         alloc: Global,
         names: &[&[u8]],
@@ -153,7 +155,10 @@ impl TableBuilder {
     }
 
     /// Adds a cell to the row at hand: there is a column for it, and it is null or of that column's type.
-    /// Where memory is refused the builder is unchanged.
+    ///
+    /// # Errors
+    ///
+    /// It fails only where memory is refused. The builder is then unchanged.
     pub fn push_cell(&mut self, cell: Cell<'_>) -> Result<(), AllocError>
         requires { FitsAt self.old.table.types (length self.old.row) (content_of cell) }
         ensures ok { OnOk result (self.new ≡ record self.old { row = self.old.row ++ content_of cell.entry ∷ [] }) }
@@ -177,7 +182,7 @@ impl TableBuilder {
     pub fn end_row(&mut self)
         requires full { length self.old.row ≡ length self.old.table.types }
         requires room { length self.old.table.rows < 2 ^ 31 - 1 }
-        ensures { self.new ≡ record { table = record self.old.table { rows = self.old.table.rows ++ self.old.row ∷ [] }; row = [] } }
+        ensures { self.new ≡ record { table = with_row self.old.table self.old.row; row = [] } }
     {
         self.rows += 1;
         self.filled = 0;
@@ -191,11 +196,15 @@ impl TableBuilder {
     }
 
     /// Adds a row: one cell a column, each null or of the column's type. There were fewer than 2^31 - 1
-    /// rows. A row at hand is dropped. Where memory is refused the builder is unchanged, its row at hand too.
+    /// rows. A row at hand is dropped.
+    ///
+    /// # Errors
+    ///
+    /// It fails only where memory is refused. The builder is then unchanged, its row at hand too.
     pub fn push_row(&mut self, cells: &[Cell<'_>]) -> Result<(), AllocError>
         requires fits { FitsTypes self.old.table.types (map content_of cells.now) }
         requires room { length self.old.table.rows < 2 ^ 31 - 1 }
-        ensures ok { OnOk result (self.new ≡ record { table = record self.old.table { rows = self.old.table.rows ++ map content_of cells.now ∷ [] }; row = [] }) }
+        ensures ok { OnOk result (self.new ≡ record { table = with_row self.old.table (map content_of cells.now); row = [] }) }
         ensures err { OnErr result (self.new ≡ self.old) }
     {
         push_each(&mut self.columns, cells)?;

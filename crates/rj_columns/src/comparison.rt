@@ -4,7 +4,7 @@ ghost use Rattle.std.specs.Prelude.{◌≡◌, ◌↔◌, ◌||◌, Some, IsNone
 ghost use Rattle.rj_columns.specs.Contents.{content_of, IsInLimits};
 ghost use Rattle.rj_columns.specs.Compare.{compared, are_equal, comparand_of, is_null, order_of, seen, AreComparable, AreOneKind};
 
-use super::cell::{Cell, narrow};
+use crate::cell::{Cell, narrow};
 use rj_decimal::Decimal;
 use std::cmp::Ordering;
 

@@ -4,8 +4,8 @@ ghost use Rattle.std.specs.Prelude.{◌≡◌, ◌<◌, ◌^◌, ℕ, [], Some, 
 ghost use Rattle.rj_columns.specs.Columns.{AreColumnsOf, GiveColumnsOf, IsColumnOf};
 ghost use Rattle.rj_columns.specs.Tables.{AreAlike, concatenated, rows_of_all};
 
-use super::column::Column;
-use super::table::Table;
+use crate::column::Column;
+use crate::table::Table;
 use std::alloc::{AllocError, Global};
 use std::thread::{self, Threads};
 

@@ -4,7 +4,7 @@ ghost use Rattle.std.specs.Prelude.{◌≡◌, ◌≤◌};
 ghost use Rattle.rj_columns.specs.Contents.{content_of, IsInLimits};
 ghost use Rattle.rj_columns.specs.Scales.{coalesced, in_scale, HasScaleWithin};
 
-use super::cell::{Cell, narrow};
+use crate::cell::{Cell, narrow};
 use rj_decimal::{Decimal, rescale};
 
 /// A cell's number with this many digits after the point, at most 18 and no fewer than its own: the value stays. A

@@ -5,9 +5,9 @@ ghost use Rattle.rj_columns.specs.Contents.{content_of, nothing, IsInLimits};
 ghost use Rattle.rj_columns.specs.Columns.{IsTyped};
 ghost use Rattle.rj_columns.specs.Tables.{cell_of};
 
-use super::cell::Cell;
-use super::column::Column;
-use super::table::Table;
+use crate::cell::Cell;
+use crate::column::Column;
+use crate::table::Table;
 use std::alloc::{AllocError, Global};
 use std::marker::Model;
 
@@ -60,8 +60,11 @@ impl Table {
         Ok(column)
     }
 
-    /// Copies the cells of these rows at these columns, column by column, each in the order of the rows. It fails only
-    /// where memory is refused.
+    /// Copies the cells of these rows at these columns, column by column, each in the order of the rows.
+    ///
+    /// # Errors
+    ///
+    /// It fails only where memory is refused.
     pub fn select(
         &self,
         alloc: Global,

@@ -1,7 +1,9 @@
+// Worked examples: the names and columns that a table may have, cells that are pushed, their order, and numbers in a scale.
+
 ghost use Rattle.std.specs.Prelude.{◌≡◌, length, IfOk};
 ghost use Rattle.rj_columns.specs.Contents.{content_of, decimal};
 
-use super::{
+use crate::{
     BuildRefused, Cell, ColumnType, NumericType, RowSource, Table, TableBuilder, are_equal_cells,
     coalesce, compare, in_scale,
 };

@@ -46,7 +46,9 @@ gap_lines _ sender _ = []
 
 -- the line of a sender, and that of its gap where these are asked for
 abbrev pub sender_lines : Bool → ℕ → Standing → List (List ℕ)
-sender_lines gaps sender s = (codes "sender " ++ (decimal sender ++ (32 ∷ standing_text s ++ (codes " rows" ++ rows_text s.rows)))) ∷ gap_lines gaps sender (gap_at s)
+sender_lines gaps sender s =
+    (codes "sender " ++ (decimal sender ++ (32 ∷ standing_text s ++ (codes " rows" ++ rows_text s.rows))))
+    ∷ gap_lines gaps sender (gap_at s)
 
 -- those of the senders from one on
 abbrev pub senders_lines : Bool → ℕ → List Standing → List (List ℕ)
@@ -58,7 +60,9 @@ last_line v = if list_all (λ s. s.closed) v.senders then codes "complete" else 
 
 -- the lines for these readings: the ledger's answers to the parcels, and where it then stands
 abbrev pub report : Bool → LedgerValue → List (Option Parcel) → List (List ℕ)
-report gaps v rs = answer_lines rs (answers v (parcels_of rs)) ++ (senders_lines gaps 0 (after_all v (parcels_of rs)).senders ++ (last_line (after_all v (parcels_of rs)) ∷ []))
+report gaps v rs =
+    answer_lines rs (answers v (parcels_of rs))
+    ++ (senders_lines gaps 0 (after_all v (parcels_of rs)).senders ++ (last_line (after_all v (parcels_of rs)) ∷ []))
 
 -- lines, each ended by LF
 abbrev pub text_of_lines : List (List ℕ) → List ℕ

@@ -38,7 +38,9 @@ rows_of (word ∷ words) = with_first (number_of (2 ^ 32) word) (rows_of words)
 -- `rows` and row numbers, or `close` alone
 abbrev pub body_of : List (List ℕ) → Option Body
 body_of [] = None
-body_of (kind ∷ words) = if bytes_eq kind (codes "rows") then option_map Rows (rows_of words) else if bytes_eq kind (codes "close") && length words == 0 then Some Close else None
+body_of (kind ∷ words) =
+    if bytes_eq kind (codes "rows") then option_map Rows (rows_of words)
+    else if bytes_eq kind (codes "close") && length words == 0 then Some Close else None
 
 abbrev pub parcel_of : Option ℕ → Option ℕ → Option ℕ → Option Body → Option Parcel
 parcel_of (Some sender) (Some partition) (Some number) (Some body) = Some (record { sender = sender; partition = partition; number = number; body = body })
@@ -46,7 +48,8 @@ parcel_of _ _ _ _ = None
 
 -- SENDER PARTITION NUMBER and a body
 abbrev pub reading_of : List (List ℕ) → Option Parcel
-reading_of (sender ∷ partition ∷ number ∷ body) = parcel_of (number_of (2 ^ 32) sender) (number_of (2 ^ 32) partition) (number_of (2 ^ 64) number) (body_of body)
+reading_of (sender ∷ partition ∷ number ∷ body) =
+    parcel_of (number_of (2 ^ 32) sender) (number_of (2 ^ 32) partition) (number_of (2 ^ 64) number) (body_of body)
 reading_of _ = None
 
 -- what a line reads as: a parcel, or nothing

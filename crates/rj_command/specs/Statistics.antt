@@ -18,4 +18,6 @@ pieces_text s = codes "pieces " ++ decimal s.pieces
 
 -- a line for each partition, ended by LF, then that of the rows written, and where it is asked for that of the pieces
 abbrev pub stats_text : Stats → List ℕ
-stats_text s = flat_map (λ p. partition_text p ++ 10 ∷ []) s.partitions.items ++ (if s.tells_pieces then written_text s ++ (10 ∷ pieces_text s) else written_text s)
+stats_text s =
+    flat_map (λ p. partition_text p ++ 10 ∷ []) s.partitions.items
+    ++ (if s.tells_pieces then written_text s ++ (10 ∷ pieces_text s) else written_text s)

@@ -13,7 +13,7 @@ mod report;
 use self::lines::first_line;
 use self::parcels::read_parcel;
 use self::report::{write_answer, write_last_line, write_senders};
-use super::fault::Fault;
+use crate::fault::Fault;
 use rj_csv_io::{Failed, Output};
 use rj_ledger::Ledger;
 use std::alloc::{AllocError, Global};
@@ -96,8 +96,12 @@ fn print_script(
 /// sender it tells `sender S complete rows{ ROW}` once its close was delivered, else `sender S waiting N rows{ ROW}` with the
 /// next number, and with `gaps`, where parcels of it are held, `sender S gap A B`, the next number and the smallest held one.
 ///
-/// `Ok` is whether every line was readable. `Fault::Memory` leaves the writer unchanged; after `Fault::WriteDevice` nothing
-/// is known of how much it got. There is no other fault. `block` is at least 1.
+/// `Ok` is whether every line was readable. `block` is at least 1.
+///
+/// # Errors
+///
+/// `Fault::Memory` comes where a growth was refused, and leaves the writer unchanged; `Fault::WriteDevice` comes where
+/// the writer failed, and nothing is known then of how much it got. There is no other fault.
 pub fn arrivals<W: Output>(
     alloc: Global,
     script: &[u8],

@@ -6,7 +6,11 @@ use std::alloc::{AllocError, Global};
 use std::env::{self, Env};
 use std::io;
 
-/// The words after the program's name, or `None` where one of them isn't text. The error is want of memory.
+/// The words after the program's name, or `None` where one of them isn't text.
+///
+/// # Errors
+///
+/// It fails only where memory is refused.
 pub fn read_words<R: Env + AllocGlobal>(rt: &R) -> Result<Option<Vec<String>>, AllocError> {
     match env::args(rt) {
         Ok(words) => Ok(Some(words.skip(1).collect(rt.alloc())?)),
@@ -15,7 +19,11 @@ pub fn read_words<R: Env + AllocGlobal>(rt: &R) -> Result<Option<Vec<String>>, A
     }
 }
 
-/// The words as texts, as `clap` takes them. The error is want of memory.
+/// The words as texts, as `clap` takes them.
+///
+/// # Errors
+///
+/// It fails only where memory is refused.
 pub fn texts_of<'a>(alloc: Global, words: &'a [String]) -> Result<Vec<&'a str>, AllocError>
     ensures { IfOk result (λ texts. map (λ text. text.now) texts.items ≡ map string_bytes words.entry.now) }
 {

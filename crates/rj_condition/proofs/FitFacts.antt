@@ -97,3 +97,6 @@ known_right None t h = cc
 known_right (Some s) (Some t) h = refl
 known_right (Some family.Number) None h = h
 known_right (Some family.Text) None h = h
+
+-- a pair of columns that fit can be compared
+pub ruleset pair_comparable = (fits_kind, comparable, known_left, known_right)

@@ -29,6 +29,9 @@ module _ {A : Type 0} (item : List Token → Read A) (next : List Token → Opti
       ∙ turn_of (limit - (turn + 1)) found ts x us e
       ∙ ap (λ o. go_on o (Some (found ++ x ∷ [], us)) (λ ws. separated item next (limit - (turn + 1)) (found ++ x ∷ []) ws)) f
 
+-- one turn of a list with separators
+pub ruleset turns = (separated_more, separated_end)
+
 pub factor_none : (ts : List Token) → factor_at 0 ts ≡ None
 unfolding factor_at
 factor_none ts = refl

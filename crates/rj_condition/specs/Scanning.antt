@@ -23,7 +23,8 @@ view None = None
 abbrev pub all_keywords : List Keyword
 all_keywords =
     keyword.And ∷ keyword.Between ∷ keyword.Cross ∷ keyword.False ∷ keyword.Full ∷ keyword.In ∷ keyword.Inner ∷ keyword.Is ∷ keyword.Join ∷ keyword.Left
-    ∷ keyword.Natural ∷ keyword.Not ∷ keyword.Null ∷ keyword.On ∷ keyword.Or ∷ keyword.Outer ∷ keyword.Right ∷ keyword.True ∷ keyword.Unknown ∷ keyword.Using ∷ []
+    ∷ keyword.Natural ∷ keyword.Not ∷ keyword.Null ∷ keyword.On ∷ keyword.Or ∷ keyword.Outer ∷ keyword.Right ∷ keyword.True
+    ∷ keyword.Unknown ∷ keyword.Using ∷ []
 
 -- the keyword that a word is
 unfoldable pub keyword_of : List ℕ → Option Keyword

@@ -57,9 +57,13 @@ fn join_by_rule(
     }
 }
 
-/// The clause bound to two tables, or the first fault (SQL-92, 7.5). For ON all column references are resolved in
-/// the order of the text, and then the types of all comparisons are tested; USING is tested name by name, for
-/// missing columns, repeats and types. A refusal for want of memory may come in place of any other.
+/// The clause bound to two tables (SQL-92, 7.5).
+///
+/// # Errors
+///
+/// The first fault is told. For ON all column references are resolved in the order of the text, and then the types of
+/// all comparisons are tested; USING is tested name by name, for missing columns, repeats and types. A refusal for want
+/// of memory may come in place of any other.
 #[tactic(auto, unfolding(crate::specs::Bound::bound))]
 pub fn bind(
     alloc: Global,

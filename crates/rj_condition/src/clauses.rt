@@ -92,6 +92,10 @@ fn qualified(alloc: Global, tokens: &[Token]) -> Result<Clause, Stop>
 }
 
 /// The clause that the tokens are.
+///
+/// # Errors
+///
+/// It answers `Syntax` where they are no clause, and `Memory` where a growth was refused.
 #[tactic(auto, unfolding(crate::specs::Reading::clause_at))]
 pub fn clause(alloc: Global, tokens: &[Token]) -> Result<Clause, Stop>
     ensures { GivesWhole result (reading.clause_at tokens.now) }

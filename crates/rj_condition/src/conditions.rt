@@ -148,7 +148,7 @@ fn group(alloc: Global, limit: usize, tokens: &[Token]) -> Result<(Condition, &[
 }
 
 #[cycle(reading)]
-#[tactic(auto, using(crate::proofs::Turns::separated_more, crate::proofs::Turns::separated_end), unfolding(crate::specs::Reading::separated))]
+#[tactic(auto, using(crate::proofs::Turns::turns), unfolding(crate::specs::Reading::separated))]
 fn factors(
     alloc: Global,
     limit: usize,
@@ -179,7 +179,7 @@ fn term(alloc: Global, limit: usize, tokens: &[Token]) -> Result<(Condition, &[T
 }
 
 #[cycle(reading)]
-#[tactic(auto, using(crate::proofs::Turns::separated_more, crate::proofs::Turns::separated_end), unfolding(crate::specs::Reading::separated))]
+#[tactic(auto, using(crate::proofs::Turns::turns), unfolding(crate::specs::Reading::separated))]
 fn terms(
     alloc: Global,
     limit: usize,
@@ -200,6 +200,11 @@ fn terms(
     Err(Stop::Syntax(rest.len()))
 }
 
+/// The condition that comes next, and the tokens behind it.
+///
+/// # Errors
+///
+/// It answers `Syntax` where no condition within `limit` comes next, and `Memory` where a growth was refused.
 #[cycle(reading)]
 #[tactic(auto, unfolding(crate::specs::Reading::cond_with))]
 pub fn condition(

@@ -421,6 +421,10 @@ fn next_token(alloc: Global, text: &str) -> Result<Option<(Token, &str)>, AllocE
 }
 
 /// The tokens of a text. Behind one that cannot be read there is no other.
+///
+/// # Errors
+///
+/// It fails only where memory is refused.
 pub fn lex(alloc: Global, text: &str) -> Result<Lexed, AllocError>
     requires { length text.now ≤ 65536 }
     ensures { IfOk result (λ l. Lexes text.now l.tokens) }

@@ -9,6 +9,10 @@ use std::alloc::{AllocError, Global};
 const MOST: usize = 64;
 
 /// Whether parentheses and NOTs are nested over 64 deep after some token.
+///
+/// # Errors
+///
+/// It fails only where memory is refused.
 pub fn too_deep(alloc: Global, tokens: &[Token]) -> Result<bool, AllocError>
     ensures { IfOk result (λ yes. yes ≡ is_deep tokens.now) }
 {

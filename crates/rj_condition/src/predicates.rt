@@ -60,7 +60,7 @@ fn operand(alloc: Global, tokens: &[Token]) -> Result<(Operand, &[Token]), Stop>
 }
 
 // Operands with commas between.
-#[tactic(auto, using(crate::proofs::Turns::separated_more, crate::proofs::Turns::separated_end), unfolding(crate::specs::Reading::operands_at, crate::specs::Reading::separated))]
+#[tactic(auto, using(crate::proofs::Turns::turns), unfolding(crate::specs::Reading::operands_at, crate::specs::Reading::separated))]
 fn operands(alloc: Global, tokens: &[Token]) -> Result<(Items<Operand>, &[Token]), Stop>
     ensures { Gives result (reading.operands_at tokens.now) }
 {
@@ -208,6 +208,11 @@ fn test_of(alloc: Global, first: Operand, tokens: &[Token]) -> Result<(Condition
     }
 }
 
+/// The predicate that comes next, and the tokens behind it.
+///
+/// # Errors
+///
+/// It answers `Syntax` where no predicate comes next, and `Memory` where a growth was refused.
 #[tactic(auto, unfolding(crate::specs::Reading::predicate_at))]
 pub fn predicate(alloc: Global, tokens: &[Token]) -> Result<(Condition, &[Token]), Stop>
     ensures { Gives result (reading.predicate_at tokens.now) }

@@ -57,7 +57,11 @@ pub fn behind(tokens: &[Token], sign: Sign) -> Option<&[Token]>
     }
 }
 
-// The tokens behind the keyword, which has to come next.
+/// The tokens behind the keyword, which has to come next.
+///
+/// # Errors
+///
+/// It answers `Syntax` where the keyword doesn't come next.
 pub fn expect(tokens: &[Token], keyword: Keyword) -> Result<&[Token], Stop>
     ensures { GivesRest result (reading.after keyword tokens.now) }
 {
@@ -67,7 +71,11 @@ pub fn expect(tokens: &[Token], keyword: Keyword) -> Result<&[Token], Stop>
     }
 }
 
-// The tokens behind the sign, which has to come next.
+/// The tokens behind the sign, which has to come next.
+///
+/// # Errors
+///
+/// It answers `Syntax` where the sign doesn't come next.
 pub fn expect_sign(tokens: &[Token], sign: Sign) -> Result<&[Token], Stop>
     ensures { GivesRest result (reading.behind sign tokens.now) }
 {
@@ -87,7 +95,11 @@ pub fn optional(tokens: &[Token], keyword: Keyword) -> (bool, &[Token])
     }
 }
 
-// The clause, where no tokens are left behind it.
+/// The clause, where no tokens are left behind it.
+///
+/// # Errors
+///
+/// It answers `Syntax` where tokens are left.
 pub fn whole(clause: Clause, rest: &[Token]) -> Result<Clause, Stop>
     ensures { GivesWhole result (reading.ended clause rest.now) }
 {
@@ -106,6 +118,11 @@ fn copied(alloc: Global, name: &Name) -> Result<Name, AllocError>
     })
 }
 
+/// The name that comes next, and the tokens behind it.
+///
+/// # Errors
+///
+/// It answers `Syntax` where no name comes next, and `Memory` where a growth was refused.
 #[tactic(auto, unfolding(crate::specs::Reading::name_at))]
 pub fn name(alloc: Global, tokens: &[Token]) -> Result<(Name, &[Token]), Stop>
     ensures { Gives result (reading.name_at tokens.now) }
@@ -116,8 +133,12 @@ pub fn name(alloc: Global, tokens: &[Token]) -> Result<(Name, &[Token]), Stop>
     }
 }
 
-// Names with commas between.
-#[tactic(auto, using(crate::proofs::Turns::separated_more, crate::proofs::Turns::separated_end), unfolding(crate::specs::Reading::names_at, crate::specs::Reading::separated))]
+/// The names with commas between that come next, and the tokens behind them.
+///
+/// # Errors
+///
+/// It answers `Syntax` where no name comes next, at first or after a comma, and `Memory` where a growth was refused.
+#[tactic(auto, using(crate::proofs::Turns::turns), unfolding(crate::specs::Reading::names_at, crate::specs::Reading::separated))]
 pub fn names(alloc: Global, tokens: &[Token]) -> Result<(Items<Name>, &[Token]), Stop>
     ensures { Gives result (reading.names_at tokens.now) }
 {

@@ -21,6 +21,10 @@ impl Model for Word {
 
 impl Word {
     /// A copy of the text.
+    ///
+    /// # Errors
+    ///
+    /// It fails only where memory is refused.
     pub fn new(alloc: Global, text: &str) -> Result<Word, AllocError>
         ensures { IfOk result (λ w. w ≡ text.now) }
     {

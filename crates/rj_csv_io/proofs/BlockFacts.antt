@@ -109,7 +109,8 @@ pub column-more : (rows : List (List Content)) (col from row : ℕ) (cells : Lis
 column-more rows col from row cells x base low h e =
     let step : row + 1 - from ≡ row - from + 1 = omega arith in
     let back : from + (row - from) ≡ row = omega arith in
-    let more : part_of rows col from (row + 1 - from) ≡ part_of rows col from (row - from) ++ cell_in rows row col ∷ [] = ap (part_of rows col from) step ∙ (part-more rows col from (row - from) ∙ ap (λ r. part_of rows col from (row - from) ++ cell_in rows r col ∷ []) back) in
+    let more : part_of rows col from (row + 1 - from) ≡ part_of rows col from (row - from) ++ cell_in rows row col ∷ [] =
+    ap (part_of rows col from) step ∙ (part-more rows col from (row - from) ∙ ap (λ r. part_of rows col from (row - from) ++ cell_in rows r col ∷ []) back) in
     let put : map content_of (cells ++ x ∷ []) ≡ map content_of cells ++ content_of x ∷ [] = rw map-append refl in
     put ∙ (ap (λ t. t ++ content_of x ∷ []) h ∙ (ap (λ t. (base ++ part_of rows col from (row - from)) ++ t ∷ []) e ∙ (append_assoc base (part_of rows col from (row - from)) (cell_in rows row col ∷ []) ∙ ap (λ t. base ++ t) (sym more))))
 

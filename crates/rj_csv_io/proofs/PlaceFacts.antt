@@ -1,6 +1,6 @@
 -- How places in a text follow its bytes.
 use Rattle.std.proofs.Common.{◌≡◌, ◌<◌, ◌≤◌, ◌+◌, ◌-◌, ℕ, zero, suc, List, [], ◌∷◌, ◌++◌, length, take, drop, get_or, true, false, Bool, refl, sym, ap, arith, inl, inr, ◌∙◌, subst}
-use Rattle.std.specs.Prelude.{if◌then◌else◌, ◌==◌, ◌||◌}
+use Rattle.std.specs.Prelude.{if◌then◌else◌, ◌==◌}
 use Rattle.std.proofs.lemmas.Bool.{cases_Bool, eqb-true}
 use Rattle.std.proofs.lemmas.List.{take_more, take_all, get_or-drop, length-drop, take-append-drop, take-take, drop-take}
 use Rattle.rj_csv_io.proofs.CutFacts.{line-closes}

@@ -1,8 +1,8 @@
 -- The text of rows in ranges that follow each other.
 use Rattle.std.proofs.Common.{◌≡◌, ◌∙◌, ◌<◌, ◌≤◌, ◌+◌, ◌-◌, ℕ, List, [], ◌∷◌, ◌++◌, map, take, drop, length, refl, sym, ap, append_assoc, arith}
 use Rattle.std.specs.Prelude.{slice_index_or}
-use Rattle.std.proofs.Math.Seq.{take-add}
-use Rattle.std.proofs.lemmas.List.{append-nil, map-append, take_more, take_all, length-drop, get_or-drop, drop-drop}
+use Rattle.std.proofs.Math.Seq.{take-add, take-nil}
+use Rattle.std.proofs.lemmas.List.{append-nil, map-append, take_more, take_all, drop_all, length-drop, get_or-drop, drop-drop}
 use Rattle.csv.specs.Writing.{default_writer, row_text}
 use Rattle.rj_columns.specs.Contents.{Content}
 use Rattle.rj_csv_io.specs.Shown.{range_text, rows_text, shown, table_text}
@@ -31,6 +31,18 @@ range-join null rows a b c h k =
     let whole : take (c - a) (drop a rows) ≡ take (b - a) (drop a rows) ++ take (c - b) (drop b rows) =
     ap (λ n. take n (drop a rows)) (sym size) ∙ (take-add (b - a) (c - b) (drop a rows) ∙ ap (λ t. take (b - a) (drop a rows) ++ take (c - b) t) rest) in
     rw (whole, map-append) (sym (rows_text-append (map (map (shown null)) (take (b - a) (drop a rows))) (map (map (shown null)) (take (c - b) (drop b rows)))))
+
+-- a range that begins behind the last row
+pub range-past : (null : List ℕ) (rows : List (List Content)) (from to : ℕ) → length rows ≤ from → range_text null rows from to ≡ []
+unfolding rows_text
+range-past null rows from to h = rw (drop_all from rows h, take-nil) refl
+
+-- a range that ends behind the last row
+pub range-all : (null : List ℕ) (rows : List (List Content)) (to : ℕ) → length rows ≤ to → range_text null rows 0 to ≡ range_text null rows 0 (length rows)
+range-all null rows to h =
+    let one : take (to - 0) rows ≡ rows = take_all (to - 0) rows (omega arith) in
+    let other : take (length rows - 0) rows ≡ rows = take_all (length rows - 0) rows (omega arith) in
+    ap (λ (r : List (List Content)). rows_text (map (map (shown null)) r)) (one ∙ sym other)
 
 -- one more row
 pub range-more : (null : List ℕ) (rows : List (List Content)) (from i : ℕ) → from ≤ i → i < length rows

@@ -1,6 +1,6 @@
 -- Where the parts of rows begin, and the texts of the parts put together.
 use Rattle.std.proofs.Common.{◌≡◌, ◌∙◌, ◌<◌, ◌≤◌, ◌+◌, ◌*◌, ◌++◌, ◌∷◌, [], ℕ, List, map, take, length, sym, ap, arith, drop, Vec, Global}
-use Rattle.std.specs.Prelude.{◌/◌, ◌%◌, slice_index_or}
+use Rattle.std.specs.Prelude.{◌/◌, slice_index_or}
 use Rattle.std.specs.List.{concat}
 use Rattle.std.proofs.Math.Nat.{mul-le-mul_left}
 use Rattle.std.proofs.lemmas.List.{append-nil, get_or-drop, map-append, take_more}
@@ -25,6 +25,12 @@ start-in rows parts part h k =
     let less : rows / parts * part ≤ rows / parts * parts = mul-le-mul_left (rows / parts) k in
     omega arith
 
+-- and behind the last one there are no rows
+pub start-past : (rows parts part : ℕ) → 0 < parts → parts ≤ part → rows ≤ part_start rows parts part
+start-past rows parts part h k =
+    let more : rows / parts * parts ≤ rows / parts * part = mul-le-mul_left (rows / parts) k in
+    omega arith
+
 concat-one : (t : List ℕ) → concat (t ∷ []) ≡ t
 concat-one t = append-nil t
 
@@ -34,6 +40,11 @@ pub concat-more : (texts : List (Vec ℕ Global)) (t : Vec ℕ Global)
 concat-more texts t =
     rw map-append
     (concat-append (map (λ (t : Vec ℕ Global). t.items) texts) (t.items ∷ []) ∙ ap (λ r. concat (map (λ (t : Vec ℕ Global). t.items) texts) ++ r) (concat-one t.items))
+
+-- more texts
+pub concat-joined : (texts more : List (Vec ℕ Global)) → concat (map (λ (t : Vec ℕ Global). t.items) (texts ++ more))
+    ≡ concat (map (λ (t : Vec ℕ Global). t.items) texts) ++ concat (map (λ (t : Vec ℕ Global). t.items) more)
+concat-joined texts more = rw map-append (concat-append (map (λ (t : Vec ℕ Global). t.items) texts) (map (λ (t : Vec ℕ Global). t.items) more))
 
 -- the texts up to one more
 pub concat-take : (texts : List (Vec ℕ Global)) (i : ℕ) (t : Vec ℕ Global) → i < length texts → t ≡ slice_index_or texts i t

@@ -1,6 +1,6 @@
 -- The rows of records, one more at a time.
 use Rattle.std.proofs.Common.{◌≡◌, ◌<◌, ◌≤◌, ◌+◌, ◌-◌, ◌^◌, ℕ, List, [], ◌∷◌, ◌++◌, length, true, false, Bool, Some, None, Ok, Err, refl, ap, sym, ◌∙◌, arith, drop, subst, zero, suc}
-use Rattle.std.specs.Prelude.{◌&&◌, if◌then◌else◌, nat_lt, ℤ, pos, neg_ℤ, Option, option_map, slice_index_or, unsigned_abs}
+use Rattle.std.specs.Prelude.{if◌then◌else◌, nat_lt, ℤ, pos, neg_ℤ, Option, option_map, slice_index_or, unsigned_abs}
 use Rattle.std.specs.Str.{bytes_eq, is_utf8}
 use Rattle.std.specs.Str.Parse.{signed_digits_value, starts_with_minus, without_leading_sign}
 use Rattle.std.proofs.lemmas.Bool.{and_parts, le-leb, lt-leb, ltb-true, eq-eqb, ne_eqb}

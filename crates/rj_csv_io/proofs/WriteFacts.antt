@@ -1,16 +1,14 @@
 -- What a writer has written after one more field, and after the end of a record.
-use Rattle.std.proofs.Common.{◌≡◌, ◌≢◌, ◌==◌, ◌∙◌, ◌<◌, ◌+◌, ◌-◌, ◌^◌, ℕ, List, [], ◌∷◌, ◌++◌, map, take, length, Option, Some, None, Result, Ok, Err, true, false, refl, sym, ap, append_assoc, arith, Vec, Global}
-use Rattle.std.specs.Prelude.{OnOk, slice_index_or, not, min}
+use Rattle.std.proofs.Common.{◌≡◌, ◌≢◌, ◌==◌, ◌∙◌, ◌<◌, ◌+◌, ◌-◌, ◌^◌, ℕ, List, [], ◌∷◌, ◌++◌, length, Option, Some, None, Result, Ok, Err, true, false, refl, sym, ap, append_assoc, arith, Vec, Global}
+use Rattle.std.specs.Prelude.{OnOk, not, min}
 use Rattle.std.specs.Result.{is_ok}
 use Rattle.std.specs.Io.KnownBytes.{Appends}
-use Rattle.std.proofs.lemmas.List.{append-nil, map-append, take_more, length-append}
+use Rattle.std.proofs.lemmas.List.{append-nil, length-append}
 use Rattle.csv.specs.declared.writer.QuoteStyle.TheVariants as style
 use Rattle.csv.specs.declared.writer.Writer.{Writer}
 use Rattle.csv.specs.declared.writer.WriterBuilder.{WriterBuilder}
 use Rattle.csv.specs.Writing.{default_writer, row_text, row_body, is_blank, next_sep, field_text, tail_text, text_written, writer_setup, fields_written, has_written}
 use Rattle.csv.proofs.WriteFacts.{row-more, blank-more}
-use Rattle.rj_columns.specs.Contents.{Content}
-use Rattle.rj_csv_io.specs.Shown.{rows_text, shown, table_text}
 use Rattle.rj_csv_io.specs.Written.{HasWritten}
 
 abbrev known : Vec ℕ Global → Option (List ℕ)

@@ -18,3 +18,7 @@ reader_of c = c.reader
 -- how often it failed
 abbrev pub read_failures_of : {R : Type 0} → CountedReader R → ℕ
 read_failures_of c = c.failures
+
+-- about how many bytes it will give, as it was told
+abbrev pub likely_size_of : {R : Type 0} → CountedReader R → ℕ
+likely_size_of c = c.likely_size

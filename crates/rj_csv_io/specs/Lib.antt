@@ -9,3 +9,4 @@ pub mod RowParts
 pub mod Devices
 pub mod Cuts
 pub mod Parts
+pub mod Pieces

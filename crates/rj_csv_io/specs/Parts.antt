@@ -1,7 +1,6 @@
 -- Tables that are read from the texts that one text was cut into.
 use Rattle.std.specs.Prelude.{ℕ, ◌+◌, ◌-◌, ◌^◌, ◌==◌, ◌≡◌, ◌≢◌, ◌<◌, ◌≤◌, nat_le, if◌then◌else◌, Bool, true, false, List, [], ◌∷◌, ◌++◌, length, drop, slice_index_or, Result, Ok, Err, All}
 use Rattle.rj_columns.specs.declared.cell.ColumnType.{ColumnType}
-use Rattle.rj_columns.specs.Contents.{Content}
 use Rattle.rj_columns.specs.Tables.{TableValue, rows_of_all}
 use Rattle.rj_columns.specs.Names.{begun}
 use Rattle.rj_csv_io.specs.Cuts.{records_in, records_in_all}
@@ -49,7 +48,8 @@ AreReadings null types header texts parts = (i : ℕ) (d : Result TableValue Rea
     → IsReading null types header (row_records (i == 0) (slice_index_or texts i [])) (slice_index_or parts i d)
 
 -- tables with the header's columns, whose rows put together are those that the records read as
-pub record AreTables (null : List ℕ) (types : List ColumnType) (header : List (List ℕ)) (records : List (List (List ℕ))) (tables : List TableValue) : Type 0 where
+pub record AreTables (null : List ℕ) (types : List ColumnType) (header : List (List ℕ)) (records : List (List (List ℕ)))
+    (tables : List TableValue) : Type 0 where
   pub columns : All (λ (t : TableValue). begun header types ≡ Ok record t { rows = [] }) tables
   pub rows : read_rows null types [] records ≡ Ok (rows_of_all tables)
   pub few : length (rows_of_all tables) ≤ 2 ^ 31 - 1

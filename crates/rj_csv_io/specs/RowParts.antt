@@ -1,5 +1,6 @@
 -- Rows in parts that follow each other, and the texts of the parts.
-use Rattle.std.specs.Prelude.{ℕ, ◌≡◌, ◌<◌, ◌+◌, ◌*◌, ◌/◌, ◌%◌, min, List, length, slice_index_or, Result, Ok, Err}
+use Rattle.std.specs.Prelude.{ℕ, ◌≡◌, ◌<◌, ◌+◌, ◌*◌, ◌/◌, ◌%◌, min, map, List, length, slice_index_or, Result, Ok, Err}
+use Rattle.std.specs.List.{concat}
 use Rattle.std.specs.declared.alloc.Global.{Global}
 use Rattle.std.specs.declared.vec.Vec.{Vec}
 use Rattle.rj_columns.specs.Contents.{Content}
@@ -9,11 +10,14 @@ use Rattle.rj_csv_io.specs.Shown.{range_text}
 abbrev pub part_start : ℕ → ℕ → ℕ → ℕ
 part_start rows parts part = rows / parts * part + min part (rows % parts)
 
--- the text of a part of the rows, if there is one
-abbrev pub IsPartText : {E : Type 0} → List ℕ → List (List Content) → ℕ → ℕ → Result (Vec ℕ Global) E → Type 0
-IsPartText null rows parts part (Ok t) = t.items ≡ range_text null rows (part_start (length rows) parts part) (part_start (length rows) parts (part + 1))
+-- the text of a part of the rows, in texts that follow each other, if there is one
+abbrev pub IsPartText : {E : Type 0} → List ℕ → List (List Content) → ℕ → ℕ → Result (Vec (Vec ℕ Global) Global) E → Type 0
+IsPartText null rows parts part (Ok v) =
+    concat (map (λ (t : Vec ℕ Global). t.items) v.items)
+    ≡ range_text null rows (part_start (length rows) parts part) (part_start (length rows) parts (part + 1))
 IsPartText null rows parts part (Err e) = Unit {0}
 
--- the texts of all parts, in order
-abbrev pub ArePartTexts : {E : Type 0} → List ℕ → List (List Content) → List (Result (Vec ℕ Global) E) → Type 0
-ArePartTexts {E} null rows texts = (i : ℕ) (d : Result (Vec ℕ Global) E) → i < length texts → IsPartText null rows (length texts) i (slice_index_or texts i d)
+-- the texts of so many parts, in order; behind the last part there are no rows
+abbrev pub ArePartTexts : {E : Type 0} → List ℕ → List (List Content) → ℕ → List (Result (Vec (Vec ℕ Global) Global) E) → Type 0
+ArePartTexts {E} null rows parts texts =
+    (i : ℕ) (d : Result (Vec (Vec ℕ Global) Global) E) → i < length texts → IsPartText null rows parts i (slice_index_or texts i d)

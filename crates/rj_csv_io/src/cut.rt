@@ -5,12 +5,12 @@ ghost use Rattle.csv.specs.Reading.{strip_bom};
 ghost use Rattle.csv.specs.declared.parser.State.TheVariants as st;
 ghost use Rattle.rj_csv_io.specs.Cuts.{has_bom, records_in, records_in_all, state_after};
 
-use super::place::{Place, is_open, scan};
+use crate::place::{Place, is_open, scan};
 use memchr::memchr;
 use std::alloc::{AllocError, Global};
 
-// Whether a text begins with a byte order mark.
-fn starts_with_bom(text: &[u8]) -> bool
+/// Whether a text begins with a byte order mark.
+pub(crate) fn starts_with_bom(text: &[u8]) -> bool
     ensures value { result ≡ has_bom text.now }
     ensures long { result ≡ true → 3 ≤ length text.now }
 {
@@ -20,8 +20,8 @@ fn starts_with_bom(text: &[u8]) -> bool
     (text[0] == 0xEF) & (text[1] == 0xBB) & (text[2] == 0xBF)
 }
 
-// A text without the byte order mark at its start.
-fn without_bom(text: &[u8]) -> &[u8]
+/// A text without the byte order mark at its start, if it begins with one. It takes no memory.
+pub fn without_bom(text: &[u8]) -> &[u8]
     ensures { result.now ≡ strip_bom text.now }
 {
     if starts_with_bom(text) {

@@ -8,7 +8,7 @@ ghost use Rattle.rj_columns.specs.declared.refused.BuildRefused.{BuildRefused};
 ghost use Rattle.rj_csv_io.specs.Remaining.{records_remaining, IsBetween};
 ghost use Rattle.rj_csv_io.specs.Tables.{of_begun};
 
-use super::refused::ReadRefused;
+use crate::refused::ReadRefused;
 use csv::{ByteRecord, Reader, ReaderBuilder};
 use rj_columns::{BuildRefused, ColumnType, TableBuilder};
 use std::alloc::{AllocError, Global};

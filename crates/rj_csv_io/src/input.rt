@@ -2,10 +2,10 @@
 
 ghost use Rattle.std.specs.Prelude.{◌≡◌, ◌≢◌, ◌<◌, ◌≤◌, ◌+◌, ◌-◌, ◌^◌, ℕ, List, Option, None, Some, Ok, Err, true, false, [], take, drop, length, vec_len, IfOk, IfErr, IfSome, OnOk, OnErr};
 ghost use Rattle.std.specs.Io.KnownBytes.{Consumes, IsAtEnd};
-ghost use Rattle.rj_csv_io.specs.Devices.{reader_of, read_failures_of};
+ghost use Rattle.rj_csv_io.specs.Devices.{likely_size_of, reader_of, read_failures_of};
 
-use super::output::Failed;
-use super::refused::ReadRefused;
+use crate::output::Failed;
+use crate::refused::ReadRefused;
 use std::alloc::Global;
 use std::io::{ErrorKind, Read};
 
@@ -18,8 +18,11 @@ pub trait Input {
     ghost count: { Self → ℕ };
 
     /// Fills the buffer from its start with the next bytes, and says how many they are. They are none
-    /// only where the buffer is empty or the device at its end. `Failed` adds one to the count of
-    /// failures.
+    /// only where the buffer is empty or the device at its end.
+    ///
+    /// # Errors
+    ///
+    /// `Failed` is answered where the device failed, and adds one to the count of failures.
     fn get(&mut self, buffer: &mut [u8]) -> Result<usize, Failed>
         requires { count self.old < 2 ^ 64 - 1 }
         ensures bound { IfOk result (λ k. k ≤ length buffer.new) }
@@ -49,10 +52,11 @@ pub struct CountedReader<R: Read> {
 }
 
 impl<R: Read> CountedReader<R> {
-    /// The reader, with no failure so far.
+    /// The reader, with no failure so far; how many bytes it will give isn't known.
     pub fn new(reader: R) -> CountedReader<R>
         ensures reader { reader_of result ≡ reader }
         ensures failures { read_failures_of result ≡ 0 }
+        ensures size { likely_size_of result ≡ 0 }
     {
         CountedReader::with_likely_size(reader, 0)
     }
@@ -62,6 +66,7 @@ impl<R: Read> CountedReader<R> {
     pub fn with_likely_size(reader: R, likely_size: u64) -> CountedReader<R>
         ensures reader { reader_of result ≡ reader }
         ensures failures { read_failures_of result ≡ 0 }
+        ensures size { likely_size_of result ≡ likely_size }
     {
         CountedReader {
             reader,
@@ -109,7 +114,9 @@ impl<R: Read> Input for CountedReader<R> {
         self.failures
     }
 
-    fn likely_size(&self) -> u64 {
+    fn likely_size(&self) -> u64
+        ensures { result ≡ likely_size_of self.now }
+    {
         self.likely_size
     }
 }
@@ -133,7 +140,7 @@ fn get_behind<I: Input>(input: &mut I, buffer: &mut [u8], filled: usize) -> Resu
 }
 
 // Adds the next piece of a device's bytes, and says whether there was one.
-fn read_piece<I: Input>(input: &mut I, bytes: &mut Vec<u8>) -> Result<bool, ReadRefused>
+pub(crate) fn read_piece<I: Input>(input: &mut I, bytes: &mut Vec<u8>) -> Result<bool, ReadRefused>
     requires failures { I.count input.old < 2 ^ 64 - 1 }
     ensures bytes { OnOk result ((start : Option (List ℕ)) → Consumes start (I.tells input.old) bytes.old.items
         → Consumes start (I.tells input.new) bytes.new.items) }
@@ -165,8 +172,12 @@ fn likely_room(alloc: Global, size: u64) -> Vec<u8>
     bytes
 }
 
-/// All bytes of a device, to its end. `ReadDevice` is answered where the device failed, `Memory` where
-/// a growth was refused; nothing is known then of how much was read.
+/// All bytes of a device, to its end.
+///
+/// # Errors
+///
+/// `ReadDevice` is answered where the device failed, `Memory` where a growth was refused; nothing is known then of
+/// how much was read.
 pub fn read_all<I: Input>(alloc: Global, input: &mut I) -> Result<Vec<u8>, ReadRefused>
     requires { I.count input.old < 2 ^ 64 - 1 }
     ensures bytes { IfOk result (λ v. IfSome (I.tells input.old) (λ xs. v.items ≡ xs)) }

@@ -6,31 +6,42 @@
 mod block;
 mod cut;
 mod fields;
+mod filling;
 mod header;
 mod input;
 mod null_text;
 mod output;
 mod part;
+mod pieces;
 mod place;
 mod range;
 mod read_parts;
 mod read_rows;
 mod read_whole;
 mod refused;
+mod stretches;
 mod text;
 mod write;
 mod write_in_parts;
+mod write_more;
 
+pub use cut::without_bom;
+pub use filling::read_up_to;
 pub use input::{CountedReader, Input, read_all};
 pub use null_text::is_lawful_null;
 pub use output::{CountedWriter, Failed, Output};
+pub use pieces::Header;
 pub use read_parts::read_table_in_parts;
 pub use read_whole::read_table;
 pub use refused::ReadRefused;
+pub use stretches::last_cut;
 pub use write::{WriteRefused, write_rows};
 pub use write_in_parts::write_rows_in_parts;
+pub use write_more::write_more_rows;
 
 #[cfg(test)]
 mod tests;
 #[cfg(test)]
 mod tests_parts;
+#[cfg(test)]
+mod tests_pieces;

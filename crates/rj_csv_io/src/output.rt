@@ -18,8 +18,12 @@ pub trait Output {
     // How often it failed.
     ghost count: { Self → ℕ };
 
-    /// Puts all of these bytes after those that it got before. `Failed` adds one to the count of
-    /// failures, and then nothing is known of how many of the bytes it took.
+    /// Puts all of these bytes after those that it got before.
+    ///
+    /// # Errors
+    ///
+    /// `Failed` is answered where the device failed, and adds one to the count of failures. Nothing is known then of
+    /// how many of the bytes it took.
     fn put(&mut self, bytes: &[u8]) -> Result<(), Failed>
         requires { count self.old < 2 ^ 64 - 1 }
         ensures ok { OnOk result (Appends (told self.old) (told self.new) bytes.now) }

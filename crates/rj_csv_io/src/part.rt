@@ -6,9 +6,9 @@ ghost use Rattle.rj_csv_io.specs.Cuts.{records_in};
 ghost use Rattle.rj_csv_io.specs.Remaining.{IsBetween, records_remaining};
 ghost use Rattle.rj_csv_io.specs.Parts.{IsReading, moved, row_records};
 
-use super::header::{begin_table, likely_rows, open_reader};
-use super::read_rows::{MAX_ROWS, rows_of_reader};
-use super::refused::ReadRefused;
+use crate::header::{begin_table, likely_rows, open_reader};
+use crate::read_rows::{MAX_ROWS, rows_of_reader};
+use crate::refused::ReadRefused;
 use csv::{ByteRecord, Reader};
 use rj_columns::{ColumnType, Table};
 use std::alloc::{AllocError, Global};

@@ -1,19 +1,24 @@
 // The text of a header, and of the rows of a source from one to another.
 
 ghost use Rattle.std.specs.Prelude.{◌≡◌, ◌<◌, ◌≤◌, ◌++◌, ◌-◌, List, ℕ, [], map, length, slice_index_or, OnOk, IfOk};
+ghost use Rattle.std.specs.List.{concat};
 ghost use Rattle.csv.specs.Writing.{default_writer, row_text};
 ghost use Rattle.rj_csv_io.specs.Blocks.{Holds};
 ghost use Rattle.rj_csv_io.specs.Shown.{range_text, shown};
 ghost use Rattle.rj_csv_io.specs.Written.{HasWritten};
 
-use super::block::{BLOCK_ROWS, Block, next_block, no_rows};
-use super::text::{close_text, end_record, open_text, write_cell, write_field};
+use crate::block::{BLOCK_ROWS, Block, next_block, no_rows};
+use crate::text::{close_text, end_record, open_text, write_cell, write_field};
 use csv::Writer;
 use rj_columns::RowSource;
 use std::alloc::{AllocError, Global};
 
 /// The most bytes that a text asks room for before it has grown to them.
 const MOST_ROOM: u64 = 1 << 30;
+
+/// The most rows whose records stand in one text of several, so that such a text finds room where the join's own lists
+/// stood before.
+const TEXT_ROWS: u64 = 16384;
 
 // Writes the record of the names.
 fn write_header(writer: &mut Writer<Vec<u8>>, header: &[&str]) -> Result<(), AllocError>
@@ -102,32 +107,25 @@ fn add_blocks<S: RowSource>(
     close_text(writer)
 }
 
-// About how many bytes the records of rows take, by those of a block amid them. Few rows ask for nothing.
-fn likely_room<S: RowSource>(
-    alloc: Global,
-    source: &S,
-    from: u64,
-    to: u64,
-    null: &str,
-) -> Result<usize, AllocError>
+// About how many bytes the records of rows take, by those of a block amid them. Few rows ask for nothing, and so do rows
+// whose block can't be written for want of memory.
+fn likely_room<S: RowSource>(alloc: Global, source: &S, from: u64, to: u64, null: &str) -> usize
     requires order { from ≤ to }
     requires within { to ≤ length (S.contents source.now) }
 {
     let rows = to - from;
     if rows < 4 * BLOCK_ROWS {
-        return Ok(0);
+        return 0;
     }
     let middle = from + rows / 2;
-    let sample = add_blocks(
-        alloc,
-        Vec::new(alloc),
-        source,
-        middle,
-        middle + BLOCK_ROWS,
-        null,
-    )?;
-    let likely = (sample.len() as u64 / BLOCK_ROWS + 1).saturating_mul(rows);
-    Ok(likely.min(MOST_ROOM) as usize)
+    let end = middle + BLOCK_ROWS;
+    match add_blocks(alloc, Vec::new(alloc), source, middle, end, null) {
+        Ok(sample) => {
+            let likely = (sample.len() as u64 / BLOCK_ROWS + 1).saturating_mul(rows);
+            likely.min(MOST_ROOM) as usize
+        }
+        Err(_) => 0,
+    }
 }
 
 /// A text with the records of a source's rows added, from one row to another.
@@ -143,8 +141,32 @@ pub(crate) fn add_range<S: RowSource>(
     requires within { to ≤ length (S.contents source.now) }
     ensures { IfOk result (λ v. v.items ≡ text.items ++ range_text null.now (S.contents source.now) from to) }
 {
-    let room = likely_room(alloc, source, from, to, null)?;
+    let room = likely_room(alloc, source, from, to, null);
     // Where this room is refused, the text still grows as it has to.
     let _ = text.reserve(room);
     add_blocks(alloc, text, source, from, to, null)
+}
+
+/// The records of a source's rows from one to another, in texts of so many rows that follow each other: at least one
+/// text, which is empty where there are no rows.
+pub(crate) fn texts_of_range<S: RowSource>(
+    alloc: Global,
+    source: &S,
+    from: u64,
+    to: u64,
+    null: &str,
+) -> Result<Vec<Vec<u8>>, AllocError>
+    requires order { from ≤ to }
+    requires within { to ≤ length (S.contents source.now) }
+    ensures { IfOk result (λ v. concat (map (λ t. t.items) v.items) ≡ range_text null.now (S.contents source.now) from to) }
+{
+    let mut texts = Vec::new(alloc);
+    let mut row = from;
+    for _text in 0..(to - from).saturating_sub(1) / TEXT_ROWS + 1 {
+        let end = row + (to - row).min(TEXT_ROWS);
+        let text = add_range(alloc, Vec::new(alloc), source, row, end, null)?;
+        texts.push(text)?;
+        row = end;
+    }
+    Ok(texts)
 }

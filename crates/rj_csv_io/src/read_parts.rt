@@ -5,13 +5,13 @@ ghost use Rattle.csv.specs.Records.{fields_of};
 ghost use Rattle.rj_csv_io.specs.Parts.{AreReadings, AreTables, IsReading, under_header};
 ghost use Rattle.rj_csv_io.specs.Tables.{is_null_text, read_of};
 
-use super::cut::cut_text;
-use super::header::begin_table;
-use super::null_text::is_lawful_null;
-use super::part::{header_of, moved_on, read_part};
-use super::read_rows::MAX_ROWS;
-use super::read_whole::read_table;
-use super::refused::ReadRefused;
+use crate::cut::cut_text;
+use crate::header::begin_table;
+use crate::null_text::is_lawful_null;
+use crate::part::{header_of, moved_on, read_part};
+use crate::read_rows::MAX_ROWS;
+use crate::read_whole::read_table;
+use crate::refused::ReadRefused;
 use csv::ByteRecord;
 use rj_columns::{ColumnType, Table};
 use std::alloc::Global;
@@ -149,6 +149,10 @@ pub(crate) fn read_in_parts_of<R: Threads + Sync>(
 /// Reads a table as [`read_table`] does, in up to so many parts at a time, each by a thread.
 ///
 /// A part has at least 256 KiB, so that no thread is started for few bytes. The answer doesn't depend on the parts.
+///
+/// # Errors
+///
+/// They are those of [`read_table`], in the same order.
 pub fn read_table_in_parts<R: Threads + Sync>(
     rt: &R,
     alloc: Global,

@@ -3,10 +3,10 @@
 ghost use Rattle.std.specs.Prelude.{◌≡◌, ◌≢◌, IfOk, IfErr, OnOk, Ok, Err, IsTrue};
 ghost use Rattle.rj_csv_io.specs.Tables.{is_null_text, read_of};
 
-use super::header::{begin_table, likely_rows, open_reader};
-use super::null_text::is_lawful_null;
-use super::read_rows::rows_of_reader;
-use super::refused::ReadRefused;
+use crate::header::{begin_table, likely_rows, open_reader};
+use crate::null_text::is_lawful_null;
+use crate::read_rows::rows_of_reader;
+use crate::refused::ReadRefused;
 use csv::ByteRecord;
 use rj_columns::{ColumnType, Table};
 use std::alloc::Global;
@@ -18,6 +18,8 @@ use std::alloc::Global;
 /// its column's type: an optional sign and decimal digits in the range of i64; a number of the numeric type, with
 /// an optional sign, digits, and perhaps a point and digits, of which those past the scale are zeros; or UTF-8 as
 /// it stands.
+///
+/// # Errors
 ///
 /// Faults are tested in this order: the null text, no header, too many columns, the names from left to right, the
 /// count of types; then record by record too many rows, the record's length, and its cells from left to right.

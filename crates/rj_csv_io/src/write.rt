@@ -5,8 +5,8 @@ ghost use Rattle.std.specs.Io.KnownBytes.{Appends};
 ghost use Rattle.rj_csv_io.specs.Shown.{table_text};
 ghost use Rattle.rj_csv_io.specs.Tables.{is_null_text};
 
-use super::output::{Failed, Output};
-use super::range::{add_range, text_of_header};
+use crate::output::{Failed, Output};
+use crate::range::{add_range, text_of_header};
 use rj_columns::RowSource;
 use std::alloc::{AllocError, Global};
 

@@ -7,9 +7,9 @@ ghost use Rattle.rj_csv_io.specs.RowParts.{part_start, IsPartText, ArePartTexts}
 ghost use Rattle.rj_csv_io.specs.Shown.{range_text, table_text};
 ghost use Rattle.rj_csv_io.specs.Tables.{is_null_text};
 
-use super::output::{Failed, Output};
-use super::range::{add_range, text_of_header};
-use super::write::WriteRefused;
+use crate::output::{Failed, Output};
+use crate::range::{text_of_header, texts_of_range};
+use crate::write::WriteRefused;
 use rj_columns::RowSource;
 use std::alloc::{AllocError, Global};
 use std::thread::{self, Threads};
@@ -33,39 +33,56 @@ fn first_row(rows: u64, parts: u64, part: u64) -> u64
     rows / parts * part + part.min(rows % parts)
 }
 
-// The text of a part of the rows.
-fn part_text<S: RowSource>(
+// The texts of a part of the rows; none behind the last part.
+fn part_texts<S: RowSource>(
     alloc: Global,
     source: &S,
     null: &str,
     parts: usize,
     part: usize,
-) -> Result<Vec<u8>, AllocError>
-    requires { part < parts }
+) -> Result<Vec<Vec<u8>>, AllocError>
+    requires { 0 < parts }
     ensures { IsPartText null.now (S.contents source.now) parts part result }
 {
+    if part >= parts {
+        return Ok(Vec::new(alloc));
+    }
     let rows = source.rows();
     let from = first_row(rows, parts as u64, part as u64);
     let to = first_row(rows, parts as u64, part as u64 + 1);
-    add_range(alloc, Vec::new(alloc), source, from, to, null)
+    texts_of_range(alloc, source, from, to, null)
 }
 
-// The texts of the parts, where each was made.
+// The texts of all parts, where each was made.
 fn all_made<S: RowSource>(
     alloc: Global,
-    mut made: Vec<Result<Vec<u8>, AllocError>>,
+    mut made: Vec<Result<Vec<Vec<u8>>, AllocError>>,
     source: &S,
     null: &str,
+    parts: usize,
 ) -> Result<Vec<Vec<u8>>, AllocError>
-    requires some { 0 < length made.items }
-    requires parts { ArePartTexts null.now (S.contents source.now) made.items }
+    requires some { 0 < parts }
+    requires enough { parts ≤ length made.items }
+    requires parts { ArePartTexts null.now (S.contents source.now) parts made.items }
     ensures { IfOk result (λ v. concat (map (λ t. t.items) v.items) ≡ range_text null.now (S.contents source.now) 0 (length (S.contents source.now))) }
 {
     let mut texts = Vec::new(alloc);
     for _part in 0..made.len() {
-        texts.push(made.remove(0)?)?;
+        let mut more = made.remove(0)?;
+        texts.append(&mut more)?;
     }
     Ok(texts)
+}
+
+// How many jobs make so many parts of rows. The last job is the starting thread's own, and has no part where the rows are
+// many: threads that start then take over the memory that ended ones gave back, and the starting thread has none of it.
+fn job_count(rows: u64, parts: usize) -> usize
+    ensures { parts ≤ result }
+{
+    if rows < LEAST_ROWS {
+        return parts;
+    }
+    parts.saturating_add(1)
 }
 
 // The texts of a header and of a source's rows in so many parts, each by a thread.
@@ -85,10 +102,10 @@ fn table_texts<R: Threads + Sync, S: RowSource + Sync>(
     let made = thread::map_indices(
         rt,
         alloc,
-        parts,
-        &|part| part_text(alloc, source, null, parts, part),
+        job_count(source.rows(), parts),
+        &|part| part_texts(alloc, source, null, parts, part),
     )?;
-    let mut more = all_made(alloc, made, source, null)?;
+    let mut more = all_made(alloc, made, source, null, parts)?;
     texts.append(&mut more)?;
     Ok(texts)
 }
@@ -138,8 +155,8 @@ pub(crate) fn write_parts<R: Threads + Sync, O: Output, S: RowSource + Sync>(
 /// Writes a header and the rows of a source as `write_rows` does, with the texts of shares of the rows made by up
 /// to so many threads. Few rows take fewer threads.
 ///
-/// All texts are made before the first is put. Then the header's and each share's are put in order, each by a call
-/// of the device, up to the first call that fails.
+/// A share's text is made in texts of up to 16,384 rows, and all texts are made before the first is put. Then the header's
+/// and each share's are put in order, each by a call of the device, up to the first call that fails.
 ///
 /// # Errors
 ///

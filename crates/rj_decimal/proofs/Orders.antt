@@ -2,29 +2,26 @@
 use Rattle.std.proofs.Common.{◌≡◌, ℕ, ℤ, true, ◌+◌, ◌-◌, ◌≤◌, refl, sym, ap, ◌∙◌, arith}
 use Rattle.std.specs.Prelude.{◌↔◌}
 use Rattle.std.specs.declared.cmp.Ordering.{Ordering}
-use Rattle.std.specs.declared.cmp.Ordering.TheVariants.{Less, Equal, Greater}
-use Rattle.std.specs.Ordering.{int_cmp, int_eq, is_eq}
+use Rattle.std.specs.declared.cmp.Ordering.TheVariants.{Equal}
+use Rattle.std.specs.Ordering.{int_cmp, int_eq}
+use Rattle.std.specs.Cmp.{Equal-is}
 use Rattle.std.proofs.lemmas.Bool.Decides.{Decides-int_eq}
 use Rattle.rj_decimal.specs.Numbers.{Number, finer, whole_number}
 use Rattle.rj_decimal.specs.Order.{ordered, are_same}
 use Rattle.rj_decimal.proofs.Shifts.{finer-finer, finer-cmp, finer-injective, finer-none}
 
-is_eq-Equal : (o : Ordering) → is_eq o ≡ true → o ≡ Equal
-is_eq-Equal Less e = cc
-is_eq-Equal Equal e = refl
-is_eq-Equal Greater e = cc
-
 -- numbers are one value exactly where their order says so
 pub ordered-equal : (x y : Number) → (ordered x y ≡ Equal) ↔ (are_same x y ≡ true)
 unfolding ordered are_same
-ordered-equal x y = (λ e. ap is_eq e, λ t. is_eq-Equal (int_cmp (finer x.units y.scale) (finer y.units x.scale)) t)
+ordered-equal x y = let o = Equal-is (int_cmp (finer x.units y.scale) (finer y.units x.scale)) in (o.1, o.0)
 
 -- in a scale that both have or may have, units decide
 ordered-in_scale : (x y : Number) (s : ℕ) → x.scale ≤ s → y.scale ≤ s → int_cmp (finer x.units (s - x.scale)) (finer y.units (s - y.scale)) ≡ ordered x y
 unfolding ordered
 ordered-in_scale x y s hx hy =
     let k = x.scale + y.scale in
-    let up : int_cmp (finer (finer x.units (s - x.scale)) k) (finer (finer y.units (s - y.scale)) k) ≡ int_cmp (finer x.units (s - x.scale)) (finer y.units (s - y.scale)) = finer-cmp (finer x.units (s - x.scale)) (finer y.units (s - y.scale)) k in
+    let up : int_cmp (finer (finer x.units (s - x.scale)) k) (finer (finer y.units (s - y.scale)) k) ≡ int_cmp (finer x.units (s - x.scale)) (finer y.units (s - y.scale)) =
+    finer-cmp (finer x.units (s - x.scale)) (finer y.units (s - y.scale)) k in
     let down : int_cmp (finer (finer x.units y.scale) s) (finer (finer y.units x.scale) s) ≡ int_cmp (finer x.units y.scale) (finer y.units x.scale) = finer-cmp (finer x.units y.scale) (finer y.units x.scale) s in
     let left : finer (finer x.units (s - x.scale)) k ≡ finer (finer x.units y.scale) s =
     finer-finer x.units (s - x.scale) k ∙ (ap (finer x.units) (omega arith) ∙ sym (finer-finer x.units y.scale s)) in

@@ -108,7 +108,11 @@ size-some p s k v xs ys r e d n z h =
     let b = both (all_ascii_digits xs) (all_ascii_digits (take k ys)) (sym (digits-append xs (take k ys)) ∙ d) in
     let rest : are_zeros (drop s ys) ≡ true = ap are_zeros (sym (kept-drop s k ys e)) ∙ z in
     SomeIff-same r _ _ _ _
-    (λ l. (b.0, parts k ys ∙ and (all_ascii_digits (take k ys)) (all_ascii_digits (drop k ys)) b.1 (zeros-digits (drop k ys) z), and (are_zeros (drop s ys)) (nat_lt (size_at s xs ys) (10 ^ p)) rest (is_below (size_at s xs ys) (10 ^ p) (omega (arith, l, value)))))
+    (λ l. (
+      b.0,
+      parts k ys ∙ and (all_ascii_digits (take k ys)) (all_ascii_digits (drop k ys)) b.1 (zeros-digits (drop k ys) z),
+      and (are_zeros (drop s ys)) (nat_lt (size_at s xs ys) (10 ^ p)) rest (is_below (size_at s xs ys) (10 ^ p) (omega (arith, l, value))),
+    ))
     (λ q. let fit = both (are_zeros (drop s ys)) (nat_lt (size_at s xs ys) (10 ^ p)) q.2 in omega (arith, value, below (size_at s xs ys) (10 ^ p) fit.1))
     value h
 

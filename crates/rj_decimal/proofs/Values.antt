@@ -73,7 +73,8 @@ units_value p s text u e =
     let n = numeric-some p s text u e in
     let fit = (both (is_unsigned_text unsigned) (fits p s (before_point unsigned) (after_point unsigned)) n.0).1 in
     let zeros = (both (are_zeros (drop s (after_point unsigned))) (nat_lt (size_at s (before_point unsigned) (after_point unsigned)) (10 ^ p)) fit).0 in
-    let same = signed-finer text (digits_value 10 (before_point unsigned ++ after_point unsigned)) (size_at s (before_point unsigned) (after_point unsigned)) s (length (after_point unsigned)) (size-value s (before_point unsigned) (after_point unsigned) zeros) in
+    let same = signed-finer text (digits_value 10 (before_point unsigned ++ after_point unsigned))
+    (size_at s (before_point unsigned) (after_point unsigned)) s (length (after_point unsigned)) (size-value s (before_point unsigned) (after_point unsigned) zeros) in
     same-from (number_in text) (record { units = u; scale = s }) (same ∙ ap (λ u. finer u (length (after_point unsigned))) (sym n.1))
 
 pub units-small : (p s : ℕ) (text : List ℕ) (u : ℤ) → Some u ≡ numeric_of p s text → unsigned_abs u < 10 ^ p

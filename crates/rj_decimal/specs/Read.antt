@@ -1,5 +1,5 @@
 -- The reading of a text as a value of a numeric type.
-use Rattle.std.specs.Prelude.{◌≡◌, ℕ, ℤ, pos, neg_ℤ, ◌*◌, ◌-◌, ◌^◌, ◌==◌, nat_lt, Bool, true, false, ◌&&◌, if◌then◌else◌, List, [], ◌∷◌, ◌++◌, length, take, drop, Option, Some, None}
+use Rattle.std.specs.Prelude.{◌≡◌, ◌<◌, ℕ, ℤ, pos, neg_ℤ, ◌*◌, ◌-◌, ◌^◌, ◌==◌, nat_lt, Bool, true, false, ◌&&◌, if◌then◌else◌, List, [], ◌∷◌, ◌++◌, length, take, drop, Option, Some, None}
 use Rattle.std.specs.Str.{all_ascii_digits}
 use Rattle.rj_decimal.specs.Numbers.{Number}
 use Rattle.std.specs.Str.Parse.{starts_with_minus, without_leading_sign, digits_value}
@@ -18,6 +18,10 @@ after_point (c ∷ cs) = if c == 46 then cs else after_point cs
 abbrev pub has_point : List ℕ → Bool
 has_point [] = false
 has_point (c ∷ cs) = if c == 46 then true else has_point cs
+
+-- digits that write a number below 10^18
+abbrev pub AreSmallDigits : List ℕ → Type 0
+AreSmallDigits text = (all_ascii_digits text ≡ true) × (digits_value 10 text < 10 ^ 18)
 
 -- one or more digits
 abbrev pub are_digits : List ℕ → Bool

@@ -4,8 +4,8 @@ ghost use Rattle.std.specs.Prelude.{◌≡◌, ◌↔◌, ◌≤◌, ◌-◌, tr
 ghost use Rattle.rj_decimal.specs.Numbers.{finer, number_of};
 ghost use Rattle.rj_decimal.specs.Order.{ordered, are_same};
 
-use super::decimal::Decimal;
-use super::powers::power_of_ten;
+use crate::decimal::Decimal;
+use crate::powers::power_of_ten;
 use std::cmp::Ordering;
 
 // Units with more digits after the point.

@@ -6,7 +6,7 @@ ghost use Rattle.rj_decimal.specs.Numbers.{Number, number_of};
 ghost use Rattle.rj_decimal.specs.Order.{are_same};
 ghost use Rattle.rj_decimal.specs.Least.{ends_with_zero, hash_of, IsLeast, least_of};
 
-use super::decimal::Decimal;
+use crate::decimal::Decimal;
 
 // Whether the units end with a zero.
 #[inline]

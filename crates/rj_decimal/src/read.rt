@@ -5,11 +5,11 @@ ghost use Rattle.std.specs.Str.{all_ascii_digits};
 ghost use Rattle.std.specs.Str.Parse.{digits_value, digits_value_after, without_leading_sign};
 ghost use Rattle.rj_decimal.specs.Numbers.{number_of};
 ghost use Rattle.rj_decimal.specs.Order.{are_same};
-ghost use Rattle.rj_decimal.specs.Read.{IsSize, IsUnsigned, after_point, are_zeros, before_point, fits, has_point, is_unsigned_text, number_in, numeric_of, size_at};
+ghost use Rattle.rj_decimal.specs.Read.{AreSmallDigits, IsSize, IsUnsigned, after_point, are_zeros, before_point, fits, has_point, is_unsigned_text, number_in, numeric_of, size_at};
 
-use super::decimal::Decimal;
-use super::numeric::NumericType;
-use super::powers::power_of_ten;
+use crate::decimal::Decimal;
+use crate::numeric::NumericType;
+use crate::powers::power_of_ten;
 
 // A text without its sign.
 fn without_sign(text: &[u8]) -> &[u8]
@@ -70,7 +70,7 @@ fn digits_after(number: u64, text: &[u8]) -> Option<u64>
 
 // The number that two texts of digits write one after the other, if it is below 10^18.
 fn digits_together(before: &[u8], after: &[u8]) -> Option<u64>
-    ensures { SomeIff result ((all_ascii_digits (before.now ++ after.now) ≡ true) × (digits_value 10 (before.now ++ after.now) < 10 ^ 18)) (digits_value 10 (before.now ++ after.now)) }
+    ensures { SomeIff result (AreSmallDigits (before.now ++ after.now)) (digits_value 10 (before.now ++ after.now)) }
 {
     let Some(value) = digits_after(0, before) else {
         return None;

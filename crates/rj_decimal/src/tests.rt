@@ -1,6 +1,6 @@
 // Values at the limits, and the worked examples of numeric columns.
 
-use super::{Decimal, DecimalBuffer, NumericType, compare, hash, least, read_numeric, rescale};
+use crate::{Decimal, DecimalBuffer, NumericType, compare, hash, least, read_numeric, rescale};
 use std::cmp::Ordering;
 use std::test::Fail;
 

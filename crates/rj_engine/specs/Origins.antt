@@ -18,7 +18,8 @@ other_lefts partners = filter (λ i. not (is_some (slice_index_or partners i Non
 abbrev pub other_rights : List (Option ℕ) → ℕ → List ℕ
 other_rights partners width = filter (λ j. not (list_any (is_column j) partners)) (range_with_len 0 width)
 
--- join columns in the order of the left table, other left columns, other right columns; ON and CROSS have no join columns, so all left columns, then all right ones
+-- join columns in the order of the left table, other left columns, other right columns; ON and CROSS have no join columns, so all
+-- left columns, then all right ones
 unfoldable pub origins_of : List (Option ℕ) → ℕ → List Origin
 origins_of partners width =
     map (λ p. Coalesced p.0 p.1) (pairs_of partners) ++ map (λ i. Left i) (other_lefts partners) ++ map (λ j. Right j) (other_rights partners width)

@@ -8,7 +8,7 @@ ghost use Rattle.rj_engine.specs.Cells.{coalesced_scale, joined_cell, left_cell,
 ghost use Rattle.rj_engine.specs.Cells.{IsLeftRow, IsMemberOf, IsRightRow};
 ghost use Rattle.rj_engine.specs.declared.origin.Origin.TheVariants as origin;
 
-use super::joined::Members;
+use crate::joined::Members;
 use rj_columns::{Cell, Table, in_scale};
 use std::alloc::AllocError;
 

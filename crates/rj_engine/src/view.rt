@@ -7,9 +7,9 @@ ghost use Rattle.rj_engine.specs.Results.{joined_of};
 ghost use Rattle.rj_engine.specs.Cells.{header_of, view_of, columns_of, name_of, joined_cell, left_cell, right_cell};
 ghost use Rattle.rj_engine.specs.Cells.{scale_of, shown_scale, IsScaledWithin, IsLeftRow, IsRightRow, IsMemberOf, IsColumnOf};
 
-use super::cells::{add_coalesced, add_left, add_right};
-use super::joined::{Joined, JoinedRow};
-use super::origin::{Origin, origins};
+use crate::cells::{add_coalesced, add_left, add_right};
+use crate::joined::{Joined, JoinedRow};
+use crate::origin::{Origin, origins};
 use rj_columns::{Cell, ColumnType, RowSource, Table, coalesce, in_scale};
 use rj_condition::BoundJoin;
 use std::alloc::{AllocError, Global};

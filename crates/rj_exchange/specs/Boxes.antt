@@ -55,13 +55,15 @@ IsEndOf place made l s = IsPassOf l s.pass × (view s.pass ≡ taker place made 
 pub record IsOutboxOf (e : Exchange) (o : Outbox) : Type 0 where
   pub many : length o.stubs.items ≡ e.partitions * e.lanes
   pub below : o.number < e.outboxes
-  pub tokens : (p k : ℕ) (l : Queue) (s : Stub) → p < e.partitions → k < e.lanes → IsStubOf (where_at e p k) o.number (slice_index_or e.queues.items (p * e.lanes + k) l) (slice_index_or o.stubs.items (p * e.lanes + k) s)
+  pub tokens : (p k : ℕ) (l : Queue) (s : Stub) → p < e.partitions → k < e.lanes
+      → IsStubOf (where_at e p k) o.number (slice_index_or e.queues.items (p * e.lanes + k) l) (slice_index_or o.stubs.items (p * e.lanes + k) s)
 
 -- an inbox of this exchange, whatever it has heard of outboxes that have ended
 pub record TakesFrom (e : Exchange) (i : Inbox) : Type 0 where
   pub many : length i.ends.items ≡ e.lanes
   pub below : i.partition < e.partitions
-  pub tokens : (k : ℕ) (l : Queue) (s : Stub) → k < e.lanes → IsEndOf (where_at e i.partition k) e.outboxes (slice_index_or e.queues.items (i.partition * e.lanes + k) l) (slice_index_or i.ends.items k s)
+  pub tokens : (k : ℕ) (l : Queue) (s : Stub) → k < e.lanes
+      → IsEndOf (where_at e i.partition k) e.outboxes (slice_index_or e.queues.items (i.partition * e.lanes + k) l) (slice_index_or i.ends.items k s)
 
 -- an inbox that has heard of no outbox's end
 pub record IsInboxOf (e : Exchange) (i : Inbox) : Type 0 where
@@ -82,7 +84,8 @@ AreAllOutboxes e os = (length os ≡ e.outboxes) × ((o : ℕ) (d : Outbox) → 
 -- of what outboxes leave, the stubs for partition p, by outbox, then lane
 pub record AreLeftAt (e : Exchange) (p : ℕ) (os : List Outbox) (ss : List Stub) : Type 0 where
   pub many : length ss ≡ e.outboxes * e.lanes
-  pub each : (o k : ℕ) (d : Outbox) (s : Stub) → o < e.outboxes → k < e.lanes → slice_index_or ss (o * e.lanes + k) s ≡ slice_index_or (slice_index_or os o d).stubs.items (p * e.lanes + k) s
+  pub each : (o k : ℕ) (d : Outbox) (s : Stub) → o < e.outboxes → k < e.lanes
+      → slice_index_or ss (o * e.lanes + k) s ≡ slice_index_or (slice_index_or os o d).stubs.items (p * e.lanes + k) s
 
 -- what is left of a list after its first n
 abbrev pub IsLater : ℕ → List Stub → List Stub → Type 0
@@ -90,21 +93,26 @@ IsLater n old new = (length new + n ≡ length old) × ((i : ℕ) (d : Stub) →
 
 -- an inbox's token, which knows n outboxes that have ended
 abbrev pub IsTaker : ℕ → Queue → Stub → Type 0
-IsTaker n l s = IsPassOf l s.pass × (view s.pass ≡ taker (view s.pass).place (view s.pass).made (view s.pass).taken (view s.pass).known) × (length (view s.pass).known ≡ n)
+IsTaker n l s = IsPassOf l s.pass
+    × (view s.pass ≡ taker (view s.pass).place (view s.pass).made (view s.pass).taken (view s.pass).known)
+    × (length (view s.pass).known ≡ n)
 
 -- it knows of one outbox more
 abbrev pub IsGrown : Queue → Stub → Stub → Stub → Type 0
-IsGrown l old stub new = IsPassOf l new.pass × (view new.pass ≡ taker (view old.pass).place (view old.pass).made (view old.pass).taken ((view old.pass).known ++ sent_of stub ∷ []))
+IsGrown l old stub new = IsPassOf l new.pass
+    × (view new.pass ≡ taker (view old.pass).place (view old.pass).made (view old.pass).taken ((view old.pass).known ++ sent_of stub ∷ []))
 
 -- the tokens of a partition's queues from all outboxes, by outbox, then lane
 pub record AreStubsOf (e : Exchange) (p : ℕ) (ss : List Stub) : Type 0 where
   pub many : length ss ≡ e.outboxes * e.lanes
-  pub stubs : (o k : ℕ) (l : Queue) (s : Stub) → o < e.outboxes → k < e.lanes → IsStubOf (where_at e p k) o (slice_index_or e.queues.items (p * e.lanes + k) l) (slice_index_or ss (o * e.lanes + k) s)
+  pub stubs : (o k : ℕ) (l : Queue) (s : Stub) → o < e.outboxes → k < e.lanes
+      → IsStubOf (where_at e p k) o (slice_index_or e.queues.items (p * e.lanes + k) l) (slice_index_or ss (o * e.lanes + k) s)
 
 -- the stubs of outbox o at a partition's queues, lane by lane
 pub record AreStubsFrom (e : Exchange) (p o : ℕ) (ss : List Stub) : Type 0 where
   pub many : length ss ≡ e.lanes
-  pub stubs : (k : ℕ) (l : Queue) (s : Stub) → k < e.lanes → IsStubOf (where_at e p k) o (slice_index_or e.queues.items (p * e.lanes + k) l) (slice_index_or ss k s)
+  pub stubs : (k : ℕ) (l : Queue) (s : Stub) → k < e.lanes
+      → IsStubOf (where_at e p k) o (slice_index_or e.queues.items (p * e.lanes + k) l) (slice_index_or ss k s)
 
 -- what the first o outboxes sent to lane k
 abbrev pub known_of : ℕ → List Stub → ℕ → ℕ → List (List Parcel)
@@ -130,11 +138,13 @@ place_of p k lanes outboxes = record { partition = p; lane = k; lanes = lanes; o
 
 -- an outbox gains a token of this queue
 abbrev pub AddsStub : Where → ℕ → Queue → Outbox → Outbox → Type 0
-AddsStub place i l old new = (new.number ≡ old.number) × ((s : Stub) × (new.stubs.items ≡ old.stubs.items ++ s ∷ []) × IsPassOf l s.pass × (view s.pass ≡ sender place i []))
+AddsStub place i l old new = (new.number ≡ old.number)
+    × ((s : Stub) × (new.stubs.items ≡ old.stubs.items ++ s ∷ []) × IsPassOf l s.pass × (view s.pass ≡ sender place i []))
 
 -- each outbox and each inbox is of the exchange, and nothing was posted or taken
 abbrev pub IsOpened : Exchange → List Outbox → List Inbox → ℕ → ℕ → Type 0
 IsOpened e os is outboxes partitions = (e.outboxes ≡ outboxes) × (e.partitions ≡ partitions) × (length os ≡ outboxes) × (length is ≡ partitions)
     × ((i : ℕ) (o : Outbox) → i < outboxes → IsOutboxOf e (slice_index_or os i o) × ((slice_index_or os i o).number ≡ i)
     × ((p k : ℕ) (s : Stub) → p < partitions → k < e.lanes → sent_of (slice_index_or (slice_index_or os i o).stubs.items (p * e.lanes + k) s) ≡ []))
-    × ((p : ℕ) (n : Inbox) → p < partitions → IsInboxOf e (slice_index_or is p n) × ((slice_index_or is p n).partition ≡ p) × ((k : ℕ) (s : Stub) → k < e.lanes → taken_of (slice_index_or (slice_index_or is p n).ends.items k s) ≡ []))
+    × ((p : ℕ) (n : Inbox) → p < partitions → IsInboxOf e (slice_index_or is p n) × ((slice_index_or is p n).partition ≡ p)
+    × ((k : ℕ) (s : Stub) → k < e.lanes → taken_of (slice_index_or (slice_index_or is p n).ends.items k s) ≡ []))

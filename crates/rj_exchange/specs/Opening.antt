@@ -19,11 +19,13 @@ pub record AreBoxes (lanes outboxes : ℕ) (queues : List Queue) (boxes : List O
   pub number : (i : ℕ) (b : Outbox) → i < outboxes → (slice_index_or boxes i b).number ≡ i
   pub wide : (i : ℕ) (b : Outbox) → i < outboxes → length (slice_index_or boxes i b).stubs.items ≡ length queues
   pub stubs : (i p k : ℕ) (b : Outbox) (l : Queue) (s : Stub) → i < outboxes → k < lanes → p * lanes + k < length queues
-      → IsFreshStub (place_of p k lanes outboxes) i (slice_index_or queues (p * lanes + k) l) (slice_index_or (slice_index_or boxes i b).stubs.items (p * lanes + k) s)
+      → IsFreshStub (place_of p k lanes outboxes) i (slice_index_or queues (p * lanes + k) l)
+      (slice_index_or (slice_index_or boxes i b).stubs.items (p * lanes + k) s)
 
 pub record AreEnds (lanes outboxes p m : ℕ) (queues : List Queue) (ends : List Stub) : Type 0 where
   pub many : length ends ≡ m
-  pub row : (k : ℕ) (l : Queue) (s : Stub) → k < m → IsFreshEnd (place_of p k lanes outboxes) outboxes (slice_index_or queues (p * lanes + k) l) (slice_index_or ends k s)
+  pub row : (k : ℕ) (l : Queue) (s : Stub) → k < m
+      → IsFreshEnd (place_of p k lanes outboxes) outboxes (slice_index_or queues (p * lanes + k) l) (slice_index_or ends k s)
 
 pub record AreInboxes (lanes outboxes n : ℕ) (queues : List Queue) (inboxes : List Inbox) : Type 0 where
   pub many : length inboxes ≡ n

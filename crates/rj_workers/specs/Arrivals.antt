@@ -50,14 +50,16 @@ IsAllArrived outboxes lanes ps xs = ((x : Parcel) → Contains xs x → (o : ℕ
 
 -- the first stubs of each list, list by list
 abbrev pub AreFirstOf : ℕ → List (List Stub) → List Stub → Type 0
-AreFirstOf n lists ss = (length ss ≡ length lists * n) × ((o k : ℕ) (s : Stub) → o < length lists → k < n → slice_index_or ss (o * n + k) s ≡ slice_index_or (slice_index_or lists o []) k s)
+AreFirstOf n lists ss = (length ss ≡ length lists * n)
+    × ((o k : ℕ) (s : Stub) → o < length lists → k < n → slice_index_or ss (o * n + k) s ≡ slice_index_or (slice_index_or lists o []) k s)
 
 abbrev pub stub_lists : List Outbox → List (List Stub)
 stub_lists os = map (λ o. o.stubs.items) os
 
 -- the list has what the outboxes, which left these stubs, posted to the queues of partition p, and nothing else
 abbrev pub IsPartition : ℕ → ℕ → List (List Stub) → ℕ → List Parcel → Type 0
-IsPartition outboxes lanes lists p xs = ((x : Parcel) → Contains xs x → (o : ℕ) × (k : ℕ) × (o < outboxes) × (k < lanes) × Contains (posts_at (map sent_of (slice_index_or lists o [])) (p * lanes + k)) x)
+IsPartition outboxes lanes lists p xs = ((x : Parcel) → Contains xs x
+    → (o : ℕ) × (k : ℕ) × (o < outboxes) × (k < lanes) × Contains (posts_at (map sent_of (slice_index_or lists o [])) (p * lanes + k)) x)
     × ((o k : ℕ) (x : Parcel) → o < outboxes → k < lanes → Contains (posts_at (map sent_of (slice_index_or lists o [])) (p * lanes + k)) x → Contains xs x)
 
 -- a ledger to which all that these stubs' outboxes posted for partition p was offered
@@ -70,7 +72,8 @@ IsFilled senders block outboxes lanes lists p v = (xs : List Parcel) × IsPartit
 
 -- outbox o is the o-th
 abbrev pub AreOutboxes : Exchange → List Outbox → Type 0
-AreOutboxes e os = (length os ≡ e.outboxes) × ((o : ℕ) (d : Outbox) → o < e.outboxes → IsOutboxOf e (slice_index_or os o d) × ((slice_index_or os o d).number ≡ o))
+AreOutboxes e os = (length os ≡ e.outboxes)
+    × ((o : ℕ) (d : Outbox) → o < e.outboxes → IsOutboxOf e (slice_index_or os o d) × ((slice_index_or os o d).number ≡ o))
 
 -- what each sender has for partition p was delivered
 abbrev pub IsDelivered : Due → ℕ → ℕ → LedgerValue → Type 0

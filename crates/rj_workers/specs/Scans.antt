@@ -45,7 +45,9 @@ AreNewScanners e h st n rs = (length rs ≡ n) × ((s : ℕ) (d : Scanner) → s
 
 -- outboxes as they were opened
 abbrev pub AreNewOutboxes : Exchange → ℕ → List Outbox → Type 0
-AreNewOutboxes e n os = (length os ≡ n) × ((s : ℕ) (d : Outbox) → s < n → IsOutboxOf e (slice_index_or os s d) × ((slice_index_or os s d).number ≡ s) × NothingPosted (sents (slice_index_or os s d)))
+AreNewOutboxes e n os = (length os ≡ n)
+    × ((s : ℕ) (d : Outbox) → s < n → IsOutboxOf e (slice_index_or os s d) × ((slice_index_or os s d).number ≡ s)
+    × NothingPosted (sents (slice_index_or os s d)))
 
 abbrev pub IsScanner : {J G : Type 0} → Floor J G → Scanner → Type 0
 IsScanner shared me = IsScannerOf shared.exchange.now shared.halt.now shared.stripes.now me
@@ -74,4 +76,5 @@ IsScan due shared n me = IsScanOf due shared.crew.block shared.crew.workers shar
 
 -- what all scanners hand back, by outbox
 abbrev pub AreScans : Due → ℕ → ℕ → Exchange → Halt → Stripes → List Scanner → Type 0
-AreScans due block stripes e h st rs = (length rs ≡ e.outboxes) × ((o : ℕ) (d : Scanner) → o < e.outboxes → IsScanOf due block stripes e h st o (slice_index_or rs o d))
+AreScans due block stripes e h st rs = (length rs ≡ e.outboxes)
+    × ((o : ℕ) (d : Scanner) → o < e.outboxes → IsScanOf due block stripes e h st o (slice_index_or rs o d))

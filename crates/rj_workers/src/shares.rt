@@ -24,6 +24,10 @@ pub trait Shares {
         requires { number < shares self.now };
 
     /// Does a share.
+    ///
+    /// # Errors
+    ///
+    /// It fails only where memory is refused.
     fn share(&self, alloc: Global, number: u64) -> Result<Self::Done, AllocError>
         requires { number < shares self.now }
         ensures { IfOk result (makes self.now number) };

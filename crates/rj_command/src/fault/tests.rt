@@ -1,6 +1,6 @@
 // The line and the exit status of each fault, typed from the tables of docs/specification.md.
 
-use super::{Fault, Side};
+use crate::fault::{Fault, Side};
 use crate::read_line;
 use std::alloc::Global;
 use std::test::Fail;

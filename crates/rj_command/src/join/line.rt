@@ -4,10 +4,10 @@ ghost use Rattle.std.specs.Prelude.{◌≡◌, ◌⊎◌, ◌-◌, ◌^◌, IfOk
 ghost use Rattle.clap.specs.Words.{first_value, found_of, kind_of};
 ghost use Rattle.rj_command.specs.Line.{AreNumbersIn, AreSettings, IsHashName, IsHashOr, IsLineFault, IsLineOf, IsNumberIn, IsNumberOr, IsParseOf, is_true};
 
-use super::options::line_command;
-use super::request::{Hash, Request};
-use super::types::read_types;
 use crate::fault::{Fault, Side};
+use crate::join::options::line_command;
+use crate::join::request::{Hash, Request};
+use crate::join::types::read_types;
 use clap::error::ErrorKind;
 use clap::{ArgMatches, Error};
 use rj_engine::Settings;
@@ -110,9 +110,12 @@ fn is_given(matches: &ArgMatches<'_>, name: &str) -> bool
     }
 }
 
-/// Reads the words after the program's name. A line that `clap` refuses, or that asks for help or the version, is
-/// `Fault::CommandLine`; a bad type list is told after that, the left one before the right one.
-/// `Fault::Memory` comes only where a growth was refused.
+/// Reads the words after the program's name.
+///
+/// # Errors
+///
+/// A line that `clap` refuses, or that asks for help or the version, is `Fault::CommandLine`; a bad type list is told
+/// after that, the left one before the right one. `Fault::Memory` comes only where a growth was refused.
 pub fn read_line<'a>(alloc: Global, words: &'a [&'a str]) -> Result<Line<'a>, Fault>
     ensures line { IfOk result (IsLineOf (map (λ w. w.now) words.entry.now)) }
     ensures fault { IfErr result (IsLineFault (map (λ w. w.now) words.entry.now)) }

@@ -5,8 +5,8 @@ ghost use Rattle.rj_csv_io.specs.Tables.{is_null_text};
 ghost use Rattle.rj_condition.specs.Fits.{fits};
 ghost use Rattle.rj_command.specs.Operands.{AreOperands, IsFirstFault, IsJoinFault, IsJoinOf, bind_fault, parse_fault, read_fault, side_read, types_of};
 
-use super::request::Request;
 use crate::fault::{Fault, Side};
+use crate::join::request::Request;
 use rj_columns::{ColumnType, Table};
 use rj_condition::{BindRefused, BoundJoin, ParseRefused, bind, parse};
 use rj_csv_io::{ReadRefused, read_table_in_parts};

@@ -113,7 +113,8 @@ const OPTIONS: [LineOption; 16] = [
     LineOption {
         name: "stats",
         takes: Takes::Nothing,
-        help: "Print on standard error how many rows each partition had, how many rows of each kind were written, and where --piece is given how many pieces were joined",
+        help: "Print on standard error how many rows each partition had, how many rows of each kind were written, \
+            and where --piece is given how many pieces were joined",
     },
 ];
 

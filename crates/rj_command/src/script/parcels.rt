@@ -6,7 +6,7 @@ ghost use Rattle.std.specs.List.{list_all};
 ghost use Rattle.std.specs.Str.{bytes_eq};
 ghost use Rattle.rj_command.specs.Script.{is_numeral, number_of, rows_of, body_of, reading, words_of};
 
-use super::lines::split_once;
+use crate::script::lines::split_once;
 use rj_ledger::{Block, Body, Parcel};
 use std::alloc::{AllocError, Global};
 

@@ -1,7 +1,7 @@
 // Worked examples of scripts, and writers that fail.
 
-use super::arrivals;
 use crate::Fault;
+use crate::script::arrivals;
 use rj_csv_io::{CountedWriter, Failed, Output};
 use std::alloc::Global;
 

@@ -1,6 +1,6 @@
 // Worked examples of rows that are written in parts.
 
-use super::{FailsOnce, INT, TEXT, text_of};
+use crate::tests::{FailsOnce, INT, TEXT, text_of};
 use crate::write_in_parts::{part_count, write_parts};
 use crate::{CountedWriter, Output, WriteRefused, read_table, write_rows_in_parts};
 use rj_columns::Table;

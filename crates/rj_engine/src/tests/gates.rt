@@ -6,7 +6,7 @@
 ghost use Rattle.std.specs.Prelude.{◌≡◌, true};
 ghost use Rattle.rj_condition.specs.Fits.{fits};
 
-use super::tables::{join_of, keys};
+use crate::tests::tables::{join_of, keys};
 use crate::{Gate, Joined, Place, Settings, run_join};
 use rj_columns::Table;
 use rj_condition::BoundJoin;

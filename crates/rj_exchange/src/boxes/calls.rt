@@ -6,7 +6,7 @@ ghost use Rattle.rj_exchange.specs.Passing.{Belongs, HeldAt, Left, Next, sender,
 ghost use Rattle.rj_exchange.specs.Boxes.{sent_of, taken_of, heard_of, sents, takens, heards, where_at, queue_of, IsStubOf, IsEndOf, IsOutboxOf};
 ghost use Rattle.rj_exchange.specs.Boxes.{TakesFrom, IsInboxOf};
 
-use super::{Exchange, Full, Inbox, Outbox, Stub};
+use crate::boxes::{Exchange, Full, Inbox, Outbox, Stub};
 use crate::posted::Posted;
 use crate::queue::{ParcelQueue, put, take};
 use rj_ledger::Parcel;
@@ -61,8 +61,11 @@ fn take_at<R: Wait>(rt: &R, queue: &ParcelQueue, end: &mut Stub) -> Option<Poste
 }
 
 impl Outbox {
-    /// Posts a parcel at the back of the queue of its partition and of lane `number mod lanes`, in one step. `Full` gives the
-    /// parcel back, with nothing posted, and comes only where the queue was full at a moment of the call. Takes no memory.
+    /// Posts a parcel at the back of the queue of its partition and of lane `number mod lanes`, in one step. Takes no memory.
+    ///
+    /// # Errors
+    ///
+    /// `Full` gives the parcel back, with nothing posted, and comes only where the queue was full at a moment of the call.
     pub fn post<R: Wait>(&mut self, rt: &R, exchange: &Exchange, parcel: Parcel) -> Result<(), Full>
         requires { IsOutboxOf exchange.now self.old × (parcel.partition < exchange.now.partitions) }
         ensures same { IsOutboxOf exchange.now self.new × (self.new.number ≡ self.old.number) }

@@ -8,7 +8,7 @@ ghost use Rattle.rj_exchange.specs.declared.posted.Posted.{Posted};
 ghost use Rattle.rj_exchange.specs.Boxes.{Queue, sent_of, taken_of, takens, where_at, IsStubOf, IsInboxOf, IsLater, IsTaker, IsGrown, AreStubsOf};
 ghost use Rattle.rj_exchange.specs.Boxes.{known_of, Knows, IsAllSent, IsRoom, PostedVec};
 
-use super::{Exchange, Finished, Inbox, Stub};
+use crate::boxes::{Exchange, Finished, Inbox, Stub};
 use crate::posted::Posted;
 use crate::queue::{ParcelQueue, drain, give_back};
 use std::alloc::{AllocError, Global};
@@ -127,8 +127,11 @@ fn drain_all<R: Wait>(
 impl Inbox {
     /// What is left of the parcels of this partition, once every outbox has ended: asks the stubs of its queues from all
     /// outboxes, by outbox and then lane. For each lane what was taken, followed by the rest, interleaves what the outboxes
-    /// posted there: nothing is lost, doubled or invented, and each outbox's parcels come in its order. Room is made first:
-    /// where that is refused all comes back, with nothing taken.
+    /// posted there: nothing is lost, doubled or invented, and each outbox's parcels come in its order.
+    ///
+    /// # Errors
+    ///
+    /// It fails only where memory is refused. Room is made first, so all comes back then, with nothing taken.
     pub fn finish<R: Wait>(
         self,
         rt: &R,

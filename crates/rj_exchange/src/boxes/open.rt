@@ -6,7 +6,7 @@ ghost use Rattle.rj_exchange.specs.declared.boxes.Stub.{Stub};
 ghost use Rattle.rj_exchange.specs.declared.boxes.Outbox.{Outbox};
 ghost use Rattle.rj_exchange.specs.Boxes.{Queue, sent_of, taken_of, IsStubOf, IsEndOf, IsTaker, IsOpened, place_of, AddsStub};
 
-use super::{Exchange, Inbox, Outbox, Stub};
+use crate::boxes::{Exchange, Inbox, Outbox, Stub};
 use crate::queue::{ParcelQueue, Place, deal, fix};
 use std::alloc::{AllocError, Global};
 use std::marker::Brand;
@@ -76,6 +76,10 @@ impl Exchange {
     /// An exchange with empty queues of `capacity` parcels, 1 to 4,096, for each of the partitions, 1 to 1,024, and lanes, 1 to
     /// 4; its outboxes, 1 to 64, by number; and its inboxes, by partition. It makes all the room that posting, taking and
     /// ending need.
+    ///
+    /// # Errors
+    ///
+    /// It fails only where memory is refused.
     pub fn open(
         alloc: Global,
         outboxes: u32,

@@ -3,12 +3,16 @@ ghost use Rattle.std.specs.Prelude.{◌≡◌, ◌≤◌, ◌⊎◌, ◌↔◌, 
 ghost use Rattle.rj_exchange.specs.Halt.{HasRaised, HasSeen, IsCalm, halt_seats_of, IsHaltSeatOf, IsNewHalt, AreAllHaltSeats, AnyRaised, AnySeen};
 ghost use Rattle.std.specs.Bool.{OnFalse};
 
-use super::{CutLook, Halt, HaltSeat, Looks, Raises};
+use crate::halt::{CutLook, Halt, HaltSeat, Looks, Raises};
 use atomic_table::Table;
 use std::alloc::{AllocError, Global};
 
 impl Halt {
     /// A word that is not raised, and so many seats, 1 to 256.
+    ///
+    /// # Errors
+    ///
+    /// It fails only where memory is refused.
     pub fn open(alloc: Global, seats: u32) -> Result<(Halt, Vec<HaltSeat>), AllocError>
         requires { (1 ≤ seats) × (seats ≤ 256) }
         ensures counts { IfOk result (λ h. halt_seats_of h.0 ≡ seats) }

@@ -4,8 +4,8 @@ ghost use Rattle.crossbeam_queue.specs.Passes.{view, IsPassOf, IsSamePass, ruled
 ghost use Rattle.crossbeam_queue.specs.Fifo.{Held};
 ghost use Rattle.rj_exchange.specs.Passing.{blank, taker, sender, Belongs, HeldAt, Left, Took, Interleaves};
 
-use super::{Deal, Fix, ParcelQueue, Place, Posts, Return, Takes, Trace};
 use crate::posted::Posted;
+use crate::queue::{Deal, Fix, ParcelQueue, Place, Posts, Return, Takes, Trace};
 use crossbeam_queue::Pass;
 use rj_ledger::Parcel;
 use std::sync::Wait;

@@ -9,7 +9,7 @@ ghost use Rattle.rj_exchange.specs.Striping.{share, below, opening, stripe, with
 ghost use Rattle.rj_exchange.specs.Stripes.{held, draws, puts, drew_in_all, put_in_all, Holds, Queued, stripes_of, stripe_seats_of, IsStripeSeatOf};
 ghost use Rattle.rj_exchange.specs.Stripes.{IsNewStripeSeat, AreAllStripeSeats};
 
-use super::{
+use crate::stripes::{
     CutShare, DealOut, Draws, Gives, Lot, Settle, Share, Stripe, StripeQueue, StripeSeat, Stripes,
 };
 use crossbeam_queue::Pass;
@@ -58,6 +58,10 @@ fn fill<R: Wait>(rt: &R, queue: &StripeQueue, pass: &mut Pass<Stripe, Share>, n:
 
 impl Stripes {
     /// The numbers below `n`, 1 to 64, each put in with count 0, and so many seats, 1 to 256.
+    ///
+    /// # Errors
+    ///
+    /// It fails only where memory is refused.
     pub fn open<R: Wait>(
         rt: &R,
         alloc: Global,

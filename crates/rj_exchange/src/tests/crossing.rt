@@ -3,7 +3,7 @@ ghost use Rattle.std.specs.Prelude.{◌≡◌, ◌<◌, ◌≤◌, ℕ, IfOk, le
 ghost use Rattle.rj_exchange.specs.Boxes.{IsOutboxOf, IsOutboxAt, IsInboxAt, AreStubsOf, AreStubsFrom};
 ghost use Rattle.rj_exchange.specs.declared.boxes.Inbox.{Inbox};
 
-use super::moving::{Taken, finish_all, post_each, take_many};
+use crate::tests::moving::{Taken, finish_all, post_each, take_many};
 use crate::{Exchange, Inbox, Outbox, Stub};
 use rj_ledger::{Answer, Body, Parcel, cut, replay};
 use std::alloc::{AllocError, Global};

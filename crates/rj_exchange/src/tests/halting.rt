@@ -2,7 +2,7 @@
 ghost use Rattle.std.specs.Prelude.{◌≡◌, IfOk};
 ghost use Rattle.rj_exchange.specs.Halt.{IsHaltSeatOf, IsNewHalt, halt_seats_of};
 
-use super::TURNS;
+use crate::tests::TURNS;
 use crate::{Halt, HaltSeat};
 use std::alloc::{AllocError, Global};
 use std::test::Fail;

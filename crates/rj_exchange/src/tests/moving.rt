@@ -2,7 +2,7 @@
 ghost use Rattle.std.specs.Prelude.{◌≡◌, ◌<◌, IfOk};
 ghost use Rattle.rj_exchange.specs.Boxes.{IsOutboxOf, IsInboxOf, AreStubsOf};
 
-use super::TURNS;
+use crate::tests::TURNS;
 use crate::{Exchange, Inbox, Outbox, Posted, Stub};
 use rj_ledger::Parcel;
 use std::alloc::{AllocError, Global};

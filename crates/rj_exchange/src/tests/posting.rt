@@ -2,7 +2,7 @@
 ghost use Rattle.std.specs.Prelude.{◌≡◌, ◌<◌, ◌≤◌, IfOk};
 ghost use Rattle.rj_exchange.specs.Boxes.{IsOutboxOf, IsInboxOf};
 
-use super::moving::{Taken, finish_all, post_each, take_lane};
+use crate::tests::moving::{Taken, finish_all, post_each, take_lane};
 use crate::{Exchange, Inbox, Outbox};
 use rj_ledger::{Answer, Body, Parcel, cut, replay};
 use std::alloc::{AllocError, Global};

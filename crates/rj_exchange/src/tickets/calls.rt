@@ -2,12 +2,16 @@
 ghost use Rattle.std.specs.Prelude.{◌≡◌, ◌≤◌, ◌<◌, ◌+◌, ◌++◌, ◌∷◌, [], ◌^◌, map, All, IfOk, IsNone, MatchOption};
 ghost use Rattle.rj_exchange.specs.Tickets.{drawn, IsSpent, IsUnspent, limit_of, seats_of, IsSeatOf, IsNew, AreAllSeats, EachOnce, AnySpent};
 
-use super::{Cut, Draws, Plan, Seat, Tickets};
+use crate::tickets::{Cut, Draws, Plan, Seat, Tickets};
 use atomic_table::Table;
 use std::alloc::{AllocError, Global};
 
 impl Tickets {
     /// The numbers below `n`, at most 2^32, and so many seats, 1 to 256. Nothing is drawn yet.
+    ///
+    /// # Errors
+    ///
+    /// It fails only where memory is refused.
     pub fn open(alloc: Global, n: u64, seats: u32) -> Result<(Tickets, Vec<Seat>), AllocError>
         requires limit { n ≤ 2 ^ 32 }
         requires seats { (1 ≤ seats) × (seats ≤ 256) }

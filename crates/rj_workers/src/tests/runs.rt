@@ -1,7 +1,7 @@
 //! Runs of one, two and three workers.
 ghost use Rattle.std.specs.Prelude.{◌≡◌, ◌<◌, ◌≤◌, ◌+◌, ℕ, IfOk, IfSome, length, slice_index_or};
 
-use super::dealt::{Dealt, PARTITIONS, rows_of};
+use crate::tests::dealt::{Dealt, PARTITIONS, rows_of};
 use crate::{Crew, Delivered, Open, run_workers};
 use rj_ledger::Ledger;
 use std::alloc::{AllocError, Global};

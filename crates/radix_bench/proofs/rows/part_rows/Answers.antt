@@ -10,4 +10,4 @@ returns g c =
     let n : 1 * 2 ^ c.args.bits % 2 ^ 64 ≡ 2 ^ c.args.bits = one_shl c.args.bits 64 (omega (arith, c.requires.bits)) in
     rising_parts c.args.table.now c.args.bits (1 * 2 ^ c.args.bits % 2 ^ 64) (λ r. route_of 0 c.args.bits (hash_of (g.H.KeyHash.value c.args.by.now) (key_of c.args.table.now c.as_slice.result.now r)))
     c.args.rows.now c.in_ok-routes.routes.items c.deref.result.now c.in_ok-parts.parts.rows.items c.in_ok-parts.parts.starts.items
-    n c.requires.within c.requires.rising c.in_ok-routes.ensures.routes c.deref.ensures.value c.in_ok-parts.ensures.starts c.in_ok-parts.ensures.parts
+    n c.requires.within c.requires.rising c.in_ok-routes.ensures.routes c.deref.ensures.value c.in_ok-parts.ensures.len c.in_ok-parts.ensures.parts

@@ -1,6 +1,5 @@
-use Rattle.std.proofs.Common.{◌≡◌, ◌∙◌, ◌<◌, ap, subst, sym, rules, length}
+use Rattle.std.proofs.Common.{subst}
 use Rattle.std.proofs.lemmas.List.Elements.{All-append}
-use Rattle.rj_columns.specs.Columns.{ColumnValue, IsTyped}
 use Rattle.rj_columns.specs.Contents.{FitsType}
 use Rattle.std.specs.Prelude.{All}
 use Rattle.rj_columns.proofs.ColumnFacts.{column-more, same-kind}

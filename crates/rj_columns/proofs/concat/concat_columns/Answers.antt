@@ -1,4 +1,4 @@
-use Rattle.std.proofs.Common.{◌≡◌, ◌∙◌, sym, ap, length, map, Ok, rules}
+use Rattle.std.proofs.Common.{◌∙◌, sym, ap, length, Ok}
 use Rattle.std.proofs.lemmas.List.{length-map}
 use Rattle.std.proofs.lemmas.Result.{IfOk-weaker}
 use Rattle.rj_columns.specs.Columns.{ColumnValue}

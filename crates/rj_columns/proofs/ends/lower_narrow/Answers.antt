@@ -1,4 +1,4 @@
-use Rattle.std.proofs.Common.{arith, ◌<◌, length}
+use Rattle.std.proofs.Common.{arith}
 use Rattle.rj_columns.proofs.PackFacts.{lowered-each}
 use Rattle.rj_columns.proofs.ends.lower_narrow.Goals as goal
 

@@ -9,5 +9,6 @@ split_at-requires c = cut_digits c.as_bytes.result.now c.args.text.now c.digits_
 
 pub returns-in-Some : goal.returns-in-Some
 returns-in-Some c =
-    fraction_some c.args.before.now c.as_bytes.result.now c.args.text.now c.split_at.result.0.now c.split_at.result.1.now c.digits_len.result c.in-Some.decimal c.as_bytes.ensures.value c.digits_len.ensures c.split_at.ensures.front c.split_at.ensures.back
+    fraction_some c.args.before.now c.as_bytes.result.now c.args.text.now c.split_at.result.0.now c.split_at.result.1.now c.digits_len.result c.in-Some.decimal
+    c.as_bytes.ensures.value c.digits_len.ensures c.split_at.ensures.front c.split_at.ensures.back
     (sym (c.if-begins_with_name_byte.ensures ∙ ap (begins is_name_byte) c.as_bytes-2.ensures.value)) (sym c.in-Some.is ∙ c.in_ok-decimal.ensures)

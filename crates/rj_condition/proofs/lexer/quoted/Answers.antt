@@ -42,5 +42,6 @@ loop-found-preserved c = record {
       ∙ ap (λ z. z ++ c.args.quote ∷ []) c.in_ok-push_str.ensures.bytes in
       rw text (sym
       (quoted_two c.args.quote (slice_index c.split_at.result.1.now 0) (slice_index c.tail-after.result.now 0)
-      (string_bytes c.loop-found.found) c.loop-found.rest.now c.split_at.result.0.now c.split_at.result.1.now c.tail-after.result.now c.tail-rest.result.now k c.tail-after.ensures there c.tail-rest.ensures (sym (c.if-not-begins_with.ensures ∙ ap (begins (is_quote c.args.quote)) c.as_bytes-in-loop-found.ensures.value))) ∙ c.loop-found.invariant.state);
+      (string_bytes c.loop-found.found) c.loop-found.rest.now c.split_at.result.0.now c.split_at.result.1.now c.tail-after.result.now c.tail-rest.result.now k
+      c.tail-after.ensures there c.tail-rest.ensures (sym (c.if-not-begins_with.ensures ∙ ap (begins (is_quote c.args.quote)) c.as_bytes-in-loop-found.ensures.value))) ∙ c.loop-found.invariant.state);
 }

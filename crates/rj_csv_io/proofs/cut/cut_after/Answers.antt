@@ -1,4 +1,4 @@
-use Rattle.std.proofs.Common.{rules, ◌≡◌, ◌≤◌, ◌<◌, ◌+◌, sym, ap, ◌∙◌, arith, refl, length, drop, false, true}
+use Rattle.std.proofs.Common.{◌<◌, ◌+◌, sym, ap, ◌∙◌, arith, length, drop}
 use Rattle.std.proofs.lemmas.List.{length-drop}
 use Rattle.rj_csv_io.specs.declared.place.Place.TheVariants as place
 use Rattle.rj_csv_io.specs.Cuts.{is_open_place, has_bom}

@@ -1,7 +1,5 @@
-use Rattle.std.proofs.Common.{rules, ◌≡◌, ◌≤◌, ◌<◌, ◌+◌, ◌++◌, List, ℕ, Bor, map, take, drop, sym, ap, ◌∙◌, arith, refl, length, false, true, append_assoc}
-use Rattle.std.proofs.lemmas.List.{map-append, append-nil, take-append-drop}
-use Rattle.csv.specs.Reading.{strip_bom}
-use Rattle.rj_csv_io.specs.Cuts.{records_in, records_in_all}
+use Rattle.std.proofs.Common.{List, ℕ, Bor, map, sym, ◌∙◌, refl}
+use Rattle.std.proofs.lemmas.List.{map-append}
 use Rattle.rj_csv_io.proofs.CutFacts.{strip-plain, all-more, text-step, all-none, all-one}
 use Rattle.rj_csv_io.proofs.cut.cut_text.Goals as goal
 

@@ -1,5 +1,5 @@
-use Rattle.std.proofs.Common.{rules, ◌≡◌, sym, ◌∙◌, arith, refl}
-use Rattle.rj_csv_io.proofs.CutFacts.{bom-short, bom-long, bom-size}
+use Rattle.std.proofs.Common.{sym}
+use Rattle.rj_csv_io.proofs.CutFacts.{bom-short, bom-long}
 use Rattle.rj_csv_io.proofs.cut.starts_with_bom.Goals as goal
 
 pub returns-then-text-lt3-clause-value : goal.returns-then-text-lt3-clause-value

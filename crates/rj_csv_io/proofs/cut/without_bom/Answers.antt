@@ -1,5 +1,5 @@
-use Rattle.std.proofs.Common.{rules, ◌≡◌, sym, ◌∙◌, arith, refl}
-use Rattle.rj_csv_io.proofs.CutFacts.{strip-bom, strip-plain, bom-size}
+use Rattle.std.proofs.Common.{sym, ◌∙◌}
+use Rattle.rj_csv_io.proofs.CutFacts.{strip-bom, strip-plain}
 use Rattle.rj_csv_io.proofs.PlaceFacts.{rest-drop}
 use Rattle.rj_csv_io.proofs.cut.without_bom.Goals as goal
 

@@ -30,8 +30,8 @@ loop-i-preserved c =
     let field = field-get (fields_of c.args.fields.now) c.loop-i.i c.in-Some.field.now (sym c.in-Some.ensures.value) in
     let pushed = c.in-Ok.ensures.ok in
     record {
-      state = c.loop-i.invariant.state ∙ rw pushed (cells-step c.args.null.now c.args.row c.loop-i.builder.row c.args.types.now (fields_of c.args.fields.now) c.loop-i.i _ c.index-types-i.result c.in-Some.field.now (content_of c.in-Some-cell_of_field.cell)
-          c.loop-i-test.true at (sym c.index-types-i.is) field (sym c.in-Some-cell_of_field.ensures));
+      state = c.loop-i.invariant.state ∙ rw pushed (cells-step c.args.null.now c.args.row c.loop-i.builder.row c.args.types.now (fields_of c.args.fields.now) c.loop-i.i _ c.index-types-i.result c.in-Some.field.now
+          (content_of c.in-Some-cell_of_field.cell) c.loop-i-test.true at (sym c.index-types-i.is) field (sym c.in-Some-cell_of_field.ensures));
       size = rw pushed (omega (arith, length-append c.loop-i.builder.row (content_of c.in-Some-cell_of_field.cell ∷ []), c.loop-i.invariant.size));
       same = grows-same c.args.builder.now c.loop-i.builder c.push_cell.new.self _ c.loop-i.invariant.same pushed;
       end = refl;

@@ -1,4 +1,4 @@
-use Rattle.std.proofs.Common.{rules, ◌≡◌, ◌≤◌, ◌+◌, ◌∙◌, ℕ, List, take, ap, sym, length, true, arith}
+use Rattle.std.proofs.Common.{rules, ◌≡◌, ◌≤◌, ◌+◌, ◌∙◌, take, ap, length, true, arith}
 use Rattle.std.specs.Result.{is_ok}
 use Rattle.rj_csv_io.proofs.InputFacts.{consumes-cut, room-front}
 use Rattle.rj_csv_io.proofs.input.read_piece.Goals as goal

@@ -1,6 +1,4 @@
-use Rattle.std.proofs.Common.{◌≡◌, ◌∙◌, sym, ap, Ok, List, ℕ}
 use Rattle.csv.specs.Records.{fields_of}
-use Rattle.rj_columns.specs.Tables.{TableValue}
 use Rattle.rj_csv_io.proofs.PartFacts.{begun-rows, table-of-none}
 use Rattle.rj_csv_io.proofs.part.read_part.Goals as goal
 

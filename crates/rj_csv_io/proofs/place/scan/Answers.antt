@@ -1,5 +1,5 @@
-use Rattle.std.proofs.Common.{rules, ◌≡◌, ◌<◌, ◌≤◌, ◌==◌, ℕ, false, length, take, slice_index, ◌+◌, ◌-◌, refl, sym, ap, arith, ◌∙◌, drop}
-use Rattle.rj_csv_io.specs.Cuts.{after_quote, after_run, is_separator, place_after}
+use Rattle.std.proofs.Common.{◌≡◌, ◌<◌, length, ◌+◌, ◌-◌, refl, sym, ap, arith, ◌∙◌}
+use Rattle.rj_csv_io.specs.Cuts.{after_quote}
 use Rattle.rj_csv_io.proofs.PlaceFacts.{no-quote, run-quote, place-none, rest-at, rest-drop}
 use Rattle.std.proofs.lemmas.List.{length-drop}
 use Rattle.rj_csv_io.proofs.place.scan.Goals as goal

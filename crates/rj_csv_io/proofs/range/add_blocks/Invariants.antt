@@ -1,4 +1,4 @@
-use Rattle.std.proofs.Common.{◌≡◌, ◌≤◌, ◌-◌, ◌++◌, []}
+use Rattle.std.proofs.Common.{◌≤◌, ◌-◌, ◌++◌, []}
 use Rattle.rj_csv_io.specs.Shown.{range_text}
 use Rattle.rj_csv_io.specs.Written.{HasWritten}
 use Rattle.rj_csv_io.proofs.range.add_blocks.Given as goal

@@ -41,7 +41,8 @@ loop-col-preserved g c =
     let row = slice_index_or (g.S.RowSource.contents c.args.source.now) c.args.row [] in
     let inside : c.loop-col._col < g.S.RowSource.width c.args.source.now = omega (arith, c.loop-col-test.true, c.columns-col-end.ensures.count) in
     let at : c.loop-col._col < length row = omega (arith, inside, c.loop-col.invariant.wide) in
-    let cell = placed (g.S.RowSource.contents c.args.source.now) (g.S.RowSource.width c.args.source.now) c.args.row c.loop-col._col c.args.block.now (c.loop-col.base + (c.args.row - c.args.block.now.from)) c.index.result.now c.requires.holds c.requires.from c.requires.to inside
+    let cell = placed (g.S.RowSource.contents c.args.source.now) (g.S.RowSource.width c.args.source.now) c.args.row c.loop-col._col c.args.block.now
+    (c.loop-col.base + (c.args.row - c.args.block.now.from)) c.index.result.now c.requires.holds c.requires.from c.requires.to inside
     (ap (λ b. b + (c.args.row - c.args.block.now.from)) c.loop-col.invariant.base) c.index.ensures in
     let fields = map (shown c.args.null.now) (take c.loop-col._col row) in
     let size : length fields ≡ length (take c.loop-col._col row) = length-map (take c.loop-col._col row) (shown c.args.null.now) in

@@ -1,4 +1,4 @@
-use Rattle.std.proofs.Common.{◌≡◌, ◌<◌, ◌∙◌, ap, sym, Ok, length, arith}
+use Rattle.std.proofs.Common.{◌<◌, ◌∙◌, ap, length, arith}
 use Rattle.csv.specs.Records.{fields_of}
 use Rattle.rj_columns.specs.Tables.{TableValue}
 use Rattle.rj_csv_io.proofs.PartFacts.{tables-alike, whole-begun, whole-rows}

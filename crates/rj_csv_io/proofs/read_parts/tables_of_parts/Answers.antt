@@ -1,8 +1,8 @@
-use Rattle.std.proofs.Common.{rules, ◌≡◌, ◌∷◌, ◌≤◌, ◌<◌, ◌+◌, ◌-◌, ◌^◌, ◌∙◌, [], sym, ap, refl, arith, length, map, take, drop, Ok, Err, List, ℕ, Bor}
-use Rattle.std.proofs.lemmas.List.{length-map, length-append, drop-drop, take_all}
+use Rattle.std.proofs.Common.{rules, ◌∷◌, ◌≤◌, ◌<◌, ◌+◌, ◌-◌, ◌^◌, ◌∙◌, [], sym, ap, refl, arith, length, map, drop, Err, List, ℕ, Bor}
+use Rattle.std.proofs.lemmas.List.{length-map, length-append, drop-drop}
 use Rattle.csv.specs.Records.{fields_of}
-use Rattle.rj_columns.specs.Tables.{TableValue, rows_of_all}
-use Rattle.rj_csv_io.specs.Parts.{moved, under_header}
+use Rattle.rj_columns.specs.Tables.{rows_of_all}
+use Rattle.rj_csv_io.specs.Parts.{moved}
 use Rattle.rj_csv_io.proofs.PartFacts.{head-at, none-read, part-bad, part-more, part-past, rows-more}
 use Rattle.rj_csv_io.proofs.read_parts.tables_of_parts.Goals as goal
 

@@ -1,4 +1,4 @@
-use Rattle.std.proofs.Common.{◌≡◌, ◌∙◌, ◌++◌, List, ℕ, Bor, map, length, ap, subst}
+use Rattle.std.proofs.Common.{◌≡◌, ◌∙◌, ◌++◌, List, ℕ, Bor, map, ap, subst}
 use Rattle.std.specs.Prelude.{IfOk}
 use Rattle.csv.specs.Writing.{default_writer, row_text}
 use Rattle.rj_csv_io.specs.Shown.{range_text}

@@ -1,4 +1,4 @@
-use Rattle.std.proofs.Common.{◌≡◌, ◌++◌, ◌∙◌, ap, map, length, List, ℕ, Vec, Global, Bor}
+use Rattle.std.proofs.Common.{◌++◌, ◌∙◌, ap, map, List, ℕ, Vec, Global, Bor}
 use Rattle.csv.specs.Writing.{default_writer, row_text}
 use Rattle.std.specs.List.{concat}
 use Rattle.rj_csv_io.proofs.RangeFacts.{header-rows}

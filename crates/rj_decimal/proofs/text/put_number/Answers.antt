@@ -18,7 +18,8 @@ loop-rest-preserved c =
     let at = c.loop-rest.at in
     let two = more-room c.loop-rest.rest (at - 1) c.loop-rest-test.true c.loop-rest.invariant.room in
     record {
-      text = written _ _ _ at (at - 1) (at - 1) (48 + c.loop-rest.rest % 10) c.loop-rest.bytes (omega arith) refl (omega (arith, length-set {A = ℕ})) (digits-left c.loop-rest.rest c.loop-rest-test.true (omega arith)) c.loop-rest.invariant.text;
+      text = written _ _ _ at (at - 1) (at - 1) (48 + c.loop-rest.rest % 10) c.loop-rest.bytes (omega arith) refl
+          (omega (arith, length-set {A = ℕ})) (digits-left c.loop-rest.rest c.loop-rest-test.true (omega arith)) c.loop-rest.invariant.text;
       some = omega arith;
       inside = omega arith;
       room = tenth-room c.loop-rest.rest (at - 1) (at - 1 - 1) (omega arith) c.loop-rest.invariant.room;

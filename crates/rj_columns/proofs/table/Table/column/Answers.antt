@@ -1,4 +1,3 @@
-use Rattle.std.proofs.Common.{ap, sym}
 use Rattle.rj_columns.proofs.ColumnFacts.{column-of}
 use Rattle.rj_columns.proofs.table.Table.column.Goals as goal
 

@@ -1,5 +1,4 @@
-use Rattle.std.proofs.Common.{◌≡◌, ◌∙◌, ◌<◌, map, length, sym, ap, arith, rules, subst}
-use Rattle.std.specs.Prelude.{All}
+use Rattle.std.proofs.Common.{◌≡◌, ◌∙◌, map, length, sym, ap, arith}
 use Rattle.rj_columns.specs.Columns.{ColumnValue}
 use Rattle.rj_columns.specs.Tables.{TableValue, concatenated}
 use Rattle.rj_columns.proofs.ColumnFacts.{alike-some, alike-types, alike-names, concatenated-rows, columns-fit, columns-show}

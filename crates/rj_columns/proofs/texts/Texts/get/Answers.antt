@@ -1,6 +1,5 @@
-use Rattle.std.proofs.Common.{rules, ◌≡◌, ◌∙◌, ◌<◌, ◌≤◌, length, arith, sym, ap, take, drop, subst}
-use Rattle.std.specs.Prelude.{IsUtf8}
-use Rattle.rj_columns.specs.Packed.{start_at, texts_from}
+use Rattle.std.proofs.Common.{◌∙◌, arith, sym}
+use Rattle.rj_columns.specs.Packed.{texts_from}
 use Rattle.rj_columns.proofs.PackFacts.{bounds, texts-utf8}
 use Rattle.rj_columns.proofs.TextFacts.{row-inside, shown-null, shown-text}
 use Rattle.rj_columns.proofs.texts.Texts.get.Goals as goal

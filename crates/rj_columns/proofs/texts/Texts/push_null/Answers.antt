@@ -1,4 +1,4 @@
-use Rattle.std.proofs.Common.{rules, ◌≡◌, ◌∙◌, ◌++◌, ◌∷◌, [], length, sym, ap}
+use Rattle.std.proofs.Common.{rules, ◌≡◌, length}
 use Rattle.rj_columns.specs.Nulls.{marked_at}
 use Rattle.rj_columns.proofs.TextFacts.{null-packed, null-shown}
 use Rattle.rj_columns.proofs.texts.Texts.push_null.Goals as goal

@@ -1,5 +1,4 @@
-use Rattle.std.proofs.Common.{rules, ◌≡◌, ◌<◌, ◌≤◌, length, arith}
-use Rattle.rj_columns.specs.Packed.{start_at}
+use Rattle.std.proofs.Common.{rules, ◌<◌, ◌≤◌, length}
 use Rattle.rj_columns.proofs.TextFacts.{cut-packed, cut-shown, uncut}
 use Rattle.rj_columns.proofs.texts.Texts.truncate.Goals as goal
 

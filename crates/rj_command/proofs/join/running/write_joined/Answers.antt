@@ -4,7 +4,7 @@ use Rattle.std.specs.Io.KnownBytes.{Appends}
 use Rattle.std.proofs.lemmas.List.FromFn.{length-map-range_with_len}
 use Rattle.rj_csv_io.specs.Shown.{table_text}
 use Rattle.rj_condition.specs.Splits.{keys_of}
-use Rattle.rj_engine.specs.Join.{JoinedValue}
+use Rattle.rj_engine.specs.Join.{JoinedValue, Outcome}
 use Rattle.rj_engine.specs.Partitioned.{rows_of_partition}
 use Rattle.rj_engine.specs.Pools.{pieces_of_sizes}
 use Rattle.std.proofs.lemmas.List.{length-map}
@@ -30,6 +30,7 @@ returns-clause-ok g c =
     let value = g.H.KeyHash.value c.args.hash.now in
     let bits = c.args.request.now.settings.bits1 in
     let joined = c.in_ok-joined.ensures in
+    let forgot = c.forget_delivered.ensures in
     let rows = c.in_ok-partitions.ensures in
     let many = ap length joined.left_sizes ∙ length-map-range_with_len (λ p. length (rows_of_partition value bits l (map (λ (k : ℕ × ℕ). k.0) (keys_of join)) p)) 0 (2 ^ bits) in
     let names = ap (map (λ (n : Bor (List ℕ)). n.now)) c.as_slice.ensures.value ∙ c.in_ok-names.ensures in
@@ -37,13 +38,17 @@ returns-clause-ok g c =
     ap (λ header. table_text null header c.in_ok-view.view.cells) names ∙ ap (λ (v : ViewValue). table_text null (header_of join l r) v.cells) c.in_ok-view.ensures in
     let Writes : List ℕ → Type 0 = λ t. Appends (g.O.Output.told c.args.writer.now) (g.O.Output.told c.write_rows_in_parts.new.output) t in (
       record {
-        pairs = c.pairs.ensures ∙ ap (λ (m : JoinedValue). length m.pairs) joined.members;
-        lone_left = c.lone_left.ensures ∙ ap (λ (m : JoinedValue). length m.lone_left) joined.members;
-        lone_right = c.lone_right.ensures ∙ ap (λ (m : JoinedValue). length m.lone_right) joined.members;
-        numbers = rows.numbers ∙ ap (range_with_len 0) many;
-        lefts = rows.lefts ∙ joined.left_sizes;
-        rights = rows.rights ∙ joined.right_sizes;
-        pieces = c.pieces.ensures ∙ (joined.pieces ∙ ap₂ (pieces_of_sizes c.args.request.now.settings.piece) (sym rows.lefts) (sym rows.rights));
+        pairs = c.pairs.ensures ∙ (ap (λ (o : Outcome). length o.members.pairs) forgot ∙ ap (λ (m : JoinedValue). length m.pairs) joined.members);
+        lone_left = c.lone_left.ensures ∙ (ap (λ (o : Outcome). length o.members.lone_left) forgot ∙ ap (λ (m : JoinedValue). length m.lone_left) joined.members);
+        lone_right = c.lone_right.ensures ∙ (ap (λ (o : Outcome). length o.members.lone_right) forgot ∙ ap (λ (m : JoinedValue). length m.lone_right) joined.members);
+        numbers = rows.numbers ∙ (ap (λ (o : Outcome). range_with_len 0 (length o.left_sizes)) forgot ∙ ap (range_with_len 0) many);
+        lefts = rows.lefts ∙ (ap (λ (o : Outcome). o.left_sizes) forgot ∙ joined.left_sizes);
+        rights = rows.rights ∙ (ap (λ (o : Outcome). o.right_sizes) forgot ∙ joined.right_sizes);
+        pieces =
+            let left_sizes = rows.lefts ∙ ap (λ (o : Outcome). o.left_sizes) forgot in
+            let right_sizes = rows.rights ∙ ap (λ (o : Outcome). o.right_sizes) forgot in
+            c.pieces.ensures
+            ∙ (ap (λ (o : Outcome). o.pieces) forgot ∙ (joined.pieces ∙ ap₂ (pieces_of_sizes c.args.request.now.settings.piece) (sym left_sizes) (sym right_sizes)));
         tells_pieces = refl;
       },
       subst Writes text c.in_ok-write_rows_in_parts.ensures.ok,

@@ -1,0 +1,8 @@
+-- Hashes that take up cells.
+use Rattle.std.specs.Prelude.{ℕ, ◌≡◌, ◌<◌, List, Option, None, length, slice_index_or}
+use Rattle.rj_columns.specs.Contents.{Content}
+
+-- each hash has taken up the cell at its row
+pub record HaveTaken (added : Option ℕ → Content → Option ℕ) (cell : ℕ → Content) (rows : List ℕ) (before after : List (Option ℕ)) : Type 0 where
+  pub len : length after ≡ length before
+  pub each : (k : ℕ) → k < length rows → slice_index_or after k None ≡ added (slice_index_or before k None) (cell (slice_index_or rows k 0))

@@ -1,0 +1,13 @@
+use Rattle.std.proofs.Common.{◌≡◌, ◌-◌, ℕ, List, Option}
+use Rattle.std.specs.Prelude.{vec_len}
+use Rattle.std.specs.Io.KnownBytes.{Consumes}
+use Rattle.rj_csv_io.proofs.filling.read_up_to.Given as goal
+
+abbrev pub invariant-loop-input : goal.invariant-loop-input
+invariant-loop-input g l = record {
+  bytes : (start : Option (List ℕ)) → Consumes start (g.I.Input.tells l.fn.input) l.fn.bytes.items → Consumes start (g.I.Input.tells l.input) l.bytes.items;
+  count : g.I.Input.count l.input ≡ g.I.Input.count l.fn.input;
+}
+
+abbrev pub decreases-loop-input : goal.decreases-loop-input
+decreases-loop-input g l = l.size - vec_len l.bytes

@@ -1,0 +1,19 @@
+use Rattle.std.proofs.Common.{◌≡◌, ◌≤◌, sym, arith}
+use Rattle.rj_csv_io.specs.declared.place.Place.TheVariants as place
+use Rattle.rj_csv_io.proofs.PieceFacts.{no-end, cut-records}
+use Rattle.rj_csv_io.proofs.PlaceFacts.{next-place, place-none}
+use Rattle.rj_csv_io.proofs.stretches.last_cut.Goals as goal
+
+pub loop-at-init : goal.loop-at-init
+loop-at-init c = record { within = omega arith; place = sym (place-none place.Fresh); last = no-end c.args.text.now }
+
+pub loop-at-preserved : goal.loop-at-preserved
+loop-at-preserved c = record {
+  within = c.stretch_end-next.ensures.within;
+  place = next-place place.Fresh c.loop-at.place c.scan-place.result c.args.text.now c.loop-at.at c.stretch_end-next.result
+      (omega (arith, c.stretch_end-next.ensures.from)) c.loop-at.invariant.place c.scan-place.ensures;
+  last = c.later_end-last.ensures;
+}
+
+pub returns-clause-records : goal.returns-clause-records
+returns-clause-records c = λ more. cut-records c.args.text.now more c.loop-at.last c.loop-at.invariant.last.ends

@@ -1,0 +1,37 @@
+-- Texts that are read piece by piece: each ends where a record ends, and the first one has the header.
+use Rattle.std.specs.Prelude.{ℕ, ◌≡◌, ◌≤◌, ◌<◌, ◌-◌, Bool, true, false, List, [], ◌∷◌, length, take, drop, slice_index_or, Ok}
+use Rattle.csv.specs.Reading.{default_config, records}
+use Rattle.csv.specs.Records.{fields_of}
+use Rattle.csv.specs.declared.parser.State.TheVariants as st
+use Rattle.rj_columns.specs.declared.cell.ColumnType.{ColumnType}
+use Rattle.rj_columns.specs.Contents.{Content}
+use Rattle.rj_csv_io.specs.Cuts.{state_after}
+use Rattle.rj_csv_io.specs.Rows.{read_row}
+use Rattle.rj_csv_io.specs.declared.pieces.Header.{Header}
+
+-- a line feed that ends a record stands before this place
+pub record IsLineEnd (text : List ℕ) (at : ℕ) : Type 0 where
+  pub feed : slice_index_or text (at - 1) 0 ≡ 10
+  pub ends : state_after st.StartRecord (take at text) ≡ st.StartRecord
+
+-- the last place up to `end` behind such a line feed, or 0 where there is none
+pub record IsLastEnd (text : List ℕ) (end last : ℕ) : Type 0 where
+  pub within : last ≤ end
+  pub ends : state_after st.StartRecord (take last text) ≡ st.StartRecord
+  pub none : (at : ℕ) → last < at → at ≤ end → IsLineEnd text at → ⊥
+
+-- the names in a header
+abbrev pub names_in : Header → List (List ℕ)
+names_in header = fields_of header.record
+
+-- the records of rows in a piece, which has no byte order mark of its own: all but the first one where that is the header
+abbrev pub piece_records : Bool → List ℕ → List (List (List ℕ))
+piece_records true text = drop 1 (records default_config text)
+piece_records false text = records default_config text
+
+-- these are the rows of the records, however many there are
+abbrev pub AreRows : List ℕ → List ColumnType → List (List (List ℕ)) → List (List Content) → Type 0
+AreRows null types [] [] = Unit {0}
+AreRows null types [] (row ∷ rows) = ⊥
+AreRows null types (r ∷ records) [] = ⊥
+AreRows null types (r ∷ records) (row ∷ rows) = (read_row null types 0 r ≡ Ok row) × AreRows null types records rows

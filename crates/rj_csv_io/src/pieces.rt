@@ -1,0 +1,110 @@
+// Reading a table piece by piece: its header, and the rows of each piece.
+
+ghost use Rattle.std.specs.Prelude.{◌≡◌, ◌≢◌, ◌∷◌, [], List, ℕ, IfOk, IfErr, MatchOption, Ok, Err, Some};
+ghost use Rattle.csv.specs.Reading.{default_config, records};
+ghost use Rattle.rj_columns.specs.Names.{begun};
+ghost use Rattle.rj_columns.specs.declared.refused.BuildRefused.{BuildRefused};
+ghost use Rattle.rj_csv_io.specs.Cuts.{records_in};
+ghost use Rattle.rj_csv_io.specs.Parts.{IsReading};
+ghost use Rattle.rj_csv_io.specs.Pieces.{names_in, piece_records};
+ghost use Rattle.rj_csv_io.specs.Tables.{of_begun};
+
+use crate::cut::starts_with_bom;
+use crate::header::begin_table;
+use crate::part::{header_of, read_part};
+use crate::refused::ReadRefused;
+use csv::ByteRecord;
+use rj_columns::{ColumnType, Table};
+use std::alloc::{AllocError, Global};
+
+/// The first record of a file, which names the columns of its rows.
+#[derive(Drop)]
+pub struct Header {
+    record: ByteRecord,
+}
+
+// A text with a byte order mark before it.
+fn with_mark(alloc: Global, text: &[u8]) -> Result<Vec<u8>, AllocError>
+    ensures { IfOk result (λ v. records_in v.items ≡ records default_config text.now) }
+{
+    let mut marked = vec![in alloc; 0xEF, 0xBB, 0xBF]?;
+    marked.extend_from_slice(text)?;
+    Ok(marked)
+}
+
+impl Header {
+    // The header of a text that begins with no byte order mark.
+    fn of_unmarked(alloc: Global, text: &[u8]) -> Result<Option<Header>, AllocError>
+        ensures { IfOk result (λ o. MatchOption o (records_in text.now ≡ [])
+            (λ h. (rest : List (List (List ℕ))) × (records_in text.now ≡ names_in h ∷ rest))) }
+    {
+        match header_of(alloc, text)? {
+            Some(record) => Ok(Some(Header { record })),
+            None => Ok(None),
+        }
+    }
+
+    /// The header of a text, its byte order mark left out already: the first record, if there is one.
+    ///
+    /// # Errors
+    ///
+    /// Refuses only for want of memory.
+    pub fn of(alloc: Global, text: &[u8]) -> Result<Option<Header>, AllocError>
+        ensures { IfOk result (λ o. MatchOption o (records default_config text.now ≡ [])
+            (λ h. (rest : List (List (List ℕ))) × (records default_config text.now ≡ names_in h ∷ rest))) }
+    {
+        if starts_with_bom(text) {
+            let marked = with_mark(alloc, text)?;
+            return Header::of_unmarked(alloc, marked.as_slice());
+        }
+        Header::of_unmarked(alloc, text)
+    }
+
+    /// The table without rows whose columns have these names and types, or why there is none, as [`read_table`] tells
+    /// it: too many columns, the names from left to right, the count of types.
+    ///
+    /// [`read_table`]: crate::read_table
+    pub fn table(&self, alloc: Global, types: &[ColumnType]) -> Result<Table, ReadRefused>
+        ensures table { IfOk result (λ t. begun (names_in self.now) types.now ≡ Ok t) }
+        ensures fault { IfErr result (λ e. e ≢ ReadRefused.Memory
+            → (f : BuildRefused) × (begun (names_in self.now) types.now ≡ Err f) × (e ≡ of_begun f)) }
+    {
+        match begin_table(alloc, &self.record, types, 0) {
+            Ok(builder) => Ok(builder.finish()),
+            Err(e) => Err(e),
+        }
+    }
+
+    /// The rows of a piece of a text under this header, as a table. A piece begins and ends where a record does; the
+    /// text's own byte order mark is left out already, and the first piece has the header, which makes no row.
+    ///
+    /// # Errors
+    ///
+    /// The first fault of the piece's records, its row counted from the piece's first one; or `Memory`, and then
+    /// nothing is known of faults.
+    pub fn read_piece(
+        &self,
+        alloc: Global,
+        text: &[u8],
+        is_first: bool,
+        types: &[ColumnType],
+        null: &[u8],
+    ) -> Result<Table, ReadRefused>
+        ensures { IsReading null.now types.now (names_in self.now) (piece_records is_first text.now) result }
+    {
+        if starts_with_bom(text) {
+            let Ok(marked) = with_mark(alloc, text) else {
+                return Err(ReadRefused::Memory);
+            };
+            return read_part(
+                alloc,
+                marked.as_slice(),
+                is_first,
+                &self.record,
+                types,
+                null,
+            );
+        }
+        read_part(alloc, text, is_first, &self.record, types, null)
+    }
+}

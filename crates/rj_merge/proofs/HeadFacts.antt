@@ -1,0 +1,94 @@
+-- What a head that is put among heads, or taken from them, does to what they still have.
+use Rattle.std.proofs.Common.{◌≡◌, ◌<◌, List, [], ◌∷◌, ◌++◌, length, Option, Some, refl, sym, ap, subst, ◌∙◌, append-nil, append_assoc, arith, IsPermutation, All}
+use Rattle.std.specs.List.{Contains, flat_map}
+use Rattle.std.specs.Option.{option_to_list}
+use Rattle.std.proofs.lemmas.List.Sorted.{All-permutation, Contains-permutation, IsPermutation-append_right, IsPermutation-cons, IsPermutation-sym, IsPermutation-trans}
+use Rattle.std.proofs.lemmas.List.Elements.{All-cons, All-head, All-pop, All-tail, Contains-append_left, Contains-append_right}
+use Rattle.std.proofs.lemmas.List.Concat.{flat_map-append}
+use Rattle.rj_merge.specs.declared.head.Head.{Head}
+use Rattle.rj_merge.specs.declared.place.Placed.{Placed}
+use Rattle.rj_merge.specs.declared.refused.MergeRefused.{MergeRefused}
+use Rattle.rj_merge.specs.Merging.{faults_of_heads, rows_of_heads}
+use Rattle.rj_merge.specs.Sources.{Reading}
+use Rattle.rj_merge.proofs.Moved.{flat_moved}
+
+module _ {T S : Type 0} (P : Head T S → Type 0) (heads rest : List (Head T S)) (head : Head T S) where
+  pub holds_put : IsPermutation (head ∷ rest) heads → P head → All P rest → All P heads
+  holds_put p here there = All-permutation P (head ∷ rest) heads p (All-cons P head rest here there)
+
+  pub holds_first : IsPermutation heads (head ∷ rest) → All P heads → P head
+  holds_first p all = All-head P head rest (All-permutation P heads (head ∷ rest) p all)
+
+  pub holds_rest : IsPermutation heads (head ∷ rest) → All P heads → All P rest
+  holds_rest p all = All-tail P head rest (All-permutation P heads (head ∷ rest) p all)
+
+module _ {T S : Type 0} (reading : S → Reading T) (heads rest : List (Head T S)) (head : Head T S) where
+  abbrev rows_of_one : Head T S → List (Placed T)
+  rows_of_one h = h.next ∷ (reading h.source).rows
+
+  abbrev faults_of_one : Head T S → List MergeRefused
+  faults_of_one h = option_to_list (reading h.source).fault
+
+  pub rows_put : (rows : List (Placed T)) → rows ≡ head.next ∷ (reading head.source).rows → IsPermutation (head ∷ rest) heads
+      → IsPermutation (rows ++ rows_of_heads reading rest) (rows_of_heads reading heads)
+  rows_put rows e p = subst (λ l. IsPermutation (l ++ rows_of_heads reading rest) (rows_of_heads reading heads)) (sym e) (flat_moved rows_of_one (head ∷ rest) heads p)
+
+  pub faults_put : (fault : Option MergeRefused) → fault ≡ (reading head.source).fault → IsPermutation (head ∷ rest) heads
+      → IsPermutation (option_to_list fault ++ faults_of_heads reading rest) (faults_of_heads reading heads)
+  faults_put fault e p = subst (λ f. IsPermutation (option_to_list f ++ faults_of_heads reading rest) (faults_of_heads reading heads)) (sym e) (flat_moved faults_of_one (head ∷ rest) heads p)
+
+  pub rows_taken : (new : List (Head T S)) → IsPermutation heads (head ∷ rest)
+      → IsPermutation ((reading head.source).rows ++ rows_of_heads reading rest) (rows_of_heads reading new)
+      → IsPermutation (rows_of_heads reading heads) (head.next ∷ rows_of_heads reading new)
+  rows_taken new p q = IsPermutation-trans (rows_of_heads reading heads) (rows_of_heads reading (head ∷ rest)) (head.next ∷ rows_of_heads reading new)
+      (flat_moved rows_of_one heads (head ∷ rest) p)
+      (IsPermutation-cons head.next ((reading head.source).rows ++ rows_of_heads reading rest) (rows_of_heads reading new) q)
+
+  pub faults_taken : (new : List (Head T S)) → IsPermutation heads (head ∷ rest)
+      → IsPermutation (option_to_list (reading head.source).fault ++ faults_of_heads reading rest) (faults_of_heads reading new)
+      → IsPermutation (faults_of_heads reading heads) (faults_of_heads reading new)
+  faults_taken new p q = IsPermutation-trans (faults_of_heads reading heads) (faults_of_heads reading (head ∷ rest)) (faults_of_heads reading new)
+      (flat_moved faults_of_one heads (head ∷ rest) p) q
+
+  first_of : {X : Type 0} (x : X) (xs : List X) → Contains (x ∷ xs) x
+  first_of x xs = (0, omega arith, refl)
+
+  -- the row of a head is among the rows
+  pub has_row : IsPermutation heads (head ∷ rest) → Contains (rows_of_heads reading heads) head.next
+  has_row p = Contains-permutation (rows_of_heads reading (head ∷ rest)) (rows_of_heads reading heads) head.next
+      (IsPermutation-sym (rows_of_heads reading heads) (rows_of_heads reading (head ∷ rest)) (flat_moved rows_of_one heads (head ∷ rest) p))
+      (first_of head.next ((reading head.source).rows ++ rows_of_heads reading rest))
+
+  -- the fault of a head's input is among the faults
+  pub has_fault : (e : MergeRefused) → IsPermutation heads (head ∷ rest) → (reading head.source).fault ≡ Some e → Contains (faults_of_heads reading heads) e
+  has_fault e p is = Contains-permutation (faults_of_heads reading (head ∷ rest)) (faults_of_heads reading heads) e
+      (IsPermutation-sym (faults_of_heads reading heads) (faults_of_heads reading (head ∷ rest)) (flat_moved faults_of_one heads (head ∷ rest) p))
+      (subst (λ f. Contains (option_to_list f ++ faults_of_heads reading rest) e) (sym is) (first_of e (faults_of_heads reading rest)))
+
+-- inputs of which the last one is put among heads: what is left of a whole, where f is what an input has and h what a head has
+module _ {S A H : Type 0} (f : S → List A) (h : H → List A) (inputs rest : List S) (last : S) (whole : List A) (old new : List H) where
+  pub last_put : inputs ≡ rest ++ last ∷ [] → IsPermutation whole (flat_map f inputs ++ flat_map h old) → IsPermutation (f last ++ flat_map h old) (flat_map h new)
+      → IsPermutation whole (flat_map f rest ++ flat_map h new)
+  last_put e p q =
+      let split : flat_map f inputs ++ flat_map h old ≡ flat_map f rest ++ (f last ++ flat_map h old) =
+      ap (λ l. flat_map f l ++ flat_map h old) e ∙ ap (λ l. l ++ flat_map h old) (flat_map-append f rest (last ∷ [])) ∙ ap (λ l. (flat_map f rest ++ l) ++ flat_map h old) (append-nil (f last))
+      ∙ append_assoc (flat_map f rest) (f last) (flat_map h old) in
+      IsPermutation-trans whole (flat_map f inputs ++ flat_map h old) (flat_map f rest ++ flat_map h new) p
+      (subst (λ l. IsPermutation l (flat_map f rest ++ flat_map h new)) (sym split)
+      (IsPermutation-append_right (flat_map f rest) (f last ++ flat_map h old) (flat_map h new) q))
+
+  -- what the last of the inputs has is in the whole
+  pub last_in : (a : A) → inputs ≡ rest ++ last ∷ [] → IsPermutation whole (flat_map f inputs ++ flat_map h old) → Contains (f last) a → Contains whole a
+  last_in a e p c =
+      Contains-permutation (flat_map f inputs ++ flat_map h old) whole a (IsPermutation-sym whole (flat_map f inputs ++ flat_map h old) p)
+      (Contains-append_left (flat_map f inputs) (flat_map h old) a
+      (subst (λ l. Contains (flat_map f l) a) (sym e) (subst (λ l. Contains l a) (sym (flat_map-append f rest (last ∷ []) ∙ ap (λ l. flat_map f rest ++ l) (append-nil (f last))))
+      (Contains-append_right (flat_map f rest) (f last) a c))))
+
+-- the last of a list, and the others
+pub All-last : {S : Type 0} (P : S → Type 0) (inputs rest : List S) (last : S) → inputs ≡ rest ++ last ∷ [] → All P inputs → All P rest × P last
+All-last P inputs rest last e all = All-pop P inputs rest (Some last) e all
+
+-- a fault is the only one of what has it
+pub fault_first : (fault : Option MergeRefused) (e : MergeRefused) → fault ≡ Some e → Contains (option_to_list fault) e
+fault_first fault e is = subst (λ o. Contains (option_to_list o) e) (sym is) (0, omega arith, refl)

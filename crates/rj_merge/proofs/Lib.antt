@@ -1,0 +1,4 @@
+pub mod Moved
+pub mod PlaceFacts
+pub mod HeadFacts
+pub mod WholeFacts

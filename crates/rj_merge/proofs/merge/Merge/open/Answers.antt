@@ -1,0 +1,29 @@
+use Rattle.std.proofs.Common.{◌∷◌, []}
+use Rattle.std.specs.Option.{option_to_list}
+use Rattle.rj_merge.proofs.HeadFacts.{All-last, fault_first, last_in, last_put}
+use Rattle.rj_merge.proofs.merge.Merge.open.Goals as goal
+
+pub inputs-preserved : goal.inputs-preserved
+inputs-preserved g c = record {
+  lawful = c.in-Ok.ensures.lawful;
+  given = c.in-Ok.ensures.given;
+  tells = λ all.
+      let t = c.inputs.invariant.tells all in
+      let p = All-last g.S.Source.tells _ _ c.in-Some.source c.in-Some.ensures.items t.0 in
+      (p.0, c.in-Ok.ensures.tells p.1 t.1);
+  rows = λ all.
+      let t = c.inputs.invariant.tells all in
+      let p = All-last g.S.Source.tells _ _ c.in-Some.source c.in-Some.ensures.items t.0 in
+      last_put (λ s. (g.S.Source.reading s).rows) (λ h. h.next ∷ (g.S.Source.reading h.source).rows) _ _ c.in-Some.source _ _ _ c.in-Some.ensures.items (c.inputs.invariant.rows all) (c.in-Ok.ensures.rows p.1);
+  faults = λ all.
+      let t = c.inputs.invariant.tells all in
+      let p = All-last g.S.Source.tells _ _ c.in-Some.source c.in-Some.ensures.items t.0 in
+      last_put (λ s. option_to_list (g.S.Source.reading s).fault) (λ h. option_to_list (g.S.Source.reading h.source).fault) _ _ c.in-Some.source _ _ _ c.in-Some.ensures.items (c.inputs.invariant.faults all) (c.in-Ok.ensures.faults p.1);
+}
+
+pub returns-in-Err-clause-fault : goal.returns-in-Err-clause-fault
+returns-in-Err-clause-fault g c = λ out all.
+    let t = c.inputs.invariant.tells all in
+    let p = All-last g.S.Source.tells _ _ c.in-Some.source c.in-Some.ensures.items t.0 in
+    last_in (λ s. option_to_list (g.S.Source.reading s).fault) (λ h. option_to_list (g.S.Source.reading h.source).fault) _ _ c.in-Some.source _ _ [] c.in-Err.e c.in-Some.ensures.items (c.inputs.invariant.faults all)
+    (fault_first (g.S.Source.reading c.in-Some.source).fault c.in-Err.e (c.in-Err.ensures.fault out p.1))

@@ -1,0 +1,43 @@
+-- Where a row stands in a joined table, and the order of these places.
+use Rattle.std.specs.Prelude.{◌≡◌, ℕ, Option, Some, None, false}
+use Rattle.std.specs.Cmp.{IsTotalOrder, nat_cmp_total, on_total, then_total}
+use Rattle.std.specs.Ordering.{is_lt, nat_cmp, on, then_cmp}
+use Rattle.std.specs.declared.cmp.Ordering.{Ordering}
+use Rattle.std.specs.declared.cmp.Ordering.TheVariants.{Less}
+use Rattle.rj_merge.specs.declared.place.Place.{Place}
+use Rattle.rj_merge.specs.declared.place.Place.TheVariants.{Pair, LoneLeft, LoneRight}
+
+-- kept pairs stand first, then lone left rows, then lone right rows
+abbrev pub class : Place → ℕ
+class (Pair left right) = 0
+class (LoneLeft left) = 1
+class (LoneRight right) = 2
+
+-- the number of the left row, and of a lone right row its own
+abbrev pub first_number : Place → ℕ
+first_number (Pair left right) = left
+first_number (LoneLeft left) = left
+first_number (LoneRight right) = right
+
+-- the number of the right row of a pair
+abbrev pub second_number : Place → ℕ
+second_number (Pair left right) = right
+second_number (LoneLeft left) = 0
+second_number (LoneRight right) = 0
+
+-- pairs by left, then right row number; then lone left rows by number; then lone right rows by number
+abbrev pub place_order : Place → Place → Ordering
+place_order = then_cmp (on class nat_cmp) (then_cmp (on first_number nat_cmp) (on second_number nat_cmp))
+
+pub place_total : IsTotalOrder place_order
+place_total = then_total (on_total class nat_cmp_total) (then_total (on_total first_number nat_cmp_total) (on_total second_number nat_cmp_total))
+
+-- a place is above another one, if there is that one
+abbrev pub IsAbove : Option Place → Place → Type 0
+IsAbove None place = Unit {0}
+IsAbove (Some before) place = place_order before place ≡ Less
+
+-- a place is not below another one, if there is that one
+abbrev pub IsNotBelow : Option Place → Place → Type 0
+IsNotBelow None place = Unit {0}
+IsNotBelow (Some before) place = is_lt (place_order place before) ≡ false

@@ -1,0 +1,30 @@
+// What gives rows in order.
+
+ghost use Rattle.std.specs.Prelude.{◌≡◌, Option, IfOk, IfSome, OnOk, Some};
+ghost use Rattle.rj_merge.specs.Places.{IsAbove};
+ghost use Rattle.rj_merge.specs.Sources.{Gives, Reading};
+ghost use Rattle.rj_merge.specs.declared.place.Place.{Place};
+
+use crate::place::Placed;
+use crate::refused::MergeRefused;
+
+/// An input of a merge, which gives rows whose places rise.
+pub trait Source: Drop {
+    /// What stands in a row.
+    type Row: Drop;
+
+    // Whether it tells what it will give.
+    ghost tells: { Self → Type 0 };
+
+    // The rows that it gives from here on, and the fault that it has after them, if it has one.
+    ghost reading: { Self → Reading Self.Row };
+
+    // The place of the row that it gave last.
+    ghost last: { Self → Option Place };
+
+    /// The next row, or `None` behind the last one. After an error nothing is known of it.
+    fn next(&mut self) -> Result<Option<Placed<Self::Row>>, MergeRefused>
+        ensures tells { OnOk result (tells self.old → tells self.new) }
+        ensures gives { tells self.old → Gives (reading self.old) result (reading self.new) }
+        ensures rises { IfOk result (λ o. IfSome o (λ r. IsAbove (last self.old) r.place × (last self.new ≡ Some r.place))) };
+}
