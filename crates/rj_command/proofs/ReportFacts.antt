@@ -3,17 +3,13 @@ use Rattle.std.proofs.Common.{codes, ◌≡◌, ℕ, ◌<◌, ◌&&◌, nat_lt, 
 use Rattle.std.specs.Str.Lines.{lines}
 use Rattle.std.proofs.lemmas.Bool.Decides.{nat_tests}
 use Rattle.rj_ledger.specs.declared.parcel.Parcel.{Parcel}
-use Rattle.rj_ledger.specs.Ledgers.{LedgerValue, answer_to, answers, after_all}
+use Rattle.rj_ledger.specs.Ledgers.{LedgerValue, answer_to, after_all}
 use Rattle.rj_command.specs.Script.{reading, readings, parcels_of}
-use Rattle.rj_command.specs.Report.{answer_text, answer_lines, text_of_lines}
+use Rattle.rj_command.specs.Report.{answer_text, answers_text}
 
--- what is printed for readings, by a ledger
-abbrev pub shown : LedgerValue → List (Option Parcel) → List ℕ
-shown v rs = text_of_lines (answer_lines rs (answers v (parcels_of rs)))
-
-pub shown-more : (v : LedgerValue) (r : Option Parcel) (rs : List (Option Parcel)) → shown v (r ∷ rs) ≡ shown v (r ∷ []) ++ shown (after_all v (parcels_of (r ∷ []))) rs
-shown-more v None rs = ap (λ (t : List ℕ). t ++ shown v rs) (sym (append-nil (codes "unreadable" ++ 10 ∷ [])))
-shown-more v (Some x) rs = ap (λ (t : List ℕ). t ++ shown (after_all v (x ∷ [])) rs) (sym (append-nil (answer_text (answer_to v x) ++ 10 ∷ [])))
+pub answers_text-more : (v : LedgerValue) (r : Option Parcel) (rs : List (Option Parcel)) → answers_text v (r ∷ rs) ≡ answers_text v (r ∷ []) ++ answers_text (after_all v (parcels_of (r ∷ []))) rs
+answers_text-more v None rs = ap (λ (t : List ℕ). t ++ answers_text v rs) (sym (append-nil (codes "unreadable" ++ 10 ∷ [])))
+answers_text-more v (Some x) rs = ap (λ (t : List ℕ). t ++ answers_text (after_all v (x ∷ [])) rs) (sym (append-nil (answer_text (answer_to v x) ++ 10 ∷ [])))
 
 pub after_all-more : (v : LedgerValue) (r : Option Parcel) (rs : List (Option Parcel)) → after_all v (parcels_of (r ∷ rs)) ≡ after_all (after_all v (parcels_of (r ∷ []))) (parcels_of rs)
 after_all-more v None rs = refl

@@ -1,5 +1,5 @@
--- The texts of the sides, and the exit statuses.
-use Rattle.std.specs.Prelude.{ℕ, List, codes}
+-- The texts of the sides, the exit statuses, and the faults of what is written.
+use Rattle.std.specs.Prelude.{◌≡◌, ◌⊎◌, ℕ, List, codes}
 use Rattle.clap.specs.Values.{kind_of}
 use Rattle.clap.specs.declared.error.kind.ErrorKind.{ErrorKind}
 use Rattle.clap.specs.declared.error.kind.ErrorKind.TheVariants.{DisplayHelp, DisplayVersion}
@@ -44,3 +44,7 @@ status_of fault.ClauseTooLong = 4
 status_of fault.Memory = 5
 status_of (fault.ReadDevice side) = 6
 status_of fault.WriteDevice = 6
+
+-- the fault is want of memory, or that the writer failed
+abbrev pub IsOfWriting : Fault → Type 0
+IsOfWriting f = (f ≡ fault.Memory) ⊎ (f ≡ fault.WriteDevice)

@@ -68,6 +68,10 @@ report gaps v rs =
 abbrev pub text_of_lines : List (List ℕ) → List ℕ
 text_of_lines lines = flat_map (λ line. line ++ 10 ∷ []) lines
 
+-- the lines of these readings, with the ledger's answers to their parcels
+abbrev pub answers_text : LedgerValue → List (Option Parcel) → List ℕ
+answers_text v rs = text_of_lines (answer_lines rs (answers v (parcels_of rs)))
+
 -- all that is printed for a script
 abbrev pub printed : Bool → ℕ → ℕ → ℕ → List ℕ → List ℕ
 printed gaps partition senders block script = text_of_lines (report gaps (opened partition senders block) (readings script))

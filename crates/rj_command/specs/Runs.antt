@@ -1,6 +1,7 @@
 -- What a run writes and counts (SQL-92, 7.5).
-use Rattle.std.specs.Prelude.{◌≡◌, List, ℕ, ◌^◌, length, map}
+use Rattle.std.specs.Prelude.{◌≡◌, ◌≢◌, List, Option, ℕ, ◌^◌, length, map}
 use Rattle.std.specs.List.{range_with_len}
+use Rattle.std.specs.Io.KnownBytes.{Appends}
 use Rattle.rj_columns.specs.Tables.{TableValue}
 use Rattle.rj_csv_io.specs.Shown.{table_text}
 use Rattle.rj_csv_io.specs.declared.write.WriteRefused.{WriteRefused}
@@ -13,9 +14,10 @@ use Rattle.rj_engine.specs.Cells.{header_of, view_of}
 use Rattle.rj_engine.specs.Partitioned.{sizes_of}
 use Rattle.rj_engine.specs.Pools.{pieces_of_sizes}
 use Rattle.rj_engine.specs.Results.{joined_of}
-use Rattle.rj_command.specs.Operands.{AreOperands}
+use Rattle.rj_command.specs.Operands.{AreOperands, IsFirstFault}
 use Rattle.rj_command.specs.declared.fault.Fault.{Fault}
 use Rattle.rj_command.specs.declared.fault.Fault.TheVariants as fault
+use Rattle.rj_command.specs.declared.join.operands.Operands.{Operands}
 use Rattle.rj_command.specs.declared.join.request.Hash.{Hash}
 use Rattle.rj_command.specs.declared.join.request.Hash.TheVariants as hash
 use Rattle.rj_command.specs.declared.join.request.Request.{Request}
@@ -43,6 +45,11 @@ pub record IsCounted (value : List Content → ℕ) (q : Request) (l r : TableVa
   pub pieces : stats.pieces ≡ pieces_of_sizes q.settings.piece (map (λ p. p.left) stats.partitions.items) (map (λ p. p.right) stats.partitions.items)
   pub tells_pieces : stats.tells_pieces ≡ q.tells_pieces
 
+-- the text of the operands' joined table was written behind what the writer had been told, and this is counted of it
+abbrev pub WritesTables : (List Content → ℕ) → Request → Operands → Option (List ℕ) → Option (List ℕ) → Stats → Type 0
+WritesTables value q o before after stats =
+    IsCounted value q o.left o.right o.join stats × Appends before after (joined_text q.null.now o.join o.left o.right)
+
 -- the text of the joined table of what the bytes denote, and what is counted of it
 pub record IsJoined (left right : List ℕ) (q : Request) (stats : Stats) (text : List ℕ) : Type 0 where
   pub l : TableValue
@@ -51,6 +58,14 @@ pub record IsJoined (left right : List ℕ) (q : Request) (stats : Stats) (text 
   pub operands : AreOperands left right q l r join
   pub counts : IsCounted (hash_value q.hash) q l r join stats
   pub shown : text ≡ joined_text q.null.now join l r
+
+-- the text of the joined table of what the bytes denote was written behind what the writer had been told
+abbrev pub WritesJoined : List ℕ → List ℕ → Request → Option (List ℕ) → Option (List ℕ) → Stats → Type 0
+WritesJoined left right q before after stats = (text : List ℕ) × IsJoined left right q stats text × Appends before after text
+
+-- the fault of a run: but for want of memory and a failed writer, it is the first one of the operands
+abbrev pub IsRunFault : List ℕ → List ℕ → Request → Fault → Type 0
+IsRunFault left right q f = f ≢ fault.Memory → f ≢ fault.WriteDevice → IsFirstFault left right q f
 
 -- the bytes denote two tables, and the clause a join of them
 abbrev pub HasOperands : List ℕ → List ℕ → Request → Type 0

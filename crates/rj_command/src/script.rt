@@ -1,10 +1,11 @@
 // Scripts of arrivals: their lines read as parcels, and what is printed for them.
 
-ghost use Rattle.std.specs.Prelude.{Err, IfErr, ◌≢◌, ◌⊎◌, ◌<◌, ◌+◌, ◌-◌, ◌^◌, ◌≡◌, ◌++◌, ◌∷◌, [], OnOk, IfOk, string_bytes, length, is_some};
+ghost use Rattle.std.specs.Prelude.{Err, IfErr, ◌≢◌, ◌<◌, ◌+◌, ◌-◌, ◌^◌, ◌≡◌, ◌++◌, ◌∷◌, [], OnOk, IfOk, string_bytes, length, is_some};
 ghost use Rattle.std.specs.Io.KnownBytes.{Appends};
-ghost use Rattle.rj_ledger.specs.Ledgers.{answers, after_all};
+ghost use Rattle.rj_ledger.specs.Ledgers.{after_all};
+ghost use Rattle.rj_command.specs.Faults.{IsOfWriting};
 ghost use Rattle.rj_command.specs.Script.{reading, readings, parcels_of, are_readable};
-ghost use Rattle.rj_command.specs.Report.{answer_lines, text_of_lines, printed};
+ghost use Rattle.rj_command.specs.Report.{answers_text, printed};
 
 mod lines;
 mod parcels;
@@ -26,8 +27,7 @@ fn answer_line(
     out: &mut String,
 ) -> Result<bool, AllocError>
     ensures readable { IfOk result (λ r. r ≡ is_some (reading line.now)) }
-    ensures written { OnOk result (string_bytes out.new ≡ string_bytes out.old
-        ++ text_of_lines (answer_lines (reading line.now ∷ []) (answers ledger.old (parcels_of (reading line.now ∷ []))))) }
+    ensures written { OnOk result (string_bytes out.new ≡ string_bytes out.old ++ answers_text ledger.old (reading line.now ∷ [])) }
     ensures ledger { OnOk result (ledger.new ≡ after_all ledger.old (parcels_of (reading line.now ∷ []))) }
     ensures senders { length ledger.new.senders ≡ length ledger.old.senders }
 {
@@ -50,8 +50,7 @@ fn answer_script(
     out: &mut String,
 ) -> Result<bool, AllocError>
     ensures readable { IfOk result (λ r. r ≡ are_readable (readings script.now)) }
-    ensures written { OnOk result (string_bytes out.new ≡ string_bytes out.old
-        ++ text_of_lines (answer_lines (readings script.now) (answers ledger.old (parcels_of (readings script.now))))) }
+    ensures written { OnOk result (string_bytes out.new ≡ string_bytes out.old ++ answers_text ledger.old (readings script.now)) }
     ensures ledger { OnOk result (ledger.new ≡ after_all ledger.old (parcels_of (readings script.now))) }
     ensures senders { length ledger.new.senders ≡ length ledger.old.senders }
 {
@@ -114,7 +113,7 @@ pub fn arrivals<W: Output>(
     requires { W.count writer.old < 2 ^ 64 - 1 }
     ensures written { OnOk result (Appends (W.told writer.old) (W.told writer.new) (printed gaps partition senders block script.now)) }
     ensures readable { IfOk result (λ r. r ≡ are_readable (readings script.now)) }
-    ensures faults { IfErr result (λ e. (e ≡ Fault.Memory) ⊎ (e ≡ Fault.WriteDevice)) }
+    ensures faults { IfErr result IsOfWriting }
     ensures memory { result ≡ Err Fault.Memory → writer.new ≡ writer.old }
     ensures device { result ≡ Err Fault.WriteDevice → W.count writer.new ≡ W.count writer.old + 1 }
     ensures kept { result ≢ Err Fault.WriteDevice → W.count writer.new ≡ W.count writer.old }

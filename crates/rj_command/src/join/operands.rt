@@ -11,6 +11,7 @@ use rj_columns::{ColumnType, Table};
 use rj_condition::{BindRefused, BoundJoin, ParseRefused, bind, parse};
 use rj_csv_io::{ReadRefused, read_table_in_parts};
 use std::alloc::Global;
+use std::convert::AsSlice;
 use std::thread::Threads;
 
 // The tables that the bytes denote, and the clause bound to them.
@@ -72,24 +73,24 @@ fn types_of<'a>(request: &'a Request<'_>, side: Side) -> &'a [ColumnType]
     }
 }
 
-// The table of one side, read by as many threads as the request has workers.
-fn read_side<R: Threads + Sync>(
+// The table of one side, read by as many threads as the request has workers. Bytes that it owns are given back before it returns.
+fn read_side<R: Threads + Sync, B: AsSlice<u8> + Drop>(
     rt: &R,
     alloc: Global,
-    bytes: &[u8],
+    bytes: B,
     request: &Request<'_>,
     side: Side,
 ) -> Result<Table, Fault>
-    ensures table { IfOk result (λ t. side_read request.now side bytes.now ≡ Ok t) }
+    ensures table { IfOk result (λ t. side_read request.now side (B.items bytes) ≡ Ok t) }
     ensures fault { IfErr result (λ f. f ≢ Fault.Memory →
-        (e : ReadRefused) × (side_read request.now side bytes.now ≡ Err e) × (f ≡ read_fault side e)) }
+        (e : ReadRefused) × (side_read request.now side (B.items bytes) ≡ Err e) × (f ≡ read_fault side e)) }
     ensures lawful { OnOk result (IsTrue (is_null_text request.now.null.now)) }
 {
     let parts = request.settings.workers as usize;
     match read_table_in_parts(
         rt,
         alloc,
-        bytes,
+        bytes.as_slice(),
         types_of(request, side),
         request.null,
         parts,
@@ -97,22 +98,6 @@ fn read_side<R: Threads + Sync>(
         Ok(table) => Ok(table),
         Err(refused) => Err(fault_of_read(side, refused)),
     }
-}
-
-// The same, of bytes that are given back before it returns.
-fn read_owned_side<R: Threads + Sync>(
-    rt: &R,
-    alloc: Global,
-    bytes: Vec<u8>,
-    request: &Request<'_>,
-    side: Side,
-) -> Result<Table, Fault>
-    ensures table { IfOk result (λ t. side_read request.now side bytes.items ≡ Ok t) }
-    ensures fault { IfErr result (λ f. f ≢ Fault.Memory →
-        (e : ReadRefused) × (side_read request.now side bytes.items ≡ Err e) × (f ≡ read_fault side e)) }
-    ensures lawful { OnOk result (IsTrue (is_null_text request.now.null.now)) }
-{
-    read_side(rt, alloc, bytes.as_slice(), request, side)
 }
 
 // The join that a clause asks of two tables.
@@ -142,40 +127,22 @@ fn bind_tables(alloc: Global, text: &str, left: Table, right: Table) -> Result<O
     Ok(Operands { left, right, join })
 }
 
-// Reads both tables and binds the clause to them, or tells the first fault.
+// Reads both tables and binds the clause to them, or tells the first fault. Bytes that it owns are given back as soon as their
+// table stands.
 #[tactic(auto, using(crate::proofs::OperandFacts::left_fault))]
-pub(crate) fn read_operands<R: Threads + Sync>(
+pub(crate) fn read_operands<R: Threads + Sync, B: AsSlice<u8> + Drop>(
     rt: &R,
     alloc: Global,
-    left: &[u8],
-    right: &[u8],
+    left: B,
+    right: B,
     request: &Request<'_>,
 ) -> Result<Operands, Fault>
-    ensures operands { IfOk result (λ o. AreOperands left.now right.now request.now o.left o.right o.join) }
-    ensures fault { IfErr result (λ f. f ≢ Fault.Memory → IsFirstFault left.now right.now request.now f) }
+    ensures operands { IfOk result (λ o. AreOperands (B.items left) (B.items right) request.now o.left o.right o.join) }
+    ensures fault { IfErr result (λ f. f ≢ Fault.Memory → IsFirstFault (B.items left) (B.items right) request.now f) }
     ensures lawful { OnOk result (IsTrue (is_null_text request.now.null.now)) }
     ensures bound { IfOk result (λ o. fits o.join o.left.types o.right.types ≡ true) }
 {
     let left = read_side(rt, alloc, left, request, Side::Left)?;
     let right = read_side(rt, alloc, right, request, Side::Right)?;
-    bind_tables(alloc, request.clause, left, right)
-}
-
-// The same, of bytes that are given back as soon as their table stands.
-#[tactic(auto, using(crate::proofs::OperandFacts::left_fault))]
-pub(crate) fn read_owned_operands<R: Threads + Sync>(
-    rt: &R,
-    alloc: Global,
-    left: Vec<u8>,
-    right: Vec<u8>,
-    request: &Request<'_>,
-) -> Result<Operands, Fault>
-    ensures operands { IfOk result (λ o. AreOperands left.items right.items request.now o.left o.right o.join) }
-    ensures fault { IfErr result (λ f. f ≢ Fault.Memory → IsFirstFault left.items right.items request.now f) }
-    ensures lawful { OnOk result (IsTrue (is_null_text request.now.null.now)) }
-    ensures bound { IfOk result (λ o. fits o.join o.left.types o.right.types ≡ true) }
-{
-    let left = read_owned_side(rt, alloc, left, request, Side::Left)?;
-    let right = read_owned_side(rt, alloc, right, request, Side::Right)?;
     bind_tables(alloc, request.clause, left, right)
 }

@@ -4,7 +4,8 @@ use Rattle.std.proofs.lemmas.Bool.Decides.{nat_tests}
 use Rattle.rj_ledger.specs.declared.parcel.Parcel.{Parcel}
 use Rattle.rj_ledger.specs.Ledgers.{LedgerValue, after_all}
 use Rattle.rj_command.specs.Script.{reading, readings, parcels_of, are_readable}
-use Rattle.rj_command.proofs.ReportFacts.{shown, shown-more, after_all-more, readings-line, and_assoc}
+use Rattle.rj_command.specs.Report.{answers_text}
+use Rattle.rj_command.proofs.ReportFacts.{answers_text-more, after_all-more, readings-line, and_assoc}
 use Rattle.rj_command.proofs.script.answer_script.Goals as goal
 
 pub loop-rest-preserved-in_ok-readable : goal.loop-rest-preserved-in_ok-readable
@@ -17,11 +18,11 @@ loop-rest-preserved-in_ok-readable c =
     let out : List ℕ = string_bytes c.loop-rest.out in
     record {
       written = c.loop-rest.invariant.written
-          ∙ ap (λ (rs : List (Option Parcel)). out ++ shown v rs) split
-          ∙ ap (λ (t : List ℕ). out ++ t) (shown-more v r more)
-          ∙ sym (append_assoc out (shown v (r ∷ [])) (shown (after_all v (parcels_of (r ∷ []))) more))
-          ∙ ap (λ (t : List ℕ). t ++ shown (after_all v (parcels_of (r ∷ []))) more) (sym c.in_ok-readable.ensures.written)
-          ∙ ap (λ (w : LedgerValue). string_bytes c.answer_line.new.out ++ shown w more) (sym c.in_ok-readable.ensures.ledger);
+          ∙ ap (λ (rs : List (Option Parcel)). out ++ answers_text v rs) split
+          ∙ ap (λ (t : List ℕ). out ++ t) (answers_text-more v r more)
+          ∙ sym (append_assoc out (answers_text v (r ∷ [])) (answers_text (after_all v (parcels_of (r ∷ []))) more))
+          ∙ ap (λ (t : List ℕ). t ++ answers_text (after_all v (parcels_of (r ∷ []))) more) (sym c.in_ok-readable.ensures.written)
+          ∙ ap (λ (w : LedgerValue). string_bytes c.answer_line.new.out ++ answers_text w more) (sym c.in_ok-readable.ensures.ledger);
       ledger = c.loop-rest.invariant.ledger
           ∙ ap (λ (rs : List (Option Parcel)). after_all v (parcels_of rs)) split
           ∙ after_all-more v r more

@@ -1,14 +1,14 @@
 use Rattle.std.proofs.Common.{◌≡◌, ◌++◌, ◌&&◌, length}
 use Rattle.std.specs.Prelude.{string_bytes}
-use Rattle.rj_ledger.specs.Ledgers.{answers, after_all}
+use Rattle.rj_ledger.specs.Ledgers.{after_all}
 use Rattle.rj_command.specs.Script.{readings, parcels_of, are_readable}
-use Rattle.rj_command.specs.Report.{answer_lines, text_of_lines}
+use Rattle.rj_command.specs.Report.{answers_text}
 use Rattle.rj_command.proofs.script.answer_script.Given as goal
 
 abbrev pub invariant-loop-rest : goal.invariant-loop-rest
 invariant-loop-rest l = record {
-  written : string_bytes l.fn.out ++ text_of_lines (answer_lines (readings l.script) (answers l.fn.ledger (parcels_of (readings l.script))))
-      ≡ string_bytes l.out ++ text_of_lines (answer_lines (readings l.rest) (answers l.ledger (parcels_of (readings l.rest))));
+  written : string_bytes l.fn.out ++ answers_text l.fn.ledger (readings l.script)
+      ≡ string_bytes l.out ++ answers_text l.ledger (readings l.rest);
   ledger : after_all l.fn.ledger (parcels_of (readings l.script)) ≡ after_all l.ledger (parcels_of (readings l.rest));
   readable : are_readable (readings l.script) ≡ (l.readable && are_readable (readings l.rest));
   senders : length l.ledger.senders ≡ length l.fn.ledger.senders;

@@ -7,7 +7,7 @@ pub returns-in_err-right-clause-fault : goal.returns-in_err-right-clause-fault
 returns-in_err-right-clause-fault g c =
     let left = c.in_ok-left in
     let right = c.in_err-right in
-    let told = right_fault c.args.left.now c.args.right.now c.args.request.now left.left right.field-0.0 left.ensures.table right.ensures.fault in
+    let told = right_fault (g.B.AsSlice.items c.args.left) (g.B.AsSlice.items c.args.right) c.args.request.now left.left right.field-0.0 left.ensures.table right.ensures.fault in
     search (rules, told)
 
 pub returns-clause-fault : goal.returns-clause-fault
@@ -15,5 +15,5 @@ returns-clause-fault g c =
     let left = c.in_ok-left in
     let right = c.in_ok-right in
     IfErr-weaker c.bind_tables.result _ _
-    (λ f told. clause_fault c.args.left.now c.args.right.now c.args.request.now left.left right.right f left.ensures.table right.ensures.table told)
+    (λ f told. clause_fault (g.B.AsSlice.items c.args.left) (g.B.AsSlice.items c.args.right) c.args.request.now left.left right.right f left.ensures.table right.ensures.table told)
     c.bind_tables.ensures.fault
