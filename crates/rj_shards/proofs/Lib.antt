@@ -1,0 +1,7 @@
+pub mod Apart
+pub mod Found
+pub mod Meeting
+pub mod Own
+pub mod Rising
+pub mod Together
+pub mod Whole

@@ -1,0 +1,9 @@
+use Rattle.std.specs.List.{flat_map}
+use Rattle.rj_shards.proofs.Apart.{not_twice}
+use Rattle.rj_shards.proofs.Whole.{rows_of_all, whole_rises}
+use Rattle.rj_shards.proofs.laws.no_place_twice.Goals as goal
+use Rattle.rj_shards.specs.Rows.{placed_rows}
+
+pub returns : goal.returns
+returns g c = λ text join l r lists shards place.
+    not_twice (flat_map (λ rows. rows) lists) (placed_rows text join l r) (rows_of_all text join l r lists shards c.shards_merge.ensures.merge) (whole_rises text join l r) place

@@ -1,0 +1,53 @@
+// Laws: each of these functions does nothing, and its contract is a fact about all joins in shards.
+
+ghost use Rattle.std.specs.Prelude.{◌≡◌, ℕ, All, List, None};
+ghost use Rattle.std.specs.List.{flat_map};
+ghost use Rattle.rj_columns.specs.Contents.{Content};
+ghost use Rattle.rj_columns.specs.Tables.{TableValue};
+ghost use Rattle.rj_condition.specs.declared.bound.BoundJoin.{BoundJoin};
+ghost use Rattle.rj_engine.specs.Results.{kept_pairs};
+ghost use Rattle.rj_engine.specs.Shards.{IsLawful, left_shard, right_shard};
+ghost use Rattle.rj_merge.specs.Wholes.{HasTwice, IsMerge, RisesFrom};
+ghost use Rattle.rj_merge.specs.declared.place.Place.{Place};
+ghost use Rattle.rj_merge.specs.declared.place.Placed.{Placed};
+ghost use Rattle.rj_shards.specs.Rows.{AreShards, placed_rows};
+
+use rj_engine::{shard_is_part, shards_merge};
+use rj_merge::one_merge;
+
+/// The rows of a kept pair have one shard, by the key columns of the join and each lawful hash, whatever the number of shards.
+pub fn kept_rows_meet()
+    ensures { (value : List Content → ℕ) → IsLawful value → (count : ℕ) (join : BoundJoin) (l r : TableValue)
+        → All (λ p. left_shard value count join l p.0 ≡ right_shard value count join r p.1) (kept_pairs join l r) }
+{
+    shard_is_part();
+}
+
+/// The rows of the joined table of two tables are the merge of the rows that its shards give, each shard joined as two tables
+/// of their own; and whatever is that merge is these rows. This holds for each kind of join, each lawful hash, each number of
+/// shards, and whatever is written of a row's cells.
+pub fn shards_merge_to_whole<T>()
+    ensures merge { (text : List Content → T) (join : BoundJoin) (l r : TableValue) (lists : List (List (Placed T)))
+        → AreShards text join l r lists → IsMerge lists (placed_rows text join l r) }
+    ensures only { (text : List Content → T) (join : BoundJoin) (l r : TableValue) (lists : List (List (Placed T)))
+        → AreShards text join l r lists → (rows : List (Placed T)) → IsMerge lists rows → rows ≡ placed_rows text join l r }
+{
+    shards_merge();
+    one_merge::<T>();
+}
+
+/// The rows that a shard gives stand each above the one before it, so that the shard is an input of a merge as it is.
+pub fn shards_rise<T>()
+    ensures { (text : List Content → T) (join : BoundJoin) (l r : TableValue) (lists : List (List (Placed T)))
+        → AreShards text join l r lists → All (RisesFrom None) lists }
+{
+    shard_is_part();
+}
+
+/// No two rows of all shards have one place.
+pub fn no_place_twice<T>()
+    ensures { (text : List Content → T) (join : BoundJoin) (l r : TableValue) (lists : List (List (Placed T)))
+        → AreShards text join l r lists → (place : Place) → HasTwice (flat_map (λ l. l) lists) place → ⊥ }
+{
+    shards_merge();
+}

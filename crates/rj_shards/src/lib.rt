@@ -1,0 +1,14 @@
+//! Joins in shards (Balkesen, Teubner, Alonso, Özsu, "Main-memory hash joins on multi-core CPUs", ICDE 2013): the rows of two
+//! tables are divided by the hash of their keys, each shard is joined alone, and the merge of what the shards give is the
+//! joined table of SQL-92 (7.5).
+#![tactic(auto)]
+
+mod laws;
+mod merging;
+mod shards;
+#[cfg(test)]
+mod tests;
+
+pub use laws::{kept_rows_meet, no_place_twice, shards_merge_to_whole, shards_rise};
+pub use merging::merge_shards;
+pub use shards::Shards;

@@ -1,0 +1,36 @@
+// The shards of a join merged.
+
+ghost use Rattle.std.specs.Prelude.{◌≡◌, All, Contains, IfErr, IfOk, List, false, map};
+ghost use Rattle.rj_columns.specs.Contents.{Content};
+ghost use Rattle.rj_columns.specs.Tables.{TableValue};
+ghost use Rattle.rj_condition.specs.declared.bound.BoundJoin.{BoundJoin};
+ghost use Rattle.rj_merge.specs.Merging.{faults_of_inputs};
+ghost use Rattle.rj_merge.specs.Sources.{is_outside};
+ghost use Rattle.rj_shards.specs.Rows.{AreShards, placed_rows};
+
+use crate::laws::{no_place_twice, shards_merge_to_whole};
+use rj_merge::{MergeRefused, Placed, Source, merge_all};
+use std::alloc::Global;
+
+/// The rows of a joined table, of inputs that give its shards.
+///
+/// # Errors
+///
+/// The fault of an input. `Memory` and `ReadDevice` come from the machine alone. Where inputs are not the shards of one join,
+/// `RepeatedPlace` too: two rows have one place.
+pub fn merge_shards<S: Source>(
+    alloc: Global,
+    inputs: Vec<S>,
+) -> Result<Vec<Placed<S::Row>>, MergeRefused>
+    ensures whole { IfOk result (λ v. All S.tells inputs.items → (text : List Content → S.Row) (join : BoundJoin) (l r : TableValue)
+        → AreShards text join l r (map (λ s. (S.reading s).rows) inputs.items) → v.items ≡ placed_rows text join l r) }
+    ensures fault { IfErr result (λ e. is_outside e ≡ false → All S.tells inputs.items → (text : List Content → S.Row) (join : BoundJoin) (l r : TableValue)
+        → AreShards text join l r (map (λ s. (S.reading s).rows) inputs.items) → Contains (faults_of_inputs S.reading inputs.items) e) }
+{
+    shards_merge_to_whole::<S::Row>();
+    no_place_twice::<S::Row>();
+    match merge_all(alloc, inputs) {
+        Ok(rows) => Ok(rows),
+        Err(e) => Err(e),
+    }
+}
