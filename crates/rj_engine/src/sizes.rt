@@ -1,25 +1,24 @@
 // How many rows the partitions had, by their ledgers.
 
-ghost use Rattle.std.specs.Prelude.{◌≡◌, ◌<◌, ◌≤◌, ◌+◌, ◌^◌, All, IfOk, length, map};
+ghost use Rattle.std.specs.Prelude.{◌≡◌, ◌<◌, ◌≤◌, ◌+◌, ◌-◌, ◌^◌, All, IfOk, length, map, min};
 ghost use Rattle.rj_engine.specs.Partitioned.{rows_from};
 
 use rj_ledger::Ledger;
 use std::alloc::{AllocError, Global};
 
-// How many rows so many senders from the first delivered.
-fn delivered_rows(ledger: &Ledger, first: u32, count: u32) -> u64
-    requires senders { (first + count ≤ length ledger.now.senders) × (first + count ≤ 128) }
-    requires rows { rows_from first count ledger.now < 2 ^ 64 }
-    ensures { result ≡ rows_from first count ledger.now }
+/// How many rows so many senders from the first delivered, or 2^64 - 1 where there are more.
+pub(crate) fn delivered_rows(ledger: &Ledger, first: u32, count: u32) -> u64
+    requires { (first + count ≤ length ledger.now.senders) × (first + count ≤ 128) }
+    ensures { result ≡ min (rows_from first count ledger.now) (2 ^ 64 - 1) }
 {
     let mut rows = 0u64;
     for at in 0..count {
-        rows += ledger.delivered(first + at).len() as u64;
+        rows = rows.saturating_add(ledger.delivered(first + at).len() as u64);
     }
     rows
 }
 
-// How many rows so many senders from the first delivered to each partition.
+/// How many rows so many senders from the first delivered to each partition.
 pub(crate) fn delivered_sizes(
     alloc: Global,
     ledgers: &[Ledger],

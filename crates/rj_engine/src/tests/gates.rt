@@ -122,26 +122,53 @@ impl Meeting {
     }
 }
 
-// Holds each scanner at its stripe until two stripes have been come to.
-#[derive(Drop)]
-struct StripeGate {
-    stripes: Meeting,
+// What is drawn.
+#[derive(Clone, Copy, PartialEq, Eq)]
+enum Drawn {
+    Stripe,
+    Partition,
 }
 
-impl Gate for StripeGate {
-    fn pass(&self, place: Place) {
-        if let Place::Stripe(_) = place {
-            self.stripes.came.fetch_add(1, Ordering::SeqCst);
-            self.stripes.wait();
+// What is drawn where a worker comes to a place, if it is either.
+fn drawn_at(place: Place) -> Option<Drawn> {
+    match place {
+        Place::Stripe(_) => Some(Drawn::Stripe),
+        Place::Partition(_) => Some(Drawn::Partition),
+        Place::Posted(_) | Place::Take(_) | Place::Piece(_, _) => None,
+    }
+}
+
+// Holds who comes first to a stripe, or to a partition, until so many of them have been come to.
+#[derive(Drop)]
+struct FirstGate {
+    drawn: Drawn,
+    meeting: Meeting,
+}
+
+impl FirstGate {
+    fn of(drawn: Drawn, least: u64) -> FirstGate {
+        FirstGate {
+            drawn,
+            meeting: Meeting::of(least),
         }
     }
 }
 
+impl Gate for FirstGate {
+    fn pass(&self, place: Place) {
+        if drawn_at(place) == Some(self.drawn) {
+            let before = self.meeting.came.fetch_add(1, Ordering::SeqCst);
+            if before == 0 {
+                self.meeting.wait();
+            }
+        }
+    }
+}
+
+// While one of two scanners is held at a stripe, the other draws the second one.
 #[test]
 fn stripe_gate_test(rt: HostRuntime) -> Result<(), Fail> {
-    let gate = StripeGate {
-        stripes: Meeting::of(2),
-    };
+    let gate = FirstGate::of(Drawn::Stripe, 2);
     let settings = Settings::new(2, 4, 0, 1024, 1, 64, 1);
     let rows = join_keys(
         &rt,
@@ -152,11 +179,11 @@ fn stripe_gate_test(rt: HostRuntime) -> Result<(), Fail> {
         &gate,
     )?;
     assert_eq!(rt;
-        gate.stripes.in_vain(),
+        gate.meeting.in_vain(),
         0,
         "a stripe waited in vain for the other"
     );
-    assert_eq!(rt; gate.stripes.count(), 2);
+    assert_eq!(rt; gate.meeting.count(), 2);
     assert_eq!(rt; rows, Some(3));
     Ok(())
 }
@@ -213,29 +240,10 @@ fn queue_test(rt: HostRuntime) -> Result<(), Fail> {
     Ok(())
 }
 
-// Holds whichever of four partitions is come to first until the other three have been come to.
-#[derive(Drop)]
-struct PartitionGate {
-    partitions: Meeting,
-}
-
-impl Gate for PartitionGate {
-    fn pass(&self, place: Place) {
-        if let Place::Partition(_) = place {
-            let before = self.partitions.came.fetch_add(1, Ordering::SeqCst);
-            if before == 0 {
-                self.partitions.wait();
-            }
-        }
-    }
-}
-
 // While one of two takers is held at a partition, the other draws the remaining three.
 #[test]
 fn drawn_partitions_gate(rt: HostRuntime) -> Result<(), Fail> {
-    let gate = PartitionGate {
-        partitions: Meeting::of(4),
-    };
+    let gate = FirstGate::of(Drawn::Partition, 4);
     let settings = Settings::new(2, 2, 0, 1024, 1, 64, 1);
     let rows = join_keys(
         &rt,
@@ -246,11 +254,11 @@ fn drawn_partitions_gate(rt: HostRuntime) -> Result<(), Fail> {
         &gate,
     )?;
     assert_eq!(rt;
-        gate.partitions.in_vain(),
+        gate.meeting.in_vain(),
         0,
         "a partition waited in vain for the others"
     );
-    assert_eq!(rt; gate.partitions.count(), 4);
+    assert_eq!(rt; gate.meeting.count(), 4);
     assert_eq!(rt; rows, Some(1));
     Ok(())
 }
