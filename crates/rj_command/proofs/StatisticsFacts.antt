@@ -1,5 +1,5 @@
 -- Numbers from 0 on, and what is listed place by place.
-use Rattle.std.proofs.Common.{◌≡◌, ◌<◌, ℕ, ◌+◌, List, ◌∷◌, ◌++◌, [], map, take, length, get_or, refl, ap, sym, ◌∙◌, arith}
+use Rattle.std.proofs.Common.{◌≡◌, ◌<◌, ℕ, ◌+◌, List, ◌∷◌, ◌++◌, [], map, take, length, get_or, ap, sym, ◌∙◌, arith}
 use Rattle.std.specs.List.{range_with_len}
 use Rattle.std.proofs.lemmas.List.{map-append, map-id, take_more}
 use Rattle.std.proofs.lemmas.List.FromFn.{map-range_with_len_more}

@@ -1,4 +1,4 @@
-use Rattle.std.proofs.Common.{refl, arith, codes}
+use Rattle.std.proofs.Common.{arith, codes}
 use Rattle.clap.specs.Words.{first_value, found_of}
 use Rattle.rj_command.proofs.LimitFacts.{all_between, number_between}
 use Rattle.rj_command.proofs.join.line.settings_of.Goals as goal

@@ -1,4 +1,4 @@
-use Rattle.std.proofs.Common.{◌≡◌, ◌∙◌, sym, true≢false, arith, rules, ◌<◌, ◌^◌}
+use Rattle.std.proofs.Common.{◌≡◌, ◌∙◌, sym, true≢false, rules, ◌<◌, ◌^◌}
 use Rattle.rj_command.specs.Types.{end_word}
 use Rattle.rj_command.proofs.TypeFacts.{if_none, no_type}
 use Rattle.rj_command.proofs.join.types.last_piece.Goals as goal

@@ -1,4 +1,4 @@
-use Rattle.std.proofs.Common.{◌≡◌, ◌∙◌, ◌++◌, ◌∷◌, [], List, subst, ℕ, Option, sym, ap, drop, length, map, refl, lit<, rules, ◌+◌}
+use Rattle.std.proofs.Common.{◌≡◌, ◌∙◌, ◌++◌, ◌∷◌, [], List, subst, ℕ, Option, sym, ap, drop, length, refl, lit<, rules, ◌+◌}
 use Rattle.std.specs.Borrow.{Bor}
 use Rattle.rj_columns.specs.declared.cell.ColumnType.{ColumnType}
 use Rattle.std.specs.Str.Iter.{split_has_more, split_pattern, split_text}
