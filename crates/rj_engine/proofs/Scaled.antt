@@ -1,8 +1,8 @@
 -- Cells of a column, and of two coalesced ones, can be given in its scale.
-use Rattle.std.proofs.Common.{◌≡◌, ◌≤◌, ◌<◌, ℕ, zero, suc, ℤ, List, [], ◌∷◌, Option, Some, None, refl, sym, arith}
+use Rattle.std.proofs.Common.{◌≡◌, ◌≤◌, ◌<◌, ℕ, zero, suc, List, [], ◌∷◌, Option, Some, None, sym, arith}
 use Rattle.std.specs.Prelude.{max, slice_get}
 use Rattle.std.proofs.Math.Nat.{le-max_left, le-max_right, max-le, max-eq_left, max-eq_right}
-use Rattle.rj_columns.specs.Contents.{Content, nothing, whole, decimal, word, FitsType, IsInLimits}
+use Rattle.rj_columns.specs.Contents.{Content, nothing, whole, decimal, word, FitsType}
 use Rattle.rj_columns.specs.Scales.{coalesced, HasScaleWithin}
 use Rattle.rj_columns.specs.Tables.{TableValue, FitsAt}
 use Rattle.rj_columns.specs.declared.cell.ColumnType.{ColumnType}

@@ -1,5 +1,5 @@
 -- The columns and the members of a joined table are of the two tables.
-use Rattle.std.proofs.Common.{◌≡◌, ◌<◌, ℕ, zero, suc, ◌+◌, ◌&&◌, ◌==◌, not, List, [], ◌∷◌, Bool, true, false, Option, Some, None, All, refl, arith, length, map, inl, inr}
+use Rattle.std.proofs.Common.{◌≡◌, ◌<◌, ℕ, zero, suc, ◌+◌, ◌&&◌, ◌==◌, not, List, [], ◌∷◌, Bool, true, false, Option, Some, None, All, arith, length, map, inl, inr}
 use Rattle.std.specs.Prelude.{slice_get, slice_index_or, is_some, cond}
 use Rattle.std.specs.List.{range_with_len, list_all, list_any, flat_map}
 use Rattle.std.proofs.lemmas.Bool.{and_parts, cases_lt}

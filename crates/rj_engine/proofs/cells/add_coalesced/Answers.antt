@@ -1,8 +1,7 @@
-use Rattle.std.proofs.Common.{map, rules}
+use Rattle.std.proofs.Common.{map}
 use Rattle.rj_columns.specs.Contents.{content_of}
-use Rattle.rj_engine.specs.Cells.{joined_cell, IsMemberOf}
+use Rattle.rj_engine.specs.Cells.{IsMemberOf}
 use Rattle.rj_engine.specs.Join.{JoinedValue}
-use Rattle.rj_engine.specs.declared.origin.Origin.TheVariants as origin
 use Rattle.rj_engine.proofs.Sections.{coalesced_rows, of_pairs, of_lefts, of_rights}
 use Rattle.rj_engine.proofs.cells.add_coalesced.Goals as goal
 

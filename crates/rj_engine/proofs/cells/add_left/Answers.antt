@@ -1,4 +1,4 @@
-use Rattle.std.proofs.Common.{map, ap, sym, ◌∙◌, ◌++◌, rules}
+use Rattle.std.proofs.Common.{map, rules}
 use Rattle.rj_columns.specs.Contents.{content_of}
 use Rattle.rj_engine.specs.Cells.{left_cell, IsLeftRow}
 use Rattle.rj_engine.specs.Join.{JoinedValue}

@@ -1,4 +1,4 @@
-use Rattle.std.proofs.Common.{◌≡◌, ◌++◌, map, subst, ap, rules, ◌∙◌, sym}
+use Rattle.std.proofs.Common.{◌≡◌, ◌++◌, map, subst, ap, rules, sym}
 use Rattle.std.specs.Prelude.{OnOk}
 use Rattle.rj_columns.specs.Contents.{content_of}
 use Rattle.rj_engine.specs.Join.{rows_in}
