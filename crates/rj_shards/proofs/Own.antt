@@ -46,7 +46,7 @@ same_of_all P f g h each (x ∷ xs) all =
     let rest = same_of_all P f g h each xs (All-tail P x xs all) in
     λ t. first t ∷ rest t
 
-map_map : {A B X : Type 0} (g : B → X) (h : A → B) (xs : List A) → map g (map h xs) ≡ map (λ x. g (h x)) xs
+pub map_map : {A B X : Type 0} (g : B → X) (h : A → B) (xs : List A) → map g (map h xs) ≡ map (λ x. g (h x)) xs
 map_map g h [] = refl
 map_map g h (x ∷ xs) = ap (λ ys. g (h x) ∷ ys) (map_map g h xs)
 

@@ -11,7 +11,7 @@ use Rattle.rj_columns.specs.Scales.{coalesced, in_scale}
 use Rattle.rj_columns.specs.Tables.{TableValue, cell_of}
 use Rattle.rj_condition.specs.Joins.{keeps, kind_of_join}
 use Rattle.rj_condition.specs.declared.bound.BoundJoin.{BoundJoin}
-use Rattle.rj_engine.specs.Cells.{coalesced_scale, columns_of, joined_cell, joined_cells, left_cell, right_cell}
+use Rattle.rj_engine.specs.Cells.{coalesced_scale, columns_of, joined_cell, joined_cells, left_cell, right_cell, view_of}
 use Rattle.rj_engine.specs.Join.{JoinedValue, adds_left, adds_right, rows_in}
 use Rattle.rj_engine.specs.Results.{joined_of, kept_pairs, result_of}
 use Rattle.rj_engine.specs.Shards.{AreMerged, IsLawful, joined_at, joined_shard, joined_shards, left_shard, members_in, places, right_shard, rows_at}
@@ -22,9 +22,9 @@ use Rattle.rj_engine.specs.declared.origin.Origin.TheVariants.{Coalesced, Left, 
 use Rattle.rj_merge.specs.Wholes.{IsMerge, RisesFrom}
 use Rattle.rj_merge.specs.declared.place.Place.TheVariants.{LoneLeft, LoneRight}
 use Rattle.rj_merge.specs.declared.place.Placed.{Placed}
-use Rattle.rj_shards.specs.Rows.{AreShards, member_back, place_of, placed_at, placed_rows, placed_shard, placed_shards}
+use Rattle.rj_shards.specs.Rows.{AreShards, member_back, place_of, placed, placed_at, placed_rows, placed_shard, placed_shards}
 use Rattle.rj_shards.proofs.Together.{map_of_all, members_merged}
-use Rattle.rj_shards.proofs.Own.{Agree, AreBelow, added_below, own_as_back, pairs_below}
+use Rattle.rj_shards.proofs.Own.{Agree, AreBelow, added_below, own_as_back, pairs_below, map_map}
 use Rattle.rj_shards.proofs.Rising.{Rise, added_rise, left_up, members_rise, pair_place, pairs_rise, right_up, rise_filter, rise_map, rises_from}
 
 -- a cell is in the table of the rows at some places what it is in the table that they are from
@@ -157,3 +157,10 @@ module _ {T : Type 0} (text : List Content → T) (join : BoundJoin) (l r : Tabl
       subst (λ (ls : List (List (Placed T))). All (RisesFrom None) ls) (sym shards.are)
       (All-map (RisesFrom None) shard (range_with_len 0 shards.count)
       (λ k d low. let s = slice_index_or (range_with_len 0 shards.count) k d in shard_rises text join l r shards.value shards.count s (law shards.value shards.lawful shards.count join l r s)))
+
+-- rows without their places
+module _ {T : Type 0} (text : List Content → T) (join : BoundJoin) (l r : TableValue) (back : JoinedRow → JoinedRow) where
+  pub shown : map (λ (p : Placed T). p.row) (placed text join l r back) ≡ map text (view_of join l r).cells
+  shown =
+      let row : JoinedRow → Placed T = λ m. record { place = place_of (back m); row = text (joined_cells l r (columns_of join r) m) } in
+      map_map (λ (p : Placed T). p.row) row (result_of join l r) ∙ sym (map_map text (joined_cells l r (columns_of join r)) (result_of join l r))

@@ -1,16 +1,18 @@
 // Laws: each of these functions does nothing, and its contract is a fact about all joins in shards.
 
-ghost use Rattle.std.specs.Prelude.{◌≡◌, ℕ, All, List, None};
+ghost use Rattle.std.specs.Prelude.{◌≡◌, ℕ, All, List, None, map};
 ghost use Rattle.std.specs.List.{flat_map};
 ghost use Rattle.rj_columns.specs.Contents.{Content};
 ghost use Rattle.rj_columns.specs.Tables.{TableValue};
 ghost use Rattle.rj_condition.specs.declared.bound.BoundJoin.{BoundJoin};
+ghost use Rattle.rj_engine.specs.Cells.{view_of};
 ghost use Rattle.rj_engine.specs.Results.{kept_pairs};
 ghost use Rattle.rj_engine.specs.Shards.{IsLawful, left_shard, right_shard};
+ghost use Rattle.rj_engine.specs.declared.joined.JoinedRow.{JoinedRow};
 ghost use Rattle.rj_merge.specs.Wholes.{HasTwice, IsMerge, RisesFrom};
 ghost use Rattle.rj_merge.specs.declared.place.Place.{Place};
 ghost use Rattle.rj_merge.specs.declared.place.Placed.{Placed};
-ghost use Rattle.rj_shards.specs.Rows.{AreShards, placed_rows};
+ghost use Rattle.rj_shards.specs.Rows.{AreShards, placed, placed_rows};
 
 use rj_engine::{shard_is_part, shards_merge};
 use rj_merge::one_merge;
@@ -51,3 +53,10 @@ pub fn no_place_twice<T>()
 {
     shards_merge();
 }
+
+/// Without their places, the rows of a joined table, be it of a shard or of the whole, are what is written of the rows of cells
+/// that a `View` of it shows, in their order.
+pub fn rows_are_shown<T>()
+    ensures { (text : List Content → T) (join : BoundJoin) (l r : TableValue) (back : JoinedRow → JoinedRow)
+        → map (λ (p : Placed T). p.row) (placed text join l r back) ≡ map text (view_of join l r).cells }
+{}

@@ -9,6 +9,8 @@ mod shards;
 #[cfg(test)]
 mod tests;
 
-pub use laws::{kept_rows_meet, no_place_twice, shards_merge_to_whole, shards_rise};
+pub use laws::{
+    kept_rows_meet, no_place_twice, rows_are_shown, shards_merge_to_whole, shards_rise,
+};
 pub use merging::merge_shards;
 pub use shards::Shards;
