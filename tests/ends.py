@@ -1,4 +1,4 @@
-"""The ends of both programs: the rows of ends.toml, and those that files, streams and users make."""
+"""The ends of the programs: the rows of ends.toml, and those that files, streams and users make."""
 import os
 import pathlib
 import shutil
@@ -17,6 +17,7 @@ PEOPLE = b"id,name\n1,ann\n2,bob\n3,cy\n"
 CITIES = b"id,city\n4,rome\n2,oslo\n5,lima\n"
 JOINED = b"id,name,city\n2,bob,oslo\n"
 ARRIVALS = ["--partition", "0", "--senders", "1", "--block", "2"]
+MERGES = ["left.csv", "right.csv"]
 
 
 def run(name, words, folder, **how):
@@ -44,10 +45,12 @@ def two_files(folder):
 
 
 def words_that_are_no_text(folder):
-    """A word that isn't UTF-8 ends both programs by a line of their own, wherever it stands."""
+    """A word that isn't UTF-8 ends each program by a line of its own, wherever it stands."""
     joining = [os.fsencode(word) for word in two_files(folder)]
     replaying = [os.fsencode(word) for word in ARRIVALS]
-    for name, words in (("radixjoin", joining), ("arrivals", replaying)):
+    dividing = [*joining, b"--side=left", b"--parts=2", b"--out=parts"]
+    merging = [os.fsencode(word) for word in MERGES]
+    for name, words in (("radixjoin", joining), ("arrivals", replaying), ("shards", dividing), ("merges", merging)):
         line = f"{name}: an argument is not text\n".encode()
         for place in (0, 1, len(words)):
             ran = run(name, [*words[:place], b"x\xffy", *words[place:]], folder)
@@ -61,6 +64,8 @@ def help_of_each_option(folder):
     options = {
         "radixjoin": ["left", "right", "left-types", "right-types", "join", "null", "bits1", "bits2", "hash", "workers", "block", "lanes", "capacity", "retries", "piece", "stats", "help", "version"],
         "arrivals": ["partition", "senders", "block", "gaps", "help", "version"],
+        "shards": ["side", "left", "right", "left-types", "right-types", "join", "null", "parts", "from", "to", "out", "cuts", "help", "version"],
+        "merges": ["null", "help", "version"],
     }
     for name, told in options.items():
         for word in ("--help", "-h"):
@@ -71,7 +76,7 @@ def help_of_each_option(folder):
 
 def version_of_each_program(folder):
     """The version is the program's name and number, on standard output alone, whatever follows it."""
-    for name in ("radixjoin", "arrivals"):
+    for name in ("radixjoin", "arrivals", "shards", "merges"):
         for words in (["--version"], ["-V"], ["--version", "nonsense"]):
             ran = run(name, words, folder)
             yield f"{name} {' '.join(words)}", harness.differences(ran, f"{name} 1.0.0\n".encode())

@@ -16,8 +16,8 @@ import subprocess
 import harness
 
 PAGES = ("README.md", "docs/faults.md", "docs/recipes.md")
-MANUALS = ("man/radixjoin.1", "man/arrivals.1")
-PROGRAMS = ("radixjoin", "arrivals")
+MANUALS = ("man/radixjoin.1", "man/arrivals.1", "man/shards.1", "man/merges.1")
+PROGRAMS = ("radixjoin", "arrivals", "shards", "merges")
 SECONDS = 60
 NOBODY = 65534
 # What stands before the status of a command among what a session prints.

@@ -1,5 +1,5 @@
 """Refuses each allocation in turn in further runs of the built programs: statistics, coalesced texts, a remainder, a
-quoted header, the versions, faults, a write that fails, and scripts with gaps.
+quoted header, the versions, faults, a write that fails, scripts with gaps, and the division and the merge of shards.
 
 Each run ends as if nothing had been refused, or with `E18 Memory`, status 5. Where it would end by a fault it may end
 by that too; nothing is on standard output then but after a write that failed."""
@@ -42,6 +42,9 @@ QUOTED = b'"a,b","say ""it"""\n1,x\n', b'"a,b",c\n1,"p,q"\n'
 REPLAYED = b"held\naccepted 1\nheld\nrefused repeat\nunreadable\nsender 0 waiting 1 rows 9 9\nsender 0 gap 1 2\nsender 1 waiting 0 rows\nsender 1 gap 0 7\nincomplete\n"
 SCRIPT = b"0 0 2 rows 5 7\n0 0 0 rows 9 9\n1 0 7 close\n0 0 2 rows 1\nx\n"
 REPLAY = ["--partition=0", "--senders=2", "--block=2", "--gaps"]
+DIVISION = ["--side=left", "--left=left.csv", "--right=right.csv", "--left-types=int,text", "--right-types=int", "--join=JOIN USING (k)", "--parts=2"]
+DIVIDED = {"left.csv": b'k,a\n1,"x\ny"\n,z\n2,"say ""it"""\n', "right.csv": b"k\n1\n"}
+MERGED = {"0.csv": b"left_place,a,right_place\n0,x,5\n1,y,\n", "1.csv": b'left_place,a,right_place\n0,"z\n",7\n,w,2\n'}
 RUNS = [
     joined("statistics", b"k\n-1\n0\n5\n", b"k\n5\n", ["int", "int"], "JOIN USING (k)", b"k\n5\n", "--bits1=2", "--stats", stderr=STATISTICS),
     joined("coalesced texts", *TEXTS, ["text,int", "int,text"], "FULL JOIN USING (k)", b"k,a,b\ncy,3,5\nann,1,\n,2,\nbob,,4\n,,6\n"),
@@ -59,6 +62,10 @@ RUNS = [
     Run("a bad type list", ["--left=none", "--right=none", "--left-types=int,x", "--right-types=int", "--join=JOIN"], {}, b"", b"radixjoin: bad type list left\n", 2),
     Run("a script with gaps", REPLAY, {}, REPLAYED, status=3, program="arrivals", stdin=SCRIPT),
     Run("a script to a full device", REPLAY, {}, b"", b"arrivals: E20 WriteDevice\n", 6, program="arrivals", stdin=SCRIPT, is_full=True),
+    Run("a division", [*DIVISION, "--out=parts"], DIVIDED, b"rows 3 header 15\n", program="shards"),
+    Run("cuts", [*DIVISION, "--cuts=2"], DIVIDED, b"", program="shards"),
+    Run("a merge", ["0.csv", "1.csv"], MERGED, b'a\nx\n"z\n"\ny\nw\n', program="merges"),
+    Run("a merge to a full device", ["0.csv", "1.csv"], MERGED, b"", b"merges: E20 WriteDevice\n", 6, program="merges", is_full=True),
 ]
 
 
@@ -73,9 +80,10 @@ def ended(run, folder, environment):
 def faults_of(run, ran):
     """What isn't as wanted of a run in which something was refused."""
     as_ever = harness.differences(ran, run.stdout, run.stderr, run.status)
-    # Nothing is promised of how much `arrivals` had written.
-    stdout = None if run.program == "arrivals" else b""
-    for_memory = harness.differences(ran, stdout, f"{run.program}: E18 Memory\n".encode(), 5)
+    # Nothing is promised of how much `arrivals` and `merges` had written. What `shards` tells of files are the lines of `radixjoin`.
+    stdout = None if run.program in ("arrivals", "merges") else b""
+    teller = "radixjoin" if run.program == "shards" else run.program
+    for_memory = harness.differences(ran, stdout, f"{teller}: E18 Memory\n".encode(), 5)
     return as_ever and for_memory and [*as_ever, "and not for want of memory:", *for_memory]
 
 

@@ -25,6 +25,8 @@ PARTS = (
     "examples",
     "devices",
     "sizes",
+    "cluster",
+    "shards",
     "parts",
     "installation",
     "pages",

@@ -3,7 +3,7 @@
 #![tactic(auto)]
 
 use clap::{Arg, ArgAction, Command, Error, value_parser};
-use rj_command::{Fault, VERSION, arrivals, read_words, texts_of};
+use rj_command::{Fault, Told, VERSION, arrivals, read_words, tell, texts_of};
 use rj_csv_io::{CountedReader, CountedWriter, ReadRefused, read_all};
 use std::alloc::{AllocError, Global};
 use std::env::Env;
@@ -32,8 +32,8 @@ impl From<AllocError> for Failure {
     }
 }
 
-impl Failure {
-    // The exit status: 0 help and version, 2 command line, 5 memory, 6 device.
+impl Told for Failure {
+    // 0 help and version, 2 command line, 5 memory, 6 device.
     fn status(&self) -> u8 {
         match self {
             Failure::CommandLine(error) => { if error.use_stderr() { 2 } else { 0 } }
@@ -41,6 +41,17 @@ impl Failure {
             Failure::Memory => 5,
             Failure::ReadDevice | Failure::WriteDevice => 6,
         }
+    }
+
+    fn by_clap(&self) -> Option<&Error> {
+        match self {
+            Failure::CommandLine(error) => Some(error),
+            _ => None,
+        }
+    }
+
+    fn failed_write() -> Failure {
+        Failure::WriteDevice
     }
 }
 
@@ -160,24 +171,6 @@ fn replay<R: Env + Input + AllocGlobal + Print>(rt: &R) -> Result<bool, Failure>
         Err(Fault::Memory) => Err(Failure::Memory),
         Err(_) => Err(Failure::WriteDevice),
     }
-}
-
-// Prints the line of a failure, and gives the exit status.
-fn tell_line(rt: &impl Eprint, failure: &Failure) -> u8 {
-    let _ = eprintln!(rt; "{failure}");
-    failure.status()
-}
-
-// Prints a failure, or help or the version on standard output, and gives the exit status.
-fn tell<R: Print + Eprint>(rt: &R, failure: &Failure) -> u8 {
-    if let Failure::CommandLine(error) = failure {
-        let printed = error.print(rt).is_ok();
-        if printed || error.use_stderr() {
-            return failure.status();
-        }
-        return tell_line(rt, &Failure::WriteDevice);
-    }
-    tell_line(rt, failure)
 }
 
 fn main(rt: HostRuntime) -> ExitCode {

@@ -1,4 +1,4 @@
-// Building one table's rows and probing them with another's.
+//! Building one table's rows and probing them with another's.
 
 ghost use Rattle.std.specs.Prelude.{◌≡◌, ◌<◌, ◌≤◌, ◌^◌, true, length};
 ghost use Rattle.std.specs.List.Sorted.{IsStrictlyIncreasing};

@@ -1,4 +1,4 @@
-// Tables of one column of keys.
+//! Tables of one column of keys.
 
 ghost use Rattle.std.specs.Prelude.{◌≡◌, ◌<◌, ◌≤◌, ◌^◌, IfOk, length};
 

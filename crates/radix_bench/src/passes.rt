@@ -1,4 +1,4 @@
-// The passes of histogram, prefix sum and scatter.
+//! The passes of histogram, prefix sum and scatter.
 
 ghost use Rattle.std.specs.Prelude.{◌≡◌, ◌<◌, ◌≤◌, ◌^◌, ◌∷◌, [], All, length};
 ghost use Rattle.rj_radix.specs.Keys.{InTable};

@@ -1,4 +1,4 @@
-// Joining one partition in pieces.
+//! Joining one partition in pieces.
 
 ghost use Rattle.std.specs.Prelude.{◌≡◌, ◌<◌, ◌≤◌, ◌^◌, true, All, length};
 ghost use Rattle.rj_condition.specs.Parts.{split_fits};

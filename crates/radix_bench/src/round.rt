@@ -1,4 +1,4 @@
-// How long the two steps of what is timed took.
+//! How long the two steps of what is timed took.
 
 ghost use Rattle.std.specs.Prelude.{◌≡◌};
 

@@ -2,7 +2,7 @@
 //! Statistics and faults go to standard error.
 #![tactic(auto)]
 
-use rj_command::{Fault, Open, Side, read_line, read_words, run_owned, texts_of};
+use rj_command::{Fault, Open, Side, read_line, read_words, run_owned, tell, texts_of};
 use rj_csv_io::{CountedReader, CountedWriter, ReadRefused, read_all};
 use std::env::Env;
 use std::fs::{self, Files, OpenFile};
@@ -50,24 +50,6 @@ fn join<R: Env + Files + AllocGlobal + Print + Eprint + Threads + Wait + Clock +
         let _ = eprintln!(rt; "{stats}");
     }
     Ok(())
-}
-
-// Prints the line of a fault, and gives the exit status.
-fn tell_line(rt: &impl Eprint, fault: &Fault) -> u8 {
-    let _ = eprintln!(rt; "{fault}");
-    fault.status()
-}
-
-// Prints why there is no output, or help or the version on standard output, and gives the exit status.
-fn tell<R: Print + Eprint>(rt: &R, fault: &Fault) -> u8 {
-    if let Fault::CommandLine(error) = fault {
-        let printed = error.print(rt).is_ok();
-        if printed || error.use_stderr() {
-            return fault.status();
-        }
-        return tell_line(rt, &Fault::WriteDevice);
-    }
-    tell_line(rt, fault)
 }
 
 fn main(rt: HostRuntime) -> ExitCode {

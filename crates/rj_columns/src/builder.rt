@@ -1,4 +1,4 @@
-// How a table is built, row by row.
+//! How a table is built, row by row.
 
 ghost use Rattle.std.specs.Prelude.{◌≡◌, ◌<◌, ◌≤◌, ◌+◌, ◌-◌, ◌^◌, ◌++◌, ◌∷◌, [], map, length, OnOk, OnErr, IfOk, IfErr, Ok, Err, ◌≢◌};
 ghost use Rattle.rj_columns.specs.Names.{begun};

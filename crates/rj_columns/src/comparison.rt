@@ -1,4 +1,4 @@
-// How two cells compare.
+//! How two cells compare.
 
 ghost use Rattle.std.specs.Prelude.{◌≡◌, ◌↔◌, ◌||◌, Some, IsNone, IsTrue};
 ghost use Rattle.rj_columns.specs.Contents.{content_of, IsInLimits};

@@ -1,4 +1,4 @@
-// One table of the rows of several.
+//! One table of the rows of several.
 
 ghost use Rattle.std.specs.Prelude.{◌≡◌, ◌<◌, ◌^◌, ℕ, [], Some, Ok, length, map, slice_get, slice_index_or, All, IfOk};
 ghost use Rattle.rj_columns.specs.Columns.{AreColumnsOf, GiveColumnsOf, IsColumnOf};

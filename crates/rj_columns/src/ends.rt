@@ -1,4 +1,4 @@
-// Where the texts of a column end in its buffer of bytes.
+//! Where the texts of a column end in its buffer of bytes.
 
 ghost use Rattle.std.specs.Prelude.{◌≡◌, ◌<◌, ◌≤◌, ◌+◌, ◌-◌, ◌^◌, ◌++◌, ◌∷◌, [], All, map, length, take, drop, slice_index, IfOk, OnOk, OnErr};
 ghost use Rattle.rj_columns.specs.Packed.{start_at};

@@ -1,4 +1,4 @@
-// Hashes that take up the cells of a column at some rows.
+//! Hashes that take up the cells of a column at some rows.
 
 ghost use Rattle.std.specs.Prelude.{◌≡◌, ◌<◌, ℕ, All, Option, length, map, slice_index_or};
 ghost use Rattle.rj_columns.specs.Contents.{Content, IsInLimits, content_of, nothing};

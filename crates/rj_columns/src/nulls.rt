@@ -1,4 +1,4 @@
-// Marks of nulls, which reach no further than the last null.
+//! Marks of nulls, which reach no further than the last null.
 
 ghost use Rattle.std.specs.Prelude.{◌≡◌, ◌≤◌, ◌+◌, length, false, slice_index_or, OnOk, OnErr};
 ghost use Rattle.rj_columns.specs.Nulls.{marked_at, marks_joined};

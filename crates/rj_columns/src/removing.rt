@@ -1,4 +1,4 @@
-// One element less.
+//! One element less.
 
 ghost use Rattle.std.specs.Prelude.{◌≡◌};
 ghost use Rattle.std.specs.List.{remove};

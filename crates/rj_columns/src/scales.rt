@@ -1,4 +1,4 @@
-// Cells in a scale, and the first of two that is not null.
+//! Cells in a scale, and the first of two that is not null.
 
 ghost use Rattle.std.specs.Prelude.{◌≡◌, ◌≤◌};
 ghost use Rattle.rj_columns.specs.Contents.{content_of, IsInLimits};

@@ -1,8 +1,9 @@
-// Cells of some rows of a table at some of its columns, packed.
+//! Cells of some rows of a table at some of its columns, packed.
 
 ghost use Rattle.std.specs.Prelude.{◌≡◌, ◌<◌, All, IfOk, [], length, map, slice_index_or};
 ghost use Rattle.rj_columns.specs.Contents.{content_of, nothing, IsInLimits};
 ghost use Rattle.rj_columns.specs.Columns.{IsTyped};
+ghost use Rattle.rj_columns.specs.Compare.{are_equal};
 ghost use Rattle.rj_columns.specs.Tables.{cell_of};
 
 use crate::cell::Cell;
@@ -41,6 +42,26 @@ impl Selection {
         ensures limits { IsInLimits (content_of result) }
     {
         self.columns[col].get(place)
+    }
+
+    /// Whether the cell at a place of a column equals the cell at a row and a column of a table: what
+    /// `are_equal_cells` says of the two, which aren't made. Takes no memory.
+    #[inline]
+    pub fn equals_cell(
+        &self,
+        place: usize,
+        col: usize,
+        table: &Table,
+        row: u64,
+        table_col: usize,
+    ) -> bool
+        requires col { col < length self.now }
+        requires place { place < length (slice_index_or self.now col []) }
+        requires row { row < length table.now.rows }
+        requires table_col { table_col < length table.now.types }
+        ensures { result ≡ are_equal (slice_index_or (slice_index_or self.now col []) place nothing) (cell_of table.now row table_col) }
+    {
+        self.columns[col].is_equal(place, table.column(table_col), row as usize)
     }
 }
 

@@ -1,4 +1,4 @@
-// Worked examples: the names and columns that a table may have, cells that are pushed, their order, and numbers in a scale.
+//! Worked examples: the names and columns that a table may have, cells that are pushed, their order, and numbers in a scale.
 
 ghost use Rattle.std.specs.Prelude.{◌≡◌, length, IfOk};
 ghost use Rattle.rj_columns.specs.Contents.{content_of, decimal};

@@ -1,8 +1,9 @@
-// Why a run gave no output.
+//! Why a run gave no output.
 
 ghost use Rattle.std.specs.Prelude.{◌≡◌, Some};
 ghost use Rattle.rj_command.specs.Faults.{side_text, status_of};
 
+use crate::told::Told;
 use std::fmt;
 use thiserror::Error;
 
@@ -97,6 +98,23 @@ pub enum Fault {
     /// The writer failed.
     #[error("radixjoin: E20 WriteDevice")]
     WriteDevice,
+}
+
+impl Told for Fault {
+    fn status(&self) -> u8 {
+        Fault::status(self)
+    }
+
+    fn by_clap(&self) -> Option<&clap::Error> {
+        match self {
+            Fault::CommandLine(error) => Some(error),
+            _ => None,
+        }
+    }
+
+    fn failed_write() -> Fault {
+        Fault::WriteDevice
+    }
 }
 
 impl Fault {

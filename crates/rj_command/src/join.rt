@@ -1,4 +1,4 @@
-// The program `radixjoin`: its command line, and a run from the bytes of two tables to the bytes of their joined table.
+//! The program `radixjoin`: its command line, and a run from the bytes of two tables to the bytes of their joined table.
 
 mod line;
 mod operands;
@@ -9,6 +9,8 @@ mod stats;
 mod types;
 
 pub use self::line::{Line, read_line};
+pub use self::operands::{bind_clause, fault_of_read};
 pub use self::request::{Hash, Request};
 pub use self::running::{run, run_owned};
 pub use self::stats::{PartitionRows, Stats};
+pub use self::types::read_types;

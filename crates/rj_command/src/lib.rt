@@ -4,12 +4,17 @@
 mod fault;
 mod join;
 mod script;
+mod told;
 mod words;
 
 pub use fault::{Fault, Side};
-pub use join::{Hash, Line, PartitionRows, Request, Stats, read_line, run, run_owned};
+pub use join::{
+    Hash, Line, PartitionRows, Request, Stats, bind_clause, fault_of_read, read_line, read_types,
+    run, run_owned,
+};
 pub use rj_engine::Open;
 pub use script::arrivals;
+pub use told::{Told, tell};
 pub use words::{read_words, texts_of};
 
 /// The version of both programs, which `--version` prints.

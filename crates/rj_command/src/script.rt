@@ -1,4 +1,4 @@
-// Scripts of arrivals: their lines read as parcels, and what is printed for them.
+//! Scripts of arrivals: their lines read as parcels, and what is printed for them.
 
 ghost use Rattle.std.specs.Prelude.{Err, IfErr, ◌≢◌, ◌<◌, ◌+◌, ◌-◌, ◌^◌, ◌≡◌, ◌++◌, ◌∷◌, [], OnOk, IfOk, string_bytes, length, is_some};
 ghost use Rattle.std.specs.Io.KnownBytes.{Appends};

@@ -1,4 +1,4 @@
-// The words that a program is started with.
+//! The words that a program is started with.
 
 ghost use Rattle.std.specs.Prelude.{◌≡◌, IfOk, map, string_bytes};
 

@@ -1,4 +1,4 @@
-// Clauses bound to two tables.
+//! Clauses bound to two tables.
 
 ghost use Rattle.std.specs.Prelude.{◌≡◌, ◌≢◌, IfOk, IfErr, Ok, Err, true, List};
 ghost use Rattle.rj_columns.specs.declared.cell.ColumnType.{ColumnType};

@@ -1,4 +1,4 @@
-// A join whose names are resolved to columns of two tables.
+//! A join whose names are resolved to columns of two tables.
 
 ghost use Rattle.std.specs.Prelude.{◌≡◌};
 ghost use Rattle.rj_condition.specs.Joins.{kind_of_join, partners_of};

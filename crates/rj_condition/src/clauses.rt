@@ -1,4 +1,4 @@
-// Join clauses (SQL-92, 7.5).
+//! Join clauses (SQL-92, 7.5).
 
 ghost use Rattle.std.specs.Prelude.{◌≡◌, [], ◌∷◌};
 ghost use Rattle.rj_condition.specs.Reading.{Gives, GivesWhole};

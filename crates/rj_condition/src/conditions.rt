@@ -1,5 +1,5 @@
-// Conditions by recursive descent (SQL-92, 8.12). The limit bounds the turns and the nesting: the count of the tokens
-// is enough.
+//! Conditions by recursive descent (SQL-92, 8.12). The limit bounds the turns and the nesting: the count of the tokens
+//! is enough.
 
 ghost use Rattle.std.specs.Prelude.{◌≡◌, [], ◌∷◌};
 ghost use Rattle.rj_condition.specs.Reading.{Gives, factor_at, factors_at, term_at, terms_at, cond_at, group_at, test_at, primary_at, any_of, all_of};

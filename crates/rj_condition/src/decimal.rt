@@ -1,4 +1,4 @@
-// The decimals of a clause.
+//! The decimals of a clause.
 
 ghost use Rattle.std.specs.Prelude.{◌≡◌, true};
 ghost use Rattle.rj_condition.specs.Sizes.{is_short};

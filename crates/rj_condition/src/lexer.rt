@@ -1,4 +1,4 @@
-// The tokens of a text, each as long as its form allows (SQL-92, 5.2).
+//! The tokens of a text, each as long as its form allows (SQL-92, 5.2).
 
 ghost use Rattle.std.specs.Prelude.{◌≡◌, ◌<◌, ◌≤◌, ◌+◌, ◌∷◌, ◌==◌, [], IfOk, IsSome, length, slice_index, take, drop};
 ghost use Rattle.std.specs.Char.{is_ascii_digit};

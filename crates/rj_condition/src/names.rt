@@ -1,4 +1,4 @@
-// Which column a name means (SQL-92, 5.4 and 6.4).
+//! Which column a name means (SQL-92, 5.4 and 6.4).
 
 ghost use Rattle.std.specs.Prelude.{◌≡◌, ◌≢◌, ◌<◌, IfOk, IfErr, IfSome, Ok, Err, length};
 ghost use Rattle.std.specs.List.{position_from};

@@ -1,4 +1,4 @@
-// How deep parentheses and NOTs are nested.
+//! How deep parentheses and NOTs are nested.
 
 ghost use Rattle.std.specs.Prelude.{◌≡◌, ◌<◌, ◌≤◌, ◌+◌, ◌^◌, [], ◌∷◌, IfOk, OnOk, sum, length};
 ghost use Rattle.rj_condition.specs.Nesting.{runs_after, depth, is_deep};

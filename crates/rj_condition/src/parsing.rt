@@ -1,4 +1,4 @@
-// A clause text and its syntax tree.
+//! A clause text and its syntax tree.
 
 ghost use Rattle.std.specs.Prelude.{◌≡◌, ◌∷◌, [], ◌≤◌, length, List, ℕ};
 ghost use Rattle.rj_condition.specs.declared.tree.Clause.{Clause};

@@ -1,4 +1,4 @@
-// The corresponding columns of USING and NATURAL (SQL-92, 7.5).
+//! The corresponding columns of USING and NATURAL (SQL-92, 7.5).
 
 ghost use Rattle.std.specs.Prelude.{◌≡◌, ◌≢◌, ◌<◌, IfOk, IfErr, Ok, Err, None, [], ◌∷◌, length, replicate, slice_get, true};
 ghost use Rattle.std.specs.List.{list_all};

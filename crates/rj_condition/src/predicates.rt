@@ -1,4 +1,4 @@
-// Operands and predicates (SQL-92, 8.2, 8.3, 8.4, 8.6).
+//! Operands and predicates (SQL-92, 8.2, 8.3, 8.4, 8.6).
 
 ghost use Rattle.std.specs.Prelude.{◌≡◌, [], ◌∷◌};
 ghost use Rattle.rj_condition.specs.Reading.{Gives};

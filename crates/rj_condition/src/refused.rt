@@ -1,4 +1,4 @@
-// Why a text is no clause, and why a clause can't be bound.
+//! Why a text is no clause, and why a clause can't be bound.
 
 use std::alloc::AllocError;
 

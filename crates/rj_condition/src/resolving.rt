@@ -1,4 +1,4 @@
-// Conditions with their names resolved.
+//! Conditions with their names resolved.
 
 ghost use Rattle.std.specs.Prelude.{◌≡◌, ◌≢◌, IfOk, IfErr, Ok, Err, map};
 ghost use Rattle.rj_condition.specs.Names.{resolved_operand};

@@ -1,4 +1,4 @@
-// Steps of the reader: the next token, where it is the one wanted.
+//! Steps of the reader: the next token, where it is the one wanted.
 
 ghost use Rattle.std.specs.Prelude.{◌≡◌, [], ◌∷◌, IfOk, IsTrue, ◌↔◌, List};
 ghost use Rattle.rj_condition.specs.Reading.{Gives, GivesRest, GivesWhole, rest_view};

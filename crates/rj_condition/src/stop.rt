@@ -1,4 +1,4 @@
-// Why a parser of tokens stops.
+//! Why a parser of tokens stops.
 
 use std::alloc::AllocError;
 

@@ -1,4 +1,4 @@
-// Worked examples of clauses from their text to the truth at two rows, and what no contract says.
+//! Worked examples of clauses from their text to the truth at two rows, and what no contract says.
 
 mod binding;
 mod parsing;

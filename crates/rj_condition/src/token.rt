@@ -1,4 +1,4 @@
-// The tokens of a join clause (SQL-92, 5.2).
+//! The tokens of a join clause (SQL-92, 5.2).
 
 ghost use Rattle.std.specs.Prelude.{◌≡◌};
 ghost use Rattle.rj_condition.specs.Tokens.{spelling_of};

@@ -1,4 +1,4 @@
-// The syntax tree of a join clause, before its names are resolved.
+//! The syntax tree of a join clause, before its names are resolved.
 
 use crate::decimal::DecimalLiteral;
 use crate::truth::Truth;

@@ -1,4 +1,4 @@
-// Truth values and their connectives (SQL-92, 8.12).
+//! Truth values and their connectives (SQL-92, 8.12).
 
 ghost use Rattle.std.specs.Prelude.{◌≡◌, ◌-◌, ◌==◌, min, max};
 ghost use Rattle.rj_condition.specs.Truths.{truth_value, certain, negated_if};

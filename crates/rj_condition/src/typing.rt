@@ -1,4 +1,4 @@
-// Whether what a condition compares is of one family.
+//! Whether what a condition compares is of one family.
 
 ghost use Rattle.std.specs.Prelude.{◌≡◌, slice_get};
 ghost use Rattle.std.specs.List.{list_all};

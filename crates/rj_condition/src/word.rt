@@ -1,4 +1,4 @@
-// Texts that contracts see as their bytes.
+//! Texts that contracts see as their bytes.
 
 ghost use Rattle.std.specs.Prelude.{◌≡◌, string_bytes, IfOk};
 

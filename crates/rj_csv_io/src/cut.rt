@@ -1,4 +1,4 @@
-// Cuts of a text after the ends of records.
+//! Cuts of a text after the ends of records.
 
 ghost use Rattle.std.specs.Prelude.{◌≡◌, ◌<◌, ◌≤◌, IfSome, IfOk, true, false, length, take, drop, map};
 ghost use Rattle.csv.specs.Reading.{strip_bom};

@@ -1,4 +1,4 @@
-// Reading the next bytes of a device.
+//! Reading the next bytes of a device.
 
 ghost use Rattle.std.specs.Prelude.{◌≡◌, ◌≢◌, ◌<◌, ◌≤◌, ◌+◌, ◌-◌, ◌^◌, ℕ, List, Option, Ok, Err, true, false, vec_len, IfErr, OnOk};
 ghost use Rattle.std.specs.Io.KnownBytes.{Consumes, IsAtEnd};
@@ -7,8 +7,12 @@ use crate::input::{Input, read_piece};
 use crate::refused::ReadRefused;
 
 /// Adds the next bytes of a device to some, until these are at least so many or the device is at its end: whether it is
-/// at its end. What was read is up to 64 KiB more than was asked for. `ReadDevice` is answered where the device failed,
-/// `Memory` where a growth was refused; nothing is known then of how much was read.
+/// at its end. What was read is up to 64 KiB more than was asked for.
+///
+/// # Errors
+///
+/// `ReadDevice` is answered where the device failed, `Memory` where a growth was refused; nothing is known then of how
+/// much was read.
 pub fn read_up_to<I: Input>(
     input: &mut I,
     bytes: &mut Vec<u8>,

@@ -1,4 +1,4 @@
-// What begins the reading of a table: its reader, its header, and the room for its rows.
+//! What begins the reading of a table: its reader, its header, and the room for its rows.
 
 ghost use Rattle.std.specs.Prelude.{◌≡◌, ◌≢◌, ◌≤◌, ◌*◌, [], length, map, IfOk, IfErr, Ok, Err, Some};
 ghost use Rattle.csv.specs.Reading.{default_config, records, strip_bom};

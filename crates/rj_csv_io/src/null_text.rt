@@ -1,4 +1,4 @@
-// Which texts may stand for null.
+//! Which texts may stand for null.
 
 ghost use Rattle.std.specs.Prelude.{◌≡◌};
 ghost use Rattle.std.specs.List.{list_all};

@@ -1,4 +1,4 @@
-// One of the parts that a table is read in.
+//! One of the parts that a table is read in.
 
 ghost use Rattle.std.specs.Prelude.{◌≡◌, ◌<◌, ◌^◌, [], drop, ◌∷◌, List, ℕ, IfOk, Some, MatchOption};
 ghost use Rattle.csv.specs.Records.{fields_of};

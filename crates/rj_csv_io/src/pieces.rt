@@ -1,4 +1,4 @@
-// Reading a table piece by piece: its header, and the rows of each piece.
+//! Reading a table piece by piece: its header, and the rows of each piece.
 
 ghost use Rattle.std.specs.Prelude.{◌≡◌, ◌≢◌, ◌∷◌, [], List, ℕ, IfOk, IfErr, MatchOption, Ok, Err, Some};
 ghost use Rattle.csv.specs.Reading.{default_config, records};
@@ -60,8 +60,12 @@ impl Header {
         Header::of_unmarked(alloc, text)
     }
 
-    /// The table without rows whose columns have these names and types, or why there is none, as [`read_table`] tells
-    /// it: too many columns, the names from left to right, the count of types.
+    /// The table without rows whose columns have these names and types.
+    ///
+    /// # Errors
+    ///
+    /// Why there is none, as [`read_table`] tells it: too many columns, the names from left to right, the count of types.
+    /// `Memory` comes only where a growth was refused.
     ///
     /// [`read_table`]: crate::read_table
     pub fn table(&self, alloc: Global, types: &[ColumnType]) -> Result<Table, ReadRefused>

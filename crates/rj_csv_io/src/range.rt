@@ -1,4 +1,4 @@
-// The text of a header, and of the rows of a source from one to another.
+//! The text of a header, and of the rows of a source from one to another.
 
 ghost use Rattle.std.specs.Prelude.{◌≡◌, ◌<◌, ◌≤◌, ◌++◌, ◌-◌, List, ℕ, [], map, length, slice_index_or, OnOk, IfOk};
 ghost use Rattle.std.specs.List.{concat};

@@ -1,4 +1,4 @@
-// Reading a table in parts, each by a thread.
+//! Reading a table in parts, each by a thread.
 
 ghost use Rattle.std.specs.Prelude.{◌≡◌, ◌≢◌, ◌<◌, length, map, IfOk, IfErr, OnOk, Ok, Err, IsTrue};
 ghost use Rattle.csv.specs.Records.{fields_of};

@@ -1,4 +1,4 @@
-// Reading a whole table, on one thread.
+//! Reading a whole table, on one thread.
 
 ghost use Rattle.std.specs.Prelude.{◌≡◌, ◌≢◌, IfOk, IfErr, OnOk, Ok, Err, IsTrue};
 ghost use Rattle.rj_csv_io.specs.Tables.{is_null_text, read_of};

@@ -1,3 +1,5 @@
+//! Why no table was read.
+
 /// Why no table was read, or no bytes for one. Rows and columns count from 1, and row 1 is the record after the header.
 #[derive(Clone, Copy, Debug, PartialEq, Eq)]
 pub enum ReadRefused {

@@ -1,4 +1,4 @@
-// The last cut of a text that more bytes follow.
+//! The last cut of a text that more bytes follow.
 
 ghost use Rattle.std.specs.Prelude.{◌≡◌, ◌==◌, ◌<◌, ◌≤◌, ◌-◌, ◌++◌, ℕ, List, false, length, take, drop, slice_index};
 ghost use Rattle.csv.specs.Reading.{default_config, records};

@@ -1,4 +1,4 @@
-// Worked examples of files, of what is written, and devices that fail.
+//! Worked examples of files, of what is written, and devices that fail.
 
 ghost use Rattle.std.specs.Prelude.{[], ◌∷◌};
 ghost use Rattle.rj_columns.specs.Contents.{decimal};

@@ -1,4 +1,4 @@
-// Tables that are read in parts: each is the one that is read whole.
+//! Tables that are read in parts: each is the one that is read whole.
 
 use crate::read_parts::read_in_parts_of;
 use crate::tests::text_of;

@@ -1,4 +1,4 @@
-// Texts that are read piece by piece, and rows written behind others.
+//! Texts that are read piece by piece, and rows written behind others.
 
 use crate::tests::text_of;
 use crate::{

@@ -1,4 +1,4 @@
-// The text of records, made by csv's writer in memory.
+//! The text of records, made by csv's writer in memory.
 
 ghost use Rattle.std.specs.Prelude.{◌≡◌, ◌<◌, ◌+◌, ◌++◌, ◌∷◌, ◌^◌, ◌-◌, List, ℕ, [], length, OnOk, IfOk};
 ghost use Rattle.csv.specs.Writing.{default_writer, row_text};

@@ -1,4 +1,4 @@
-// Writing a header and the rows of a source, whose texts several threads make.
+//! Writing a header and the rows of a source, whose texts several threads make.
 
 ghost use Rattle.std.specs.Prelude.{◌≡◌, ◌≢◌, ◌<◌, ◌≤◌, ◌+◌, ◌-◌, ◌^◌, length, map, IfOk, OnOk, OnErr, Err, IsTrue};
 ghost use Rattle.std.specs.Io.KnownBytes.{Appends};

@@ -1,4 +1,4 @@
-// Writing the rows of a source behind others.
+//! Writing the rows of a source behind others.
 
 ghost use Rattle.std.specs.Prelude.{◌≡◌, ◌≢◌, ◌<◌, ◌+◌, ◌^◌, ◌-◌, map, IsTrue, OnOk, IfOk};
 ghost use Rattle.std.specs.Io.KnownBytes.{Appends};

@@ -1,4 +1,4 @@
-// How two decimals compare.
+//! How two decimals compare.
 
 ghost use Rattle.std.specs.Prelude.{◌≡◌, ◌↔◌, ◌≤◌, ◌-◌, true, ◌*ℤ◌};
 ghost use Rattle.rj_decimal.specs.Numbers.{finer, number_of};

@@ -1,4 +1,4 @@
-// Exact decimals.
+//! Exact decimals.
 
 ghost use Rattle.std.specs.Prelude.{◌≡◌, ◌↔◌, ◌≤◌, pos, IsSome, IfSome};
 

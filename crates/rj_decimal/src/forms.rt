@@ -1,4 +1,4 @@
-// The least form of a decimal, and its hash.
+//! The least form of a decimal, and its hash.
 
 ghost use Rattle.std.specs.Prelude.{◌≡◌, ◌↔◌, true, pos};
 ghost use Rattle.std.specs.Int.RustNames.{int_div};

@@ -1,4 +1,4 @@
-// Numeric types.
+//! Numeric types.
 
 ghost use Rattle.std.specs.Prelude.{◌≡◌, ◌↔◌, ◌≤◌, IsSome, IfSome};
 

@@ -1,4 +1,4 @@
-// The powers of ten.
+//! The powers of ten.
 
 ghost use Rattle.std.specs.Prelude.{◌≡◌, ◌^◌, ◌<◌, ◌≤◌};
 

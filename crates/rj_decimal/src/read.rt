@@ -1,4 +1,4 @@
-// The reading of a text as a value of a numeric type.
+//! The reading of a text as a value of a numeric type.
 
 ghost use Rattle.std.specs.Prelude.{◌≡◌, ◌<◌, ◌≤◌, ◌^◌, ◌-◌, ◌++◌, ◌∷◌, true, false, SomeIff, IfSome, option_map, length, take, drop, nat_lt, unsigned_abs, ◌+◌, ◌*◌};
 ghost use Rattle.std.specs.Str.{all_ascii_digits};

@@ -1,4 +1,4 @@
-// Values at the limits, and the worked examples of numeric columns.
+//! Values at the limits, and the worked examples of numeric columns.
 
 use crate::{Decimal, DecimalBuffer, NumericType, compare, hash, least, read_numeric, rescale};
 use std::cmp::Ordering;

@@ -1,4 +1,4 @@
-// The text of a number in a scale.
+//! The text of a number in a scale.
 
 ghost use Rattle.std.specs.Prelude.{◌≡◌, ◌<◌, ◌≤◌, ◌^◌, ◌+◌, ◌-◌, ◌/◌, ◌%◌, ◌++◌, ◌∷◌, ℕ, unsigned_abs, length, drop};
 ghost use Rattle.std.specs.Fmt.{decimal};

@@ -1,4 +1,4 @@
-// The cells of a column, at members that follow each other.
+//! The cells of a column, at members that follow each other.
 
 ghost use Rattle.std.specs.Prelude.{◌≡◌, ◌<◌, ◌≤◌, ◌++◌, All, OnOk, length, map, slice_get};
 ghost use Rattle.rj_columns.specs.Contents.{content_of, nothing};

@@ -1,4 +1,4 @@
-// Where each column of a joined table comes from.
+//! Where each column of a joined table comes from.
 
 ghost use Rattle.std.specs.Prelude.{◌≡◌, ◌++◌, ◌∷◌, [], IfOk, OnOk, if◌then◌else◌, map};
 ghost use Rattle.std.specs.List.{list_any};

@@ -1,4 +1,4 @@
-// The settings of a join.
+//! The settings of a join.
 
 ghost use Rattle.std.specs.Prelude.{◌≡◌, ◌↔◌, true, IsSome, IfSome, nat_le, ◌&&◌};
 ghost use Rattle.rj_engine.specs.Limits.{between, in_limits, is_piece};

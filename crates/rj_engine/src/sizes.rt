@@ -1,4 +1,4 @@
-// How many rows the partitions had, by their ledgers.
+//! How many rows the partitions had, by their ledgers.
 
 ghost use Rattle.std.specs.Prelude.{◌≡◌, ◌<◌, ◌≤◌, ◌+◌, ◌-◌, ◌^◌, All, IfOk, length, map, min};
 ghost use Rattle.rj_engine.specs.Partitioned.{rows_from};

@@ -1,4 +1,4 @@
-// The header and the cells of a joined table, lent by its two tables.
+//! The header and the cells of a joined table, lent by its two tables.
 
 ghost use Rattle.std.specs.Prelude.{◌≡◌, ◌<◌, map, length, true, Some, slice_get, IfOk, All};
 ghost use Rattle.rj_columns.specs.Contents.{content_of};

@@ -1,4 +1,4 @@
-// Laws: each of these functions does nothing, and its contract is a fact about every ledger, list of parcels or plan.
+//! Laws: each of these functions does nothing, and its contract is a fact about every ledger, list of parcels or plan.
 
 ghost use Rattle.std.specs.Prelude.{List, slice_get, [], ◌++◌, ◌≡◌, ◌<◌, ◌+◌, ℕ, true, Some, length, All};
 ghost use Rattle.rj_ledger.specs.declared.parcel.Parcel.{Parcel};

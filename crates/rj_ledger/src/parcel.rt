@@ -1,4 +1,4 @@
-// Parcels, and what a ledger answers to one.
+//! Parcels, and what a ledger answers to one.
 
 ghost use Rattle.std.specs.Prelude.{◌≡◌, ℕ, List, length};
 

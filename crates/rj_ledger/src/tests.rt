@@ -1,4 +1,4 @@
-// Worked examples: cuts, answers in order, and what a ledger then shows.
+//! Worked examples: cuts, answers in order, and what a ledger then shows.
 
 ghost use Rattle.std.specs.Prelude.{◌≡◌, length};
 

@@ -2,3 +2,10 @@ pub mod Moved
 pub mod PlaceFacts
 pub mod HeadFacts
 pub mod WholeFacts
+pub mod TextFacts
+pub mod NumberFacts
+pub mod HeaderFacts
+pub mod WrittenFacts
+pub mod OpeningFacts
+pub mod PutFacts
+pub mod MergedFacts

@@ -2,3 +2,8 @@ pub mod Places
 pub mod Sources
 pub mod Merging
 pub mod Wholes
+pub mod Texts
+pub mod Headers
+pub mod Inputs
+pub mod MergedTexts
+pub mod Patience

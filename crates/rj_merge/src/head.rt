@@ -1,4 +1,4 @@
-// The next row of an input, with the input.
+//! The next row of an input, with the input.
 
 ghost use Rattle.std.specs.Prelude.{◌≡◌};
 ghost use Rattle.std.proofs.Common.{rules};

@@ -1,18 +1,32 @@
 //! Joined tables in shards, merged into one: each input gives its rows in order, and the merge gives all of them in order.
 #![tactic(auto)]
 
+mod block;
+mod columns;
+mod fields;
 mod head;
+mod header;
+mod input;
 mod merge;
+mod number;
+mod opening;
+mod patient;
 mod place;
 mod refused;
 mod source;
+mod texts;
 mod whole;
 
+pub use fields::Fields;
 pub use merge::Merge;
+pub use patient::Patient;
 pub use place::{Place, Placed};
-pub use refused::MergeRefused;
+pub use refused::{MergeRefused, MergeTextsRefused};
 pub use source::Source;
+pub use texts::merge_texts;
 pub use whole::{merge_all, one_merge};
 
 #[cfg(test)]
 mod tests;
+#[cfg(test)]
+mod tests_texts;

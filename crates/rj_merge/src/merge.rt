@@ -1,4 +1,4 @@
-// Merging inputs.
+//! Merging inputs.
 
 ghost use Rattle.std.specs.Prelude.{◌≡◌, ◌++◌, ◌∷◌, false, true, [], None, Some, Ok, IfOk, IfErr, IfSome, OnOk, Option, All, Contains};
 ghost use Rattle.std.specs.Option.{option_to_list};
@@ -77,7 +77,11 @@ impl<S: Source> Merge<S> {
         }
     }
 
-    /// Adds an input, whose first row is read. After an error the merge is of no more use.
+    /// Adds an input, whose first row is read.
+    ///
+    /// # Errors
+    ///
+    /// The fault of the input. The merge is of no more use then.
     pub fn add(&mut self, source: S) -> Result<(), MergeRefused>
         requires lawful { AreHeads S.last self.old.given (heap_items self.old.heads) }
         requires given { self.old.given ≡ None }
@@ -96,6 +100,10 @@ impl<S: Source> Merge<S> {
     }
 
     /// A merge of inputs, of each of which the first row is read.
+    ///
+    /// # Errors
+    ///
+    /// The fault of an input.
     pub fn open(alloc: Global, inputs: Vec<S>) -> Result<Merge<S>, MergeRefused>
         ensures lawful { IfOk result (λ m. AreHeads S.last m.given (heap_items m.heads)) }
         ensures given { IfOk result (λ m. m.given ≡ None) }
@@ -117,8 +125,12 @@ impl<S: Source> Merge<S> {
         Ok(merge)
     }
 
-    /// The row of the least place of all that are left, or `None` where none is left. After an error the merge is of no more use:
-    /// the row that would have come is lost.
+    /// The row of the least place of all that are left, or `None` where none is left.
+    ///
+    /// # Errors
+    ///
+    /// The fault of an input, or `RepeatedPlace` where the row has the place of the one before. The merge is of no more use
+    /// then: the row that would have come is lost.
     pub fn next(&mut self) -> Result<Option<Placed<S::Row>>, MergeRefused>
         requires { AreHeads S.last self.old.given (heap_items self.old.heads) }
         ensures lawful { OnOk result (AreHeads S.last self.new.given (heap_items self.new.heads)) }

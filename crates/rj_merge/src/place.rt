@@ -1,4 +1,4 @@
-// Where a row stands in a joined table.
+//! Where a row stands in a joined table.
 
 ghost use Rattle.std.specs.Prelude.{◌≡◌};
 ghost use Rattle.std.proofs.Common.{rules};

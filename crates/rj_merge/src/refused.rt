@@ -1,4 +1,4 @@
-// Why a merge gives nothing more.
+//! Why a merge gives nothing more.
 
 use crate::place::Place;
 
@@ -25,4 +25,13 @@ pub enum MergeRefused {
     NotInOrder(u32, u64),
     /// Two inputs have a row of this place.
     RepeatedPlace(Place),
+}
+
+/// Why texts are not merged.
+#[derive(Clone, Copy, Debug, PartialEq, Eq)]
+pub enum MergeTextsRefused {
+    /// A fault of the inputs or of the machine.
+    Merge(MergeRefused),
+    /// The output failed. Nothing is known of how much it took.
+    WriteDevice,
 }

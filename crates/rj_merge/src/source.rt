@@ -1,4 +1,4 @@
-// What gives rows in order.
+//! What gives rows in order.
 
 ghost use Rattle.std.specs.Prelude.{◌≡◌, Option, IfOk, IfSome, OnOk, Some};
 ghost use Rattle.rj_merge.specs.Places.{IsAbove};

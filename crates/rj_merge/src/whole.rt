@@ -1,4 +1,4 @@
-// Merging inputs into one list. A function without a body is a law: its contract is a fact about all merges.
+//! Merging inputs into one list. A function without a body is a law: its contract is a fact about all merges.
 
 ghost use Rattle.std.specs.Prelude.{◌≡◌, ◌⊎◌, List, [], false, All, Contains, IfErr, IfOk, OnOk, None, map};
 ghost use Rattle.rj_merge.specs.declared.place.Place.{Place};

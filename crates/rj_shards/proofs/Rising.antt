@@ -74,10 +74,10 @@ module _ {T : Type 0} where
   rises_from [] h = tt
   rises_from (row ∷ rows) h = (tt, from_below row.place rows h.0 h.1)
 
-before_first : (a b c d : ℕ) → a < b → ordering_then (nat_cmp a b) (nat_cmp c d) ≡ Less
+pub before_first : (a b c d : ℕ) → a < b → ordering_then (nat_cmp a b) (nat_cmp c d) ≡ Less
 before_first a b c d h = grind (arith, nat_tests)
 
-before_second : (a c d : ℕ) → c < d → ordering_then (nat_cmp a a) (nat_cmp c d) ≡ Less
+pub before_second : (a c d : ℕ) → c < d → ordering_then (nat_cmp a a) (nat_cmp c d) ≡ Less
 before_second a c d h = grind (arith, nat_tests)
 
 -- where a pair of row numbers stands

@@ -1,4 +1,4 @@
-// Laws: each of these functions does nothing, and its contract is a fact about all joins in shards.
+//! Laws: each of these functions does nothing, and its contract is a fact about all joins in shards.
 
 ghost use Rattle.std.specs.Prelude.{◌≡◌, ℕ, All, List, None, map};
 ghost use Rattle.std.specs.List.{flat_map};
@@ -12,6 +12,7 @@ ghost use Rattle.rj_engine.specs.declared.joined.JoinedRow.{JoinedRow};
 ghost use Rattle.rj_merge.specs.Wholes.{HasTwice, IsMerge, RisesFrom};
 ghost use Rattle.rj_merge.specs.declared.place.Place.{Place};
 ghost use Rattle.rj_merge.specs.declared.place.Placed.{Placed};
+ghost use Rattle.rj_shards.specs.Renumbered.{Rises, all_renumbered};
 ghost use Rattle.rj_shards.specs.Rows.{AreShards, placed, placed_rows};
 
 use rj_engine::{shard_is_part, shards_merge};
@@ -35,6 +36,17 @@ pub fn shards_merge_to_whole<T>()
         → AreShards text join l r lists → (rows : List (Placed T)) → IsMerge lists rows → rows ≡ placed_rows text join l r }
 {
     shards_merge();
+    one_merge::<T>();
+}
+
+/// The same where the rows of both tables are numbered otherwise than 0, 1, 2 and so on, if the numbers rise, as the bytes do at
+/// which the rows stand in a file: what is the merge of the shards by these places is the joined table's rows, in its order.
+pub fn renumbered_shards_merge_to_whole<T>()
+    ensures { (text : List Content → T) (join : BoundJoin) (l r : TableValue) (lists : List (List (Placed T)))
+        → AreShards text join l r lists → (left right : ℕ → ℕ) → Rises left → Rises right → (rows : List (Placed T))
+        → IsMerge (map (all_renumbered left right) lists) rows → rows ≡ all_renumbered left right (placed_rows text join l r) }
+{
+    shards_merge_to_whole::<T>();
     one_merge::<T>();
 }
 

@@ -5,12 +5,15 @@
 
 mod laws;
 mod merging;
+mod route;
 mod shards;
 #[cfg(test)]
 mod tests;
 
 pub use laws::{
-    kept_rows_meet, no_place_twice, rows_are_shown, shards_merge_to_whole, shards_rise,
+    kept_rows_meet, no_place_twice, renumbered_shards_merge_to_whole, rows_are_shown,
+    shards_merge_to_whole, shards_rise,
 };
 pub use merging::merge_shards;
+pub use route::ShardRoute;
 pub use shards::Shards;

@@ -1,4 +1,4 @@
-// The shards of a join merged.
+//! The shards of a join merged.
 
 ghost use Rattle.std.specs.Prelude.{◌≡◌, All, Contains, IfErr, IfOk, List, false, map};
 ghost use Rattle.rj_columns.specs.Contents.{Content};

@@ -1,4 +1,4 @@
-// The line and the exit status of each fault, typed from the tables of docs/specification.md.
+//! The line and the exit status of each fault, typed from the tables of docs/specification.md.
 
 use crate::fault::{Fault, Side};
 use crate::read_line;

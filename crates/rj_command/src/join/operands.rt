@@ -1,4 +1,4 @@
-// The two tables of a run and the join bound to them.
+//! The two tables of a run and the join bound to them.
 
 ghost use Rattle.std.specs.Prelude.{◌≡◌, ◌≢◌, IfOk, IfErr, OnOk, Ok, Err, IsTrue, true};
 ghost use Rattle.rj_csv_io.specs.Tables.{is_null_text};
@@ -45,7 +45,8 @@ fn fault_of_parse(refused: ParseRefused) -> Fault
     }
 }
 
-fn fault_of_read(side: Side, refused: ReadRefused) -> Fault
+/// The fault that a table of this side can't be read for.
+pub fn fault_of_read(side: Side, refused: ReadRefused) -> Fault
     ensures { result ≡ read_fault side refused }
 {
     match refused {
@@ -100,9 +101,19 @@ fn read_side<R: Threads + Sync, B: AsSlice<u8> + Drop>(
     }
 }
 
-// The join that a clause asks of two tables.
+/// The join that a clause asks of two tables. Only their names and types are looked at, so that a table without rows
+/// stands for each of these columns.
+///
+/// # Errors
+///
+/// The first fault of the clause's text, or of its names and types. `Memory` comes only where a growth was refused.
 #[tactic(auto, using(crate::proofs::OperandFacts::unread_fault, crate::proofs::OperandFacts::unbound_fault))]
-fn bind_clause(alloc: Global, text: &str, left: &Table, right: &Table) -> Result<BoundJoin, Fault>
+pub fn bind_clause(
+    alloc: Global,
+    text: &str,
+    left: &Table,
+    right: &Table,
+) -> Result<BoundJoin, Fault>
     ensures join { IfOk result (IsJoinOf text.now left.now right.now) }
     ensures fault { IfErr result (λ f. f ≢ Fault.Memory → IsJoinFault text.now left.now right.now f) }
     ensures bound { IfOk result (λ join. fits join left.now.types right.now.types ≡ true) }

@@ -1,4 +1,4 @@
-// The options of the command line.
+//! The options of the command line.
 
 ghost use Rattle.std.specs.Prelude.{◌≡◌, IfOk, map};
 ghost use Rattle.clap.specs.Words.{rule_of};

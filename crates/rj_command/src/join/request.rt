@@ -1,4 +1,4 @@
-// What a join is asked to do.
+//! What a join is asked to do.
 
 use rj_columns::ColumnType;
 use rj_engine::Settings;

@@ -1,4 +1,4 @@
-// What a join counts.
+//! What a join counts.
 
 ghost use Rattle.std.specs.Prelude.{Some};
 ghost use Rattle.rj_command.specs.Statistics.{partition_text, stats_text};

@@ -1,4 +1,4 @@
-// Type lists.
+//! Type lists.
 
 ghost use Rattle.std.specs.Prelude.{◌≡◌, ◌≢◌, ◌<◌, ◌≤◌, ◌-◌, ◌+◌, ◌*◌, ◌++◌, ◌∷◌, [], ℕ, IfOk, IfErr, IfSome, IfNone, List, SomeIff, Some, None};
 ghost use Rattle.std.specs.Fmt.{decimal};
@@ -109,8 +109,12 @@ fn next_piece(begun: Option<u8>, piece: &str) -> Option<Piece>
     }
 }
 
-// The types of a list such as `int,num(4,1)`.
-pub(crate) fn read_types(alloc: Global, text: &str, side: Side) -> Result<Vec<ColumnType>, Fault>
+/// The types of a list such as `int,num(4,1)`, which is that of this side.
+///
+/// # Errors
+///
+/// `BadTypeList` where the text is no such list. `Memory` comes only where a growth was refused.
+pub fn read_types(alloc: Global, text: &str, side: Side) -> Result<Vec<ColumnType>, Fault>
     ensures types { IfOk result (λ v. IsTypeList text.now v.items) }
     ensures fault { IfErr result (λ e. e ≢ Fault.Memory →
         (e ≡ Fault.BadTypeList side) × ((types : List ColumnType) → IsTypeList text.now types → ⊥)) }

@@ -1,4 +1,4 @@
-// The lines of a script and the words of a line.
+//! The lines of a script and the words of a line.
 
 ghost use Rattle.std.specs.Prelude.{◌≡◌, ◌==◌, ◌<◌, ◌∷◌, [], length, IfSome, IfNone};
 ghost use Rattle.std.specs.List.{slice_split};

@@ -1,4 +1,4 @@
-// A line of a script read as a parcel.
+//! A line of a script read as a parcel.
 
 ghost use Rattle.std.specs.Prelude.{◌≡◌, ◌^◌, IfOk, ◌++◌, ◌∷◌, Some, None};
 ghost use Rattle.std.specs.Char.{is_ascii_digit};

@@ -1,4 +1,4 @@
-// The lines that are printed.
+//! The lines that are printed.
 
 ghost use Rattle.std.specs.Prelude.{◌≡◌, ◌++◌, ◌∷◌, [], OnOk, string_bytes, length, ◌<◌, codes, decimal, true};
 ghost use Rattle.rj_ledger.specs.Ledgers.{standing};

@@ -1,4 +1,4 @@
-// Worked examples of scripts, and writers that fail.
+//! Worked examples of scripts, and writers that fail.
 
 use crate::Fault;
 use crate::script::arrivals;

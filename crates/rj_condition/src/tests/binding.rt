@@ -1,4 +1,4 @@
-// Faults of binding, and the columns that names mean.
+//! Faults of binding, and the columns that names mean.
 
 use crate::refused::BindRefused;
 use crate::tests::samples::{INT, Sample, TEXT, join_of, tables};

@@ -1,4 +1,4 @@
-// What no contract says of the parser: the byte of a syntax fault, and that it answers.
+//! What no contract says of the parser: the byte of a syntax fault, and that it answers.
 
 use crate::parsing::parse;
 use crate::refused::ParseRefused;

@@ -1,4 +1,4 @@
-// Small tables, and joins bound to them.
+//! Small tables, and joins bound to them.
 
 ghost use Rattle.std.specs.Prelude.{◌≡◌, IfOk, map, true};
 ghost use Rattle.rj_columns.specs.Contents.{content_of, FitsType};

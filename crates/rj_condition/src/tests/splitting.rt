@@ -1,4 +1,4 @@
-// What joins are split into: the pairs of key columns, and the truth of the remainder, which is that of a clause.
+//! What joins are split into: the pairs of key columns, and the truth of the remainder, which is that of a clause.
 
 ghost use Rattle.std.specs.Prelude.{◌≡◌, ◌<◌, length, true};
 ghost use Rattle.rj_condition.specs.Fits.{fits};

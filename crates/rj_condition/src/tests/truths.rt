@@ -1,4 +1,4 @@
-// The truth of clauses at pairs of rows: a letter for each pair, by left, then right row number.
+//! The truth of clauses at pairs of rows: a letter for each pair, by left, then right row number.
 
 ghost use Rattle.std.specs.Prelude.{◌≡◌, ◌<◌, length, true};
 ghost use Rattle.rj_condition.specs.Fits.{fits};

@@ -1,4 +1,4 @@
-// Long texts for tests.
+//! Long texts for tests.
 
 use std::alloc::{AllocError, Global};
 

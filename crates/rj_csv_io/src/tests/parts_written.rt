@@ -1,4 +1,4 @@
-// Worked examples of rows that are written in parts.
+//! Worked examples of rows that are written in parts.
 
 use crate::tests::{FailsOnce, INT, TEXT, text_of};
 use crate::write_in_parts::{part_count, write_parts};

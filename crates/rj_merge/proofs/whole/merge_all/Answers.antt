@@ -1,4 +1,4 @@
-use Rattle.std.proofs.Common.{◌≡◌, ◌++◌, ◌∷◌, [], None, Some, refl, sym, subst, inl, inr}
+use Rattle.std.proofs.Common.{◌++◌, ◌∷◌, [], None, refl, sym, subst, inl, inr}
 use mathlib.Core.Logic.{⊎_elim}
 use Rattle.std.specs.List.Sorted.{IsPermutation}
 use Rattle.std.specs.BinaryHeap.{heap_items}

@@ -1,0 +1,107 @@
+#!/usr/bin/env python3
+"""Times cluster/radixjoin-cluster on this machine beside radixjoin alone, on the workload of foreign keys: the time of each run
+and the peak of memory of its largest process. The bytes of all runs are compared. It needs Dask.
+
+usage: cluster.py FOLDER [--scale F] [--parts N] [--processes N ..] [--limit]
+    FOLDER      where the tables are made, if they aren't there, and the results
+    --limit     also joins with a quarter of the address space that radixjoin alone needs"""
+import argparse
+import filecmp
+import os
+import pathlib
+import subprocess
+import sys
+import threading
+import time
+
+import workloads
+
+ROOT = pathlib.Path(__file__).resolve().parent.parent
+PROGRAMS = ("radixjoin", "shards", "merges")
+
+
+def peak_of(number, field):
+    """A peak of a process by its number, in MiB, and the name of its program; nothing where it has ended."""
+    try:
+        with open(f"/proc/{number}/status") as status:
+            found = dict(line.split(":", 1) for line in status if ":" in line)
+        return int(found[field].split()[0]) / 1024, found["Name"].strip()
+    except (OSError, KeyError, ValueError):
+        return 0, ""
+
+
+class Watch:
+    """Looks at all processes of the three programs every few milliseconds, for the greatest peak of each."""
+
+    def __init__(self, field):
+        self.field = field
+        self.peaks = {}
+        self.is_over = False
+        self.thread = threading.Thread(target=self.look)
+
+    def look(self):
+        while not self.is_over:
+            for number in filter(str.isdigit, os.listdir("/proc")):
+                peak, name = peak_of(number, self.field)
+                if name in PROGRAMS:
+                    self.peaks[name] = max(self.peaks.get(name, 0), peak)
+            time.sleep(0.01)
+
+    def __enter__(self):
+        self.thread.start()
+        return self
+
+    def __exit__(self, *_):
+        self.is_over = True
+        self.thread.join()
+
+
+def timed(words, field="VmHWM", **how):
+    """Runs a command; how long it took, and the peaks of the programs that it started."""
+    start = time.monotonic()
+    with Watch(field) as watch:
+        subprocess.run([str(word) for word in words], check=True, **how)
+    return time.monotonic() - start, watch.peaks
+
+
+def told(name, seconds, peaks):
+    largest = max(peaks, key=peaks.get)
+    print(f"{name}: {seconds:.1f} s, {peaks[largest]:.0f} MiB ({', '.join(f'{it} {peak:.0f}' for it, peak in sorted(peaks.items()))})", flush=True)
+
+
+def compare(one, other):
+    if not filecmp.cmp(one, other, shallow=False):
+        sys.exit(f"{other} has other bytes than {one}")
+
+
+def main():
+    line = argparse.ArgumentParser(description=__doc__, formatter_class=argparse.RawDescriptionHelpFormatter)
+    line.add_argument("folder", type=pathlib.Path)
+    line.add_argument("--scale", type=float, default=1.0)
+    line.add_argument("--parts", type=int, default=16)
+    line.add_argument("--processes", type=int, nargs="*", default=[1, 2, 4])
+    line.add_argument("--limit", action="store_true")
+    asked = line.parse_args()
+    left, right = (asked.folder / f"foreign_key.{side}.csv" for side in ("left", "right"))
+    if not left.exists() or not right.exists():
+        words = [sys.executable, ROOT / "bench" / "workloads.py", asked.folder, "foreign_key", "--scale", asked.scale]
+        subprocess.run([str(word) for word in words], check=True)
+    types = ["--left-types", "int,text", "--right-types", "int,text"]
+    words = ["--left", left, "--right", right, *types, "--join", workloads.CLAUSES["inner"]]
+    alone, sharded = asked.folder / "alone.csv", asked.folder / "sharded.csv"
+    with open(alone, "wb") as out:
+        told("radixjoin alone", *timed([ROOT / "crates" / "radixjoin" / "out" / "radixjoin", *words], stdout=out))
+    script = ["/usr/bin/python3", ROOT / "cluster" / "radixjoin-cluster", *words, "--out", sharded, "--parts", asked.parts]
+    for processes in asked.processes:
+        told(f"{processes} processes", *timed([*script, "--processes", processes]))
+        compare(alone, sharded)
+    if asked.limit:
+        with open(alone, "wb") as out:
+            _, peaks = timed([ROOT / "crates" / "radixjoin" / "out" / "radixjoin", *words], "VmPeak", stdout=out)
+        quarter = int(peaks["radixjoin"] / 4)
+        told(f"1 process, each program in {quarter} MiB of address space", *timed([*script, "--memory", quarter, "--processes", 1], "VmPeak"))
+        compare(alone, sharded)
+
+
+if __name__ == "__main__":
+    main()

@@ -1,0 +1,34 @@
+# Completion of shards for bash: options that were not given yet, files, and the words of --side.
+_shards() {
+    local options="--side --left --right --left-types --right-types --join --null --parts --from --to --out --cuts --help --version"
+    local word=${COMP_WORDS[COMP_CWORD]} before=${COMP_WORDS[COMP_CWORD - 1]}
+    # `--left=a` is three words here: --left, = and a.
+    if [[ $word == = ]]; then
+        word=
+    elif [[ $before == = ]]; then
+        before=${COMP_WORDS[COMP_CWORD - 2]}
+    fi
+    COMPREPLY=()
+    case $before in
+        --left | --right)
+            compopt -o filenames 2>/dev/null
+            mapfile -t COMPREPLY < <(compgen -f -- "$word")
+            ;;
+        --out)
+            compopt -o filenames 2>/dev/null
+            mapfile -t COMPREPLY < <(compgen -d -- "$word")
+            ;;
+        --side)
+            mapfile -t COMPREPLY < <(compgen -W "left right" -- "$word")
+            ;;
+        --left-types | --right-types | --join | --null | --parts | --from | --to | --cuts) ;;
+        *)
+            local option left=
+            for option in $options; do
+                [[ " ${COMP_WORDS[*]:1:COMP_CWORD-1} " == *" $option "* ]] || left+=" $option"
+            done
+            mapfile -t COMPREPLY < <(compgen -W "$left" -- "$word")
+            ;;
+    esac
+}
+complete -F _shards shards

@@ -1,0 +1,16 @@
+# Completion of shards for fish: options, files, and the words of --side.
+complete -c shards -f
+complete -c shards -l side -x -a 'left right' -d 'Table that is divided'
+complete -c shards -l left -r -F -d 'File of the left table'
+complete -c shards -l right -r -F -d 'File of the right table'
+complete -c shards -l left-types -x -d 'Types of the left columns, as int,num(9,2),text'
+complete -c shards -l right-types -x -d 'Types of the right columns, as int,num(9,2),text'
+complete -c shards -l join -x -d 'Clause of the join'
+complete -c shards -l null -x -d 'Text that stands for null'
+complete -c shards -l parts -x -d 'How many parts there are, 1 to 1024'
+complete -c shards -l from -x -d 'First byte to divide'
+complete -c shards -l to -x -d 'Byte to divide up to'
+complete -c shards -l out -x -a '(__fish_complete_directories)' -d 'Folder of the parts'
+complete -c shards -l cuts -x -d 'Print where the file can be cut into so many ranges, 1 to 100000'
+complete -c shards -s h -l help -d 'Print help'
+complete -c shards -s V -l version -d 'Print the version'

@@ -1,0 +1,128 @@
+//! Why nothing, or not all, was merged.
+
+use clap::Error;
+use rj_command::Told;
+use rj_merge::{MergeRefused, MergeTextsRefused, Place};
+use std::alloc::{AllocError, Global};
+use std::fmt;
+
+// A place, as its two columns would tell it.
+#[derive(Clone, Copy, Debug)]
+pub struct At(Place);
+
+impl fmt::Display for At {
+    fn fmt<W: fmt::Write>(&self, f: &mut fmt::Formatter<W>) -> fmt::Result {
+        match self.0 {
+            Place::Pair(left, right) => write!(f, "left {left} right {right}"),
+            Place::LoneLeft(left) => write!(f, "left {left}"),
+            Place::LoneRight(right) => write!(f, "right {right}"),
+        }
+    }
+}
+
+// Why nothing, or not all, was merged. The text is the line that is printed, without its line end; a file goes by its name.
+#[derive(Debug, Drop, thiserror::Error)]
+pub enum Failure {
+    // `clap` refused the words, or they ask for help or for the version.
+    #[error("{0}")]
+    CommandLine(Error),
+    #[error("merges: an argument is not text")]
+    NotText,
+    #[error("merges: the number of files is none that can be merged")]
+    FileCount,
+    #[error("merges: E1 NoHeader {0}")]
+    NoHeader(String),
+    #[error("merges: E5 RaggedRow {0} row {1}")]
+    RaggedRow(String, u64),
+    #[error("merges: E10 BadNull")]
+    BadNull,
+    #[error("merges: E18 Memory")]
+    Memory,
+    #[error("merges: E19 ReadDevice {0}")]
+    ReadDevice(String),
+    #[error("merges: E20 WriteDevice")]
+    WriteDevice,
+    #[error("merges: E21 NoPlaces {0}")]
+    NoPlaces(String),
+    #[error("merges: E22 OtherHeader {0}")]
+    OtherHeader(String),
+    #[error("merges: E23 BadPlace {0} row {1}")]
+    BadPlace(String, u64),
+    #[error("merges: E24 NoPlace {0} row {1}")]
+    NoPlace(String, u64),
+    #[error("merges: E25 NotInOrder {0} row {1}")]
+    NotInOrder(String, u64),
+    #[error("merges: E26 RepeatedPlace {0}")]
+    RepeatedPlace(At),
+}
+
+impl From<AllocError> for Failure {
+    fn from(_error: AllocError) -> Failure {
+        Failure::Memory
+    }
+}
+
+// The name of an input, counted from 1.
+fn name_of(alloc: Global, files: &[&str], input: u32) -> Result<String, AllocError> {
+    match files.get((input as usize).saturating_sub(1)) {
+        Some(name) => String::from_str(alloc, name),
+        None => Ok(String::new(alloc)),
+    }
+}
+
+impl Told for Failure {
+    // 0 help and version, 2 command line, 3 an input, 5 memory, 6 device.
+    fn status(&self) -> u8 {
+        match self {
+            Failure::CommandLine(error) => { if error.use_stderr() { 2 } else { 0 } }
+            Failure::NotText | Failure::FileCount => 2,
+            Failure::Memory => 5,
+            Failure::ReadDevice(_) | Failure::WriteDevice => 6,
+            _ => 3,
+        }
+    }
+
+    fn by_clap(&self) -> Option<&Error> {
+        match self {
+            Failure::CommandLine(error) => Some(error),
+            _ => None,
+        }
+    }
+
+    fn failed_write() -> Failure {
+        Failure::WriteDevice
+    }
+}
+
+impl Failure {
+    // The failure that a refusal is, whose inputs are these files.
+    pub fn of(alloc: Global, files: &[&str], refused: MergeTextsRefused) -> Failure {
+        match refused {
+            MergeTextsRefused::WriteDevice => Failure::WriteDevice,
+            MergeTextsRefused::Merge(refused) => match Failure::of_merge(alloc, files, refused) {
+                Ok(failure) => failure,
+                Err(AllocError) => Failure::Memory,
+            },
+        }
+    }
+
+    fn of_merge(
+        alloc: Global,
+        files: &[&str],
+        refused: MergeRefused,
+    ) -> Result<Failure, AllocError> {
+        let name = |input: u32| name_of(alloc, files, input);
+        Ok(match refused {
+            MergeRefused::Memory => Failure::Memory,
+            MergeRefused::ReadDevice(input) => Failure::ReadDevice(name(input)?),
+            MergeRefused::NoHeader(input) => Failure::NoHeader(name(input)?),
+            MergeRefused::NoPlaces(input) => Failure::NoPlaces(name(input)?),
+            MergeRefused::OtherHeader(input) => Failure::OtherHeader(name(input)?),
+            MergeRefused::RaggedRow(input, row) => Failure::RaggedRow(name(input)?, row),
+            MergeRefused::BadPlace(input, row) => Failure::BadPlace(name(input)?, row),
+            MergeRefused::NoPlace(input, row) => Failure::NoPlace(name(input)?, row),
+            MergeRefused::NotInOrder(input, row) => Failure::NotInOrder(name(input)?, row),
+            MergeRefused::RepeatedPlace(place) => Failure::RepeatedPlace(At(place)),
+        })
+    }
+}

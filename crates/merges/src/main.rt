@@ -1,0 +1,120 @@
+//! The program `merges`: merges joined shards, CSV files whose rows have their places, into one CSV text on standard output, without
+//! the places. Faults go to standard error.
+#![tactic(auto)]
+
+mod failure;
+
+use crate::failure::Failure;
+use clap::{Arg, ArgAction, Command};
+use rj_command::{VERSION, read_words, tell, texts_of};
+use rj_csv_io::{CountedWriter, is_lawful_null};
+use rj_merge::{Patient, merge_texts};
+use std::alloc::{AllocError, Global};
+use std::env::Env;
+use std::fs::{self, Files};
+use std::io;
+use std::process::ExitCode;
+
+fn line_command<'a>(alloc: Global) -> Result<Command<'a>, AllocError> {
+    let null = Arg::new(alloc, "null")
+        .long("null")
+        .value_name("TEXT")
+        .action(ArgAction::Set)
+        .help("Text of a field that is null [default: an empty field]");
+    let files = Arg::new(alloc, "files")
+        .value_name("FILE")
+        .num_args(1..)
+        .required(true)
+        .help("Joined shards, whose rows have the columns left_place and right_place");
+    Command::new(alloc, "merges")
+        .about("Merges joined shards into one CSV text, without the places of their rows")
+        .version(VERSION)
+        .no_binary_name(true)
+        .arg(null)?
+        .arg(files)
+}
+
+// Opens the files, in order.
+fn open_files<R: Files + AllocGlobal>(
+    rt: &R,
+    files: &[&str],
+) -> Result<Vec<Patient<R::File>>, Failure>
+where
+    R::File: Drop,
+{
+    let mut inputs = Vec::new(rt.alloc());
+    for name in files {
+        let file = match fs::open(rt, *name) {
+            Ok(file) => file,
+            Err(error) if error.kind() == io::ErrorKind::OutOfMemory => return Err(Failure::Memory),
+            Err(_) => return Err(Failure::ReadDevice(String::from_str(rt.alloc(), name)?)),
+        };
+        if inputs.push(Patient::new(file)).is_err() {
+            return Err(Failure::Memory);
+        }
+    }
+    Ok(inputs)
+}
+
+// Merges the files, and puts the merge on standard output.
+fn merge_files<R: Files + AllocGlobal + Print>(
+    rt: &R,
+    null: &str,
+    files: &[&str],
+) -> Result<(), Failure>
+where
+    R::File: Drop,
+{
+    if !is_lawful_null(null) {
+        return Err(Failure::BadNull);
+    }
+    let inputs = open_files(rt, files)?;
+    if inputs.is_empty() || u32::try_from(inputs.len()).is_err() {
+        return Err(Failure::FileCount);
+    }
+    let mut output = CountedWriter::new(io::writer(rt));
+    match merge_texts(rt.alloc(), inputs, null, &mut output) {
+        Ok(()) => Ok(()),
+        Err(refused) => Err(Failure::of(rt.alloc(), files, refused)),
+    }
+}
+
+// Reads the words after the program's name, and merges.
+fn read_and_merge<R: Files + AllocGlobal + Print>(rt: &R, words: &[&str]) -> Result<(), Failure>
+where
+    R::File: Drop,
+{
+    let command = line_command(rt.alloc())?;
+    let matches = match command.try_get_matches_from(words) {
+        Ok(matches) => matches,
+        Err(error) if error.kind() == clap::error::ErrorKind::OutOfMemory => {
+            return Err(Failure::Memory);
+        }
+        Err(error) => return Err(Failure::CommandLine(error)),
+    };
+    let null = matches.get_str("null").unwrap_or("");
+    let files = matches.get_strs("files").unwrap_or(&[]);
+    merge_files(rt, null, files)
+}
+
+// Reads the command line, and merges.
+fn run<R: Env + Files + AllocGlobal + Print>(rt: &R) -> Result<(), Failure>
+where
+    R::File: Drop,
+{
+    let Some(words) = read_words(rt)? else {
+        return Err(Failure::NotText);
+    };
+    let texts = texts_of(rt.alloc(), words.as_slice())?;
+    read_and_merge(rt, texts.as_slice())
+}
+
+fn main(rt: HostRuntime) -> ExitCode {
+    match run(&rt) {
+        Ok(()) => ExitCode::SUCCESS,
+        Err(failure) => ExitCode::from(tell(&rt, &failure)),
+    }
+}
+
+#[cfg(test)]
+mod tests;

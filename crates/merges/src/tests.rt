@@ -1,0 +1,156 @@
+//! The line and the exit status of each failure, typed from docs/cluster.md.
+
+use crate::failure::Failure;
+use crate::read_and_merge;
+use rj_command::Told;
+use rj_merge::{MergeRefused, MergeTextsRefused, Place};
+use std::alloc::Global;
+use std::test::Fail;
+
+// Whether a refusal of two files has this line and this exit status.
+fn is_told(alloc: Global, refused: MergeTextsRefused, line: &str, status: u8) -> bool {
+    let files = ["a.csv", "b 2.csv"];
+    let failure = Failure::of(alloc, files.as_slice(), refused);
+    is_line(alloc, &failure, line, status)
+}
+
+fn is_line(alloc: Global, failure: &Failure, line: &str, status: u8) -> bool {
+    match format!(in alloc; "{failure}") {
+        Ok(text) => text.as_str() == line && failure.status() == status,
+        Err(_) => false,
+    }
+}
+
+// The same of a fault of the inputs.
+fn is_fault(alloc: Global, refused: MergeRefused, line: &str, status: u8) -> bool {
+    is_told(alloc, MergeTextsRefused::Merge(refused), line, status)
+}
+
+#[test]
+fn lines_of_files(rt: HostRuntime) {
+    let alloc = rt.alloc();
+    assert!(rt;
+        is_fault(
+            alloc,
+            MergeRefused::NoHeader(1),
+            "merges: E1 NoHeader a.csv",
+            3
+        )
+    );
+    assert!(rt;
+        is_fault(
+            alloc,
+            MergeRefused::RaggedRow(2, 7),
+            "merges: E5 RaggedRow b 2.csv row 7",
+            3
+        )
+    );
+    assert!(rt;
+        is_fault(
+            alloc,
+            MergeRefused::NoPlaces(1),
+            "merges: E21 NoPlaces a.csv",
+            3
+        )
+    );
+    assert!(rt;
+        is_fault(
+            alloc,
+            MergeRefused::OtherHeader(2),
+            "merges: E22 OtherHeader b 2.csv",
+            3
+        )
+    );
+    assert!(rt;
+        is_fault(
+            alloc,
+            MergeRefused::BadPlace(1, 2),
+            "merges: E23 BadPlace a.csv row 2",
+            3
+        )
+    );
+    assert!(rt;
+        is_fault(
+            alloc,
+            MergeRefused::NoPlace(2, 1),
+            "merges: E24 NoPlace b 2.csv row 1",
+            3
+        )
+    );
+    assert!(rt;
+        is_fault(
+            alloc,
+            MergeRefused::NotInOrder(1, 9),
+            "merges: E25 NotInOrder a.csv row 9",
+            3
+        )
+    );
+    assert!(rt;
+        is_fault(
+            alloc,
+            MergeRefused::ReadDevice(2),
+            "merges: E19 ReadDevice b 2.csv",
+            6
+        )
+    );
+    assert!(rt; is_fault(alloc, MergeRefused::Memory, "merges: E18 Memory", 5));
+}
+
+#[test]
+fn lines_of_places(rt: HostRuntime) {
+    let alloc = rt.alloc();
+    let pair = MergeRefused::RepeatedPlace(Place::Pair(3, 5));
+    assert!(rt; is_fault(alloc, pair, "merges: E26 RepeatedPlace left 3 right 5", 3));
+    let left = MergeRefused::RepeatedPlace(Place::LoneLeft(4));
+    assert!(rt; is_fault(alloc, left, "merges: E26 RepeatedPlace left 4", 3));
+    let right = MergeRefused::RepeatedPlace(Place::LoneRight(0));
+    assert!(rt; is_fault(alloc, right, "merges: E26 RepeatedPlace right 0", 3));
+}
+
+#[test]
+fn lines_without_a_file(rt: HostRuntime) {
+    let alloc = rt.alloc();
+    assert!(rt;
+        is_told(
+            alloc,
+            MergeTextsRefused::WriteDevice,
+            "merges: E20 WriteDevice",
+            6
+        )
+    );
+    assert!(rt;
+        is_line(
+            alloc,
+            &Failure::NotText,
+            "merges: an argument is not text",
+            2
+        )
+    );
+    assert!(rt; is_line(alloc, &Failure::BadNull, "merges: E10 BadNull", 3));
+    assert!(rt;
+        is_line(
+            alloc,
+            &Failure::FileCount,
+            "merges: the number of files is none that can be merged",
+            2
+        )
+    );
+}
+
+// The exit status of a command line that fails before any file is opened, or none.
+fn status_of(rt: &HostRuntime, words: &[&str]) -> Option<u8> {
+    match read_and_merge(rt, words) {
+        Ok(()) => None,
+        Err(failure) => Some(failure.status()),
+    }
+}
+
+#[test]
+fn command_lines(rt: HostRuntime) -> Result<(), Fail> {
+    assert!(rt; status_of(&rt, ["--help"].as_slice()) == Some(0));
+    assert!(rt; status_of(&rt, ["--version"].as_slice()) == Some(0));
+    assert!(rt; status_of(&rt, [].as_slice()) == Some(2));
+    assert!(rt; status_of(&rt, ["--null"].as_slice()) == Some(2));
+    assert!(rt; status_of(&rt, ["--null", "0", "a.csv"].as_slice()) == Some(3));
+    Ok(())
+}

@@ -1,0 +1,60 @@
+//! Whether the values of two columns are equal, as their stores keep them.
+
+ghost use Rattle.std.specs.Prelude.{◌≡◌, ◌≤◌};
+ghost use Rattle.std.specs.Option.{option_copied};
+ghost use Rattle.rj_columns.specs.Compare.{are_equal};
+ghost use Rattle.rj_columns.specs.Stores.{decimal_content, number_content, text_content};
+
+use rj_decimal::{Decimal, compare};
+use std::cmp::Ordering;
+
+// Whether both are whole numbers, and the same one.
+#[inline]
+pub(crate) fn are_same_ints(left: Option<i64>, right: Option<i64>) -> bool
+    ensures { result ≡ are_equal (number_content left) (number_content right) }
+{
+    match left {
+        None => false,
+        Some(m) => match right {
+            None => false,
+            Some(n) => m == n,
+        },
+    }
+}
+
+// Whether both are units, and of the same number, each in its scale.
+#[inline]
+pub(crate) fn are_same_decimals(left: Option<i64>, scale: u8, right: Option<i64>, other: u8) -> bool
+    requires left { scale ≤ 18 }
+    requires right { other ≤ 18 }
+    ensures { result ≡ are_equal (decimal_content scale left) (decimal_content other right) }
+{
+    match left {
+        None => false,
+        Some(units) => match right {
+            None => false,
+            Some(others) => {
+                let m = Decimal { units, scale };
+                let n = Decimal {
+                    units: others,
+                    scale: other,
+                };
+                compare(m, n) == Ordering::Equal
+            }
+        },
+    }
+}
+
+// Whether both are texts, and of the same bytes.
+#[inline]
+pub(crate) fn are_same_texts(left: Option<&str>, right: Option<&str>) -> bool
+    ensures { result ≡ are_equal (text_content (option_copied left.entry)) (text_content (option_copied right.entry)) }
+{
+    match left {
+        None => false,
+        Some(s) => match right {
+            None => false,
+            Some(t) => s == t,
+        },
+    }
+}

@@ -1,0 +1,137 @@
+-- Divisions that follow each other.
+use Rattle.std.proofs.Common.{◌≡◌, ◌<◌, ◌+◌, ℕ, suc, List, [], ◌∷◌, ◌++◌, Option, None, Err, refl, sym, ap, ◌∙◌, arith, length, map, get_or, add-zero}
+use Rattle.std.specs.Prelude.{filter, ◌==◌}
+use Rattle.std.proofs.KnownBytes.{Appends-nil, Appends-trans}
+use Rattle.std.proofs.lemmas.Grind.{flat_map-append}
+use Rattle.std.proofs.lemmas.List.{length-append, map-append}
+use Rattle.std.proofs.lemmas.List.Concat.{flat_map-cons}
+use Rattle.std.proofs.lemmas.List.Elements.{filter-append}
+use Rattle.std.specs.List.{flat_map}
+use Rattle.csv.specs.Writing.{default_writer, row_text}
+use Rattle.rj_columns.specs.declared.cell.ColumnType.{ColumnType}
+use Rattle.rj_columns.specs.Contents.{Content}
+use Rattle.rj_csv_io.specs.Shown.{rows_text, shown}
+use Rattle.rj_divide.specs.Divisions.{IsDivided, IsPutFault, counts_after, part_text}
+use Rattle.rj_divide.specs.declared.refused.DivideRefused.{DivideRefused}
+use Rattle.rj_divide.specs.declared.refused.DivideRefused.TheVariants as refused
+use Rattle.rj_divide.specs.Readings.{IsAfterReading, IsInputFault, IsReadingFault, reads_after}
+use Rattle.rj_divide.specs.Placed.{part_rows, placed, with_place}
+use Rattle.rj_divide.proofs.ReadingFacts.{rows-append}
+
+-- the text of records has their texts one after another
+rows_text-flat : (xs : List (List (List ℕ))) → rows_text xs ≡ flat_map (row_text default_writer) xs
+unfolding rows_text
+rows_text-flat [] = refl
+rows_text-flat (x ∷ xs) = ap (λ t. row_text default_writer x ++ t) (rows_text-flat xs) ∙ sym (flat_map-cons (row_text default_writer) x xs)
+
+placed-append : (first : ℕ) (a b : List (List Content)) → placed first (a ++ b) ≡ placed first a ++ placed (first + length a) b
+placed-append first [] b = ap (λ k. placed k b) (sym (add-zero first))
+placed-append first (r ∷ a) b =
+    let k : first + 1 + length a ≡ first + suc (length a) = omega arith in
+    ap (λ l. (r, first) ∷ l) (placed-append (first + 1) a b ∙ ap (λ j. placed (first + 1) a ++ placed j b) k)
+
+module _ (part : List Content → ℕ) (p : ℕ) where
+  part_rows-append : (first : ℕ) (a b : List (List Content)) → part_rows part p first (a ++ b) ≡ part_rows part p first a ++ part_rows part p (first + length a) b
+  unfolding part_rows
+  part_rows-append first a b =
+      let V : List Content × ℕ → List Content = λ x. with_place x.1 x.0 in
+      let A = filter (λ (x : List Content × ℕ). part x.0 == p) (placed first a) in
+      let B = filter (λ (x : List Content × ℕ). part x.0 == p) (placed (first + length a) b) in
+      ap (λ l. map V (filter (λ (x : List Content × ℕ). part x.0 == p) l)) (placed-append first a b)
+      ∙ (ap (map V) (filter-append (λ (x : List Content × ℕ). part x.0 == p) (placed first a) (placed (first + length a) b)) ∙ map-append V A B)
+
+  part_rows-none : (first : ℕ) → part_rows part p first [] ≡ []
+  unfolding part_rows
+  part_rows-none first = refl
+
+  part_text-append : (null : List ℕ) (first : ℕ) (a b : List (List Content)) → part_text null part p first (a ++ b) ≡ part_text null part p first a ++ part_text null part p (first + length a) b
+  part_text-append null first a b =
+      let A = part_rows part p first a in let B = part_rows part p (first + length a) b in
+      let X = map (map (shown null)) A in let Y = map (map (shown null)) B in
+      let texts : flat_map (row_text default_writer) (X ++ Y) ≡ rows_text X ++ rows_text Y =
+          rw (rows_text-flat X, rows_text-flat Y) (flat_map-append (row_text default_writer) X Y) in
+      ap (λ l. rows_text (map (map (shown null)) l)) (part_rows-append first a b)
+      ∙ (ap rows_text (map-append (map (shown null)) A B) ∙ (rows_text-flat (X ++ Y) ∙ texts))
+
+  part_text-none : (null : List ℕ) (first : ℕ) → part_text null part p first [] ≡ []
+  unfolding rows_text
+  part_text-none null first = ap (λ l. rows_text (map (map (shown null)) l)) (part_rows-none first)
+
+module _ (null : List ℕ) (types : List ColumnType) (part : List Content → ℕ) (first : ℕ) where
+  -- nothing is divided yet
+  pub divided-none : (told : List (Option (List ℕ))) → IsDivided null types part first [] told told 0
+  divided-none told = record {
+    rows = [];
+    read = tt;
+    many = refl;
+    parts = λ p low. rw (part_text-none part p null first) (Appends-nil (get_or told p None));
+  }
+
+  -- records behind others that were divided
+  pub divided-more : (xs ys : List (List (List ℕ))) (before between after : List (Option (List ℕ))) (m n : ℕ) → length between ≡ length before
+      → IsDivided null types part first xs before between m → IsDivided null types part (first + m) ys between after n → IsDivided null types part first (xs ++ ys) before after (m + n)
+  divided-more xs ys before between after m n same a b =
+      let size = length-append a.rows b.rows in
+      record {
+        rows = a.rows ++ b.rows;
+        read = rows-append null types xs ys a.rows b.rows a.read b.read;
+        many = omega (arith, size, a.many, b.many);
+        parts = λ p low.
+            let k = ap (λ j. part_text null part p (first + j) b.rows) a.many in
+            let here : p < length between = omega (arith, low, same) in
+            let both = Appends-trans (get_or before p None) (get_or between p None) (get_or after p None) _ _ (a.parts p low) (rw k at (b.parts p here)) in
+            rw (part_text-append part p null first a.rows b.rows) both;
+      }
+
+-- no output failed where the text has a fault
+pub reading-counts : (T : Type 0) (e : DivideRefused) (counts : List ℕ) → IsReadingFault e → counts ≡ counts_after {T = T} (Err e) counts
+reading-counts T (refused.Read f) counts h = refl
+reading-counts T refused.TooLong counts h = refl
+reading-counts T refused.ReadDevice counts h = absurd h
+reading-counts T (refused.WriteDevice p) counts h = absurd h
+reading-counts T refused.Memory counts h = refl
+
+-- nor where the device that gives bytes failed
+pub input-counts : (T : Type 0) (e : DivideRefused) (counts : List ℕ) → IsInputFault e → counts ≡ counts_after {T = T} (Err e) counts
+input-counts T (refused.Read f) counts h = absurd h
+input-counts T refused.TooLong counts h = absurd h
+input-counts T refused.ReadDevice counts h = refl
+input-counts T (refused.WriteDevice p) counts h = absurd h
+input-counts T refused.Memory counts h = refl
+
+-- what an error says of counts, whatever there would have been
+pub same-counts : (T U : Type 0) (e : DivideRefused) (old new : List ℕ) → new ≡ counts_after {T = T} (Err e) old → new ≡ counts_after {T = U} (Err e) old
+same-counts T U (refused.Read f) old new h = h
+same-counts T U refused.TooLong old new h = h
+same-counts T U refused.ReadDevice old new h = h
+same-counts T U (refused.WriteDevice p) old new h = h
+same-counts T U refused.Memory old new h = h
+
+pub same-reads : (T U : Type 0) (e : DivideRefused) (old new : ℕ) → new ≡ reads_after {T = T} (Err e) old → new ≡ reads_after {T = U} (Err e) old
+same-reads T U (refused.Read f) old new h = h
+same-reads T U refused.TooLong old new h = h
+same-reads T U refused.ReadDevice old new h = h
+same-reads T U (refused.WriteDevice p) old new h = h
+same-reads T U refused.Memory old new h = h
+
+-- the device that gives bytes did not fail where a piece was not divided
+pub piece-reads : (T : Type 0) (e : DivideRefused) (old new : ℕ) → IsAfterReading e → new ≡ old → new ≡ reads_after {T = T} (Err e) old
+piece-reads T (refused.Read f) old new h same = same
+piece-reads T refused.TooLong old new h same = same
+piece-reads T refused.ReadDevice old new h same = absurd h
+piece-reads T (refused.WriteDevice p) old new h same = same
+piece-reads T refused.Memory old new h same = same
+
+pub after-text : (e : DivideRefused) → IsReadingFault e → IsAfterReading e
+after-text (refused.Read f) h = tt
+after-text refused.TooLong h = tt
+after-text refused.ReadDevice h = absurd h
+after-text (refused.WriteDevice p) h = tt
+after-text refused.Memory h = tt
+
+pub after-put : (n : ℕ) (e : DivideRefused) → IsPutFault n e → IsAfterReading e
+after-put n (refused.Read f) h = tt
+after-put n refused.TooLong h = tt
+after-put n refused.ReadDevice h = absurd h
+after-put n (refused.WriteDevice p) h = tt
+after-put n refused.Memory h = tt

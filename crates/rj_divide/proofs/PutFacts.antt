@@ -1,0 +1,64 @@
+-- Outputs that get the rows of their parts, one after the other.
+use Rattle.std.proofs.Common.{◌≡◌, ◌≢◌, ◌<◌, ◌≤◌, ◌+◌, ◌-◌, ◌^◌, ℕ, List, Option, None, All, sym, ap, ◌∙◌, arith, length, map, get_or, set}
+use Rattle.std.specs.Io.KnownBytes.{Appends}
+use Rattle.std.proofs.lemmas.List.{get_or-map, get_or-set_other, get_or-set_same, length-map, map-set}
+use Rattle.std.proofs.Math.Seq.{map-set_same}
+use borrow.Author.Count.{below_more}
+
+module _ {O : Type 0} (count : O → ℕ) where
+  same-many : (old now : List O) → map count now ≡ map count old → length now ≡ length old
+  same-many old now h = sym (length-map now count) ∙ (ap (length {A = ℕ}) h ∙ length-map old count)
+
+  count-at : (old now : List O) (p : ℕ) (x : O) → map count now ≡ map count old → p < length now → get_or now p x ≡ x → count x ≡ get_or (map count old) p 0
+  count-at old now p x h low is = sym (ap count is) ∙ (sym (get_or-map count now p x 0 low) ∙ ap (λ (l : List ℕ). get_or l p 0) h)
+
+  -- an output may fail once more, as at first
+  pub may-fail : (old now : List O) (p : ℕ) (x : O) → map count now ≡ map count old → p < length now → get_or now p x ≡ x → All (λ (o : O). count o < 2 ^ 64 - 1) old → count x < 2 ^ 64 - 1
+  may-fail old now p x h low is few =
+      let many = same-many old now h in
+      let inside : p < length old = omega (arith, low, many) in
+      let at = count-at old now p x h low is ∙ get_or-map count old p x 0 inside in
+      rw at (few p x inside)
+
+  -- each output may fail once more, as at first
+  pub all-may-fail : (old now : List O) → map count now ≡ map count old → All (λ (o : O). count o < 2 ^ 64 - 1) old → All (λ (o : O). count o < 2 ^ 64 - 1) now
+  all-may-fail old now h few k d low =
+      let many = same-many old now h in
+      let inside : k < length old = omega (arith, low, many) in
+      let at = sym (get_or-map count now k d 0 low) ∙ (ap (λ (l : List ℕ). get_or l k 0) h ∙ get_or-map count old k d 0 inside) in
+      rw at (few k d inside)
+
+  -- an output that did not fail
+  pub count-kept : (old now : List O) (p : ℕ) (x y : O) → map count now ≡ map count old → get_or now p x ≡ x → count y ≡ count x → map count (set now p y) ≡ map count old
+  count-kept old now p x y h is e = map-set_same count now p y x (e ∙ ap count (sym is)) ∙ h
+
+  -- an output that failed
+  pub count-more : (old now : List O) (p : ℕ) (x y : O) → map count now ≡ map count old → p < length now → get_or now p x ≡ x → count y ≡ count x + 1
+      → map count (set now p y) ≡ set (map count old) p (get_or (map count old) p 0 + 1)
+  count-more old now p x y h low is e =
+      map-set count now p y ∙ (λ i. set (h i) p ((e ∙ ap (λ n. n + 1) (count-at old now p x h low is)) i))
+
+module _ {O : Type 0} (told : O → Option (List ℕ)) (text : ℕ → List ℕ) where
+  abbrev pub Have : List O → List O → ℕ → Type 0
+  Have old now p = (q : ℕ) → q < p → Appends (get_or (map told old) q None) (get_or (map told now) q None) (text q)
+
+  abbrev pub Wait : List O → List O → ℕ → Type 0
+  Wait old now p = (q : ℕ) → p ≤ q → get_or (map told now) q None ≡ get_or (map told old) q None
+
+  other : (now : List O) (p q : ℕ) (y : O) → q ≢ p → get_or (map told (set now p y)) q None ≡ get_or (map told now) q None
+  other now p q y ne = ap (λ (l : List (Option (List ℕ))). get_or l q None) (map-set told now p y) ∙ get_or-set_other (map told now) p q (told y) None ne
+
+  pub have-more : (old now : List O) (p : ℕ) (x y : O) → p < length now → get_or now p x ≡ x → Have old now p → Wait old now p → Appends (told x) (told y) (text p) → Have old (set now p y) (p + 1)
+  have-more old now p x y low is have wait put =
+      let before : told x ≡ get_or (map told old) p None = ap told (sym is) ∙ (sym (get_or-map told now p x None low) ∙ wait p (omega arith)) in
+      let size = length-map now told in
+      let after : get_or (map told (set now p y)) p None ≡ told y = ap (λ (l : List (Option (List ℕ))). get_or l p None) (map-set told now p y) ∙ get_or-set_same (map told now) p (told y) None (omega (arith, low, size)) in
+      below_more (λ q. Appends (get_or (map told old) q None) (get_or (map told (set now p y)) q None) (text q)) p
+      (λ q l. rw (other now p q y (λ e. absurd (omega (arith, l, e)))) (have q l))
+      (rw after (rw before at put))
+
+  pub wait-more : (old now : List O) (p : ℕ) (y : O) → Wait old now p → Wait old (set now p y) (p + 1)
+  wait-more old now p y wait = λ q l. other now p q y (λ e. absurd (omega (arith, l, e))) ∙ wait q (omega (arith, l))
+
+  pub have-none : (now : List O) → Have now now 0
+  have-none now = λ q l. absurd (omega (arith, l))

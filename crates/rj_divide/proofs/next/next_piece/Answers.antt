@@ -1,0 +1,11 @@
+use Rattle.std.proofs.Common.{rules, ◌≡◌, arith, length, refl}
+use Rattle.rj_divide.proofs.UnderwayFacts.{last-records}
+use Rattle.rj_divide.proofs.next.next_piece.Goals as goal
+
+pub reading-init : goal.reading-init
+reading-init g c = record { bytes = λ start h. h; count = refl; some = omega (arith, c.max-size.ensures) }
+
+pub returns-in-Ok-true-clause-records : goal.returns-in-Ok-true-clause-records
+returns-in-Ok-true-clause-records g c = λ more none.
+    let all : c.len.result ≡ length c.read_more.new.bytes.items = search rules in
+    last-records c.read_more.new.bytes.items more c.len.result all (none refl)

@@ -1,0 +1,13 @@
+use Rattle.std.proofs.Common.{◌≡◌, ◌≤◌, ◌-◌, ◌^◌, ℕ, List, Option}
+use Rattle.std.specs.Io.KnownBytes.{Consumes}
+use Rattle.rj_divide.proofs.next.next_piece.Given as goal
+
+abbrev pub invariant-reading : goal.invariant-reading
+invariant-reading g l = record {
+  bytes : (start : Option (List ℕ)) → Consumes start (g.I.Input.tells l.fn.input) l.fn.bytes.items → Consumes start (g.I.Input.tells l.input) l.bytes.items;
+  count : g.I.Input.count l.input ≡ g.I.Input.count l.fn.input;
+  some : 1 ≤ l.size;
+}
+
+abbrev pub decreases-reading : goal.decreases-reading
+decreases-reading g l = 2 ^ 64 - l.size

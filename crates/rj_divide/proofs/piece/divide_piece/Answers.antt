@@ -1,0 +1,28 @@
+use Rattle.std.proofs.Common.{ℕ, arith, length, map}
+use Rattle.rj_csv_io.specs.Pieces.{names_in, piece_records}
+use Rattle.rj_divide.proofs.DivisionFacts.{reading-counts}
+use Rattle.rj_divide.proofs.ReadingFacts.{piece-fault, read-rows}
+use Rattle.rj_divide.proofs.piece.divide_piece.Goals as goal
+
+pub returns-in-Err-clause-counts : goal.returns-in-Err-clause-counts
+returns-in-Err-clause-counts g c = reading-counts ℕ c.behind.result (map g.O.Output.count c.args.outputs.now) c.behind.ensures.reading
+
+pub returns-in-Err-clause-fault : goal.returns-in-Err-clause-fault
+returns-in-Err-clause-fault g c =
+    let d = c.args.division.now in
+    piece-fault d.null.now d.types.now c.args.before (piece_records c.args.is_first c.args.text.now) c.in-Err.e c.behind.result (names_in d.header.now) (length c.args.outputs.now)
+    c.behind.ensures.fault (rw c.as_bytes.ensures.value at c.in-Err.ensures)
+
+pub divide_table-requires-clause-places : goal.divide_table-requires-clause-places
+divide_table-requires-clause-places g c = omega (arith, c.requires.first, c.if-before-gt-MOST_ROWS.false, c.rows-rows.ensures.count, c.rows-rows.ensures.within)
+
+pub returns-in-Ok-divide_table-clause-divided : goal.returns-in-Ok-divide_table-clause-divided
+returns-in-Ok-divide_table-clause-divided g c =
+    let d = c.args.division.now in
+    let reading = rw c.as_bytes.ensures.value at c.in-Ok.ensures in
+    record {
+      rows = c.in-Ok.table.rows;
+      read = read-rows d.null.now d.types.now (piece_records c.args.is_first c.args.text.now) c.in-Ok.table.rows reading.1;
+      many = c.rows-rows.ensures.count;
+      parts = c.in-Ok-divide_table.ensures.divided;
+    }

@@ -1,0 +1,28 @@
+use Rattle.std.proofs.Common.{rules, ◌≡◌, ◌≤◌, ℕ, arith, length, map}
+use Rattle.std.proofs.lemmas.List.{length-map}
+use Rattle.rj_divide.proofs.DivisionFacts.{piece-reads}
+use Rattle.rj_divide.proofs.UnderwayFacts.{fault-in, go-on}
+use Rattle.rj_divide.proofs.whole.divide_next.Goals as goal
+
+pub returns-in-Ok-divide_front-clause-divided : goal.returns-in-Ok-divide_front-clause-divided
+returns-in-Ok-divide_front-clause-divided g c = λ is_first all before n u.
+    let d = c.args.division.now in let p = c.in-Ok.piece in let rows = c.in-Ok-divide_front.ensures.rows in
+    let many : length (map g.O.Output.told c.divide_front.new.outputs) ≡ length (map g.O.Output.told c.args.outputs.now) =
+    omega (arith, length-map c.divide_front.new.outputs g.O.Output.told, length-map c.args.outputs.now g.O.Output.told, c.divide_front.auto.outputs) in
+    let within : p.end ≤ length c.next_piece.new.bytes.items = search rules in
+    go-on d.null.now d.types.now (g.R.Route.part d.route.now) d.first is_first all before c.args.rest.now c.next_piece.new.bytes.items
+    (g.I.Input.tells c.args.input.now) (g.I.Input.tells c.next_piece.new.input) (map g.O.Output.told c.args.outputs.now) n p.end p.is_last u
+    c.in-Ok.ensures.bytes (λ e. (c.in-Ok.ensures.last e).1) c.in-Ok.ensures.records
+    c.divide_front.new.rest (map g.O.Output.told c.divide_front.new.outputs) rows.0 many within c.in-Ok.ensures.some
+    c.in-Ok-divide_front.ensures.header c.in-Ok-divide_front.ensures.bytes rows.1 rows.2
+
+pub returns-in-Err-divide_front-clause-reads : goal.returns-in-Err-divide_front-clause-reads
+returns-in-Err-divide_front-clause-reads g c = piece-reads ℕ c.in-Err-divide_front.e _ _ c.in-Err-divide_front.ensures.read c.in-Ok.ensures.count
+
+pub returns-in-Err-divide_front-clause-fault : goal.returns-in-Err-divide_front-clause-fault
+returns-in-Err-divide_front-clause-fault g c = λ t is_first all before n b u.
+    let d = c.args.division.now in let p = c.in-Ok.piece in
+    fault-in d.null.now d.types.now (g.R.Route.part d.route.now) d.first is_first all before c.args.rest.now c.next_piece.new.bytes.items
+    (g.I.Input.tells c.args.input.now) (g.I.Input.tells c.next_piece.new.input) (map g.O.Output.told c.args.outputs.now) n p.end p.is_last u
+    c.in-Ok.ensures.bytes (λ e. (c.in-Ok.ensures.last e).1) c.in-Ok.ensures.records
+    (length c.args.outputs.now) c.in-Err-divide_front.e (c.in-Err-divide_front.ensures.fault t b)

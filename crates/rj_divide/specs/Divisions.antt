@@ -1,0 +1,44 @@
+-- Rows that are divided among the outputs of parts.
+use Rattle.std.specs.Prelude.{ℕ, ◌+◌, ◌≡◌, ◌<◌, List, map, length, slice_index_or, slice_set, Option, None, Result, Ok, Err}
+use Rattle.std.specs.Io.KnownBytes.{Appends}
+use Rattle.rj_columns.specs.declared.cell.ColumnType.{ColumnType}
+use Rattle.rj_columns.specs.Contents.{Content}
+use Rattle.rj_csv_io.specs.Pieces.{AreRows}
+use Rattle.rj_csv_io.specs.Shown.{rows_text, shown}
+use Rattle.rj_divide.specs.Placed.{part_rows}
+use Rattle.rj_divide.specs.declared.refused.DivideRefused.{DivideRefused}
+use Rattle.rj_divide.specs.declared.refused.DivideRefused.TheVariants as refused
+
+-- the text of the rows of one part
+abbrev pub part_text : List ℕ → (List Content → ℕ) → ℕ → ℕ → List (List Content) → List ℕ
+part_text null part p first rows = rows_text (map (map (shown null)) (part_rows part p first rows))
+
+-- each part's output got the text of its rows behind what it had, where it tells what it got
+abbrev pub AreAppended : List ℕ → (List Content → ℕ) → ℕ → List (List Content) → List (Option (List ℕ)) → List (Option (List ℕ)) → Type 0
+AreAppended null part first rows before after = (p : ℕ) → p < length before
+    → Appends (slice_index_or before p None) (slice_index_or after p None) (part_text null part p first rows)
+
+-- these records are rows, so many of them, and each part's output got the text of its rows
+pub record IsDivided (null : List ℕ) (types : List ColumnType) (part : List Content → ℕ) (first : ℕ) (records : List (List (List ℕ)))
+    (before after : List (Option (List ℕ))) (count : ℕ) : Type 0 where
+  pub rows : List (List Content)
+  pub read : AreRows null types records rows
+  pub many : count ≡ length rows
+  pub parts : AreAppended null part first rows before after
+
+-- the counts of the outputs' failures: one more for the output that failed, if one did
+abbrev pub counts_after : {T : Type 0} → Result T DivideRefused → List ℕ → List ℕ
+counts_after (Ok x) counts = counts
+counts_after (Err (refused.Read f)) counts = counts
+counts_after (Err refused.TooLong) counts = counts
+counts_after (Err refused.ReadDevice) counts = counts
+counts_after (Err (refused.WriteDevice p)) counts = slice_set counts p (slice_index_or counts p 0 + 1)
+counts_after (Err refused.Memory) counts = counts
+
+-- a fault of an output among so many, or of memory
+abbrev pub IsPutFault : ℕ → DivideRefused → Type 0
+IsPutFault outputs (refused.Read f) = ⊥
+IsPutFault outputs refused.TooLong = ⊥
+IsPutFault outputs refused.ReadDevice = ⊥
+IsPutFault outputs (refused.WriteDevice p) = p < outputs
+IsPutFault outputs refused.Memory = Unit {0}

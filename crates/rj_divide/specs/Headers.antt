@@ -1,0 +1,36 @@
+-- The header of rows with their places.
+use Rattle.std.specs.Prelude.{ℕ, ◌≡◌, ◌<◌, List, [], ◌∷◌, ◌++◌, length, slice_index_or, Option, None, Err}
+use Rattle.std.specs.Io.KnownBytes.{Appends}
+use Rattle.csv.specs.Writing.{default_writer, row_text}
+use Rattle.rj_columns.specs.declared.cell.ColumnType.{ColumnType}
+use Rattle.rj_columns.specs.declared.cell.ColumnType.TheVariants as kind
+use Rattle.rj_columns.specs.declared.refused.BuildRefused.{BuildRefused}
+use Rattle.rj_columns.specs.Names.{begun}
+use Rattle.rj_columns.specs.Tables.{TableValue}
+use Rattle.rj_csv_io.specs.Tables.{of_begun}
+use Rattle.rj_divide.specs.declared.refused.DivideRefused.{DivideRefused}
+use Rattle.rj_divide.specs.declared.refused.DivideRefused.TheVariants as refused
+
+-- the names of a table's columns, and that of the places
+abbrev pub names_with : TableValue → List ℕ → List (List ℕ)
+names_with t name = t.names ++ name ∷ []
+
+-- their types: a place is a whole number
+abbrev pub types_with : TableValue → List ColumnType
+types_with t = t.types ++ kind.Int ∷ []
+
+-- the record of the names
+abbrev pub header_text : TableValue → List ℕ → List ℕ
+header_text t name = row_text default_writer (names_with t name)
+
+-- each output got this text behind what it had, where it tells what it got
+abbrev pub HaveText : List ℕ → List (Option (List ℕ)) → List (Option (List ℕ)) → Type 0
+HaveText text before after = (p : ℕ) → p < length before → Appends (slice_index_or before p None) (slice_index_or after p None) text
+
+-- why a header is not written: the columns make no table, or an output failed
+abbrev pub IsHeaderFault : TableValue → List ℕ → ℕ → DivideRefused → Type 0
+IsHeaderFault t name outputs (refused.Read f) = (b : BuildRefused) × (begun (names_with t name) (types_with t) ≡ Err b) × (f ≡ of_begun b)
+IsHeaderFault t name outputs refused.TooLong = ⊥
+IsHeaderFault t name outputs refused.ReadDevice = ⊥
+IsHeaderFault t name outputs (refused.WriteDevice p) = p < outputs
+IsHeaderFault t name outputs refused.Memory = Unit {0}

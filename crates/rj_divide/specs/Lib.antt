@@ -1,0 +1,6 @@
+pub mod Placed
+pub mod Divisions
+pub mod Readings
+pub mod Underway
+pub mod Headers
+pub mod Ranges

@@ -1,0 +1,104 @@
+-- The first fault of records, whatever number its row has, and when a division ends with which fault.
+use Rattle.std.specs.Prelude.{ℕ, ◌+◌, ◌-◌, ◌^◌, ◌==◌, ◌≡◌, ◌≤◌, ◌<◌, ◌⊎◌, if◌then◌else◌, Bool, List, [], ◌∷◌, ◌++◌, length, Result, Ok, Err}
+use Rattle.rj_columns.specs.declared.cell.ColumnType.{ColumnType}
+use Rattle.rj_columns.specs.Contents.{Content}
+use Rattle.rj_csv_io.specs.declared.refused.ReadRefused.{ReadRefused}
+use Rattle.rj_csv_io.specs.declared.refused.ReadRefused.TheVariants as read
+use Rattle.rj_csv_io.specs.Pieces.{AreRows, piece_records}
+use Rattle.rj_csv_io.specs.Typed.{read_cells}
+use Rattle.rj_divide.specs.declared.refused.DivideRefused.{DivideRefused}
+use Rattle.rj_divide.specs.declared.refused.DivideRefused.TheVariants as refused
+
+-- what a record reads as where it is the row of this number, counted from 1
+abbrev pub numbered_row : List ℕ → List ColumnType → ℕ → List (List ℕ) → Result (List Content) ReadRefused
+numbered_row null types number fields =
+    if length fields == length types then read_cells null number [] types fields else Err (read.RaggedRow number)
+
+-- the fault of the first of these records that is no row, where so many rows stand before the records
+pub record IsFirstFault (null : List ℕ) (types : List ColumnType) (before : ℕ) (records : List (List (List ℕ))) (fault : ReadRefused) : Type 0 where
+  pub good : List (List (List ℕ))
+  pub rows : List (List Content)
+  pub bad : List (List ℕ)
+  pub rest : List (List (List ℕ))
+  pub order : records ≡ good ++ bad ∷ rest
+  pub read : AreRows null types good rows
+  pub is : numbered_row null types (before + length good + 1) bad ≡ Err fault
+
+-- why the records behind so many rows are not divided among so many outputs, where it is no device that gives bytes
+abbrev pub IsFaultBehind : List ℕ → List ColumnType → ℕ → ℕ → List (List (List ℕ)) → DivideRefused → Type 0
+IsFaultBehind null types before outputs records (refused.Read f) = IsFirstFault null types before records f
+IsFaultBehind null types before outputs records refused.TooLong = 2 ^ 31 ≤ before + length records
+IsFaultBehind null types before outputs records refused.ReadDevice = ⊥
+IsFaultBehind null types before outputs records (refused.WriteDevice p) = p < outputs
+IsFaultBehind null types before outputs records refused.Memory = Unit {0}
+
+-- the row that a fault tells
+abbrev pub row_told : ReadRefused → ℕ
+row_told read.NoHeader = 0
+row_told (read.BadName column) = 0
+row_told (read.RepeatedName column) = 0
+row_told read.TypeCount = 0
+row_told (read.RaggedRow row) = row
+row_told (read.BadInteger row column) = row
+row_told (read.BadText row column) = row
+row_told read.TooManyRows = 0
+row_told read.TooManyColumns = 0
+row_told read.BadNull = 0
+row_told read.ReadDevice = 0
+row_told read.Memory = 0
+
+-- the same fault where so many rows stand before
+abbrev pub fault_behind : ℕ → ReadRefused → DivideRefused
+fault_behind before read.NoHeader = refused.Read read.NoHeader
+fault_behind before (read.BadName column) = refused.Read (read.BadName column)
+fault_behind before (read.RepeatedName column) = refused.Read (read.RepeatedName column)
+fault_behind before read.TypeCount = refused.Read read.TypeCount
+fault_behind before (read.RaggedRow row) = refused.Read (read.RaggedRow (before + row))
+fault_behind before (read.BadInteger row column) = refused.Read (read.BadInteger (before + row) column)
+fault_behind before (read.BadText row column) = refused.Read (read.BadText (before + row) column)
+fault_behind before read.TooManyRows = refused.TooLong
+fault_behind before read.TooManyColumns = refused.Read read.TooManyColumns
+fault_behind before read.BadNull = refused.Read read.BadNull
+fault_behind before read.ReadDevice = refused.Read read.ReadDevice
+fault_behind before read.Memory = refused.Memory
+
+-- a fault of what was read, or of memory
+abbrev pub IsReadingFault : DivideRefused → Type 0
+IsReadingFault (refused.Read f) = Unit {0}
+IsReadingFault refused.TooLong = Unit {0}
+IsReadingFault refused.ReadDevice = ⊥
+IsReadingFault (refused.WriteDevice p) = ⊥
+IsReadingFault refused.Memory = Unit {0}
+
+-- a fault of the device that gives bytes, or of memory
+abbrev pub IsInputFault : DivideRefused → Type 0
+IsInputFault (refused.Read f) = ⊥
+IsInputFault refused.TooLong = ⊥
+IsInputFault refused.ReadDevice = Unit {0}
+IsInputFault (refused.WriteDevice p) = ⊥
+IsInputFault refused.Memory = Unit {0}
+
+-- the count of the failures of the device that gives bytes: one more where it failed
+abbrev pub reads_after : {T : Type 0} → Result T DivideRefused → ℕ → ℕ
+reads_after (Ok x) count = count
+reads_after (Err (refused.Read f)) count = count
+reads_after (Err refused.TooLong) count = count
+reads_after (Err refused.ReadDevice) count = count + 1
+reads_after (Err (refused.WriteDevice p)) count = count
+reads_after (Err refused.Memory) count = count
+
+-- why a text is not divided among so many outputs: a fault of a record or of a device, or its length
+abbrev pub IsDivisionFault : List ℕ → List ColumnType → Bool → List ℕ → ℕ → DivideRefused → Type 0
+IsDivisionFault null types is_first text outputs (refused.Read f) = IsFirstFault null types 0 (piece_records is_first text) f
+IsDivisionFault null types is_first text outputs refused.TooLong = (2 ^ 31 ≤ length (piece_records is_first text)) ⊎ (2 ^ 64 - 1 ≤ length text)
+IsDivisionFault null types is_first text outputs refused.ReadDevice = Unit {0}
+IsDivisionFault null types is_first text outputs (refused.WriteDevice p) = p < outputs
+IsDivisionFault null types is_first text outputs refused.Memory = Unit {0}
+
+-- any fault but one of the device that gives bytes
+abbrev pub IsAfterReading : DivideRefused → Type 0
+IsAfterReading (refused.Read f) = Unit {0}
+IsAfterReading refused.TooLong = Unit {0}
+IsAfterReading refused.ReadDevice = ⊥
+IsAfterReading (refused.WriteDevice p) = Unit {0}
+IsAfterReading refused.Memory = Unit {0}

@@ -1,0 +1,104 @@
+//! Places where a text can be cut.
+
+ghost use Rattle.std.specs.Prelude.{◌≡◌, ◌<◌, ◌+◌, ◌-◌, ◌^◌, ℕ, List, if◌then◌else◌, IfErr, IfOk, IfSome};
+ghost use Rattle.rj_divide.specs.Ranges.{AreCuts, IsCutFault, IsCutting};
+ghost use Rattle.rj_divide.specs.Readings.{reads_after};
+
+use crate::next::{drop_front, next_piece};
+use crate::refused::DivideRefused;
+use crate::whole::is_header_ahead;
+use rj_csv_io::Input;
+use std::alloc::Global;
+
+/// How far a text was looked at.
+#[derive(Drop)]
+pub(crate) struct Cutting {
+    /// The bytes that were read and not looked at yet.
+    pub(crate) bytes: Vec<u8>,
+    /// The place where they begin in the text.
+    pub(crate) place: u64,
+    /// Whether no record was seen yet.
+    pub(crate) is_first: bool,
+    /// The places where the text can be cut.
+    pub(crate) cuts: Vec<u64>,
+    /// The last of them, or 0.
+    pub(crate) last: u64,
+}
+
+// Goes on to the end of the next piece, and cuts the text there where that is far enough behind the last cut: whether the
+// piece was the last one, behind which there is nothing to cut.
+fn cut_next<I: Input>(
+    alloc: Global,
+    input: &mut I,
+    size: u64,
+    block: usize,
+    cutting: &mut Cutting,
+) -> Result<bool, DivideRefused>
+    requires { I.count input.old < 2 ^ 64 - 1 }
+    ensures cuts { IfOk result (λ last. (text : List ℕ) (n : ℕ) → IsCutting size text (I.tells input.old) cutting.old n
+        → IsCutting size text (I.tells input.new) cutting.new (if last then n else n + 1)) }
+    ensures reads { I.count input.new ≡ reads_after result (I.count input.old) }
+    ensures fault { IfErr result (λ e. (text : List ℕ) (n : ℕ) → IsCutting size text (I.tells input.old) cutting.old n → IsCutFault text e) }
+{
+    let piece = match next_piece(input, &mut cutting.bytes, block) {
+        Ok(piece) => piece,
+        Err(e) => return Err(e),
+    };
+    if piece.is_last {
+        return Ok(true);
+    }
+    let Ok(is_first) = is_header_ahead(alloc, &cutting.bytes[..piece.end], cutting.is_first) else {
+        return Err(DivideRefused::Memory);
+    };
+    let place = match cutting.place.checked_add(piece.end as u64) {
+        Some(place) => place,
+        None => return Err(DivideRefused::TooLong),
+    };
+    drop_front(&mut cutting.bytes, piece.end);
+    cutting.place = place;
+    cutting.is_first = is_first;
+    if !is_first && place.saturating_sub(cutting.last) >= size {
+        if cutting.cuts.push(place).is_err() {
+            return Err(DivideRefused::Memory);
+        }
+        cutting.last = place;
+    }
+    Ok(false)
+}
+
+/// Places where a text with a header can be cut into ranges, so that the records of the ranges are those of the text. Each
+/// is the end of a record, and at least `size` bytes behind the one before; the first is behind the header. A text's own
+/// byte order mark is left out already.
+///
+/// The text is read in pieces of about `block` bytes, or more where a record is longer; only the ends of pieces are places.
+///
+/// # Errors
+///
+/// `ReadDevice` where the device failed; `TooLong` where the text has 2^64 - 1 bytes or more; `Memory`.
+pub fn find_cuts<I: Input>(
+    alloc: Global,
+    input: &mut I,
+    size: u64,
+    block: usize,
+) -> Result<Vec<u64>, DivideRefused>
+    requires { I.count input.old < 2 ^ 64 - 1 }
+    ensures cuts { IfOk result (λ v. IfSome (I.tells input.old) (λ text. AreCuts size text v.items)) }
+    ensures reads { I.count input.new ≡ reads_after result (I.count input.old) }
+    ensures fault { IfErr result (λ e. IfSome (I.tells input.old) (λ text. IsCutFault text e)) }
+{
+    let mut cutting = Cutting {
+        bytes: Vec::new(alloc),
+        place: 0,
+        is_first: true,
+        cuts: Vec::new(alloc),
+        last: 0,
+    };
+    for _turn in 0..u64::MAX {
+        match cut_next(alloc, input, size, block, &mut cutting) {
+            Ok(true) => return Ok(cutting.cuts),
+            Ok(false) => {}
+            Err(e) => return Err(e),
+        }
+    }
+    Err(DivideRefused::TooLong)
+}

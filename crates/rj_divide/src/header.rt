@@ -1,0 +1,153 @@
+//! The header of rows with their places.
+
+ghost use Rattle.std.specs.Prelude.{◌≡◌, ◌≢◌, ◌<◌, ◌-◌, ◌^◌, [], Ok, Err, map, length, All, IfErr, IfOk, OnOk};
+ghost use Rattle.csv.specs.Writing.{default_writer, row_text};
+ghost use Rattle.rj_columns.specs.Names.{begun};
+ghost use Rattle.rj_columns.specs.Tables.{TableValue};
+ghost use Rattle.rj_columns.specs.declared.refused.BuildRefused.{BuildRefused};
+ghost use Rattle.rj_csv_io.specs.Tables.{is_null_text, of_begun};
+ghost use Rattle.rj_divide.specs.Divisions.{counts_after};
+ghost use Rattle.rj_divide.specs.Headers.{HaveText, IsHeaderFault, header_text, names_with, types_with};
+
+use crate::refused::DivideRefused;
+use rj_columns::{BuildRefused, ColumnType, Table, TableBuilder};
+use rj_csv_io::{CountedWriter, Failed, Output, ReadRefused, write_rows};
+use std::alloc::{AllocError, Global};
+
+// The names of a table's columns, and one more.
+fn widened_names<'a>(
+    alloc: Global,
+    table: &'a Table,
+    name: &'a str,
+) -> Result<Vec<&'a str>, AllocError>
+    ensures { IfOk result (λ v. map (λ n. n.now) v.items ≡ names_with table.now name.now) }
+{
+    let mut names = Vec::new(alloc);
+    for col in 0..table.columns() {
+        names.push(table.name(col))?;
+    }
+    names.push(name)?;
+    Ok(names)
+}
+
+// The types of a table's columns, and that of places.
+fn widened_types(alloc: Global, table: &Table) -> Result<Vec<ColumnType>, AllocError>
+    ensures { IfOk result (λ v. v.items ≡ types_with table.now) }
+{
+    let mut types = Vec::new(alloc);
+    for col in 0..table.columns() {
+        types.push(table.column_type(col))?;
+    }
+    types.push(ColumnType::Int)?;
+    Ok(types)
+}
+
+// The bytes of names.
+fn bytes_of<'a>(alloc: Global, names: &[&'a str]) -> Result<Vec<&'a [u8]>, AllocError>
+    ensures { IfOk result (λ v. map (λ n. n.now) v.items ≡ map (λ n. n.now) names.now) }
+{
+    let mut all = Vec::new(alloc);
+    for name in names {
+        all.push(name.as_bytes())?;
+    }
+    Ok(all)
+}
+
+fn refused_of(e: BuildRefused) -> DivideRefused
+    ensures memory { e ≡ BuildRefused.Memory → result ≡ DivideRefused.Memory }
+    ensures fault { e ≢ BuildRefused.Memory → result ≡ DivideRefused.Read (of_begun e) }
+{
+    match e {
+        BuildRefused::TooManyColumns => DivideRefused::Read(ReadRefused::TooManyColumns),
+        BuildRefused::BadName(column) => DivideRefused::Read(ReadRefused::BadName(column)),
+        BuildRefused::RepeatedName(column) => {
+            DivideRefused::Read(ReadRefused::RepeatedName(column))
+        }
+        BuildRefused::TypeCount => DivideRefused::Read(ReadRefused::TypeCount),
+        BuildRefused::Memory => DivideRefused::Memory,
+    }
+}
+
+// A table of a table's columns and of one more, without rows.
+fn widened(alloc: Global, table: &Table, names: &[&str]) -> Result<Table, DivideRefused>
+    ensures table { IfOk result (λ t. (begun (map (λ n. n.now) names.now) (types_with table.now) ≡ Ok t) × (t.rows ≡ [])) }
+    ensures fault { IfErr result (λ e. e ≢ DivideRefused.Memory
+        → (b : BuildRefused) × (begun (map (λ n. n.now) names.now) (types_with table.now) ≡ Err b) × (e ≡ DivideRefused.Read (of_begun b))) }
+{
+    let Ok(types) = widened_types(alloc, table) else {
+        return Err(DivideRefused::Memory);
+    };
+    let Ok(bytes) = bytes_of(alloc, names) else {
+        return Err(DivideRefused::Memory);
+    };
+    match TableBuilder::new(alloc, bytes.as_slice(), types.as_slice()) {
+        Ok(builder) => Ok(builder.finish()),
+        Err(e) => Err(refused_of(e)),
+    }
+}
+
+// The text of the header of a table of these names.
+fn text_of_names(alloc: Global, table: &Table, names: &[&str]) -> Result<Vec<u8>, AllocError>
+    requires names { length names.now ≡ length table.now.types }
+    requires rows { table.now.rows ≡ [] }
+    ensures { IfOk result (λ v. v.items ≡ row_text default_writer (map (λ n. n.now) names.now)) }
+{
+    let mut output = CountedWriter::new(Vec::new(alloc));
+    match write_rows(alloc, &mut output, names, table, "") {
+        Ok(()) => Ok(output.into_inner()),
+        Err(_) => Err(AllocError),
+    }
+}
+
+// The record of a table's names and of one more.
+fn header_of(alloc: Global, table: &Table, name: &str) -> Result<Vec<u8>, DivideRefused>
+    ensures text { IfOk result (λ v. v.items ≡ header_text table.now name.now) }
+    ensures lawful { OnOk result ((t : TableValue) × (begun (names_with table.now name.now) (types_with table.now) ≡ Ok t)) }
+    ensures fault { IfErr result (IsHeaderFault table.now name.now 0) }
+{
+    let Ok(names) = widened_names(alloc, table, name) else {
+        return Err(DivideRefused::Memory);
+    };
+    let wide = match widened(alloc, table, names.as_slice()) {
+        Ok(wide) => wide,
+        Err(e) => return Err(e),
+    };
+    match text_of_names(alloc, &wide, names.as_slice()) {
+        Ok(text) => Ok(text),
+        Err(_) => Err(DivideRefused::Memory),
+    }
+}
+
+/// Puts a header to each output: the record of a table's names and of one more, that of the places. It says how many bytes
+/// the record has. The columns and that of the places could be those of a table.
+///
+/// # Errors
+///
+/// Why the columns are none of a table, as the reading of a file with this header would tell it; `WriteDevice` where an
+/// output failed; `Memory`. The outputs may have got the header then.
+pub fn write_headers<O: Output>(
+    alloc: Global,
+    table: &Table,
+    name: &str,
+    outputs: &mut [O],
+) -> Result<u64, DivideRefused>
+    requires { All (λ o. O.count o < 2 ^ 64 - 1) outputs.old }
+    ensures told { OnOk result (HaveText (header_text table.now name.now) (map O.told outputs.old) (map O.told outputs.new)) }
+    ensures size { IfOk result (λ n. n ≡ length (header_text table.now name.now)) }
+    ensures lawful { OnOk result ((t : TableValue) × (begun (names_with table.now name.now) (types_with table.now) ≡ Ok t)) }
+    ensures counts { map O.count outputs.new ≡ counts_after result (map O.count outputs.old) }
+    ensures writes { OnOk result (All (λ o. O.count o < 2 ^ 64 - 1) outputs.new) }
+    ensures fault { IfErr result (IsHeaderFault table.now name.now (length outputs.old)) }
+{
+    let text = match header_of(alloc, table, name) {
+        Ok(text) => text,
+        Err(e) => return Err(e),
+    };
+    for part in 0..outputs.len() {
+        match outputs[part].put(text.as_slice()) {
+            Ok(()) => {}
+            Err(Failed) => return Err(DivideRefused::WriteDevice(part)),
+        }
+    }
+    Ok(text.len() as u64)
+}

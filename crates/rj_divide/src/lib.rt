@@ -1,0 +1,23 @@
+//! The rows of a text, divided among parts: each row goes to the output of its part, in order, with its place.
+#![tactic(auto)]
+
+mod cuts;
+mod grouped;
+mod header;
+mod next;
+mod piece;
+mod placed;
+mod refused;
+mod route;
+mod table;
+mod whole;
+
+pub use cuts::find_cuts;
+pub use header::write_headers;
+pub use piece::Division;
+pub use refused::DivideRefused;
+pub use route::Route;
+pub use whole::divide;
+
+#[cfg(test)]
+mod tests;

@@ -1,0 +1,97 @@
+//! The next piece of a device's bytes, which ends where a record does.
+
+ghost use Rattle.std.specs.Prelude.{◌≡◌, ◌<◌, ◌≤◌, ◌+◌, ◌-◌, ◌^◌, ◌++◌, ℕ, List, [], Option, true, false, vec_len, take, drop, IfOk, IfErr, OnOk};
+ghost use Rattle.std.specs.Io.KnownBytes.{Consumes, IsAtEnd};
+ghost use Rattle.csv.specs.Reading.{default_config, records};
+ghost use Rattle.csv.specs.declared.parser.State.TheVariants as st;
+ghost use Rattle.rj_csv_io.specs.Cuts.{state_after};
+ghost use Rattle.rj_divide.specs.Readings.{IsInputFault, reads_after};
+
+use crate::refused::DivideRefused;
+use rj_csv_io::{Input, ReadRefused, last_cut, read_up_to};
+
+/// A piece of a text, at the start of the bytes that were read.
+#[derive(Clone, Copy)]
+pub(crate) struct Piece {
+    /// Where it ends.
+    pub(crate) end: usize,
+    /// Whether the text ends there too.
+    pub(crate) is_last: bool,
+}
+
+// Adds the next bytes of a device to some, until there are so many: whether it is at its end.
+fn read_more<I: Input>(
+    input: &mut I,
+    bytes: &mut Vec<u8>,
+    size: usize,
+) -> Result<bool, DivideRefused>
+    requires { I.count input.old < 2 ^ 64 - 1 }
+    ensures bytes { OnOk result ((start : Option (List ℕ)) → Consumes start (I.tells input.old) bytes.old.items
+        → Consumes start (I.tells input.new) bytes.new.items) }
+    ensures end { result ≡ Ok true → IsAtEnd (I.tells input.new) }
+    ensures full { result ≡ Ok false → size ≤ vec_len bytes.new }
+    ensures count { I.count input.new ≡ reads_after result (I.count input.old) }
+    ensures fault { IfErr result IsInputFault }
+{
+    match read_up_to(input, bytes, size) {
+        Ok(at_end) => Ok(at_end),
+        Err(ReadRefused::ReadDevice) => Err(DivideRefused::ReadDevice),
+        Err(_) => Err(DivideRefused::Memory),
+    }
+}
+
+/// Adds the next bytes of a device to some, until there is the end of a record or the device is at its end: the piece up
+/// to the last such end, or all where the device is at its end. At least a block is read, and twice as many bytes as
+/// before where there is no such end in them.
+///
+/// # Errors
+///
+/// `ReadDevice` is answered where the device failed, `Memory` where a growth was refused; nothing is known then of how
+/// much was read.
+pub(crate) fn next_piece<I: Input>(
+    input: &mut I,
+    bytes: &mut Vec<u8>,
+    block: usize,
+) -> Result<Piece, DivideRefused>
+    requires { I.count input.old < 2 ^ 64 - 1 }
+    ensures bytes { OnOk result ((start : Option (List ℕ)) → Consumes start (I.tells input.old) bytes.old.items
+        → Consumes start (I.tells input.new) bytes.new.items) }
+    ensures within { IfOk result (λ p. p.end ≤ vec_len bytes.new) }
+    ensures some { IfOk result (λ p. p.is_last ≡ false → 0 < p.end) }
+    ensures last { IfOk result (λ p. p.is_last ≡ true → (p.end ≡ vec_len bytes.new) × IsAtEnd (I.tells input.new)) }
+    ensures records { IfOk result (λ p. (more : List ℕ) → (p.is_last ≡ true → more ≡ []) → records default_config (bytes.new.items ++ more)
+        ≡ records default_config (take p.end bytes.new.items) ++ records default_config (drop p.end bytes.new.items ++ more)) }
+    ensures ends { IfOk result (λ p. p.is_last ≡ false → state_after st.StartRecord (take p.end bytes.new.items) ≡ st.StartRecord) }
+    ensures count { I.count input.new ≡ reads_after result (I.count input.old) }
+    ensures fault { IfErr result IsInputFault }
+{
+    let mut size = block.max(1);
+    'reading: loop {
+        match read_more(input, bytes, size) {
+            Ok(true) => {
+                return Ok(Piece {
+                    end: bytes.len(),
+                    is_last: true,
+                });
+            }
+            Ok(false) => {}
+            Err(e) => return Err(e),
+        }
+        let end = last_cut(bytes.as_slice());
+        if end > 0 {
+            return Ok(Piece {
+                end,
+                is_last: false,
+            });
+        }
+        size = size.saturating_mul(2);
+    }
+}
+
+/// Takes the first bytes away.
+pub(crate) fn drop_front(bytes: &mut Vec<u8>, end: usize)
+    requires { end ≤ vec_len bytes.old }
+    ensures { bytes.new.items ≡ drop end bytes.old.items }
+{
+    bytes.drain(..end);
+}

@@ -1,0 +1,104 @@
+//! A piece of a text, divided among parts.
+
+ghost use Rattle.std.specs.Prelude.{◌≡◌, ◌<◌, ◌≤◌, ◌+◌, ◌-◌, ◌^◌, length, map, All, IsTrue, IfErr, IfOk, Ok};
+ghost use Rattle.rj_columns.specs.Names.{begun};
+ghost use Rattle.rj_columns.specs.Tables.{TableValue};
+ghost use Rattle.rj_csv_io.specs.Pieces.{names_in, piece_records};
+ghost use Rattle.rj_csv_io.specs.Tables.{is_null_text};
+ghost use Rattle.rj_divide.specs.Divisions.{IsDivided, counts_after};
+ghost use Rattle.rj_divide.specs.Readings.{IsAfterReading, IsFaultBehind, IsReadingFault, fault_behind, row_told};
+
+use crate::refused::DivideRefused;
+use crate::route::Route;
+use crate::table::divide_table;
+use rj_columns::ColumnType;
+use rj_csv_io::{Header, Output, ReadRefused};
+use std::alloc::Global;
+
+/// How the rows of a text are read, and to which parts they go.
+#[derive(Drop)]
+pub struct Division<'a, R: Route> {
+    /// The header of the text.
+    pub header: &'a Header,
+    /// The types of its columns.
+    pub types: &'a [ColumnType],
+    /// The text that stands for null, which [`rj_csv_io::is_lawful_null`] allows.
+    pub null: &'a str,
+    /// What tells the part of a row.
+    pub route: &'a R,
+    /// The place of the first row, at most 2^62.
+    pub first: u64,
+}
+
+// How many rows a text may have.
+const MOST_ROWS: u64 = 1 << 61;
+
+// A fault of a piece that has so many rows before it.
+fn behind(before: u64, fault: ReadRefused) -> DivideRefused
+    requires { before ≤ 2 ^ 61 }
+    ensures fault { row_told fault < 2 ^ 63 → result ≡ fault_behind before fault }
+    ensures reading { IsReadingFault result }
+{
+    match fault {
+        ReadRefused::RaggedRow(row) => {
+            DivideRefused::Read(ReadRefused::RaggedRow(before.saturating_add(row)))
+        }
+        ReadRefused::BadInteger(row, column) => {
+            DivideRefused::Read(ReadRefused::BadInteger(before.saturating_add(row), column))
+        }
+        ReadRefused::BadText(row, column) => {
+            DivideRefused::Read(ReadRefused::BadText(before.saturating_add(row), column))
+        }
+        ReadRefused::TooManyRows => DivideRefused::TooLong,
+        ReadRefused::Memory => DivideRefused::Memory,
+        other => DivideRefused::Read(other),
+    }
+}
+
+/// Puts each row of a piece of a text, with its place, to the output of its part, and says how many rows it has. So many
+/// rows stand before it; the first piece begins with the header.
+///
+/// # Errors
+///
+/// The first fault of the piece's records, its row counted from the text's first one; `WriteDevice` or `Memory`.
+pub(crate) fn divide_piece<O: Output, R: Route>(
+    alloc: Global,
+    division: &Division<'_, R>,
+    text: &[u8],
+    is_first: bool,
+    before: u64,
+    outputs: &mut [O],
+) -> Result<u64, DivideRefused>
+    requires types { R.fits division.now.route.now division.now.types.now }
+    requires outputs { length outputs.old ≡ R.count division.now.route.now }
+    requires first { division.now.first ≤ 2 ^ 62 }
+    requires null { IsTrue (is_null_text division.now.null.now) }
+    requires failures { All (λ o. O.count o < 2 ^ 64 - 1) outputs.old }
+    ensures divided { IfOk result (λ n. IsDivided division.now.null.now division.now.types.now (R.part division.now.route.now) (division.now.first + before)
+        (piece_records is_first text.now) (map O.told outputs.old) (map O.told outputs.new) n) }
+    ensures read { IfErr result IsAfterReading }
+    ensures few { IfOk result (λ n. before + n < 2 ^ 62) }
+    ensures counts { map O.count outputs.new ≡ counts_after result (map O.count outputs.old) }
+    ensures fault { IfErr result (λ e. (t : TableValue) → begun (names_in division.now.header.now) division.now.types.now ≡ Ok t
+        → IsFaultBehind division.now.null.now division.now.types.now before (length outputs.old) (piece_records is_first text.now) e) }
+{
+    if before > MOST_ROWS {
+        return Err(DivideRefused::TooLong);
+    }
+    let table = match division.header.read_piece(
+        alloc,
+        text,
+        is_first,
+        division.types,
+        division.null.as_bytes(),
+    ) {
+        Ok(table) => table,
+        Err(e) => return Err(behind(before, e)),
+    };
+    let rows = table.rows();
+    let first = division.first + before;
+    match divide_table(alloc, &table, division.route, first, division.null, outputs) {
+        Ok(()) => Ok(rows),
+        Err(e) => Err(e),
+    }
+}

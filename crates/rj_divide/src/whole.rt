@@ -1,0 +1,174 @@
+//! A text, divided among parts piece by piece.
+
+ghost use Rattle.std.specs.Prelude.{◌≡◌, ◌<◌, ◌≤◌, ◌+◌, ◌-◌, ◌^◌, ◌++◌, ℕ, List, [], Bool, true, Ok, Option, Some, length, map, take, drop, if◌then◌else◌, All, IsTrue, IfErr, IfOk, IfSome, OnOk};
+ghost use Rattle.std.specs.Io.KnownBytes.{IsAtEnd};
+ghost use Rattle.csv.specs.Reading.{default_config, records};
+ghost use Rattle.rj_columns.specs.Names.{begun};
+ghost use Rattle.rj_columns.specs.Tables.{TableValue};
+ghost use Rattle.rj_csv_io.specs.Pieces.{names_in, piece_records};
+ghost use Rattle.rj_csv_io.specs.Tables.{is_null_text};
+ghost use Rattle.rj_divide.specs.Divisions.{IsDivided, counts_after};
+ghost use Rattle.rj_divide.specs.Readings.{IsAfterReading, IsDivisionFault, IsFaultBehind, reads_after};
+ghost use Rattle.rj_divide.specs.Underway.{IsUnderway, SplitsAs};
+
+use crate::next::{drop_front, next_piece};
+use crate::piece::{Division, divide_piece};
+use crate::refused::DivideRefused;
+use crate::route::Route;
+use rj_csv_io::{Header, Input, Output};
+use std::alloc::{AllocError, Global};
+
+/// What is left of a text that is divided.
+#[derive(Drop)]
+pub(crate) struct Rest {
+    /// The bytes that were read and aren't divided yet.
+    pub(crate) bytes: Vec<u8>,
+    /// How many rows were divided.
+    pub(crate) rows: u64,
+    /// Whether the header is still to come.
+    pub(crate) is_first: bool,
+}
+
+/// Whether the header is still to come behind a piece.
+pub(crate) fn is_header_ahead(
+    alloc: Global,
+    text: &[u8],
+    is_first: bool,
+) -> Result<bool, AllocError>
+    ensures { IfOk result (SplitsAs is_first (records default_config text.now)) }
+{
+    if !is_first {
+        return Ok(false);
+    }
+    match Header::of(alloc, text)? {
+        Some(_) => Ok(false),
+        None => Ok(true),
+    }
+}
+
+// Divides the first bytes of the rest, and takes them away.
+fn divide_front<O: Output, R: Route>(
+    alloc: Global,
+    division: &Division<'_, R>,
+    rest: &mut Rest,
+    end: usize,
+    outputs: &mut [O],
+) -> Result<(), DivideRefused>
+    requires types { R.fits division.now.route.now division.now.types.now }
+    requires outputs { length outputs.old ≡ R.count division.now.route.now }
+    requires first { division.now.first ≤ 2 ^ 62 }
+    requires null { IsTrue (is_null_text division.now.null.now) }
+    requires failures { All (λ o. O.count o < 2 ^ 64 - 1) outputs.old }
+    requires end { end ≤ length rest.old.bytes.items }
+    ensures bytes { OnOk result (rest.new.bytes.items ≡ drop end rest.old.bytes.items) }
+    ensures rows { OnOk result ((n : ℕ) × (rest.new.rows ≡ rest.old.rows + n) × IsDivided division.now.null.now division.now.types.now
+        (R.part division.now.route.now) (division.now.first + rest.old.rows) (piece_records rest.old.is_first (take end rest.old.bytes.items))
+        (map O.told outputs.old) (map O.told outputs.new) n) }
+    ensures header { OnOk result (SplitsAs rest.old.is_first (records default_config (take end rest.old.bytes.items)) rest.new.is_first) }
+    ensures counts { map O.count outputs.new ≡ counts_after result (map O.count outputs.old) }
+    ensures read { IfErr result IsAfterReading }
+    ensures fault { IfErr result (λ e. (t : TableValue) → begun (names_in division.now.header.now) division.now.types.now ≡ Ok t
+        → IsFaultBehind division.now.null.now division.now.types.now rest.old.rows (length outputs.old)
+        (piece_records rest.old.is_first (take end rest.old.bytes.items)) e) }
+{
+    let text = &rest.bytes[..end];
+    let Ok(is_first) = is_header_ahead(alloc, text, rest.is_first) else {
+        return Err(DivideRefused::Memory);
+    };
+    match divide_piece(alloc, division, text, rest.is_first, rest.rows, outputs) {
+        Ok(rows) => rest.rows += rows,
+        Err(e) => return Err(e),
+    }
+    rest.is_first = is_first;
+    drop_front(&mut rest.bytes, end);
+    Ok(())
+}
+
+// Divides the next piece of a text: whether it was the last one.
+fn divide_next<I: Input, O: Output, R: Route>(
+    alloc: Global,
+    input: &mut I,
+    division: &Division<'_, R>,
+    block: usize,
+    rest: &mut Rest,
+    outputs: &mut [O],
+) -> Result<bool, DivideRefused>
+    requires types { R.fits division.now.route.now division.now.types.now }
+    requires outputs { length outputs.old ≡ R.count division.now.route.now }
+    requires first { division.now.first ≤ 2 ^ 62 }
+    requires null { IsTrue (is_null_text division.now.null.now) }
+    requires reads { I.count input.old < 2 ^ 64 - 1 }
+    requires writes { All (λ o. O.count o < 2 ^ 64 - 1) outputs.old }
+    ensures divided { IfOk result (λ last. (is_first : Bool) (all : List ℕ) (before : List (Option (List ℕ))) (n : ℕ)
+        → IsUnderway division.now.null.now division.now.types.now (R.part division.now.route.now) division.now.first is_first all before
+        (I.tells input.old) rest.old (map O.told outputs.old) n
+        → IsUnderway division.now.null.now division.now.types.now (R.part division.now.route.now) division.now.first is_first all before
+        (I.tells input.new) rest.new (map O.told outputs.new) (if last then n else n + 1)) }
+    ensures end { result ≡ Ok true → (rest.new.bytes.items ≡ []) × IsAtEnd (I.tells input.new) }
+    ensures reads { I.count input.new ≡ reads_after result (I.count input.old) }
+    ensures writes { map O.count outputs.new ≡ counts_after result (map O.count outputs.old) }
+    ensures fault { IfErr result (λ e. (t : TableValue) (is_first : Bool) (all : List ℕ) (before : List (Option (List ℕ))) (n : ℕ)
+        → begun (names_in division.now.header.now) division.now.types.now ≡ Ok t
+        → IsUnderway division.now.null.now division.now.types.now (R.part division.now.route.now) division.now.first is_first all before
+        (I.tells input.old) rest.old (map O.told outputs.old) n
+        → IsDivisionFault division.now.null.now division.now.types.now is_first all (length outputs.old) e) }
+{
+    let piece = match next_piece(input, &mut rest.bytes, block) {
+        Ok(piece) => piece,
+        Err(e) => return Err(e),
+    };
+    match divide_front(alloc, division, rest, piece.end, outputs) {
+        Ok(()) => Ok(piece.is_last),
+        Err(e) => Err(e),
+    }
+}
+
+/// Divides the rows of a text, or of a range of one that begins and ends where a record does, among the outputs of their
+/// parts: each gets its rows in order, as CSV, with the row's place as one more whole number. A text's own byte order mark
+/// is left out already, and `is_first` says whether the header stands in it. It says how many rows there are.
+///
+/// The text is read in pieces of about `block` bytes, or more where a record is longer.
+///
+/// # Errors
+///
+/// The first fault of a record, its row counted from the text's first one; `ReadDevice` or `WriteDevice` where a device
+/// failed; `TooLong`; or `Memory`. The outputs may have got rows then.
+pub fn divide<I: Input, O: Output, R: Route>(
+    alloc: Global,
+    input: &mut I,
+    division: &Division<'_, R>,
+    is_first: bool,
+    block: usize,
+    outputs: &mut [O],
+) -> Result<u64, DivideRefused>
+    requires types { R.fits division.now.route.now division.now.types.now }
+    requires outputs { length outputs.old ≡ R.count division.now.route.now }
+    requires first { division.now.first ≤ 2 ^ 62 }
+    requires null { IsTrue (is_null_text division.now.null.now) }
+    requires reads { I.count input.old < 2 ^ 64 - 1 }
+    requires writes { All (λ o. O.count o < 2 ^ 64 - 1) outputs.old }
+    ensures divided { IfOk result (λ n. IfSome (I.tells input.old) (λ all.
+        IsDivided division.now.null.now division.now.types.now (R.part division.now.route.now) division.now.first
+        (piece_records is_first all) (map O.told outputs.old) (map O.told outputs.new) n)) }
+    ensures end { OnOk result (IsAtEnd (I.tells input.new)) }
+    ensures reads { I.count input.new ≡ reads_after result (I.count input.old) }
+    ensures writes { map O.count outputs.new ≡ counts_after result (map O.count outputs.old) }
+
+    // where the header and the types go together, as `Header::table` tells, an error comes for this alone
+    ensures fault { IfErr result (λ e. (t : TableValue) → begun (names_in division.now.header.now) division.now.types.now ≡ Ok t
+        → IfSome (I.tells input.old) (λ all. IsDivisionFault division.now.null.now division.now.types.now is_first all (length outputs.old) e)) }
+{
+    let mut rest = Rest {
+        bytes: Vec::new(alloc),
+        rows: 0,
+        is_first,
+    };
+    for _turn in 0..u64::MAX {
+        match divide_next(alloc, input, division, block, &mut rest, outputs) {
+            Ok(true) => return Ok(rest.rows),
+            Ok(false) => {}
+            Err(e) => return Err(e),
+        }
+    }
+    Err(DivideRefused::TooLong)
+}

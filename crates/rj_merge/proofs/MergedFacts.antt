@@ -1,0 +1,53 @@
+-- The merge of texts, by what the inputs give.
+use Rattle.std.proofs.Common.{◌≡◌, ◌⊎◌, ◌∙◌, ℕ, List, [], ◌∷◌, ◌++◌, map, Option, Some, sym, ap, subst, inl, inr}
+use mathlib.Core.Logic.{⊎_elim}
+use Rattle.std.specs.List.{Contains}
+use Rattle.std.specs.Option.{option_to_list}
+use mathlib.Core.List.{map-map}
+use Rattle.std.proofs.lemmas.List.Folds.{flat_map-map}
+use Rattle.csv.specs.Writing.{default_writer, row_text}
+use Rattle.rj_csv_io.specs.Shown.{rows_text}
+use Rattle.rj_merge.specs.declared.columns.Columns.{Columns}
+use Rattle.rj_merge.specs.declared.input.TextSource.{TextSource}
+use Rattle.rj_merge.specs.declared.place.Place.{Place}
+use Rattle.rj_merge.specs.declared.place.Placed.{Placed}
+use Rattle.rj_merge.specs.declared.refused.MergeRefused.{MergeRefused}
+use Rattle.rj_merge.specs.declared.refused.MergeRefused.TheVariants as refused
+use Rattle.rj_merge.specs.Headers.{place_columns}
+use Rattle.rj_merge.specs.Inputs.{faults_of_readings, first_header, input_reading, readings, rows_of_readings}
+use Rattle.rj_merge.specs.MergedTexts.{HaveNoFault, IsFaultOfTexts, IsMergedText, records_text}
+use Rattle.rj_merge.specs.Merging.{faults_of_inputs, rows_of_inputs}
+use Rattle.rj_merge.specs.Sources.{Reading}
+use Rattle.rj_merge.specs.Texts.{others}
+use Rattle.rj_merge.specs.Wholes.{HasTwice, IsMerge}
+use Rattle.rj_merge.proofs.WrittenFacts.{under-header}
+
+module _ {R : Type 0} (known : R → Option (List ℕ)) (null : List ℕ) (texts : List (List ℕ)) (sources : List (TextSource R)) (given : readings null texts ≡ map (input_reading known) sources) where
+  rows_given : rows_of_readings (readings null texts) ≡ rows_of_inputs (input_reading known) sources
+  rows_given = ap rows_of_readings given ∙ flat_map-map (λ (r : Reading (List (List ℕ))). r.rows) (input_reading known) sources
+
+  faults_given : faults_of_readings (readings null texts) ≡ faults_of_inputs (input_reading known) sources
+  faults_given = ap faults_of_readings given ∙ flat_map-map (λ (r : Reading (List (List ℕ))). option_to_list r.fault) (input_reading known) sources
+
+  lists_given : map (λ (r : Reading (List (List ℕ))). r.rows) (readings null texts) ≡ map (λ s. (input_reading known s).rows) sources
+  lists_given = ap (map (λ (r : Reading (List (List ℕ))). r.rows)) given ∙ map-map (λ (r : Reading (List (List ℕ))). r.rows) (input_reading known) sources
+
+  pub merged : (columns : Columns) (first names : List (List ℕ)) (rows : List (Placed (List (List ℕ)))) → first ≡ first_header texts → place_columns first ≡ Some columns → names ≡ others columns first
+      → IsMerge (map (λ s. (input_reading known s).rows) sources) rows → IsMergedText null texts (row_text default_writer names ++ records_text rows)
+  merged columns first names rows is places named merge = record {
+    columns = columns;
+    rows = rows;
+    places = ap place_columns (sym is) ∙ places;
+    merge = subst (λ l. IsMerge l rows) (sym lists_given) merge;
+    shown = under-header names rows ∙ ap (λ (h : List (List ℕ)). rows_text (h ∷ map (λ p. p.row) rows)) (named ∙ ap (others columns) is);
+  }
+
+  pub faultless : faults_of_inputs (input_reading known) sources ≡ [] → HaveNoFault null texts
+  faultless none = faults_given ∙ none
+
+  pub fault_of_texts : (e : MergeRefused)
+      → Contains (faults_of_inputs (input_reading known) sources) e ⊎ ((place : Place) × (e ≡ refused.RepeatedPlace place) × HasTwice (rows_of_inputs (input_reading known) sources) place) → IsFaultOfTexts null texts e
+  fault_of_texts e fault = ⊎_elim
+      (λ f. inl (subst (λ l. Contains l e) (sym faults_given) f))
+      (λ r. inr (r.0, r.1, subst (λ l. HasTwice l r.0) (sym rows_given) r.2))
+      fault

@@ -1,0 +1,100 @@
+-- What a writer of records, and an output behind it, got by one more record.
+use Rattle.std.proofs.Common.{◌≡◌, ◌≢◌, ◌∙◌, ℕ, List, [], ◌∷◌, ◌++◌, map, Option, Some, None, Bool, true, false, Result, Ok, Err, refl, sym, ap, append_assoc, Vec, Global}
+use Rattle.std.specs.Prelude.{OnOk, not, ◌&&◌}
+use Rattle.std.specs.Result.{is_ok}
+use Rattle.std.specs.Io.KnownBytes.{Appends}
+use Rattle.std.proofs.KnownBytes.{Appends-nil}
+use Rattle.std.proofs.lemmas.Bool.{false≢true}
+use Rattle.std.proofs.lemmas.List.{append-nil, map-append}
+use Rattle.csv.specs.declared.writer.QuoteStyle.TheVariants as style
+use Rattle.csv.specs.declared.writer.Writer.{Writer}
+use Rattle.csv.specs.declared.writer.WriterBuilder.{WriterBuilder}
+use Rattle.csv.specs.Writing.{default_writer, row_text, is_blank, text_written, writer_setup, fields_written, has_written}
+use Rattle.rj_csv_io.specs.Shown.{rows_text}
+use Rattle.rj_csv_io.specs.Written.{HasWritten}
+use Rattle.rj_merge.specs.declared.place.Placed.{Placed}
+use Rattle.rj_merge.specs.MergedTexts.{IsTold, records_text}
+
+abbrev known : Vec ℕ Global → Option (List ℕ)
+known v = Some v.items
+
+appended : (a b : Option (List ℕ)) (t bs : List ℕ) → a ≡ Some t → Appends a b bs → b ≡ Some (t ++ bs)
+appended None b t bs e h = absurd (cc)
+appended (Some x) None t bs e h = absurd h
+appended (Some x) (Some y) t bs e h = let q : x ≡ t = cc in rw (h, q) refl
+
+plain-style : (cfg : WriterBuilder) → cfg ≡ default_writer → cfg.style ≢ style.NonNumeric
+plain-style cfg e = rw e (λ h. cc h)
+
+-- behind whole records nothing of another one is written
+nothing_begun : (w : Writer (Vec ℕ Global)) (text : List ℕ) → HasWritten w text [] → has_written w ≡ false
+unfolding is_blank
+nothing_begun w text h = go (has_written w) h.blank
+  where
+    go : (b : Bool) → true ≡ (not b && true) → b ≡ false
+    go true e = absurd (false≢true (sym e))
+    go false e = refl
+
+-- one record more
+pub record-added : (a b : Writer (Vec ℕ Global)) (text : List ℕ) (fields : List (List ℕ)) → HasWritten a text []
+    → (fields_written a ≡ 0 → has_written a ≡ false → (writer_setup a).style ≢ style.NonNumeric → Appends (text_written known a) (text_written known b) (row_text (writer_setup a) fields))
+    → fields_written b ≡ 0 → has_written b ≡ false → writer_setup b ≡ writer_setup a → HasWritten b (text ++ row_text default_writer fields) []
+unfolding is_blank
+record-added a b text fields h bytes ended clean setup =
+    let more = rw h.setup at (bytes h.count (nothing_begun a text h) (plain-style (writer_setup a) h.setup)) in
+    record {
+      setup = setup ∙ h.setup;
+      count = ended;
+      blank = rw clean refl;
+      bytes = appended (text_written known a) (text_written known b) (text ++ []) (row_text default_writer fields) h.bytes more
+          ∙ ap Some (ap (λ t. t ++ row_text default_writer fields) (append-nil text) ∙ sym (append-nil (text ++ row_text default_writer fields)));
+    }
+
+-- what holds where a call went well, and what follows from it
+pub on-ok : {T E P Q : Type 0} (r : Result T E) → OnOk r P → (P → Q) → OnOk r Q
+on-ok (Ok x) h f = f h
+on-ok (Err x) h f = tt
+
+pub ok-if : {T E Q : Type 0} (r : Result T E) → (is_ok r ≡ true → Q) → OnOk r Q
+ok-if (Ok x) f = f refl
+ok-if (Err x) f = tt
+
+-- an output that got nothing yet, one more record, and a block that was put
+pub told-none : (start : Option (List ℕ)) (text : List ℕ) (block : Writer (Vec ℕ Global)) → HasWritten block text [] → IsTold start text block start
+told-none start text block h = record { put = []; kept = text; whole = refl; got = Appends-nil start; written = h }
+
+pub told-more : (start : Option (List ℕ)) (text row : List ℕ) (a b : Writer (Vec ℕ Global)) (told : Option (List ℕ)) → IsTold start text a told
+    → ((kept : List ℕ) → HasWritten a kept [] → HasWritten b (kept ++ row) []) → IsTold start (text ++ row) b told
+told-more start text row a b told t write = record {
+  put = t.put;
+  kept = t.kept ++ row;
+  whole = ap (λ l. l ++ row) t.whole ∙ append_assoc t.put t.kept row;
+  got = t.got;
+  written = write t.kept t.written;
+}
+
+pub told-all : (start : Option (List ℕ)) (text : List ℕ) (block : Writer (Vec ℕ Global)) (told : Option (List ℕ)) → Appends start told text → HasWritten block [] [] → IsTold start text block told
+told-all start text block told got written = record { put = text; kept = []; whole = sym (append-nil text); got = got; written = written }
+
+rows_text-append : (xs ys : List (List (List ℕ))) → rows_text (xs ++ ys) ≡ rows_text xs ++ rows_text ys
+unfolding rows_text
+rows_text-append [] ys = refl
+rows_text-append (x ∷ xs) ys = ap (λ t. row_text default_writer x ++ t) (rows_text-append xs ys) ∙ sym (append_assoc (row_text default_writer x) (rows_text xs) (rows_text ys))
+
+rows_text-one : (r : List (List ℕ)) → rows_text (r ∷ []) ≡ row_text default_writer r
+unfolding rows_text
+rows_text-one r = append-nil (row_text default_writer r)
+
+-- no rows, one row more, and a header before rows
+pub no_records : records_text [] ≡ []
+unfolding rows_text
+no_records = refl
+
+pub records-more : (text : List ℕ) (rows : List (Placed (List (List ℕ)))) (row : Placed (List (List ℕ))) → (text ++ records_text rows) ++ row_text default_writer row.row ≡ text ++ records_text (rows ++ row ∷ [])
+records-more text rows row =
+    append_assoc text (records_text rows) (row_text default_writer row.row)
+    ∙ ap (λ t. text ++ t) (sym (ap rows_text (map-append (λ (p : Placed (List (List ℕ))). p.row) rows (row ∷ [])) ∙ rows_text-append (map (λ p. p.row) rows) (row.row ∷ []) ∙ ap (λ t. records_text rows ++ t) (rows_text-one row.row)))
+
+pub under-header : (header : List (List ℕ)) (rows : List (Placed (List (List ℕ)))) → row_text default_writer header ++ records_text rows ≡ rows_text (header ∷ map (λ p. p.row) rows)
+unfolding rows_text
+under-header header rows = refl

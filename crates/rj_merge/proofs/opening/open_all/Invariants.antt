@@ -1,0 +1,15 @@
+use Rattle.std.proofs.Common.{◌≡◌, ◌<◌, ◌+◌, ◌^◌, List, ℕ, Some, map}
+use Rattle.std.specs.Vec.Iter.{into_iter_items, into_iter_len}
+use Rattle.csv.specs.Records.{fields_of}
+use Rattle.rj_merge.proofs.OpeningFacts.{HasOpened}
+use Rattle.rj_merge.proofs.opening.open_all.Given as goal
+
+abbrev pub invariant-inputs : goal.invariant-inputs
+invariant-inputs g l = record {
+  count : l.input + into_iter_len l.left < 2 ^ 32;
+  opened : (texts : List (List ℕ)) → map g.R.Read.remaining l.fn.inputs.items ≡ map Some texts
+      → HasOpened g.R.Read.remaining l.null texts (fields_of l.header.names) l.sources.items l.input (into_iter_items l.left);
+}
+
+abbrev pub decreases-inputs : goal.decreases-inputs
+decreases-inputs g l = into_iter_len l.left

@@ -1,0 +1,12 @@
+use Rattle.std.proofs.Common.{◌≡◌}
+use Rattle.std.specs.BinaryHeap.{heap_items}
+use Rattle.rj_merge.specs.Merging.{AreHeads}
+use Rattle.rj_merge.proofs.PutFacts.{HasPut, source_last}
+use Rattle.rj_merge.proofs.texts.put_rows.Given as goal
+
+abbrev pub invariant-rows : goal.invariant-rows
+invariant-rows g l = record {
+  lawful : AreHeads source_last l.merge.given (heap_items l.merge.heads);
+  put : HasPut g.R.Read.remaining l.fn.sources.items l.merge.given (heap_items l.merge.heads) (g.O.Output.told l.fn.output) l.fn.block l.block (g.O.Output.told l.output);
+  count : g.O.Output.count l.output ≡ g.O.Output.count l.fn.output;
+}

@@ -1,0 +1,78 @@
+//! Records written in a block, which is put on an output whenever it is full.
+
+ghost use Rattle.std.specs.Prelude.{◌≡◌, ◌≢◌, ◌<◌, ◌+◌, ◌-◌, ◌^◌, ◌++◌, [], List, ℕ, Option, Err, IfErr, OnOk};
+ghost use Rattle.std.specs.Io.KnownBytes.{Appends};
+ghost use Rattle.csv.specs.Writing.{default_writer, row_text};
+ghost use Rattle.rj_csv_io.specs.Written.{HasWritten};
+ghost use Rattle.rj_merge.specs.MergedTexts.{IsTold};
+
+use crate::fields::Fields;
+use crate::refused::{MergeRefused, MergeTextsRefused};
+use csv::{Writer, WriterBuilder};
+use rj_csv_io::{Failed, Output};
+use std::alloc::Global;
+use std::mem;
+
+// A block with so many bytes is full.
+const BLOCK: usize = 65536;
+
+/// A block with nothing in it.
+pub(crate) fn empty_block(alloc: Global) -> Writer<Vec<u8>>
+    ensures { HasWritten result [] [] }
+{
+    WriterBuilder::new().from_writer(Vec::new(alloc))
+}
+
+/// Puts what stands in a block on the output, and begins another block.
+///
+/// # Errors
+///
+/// `WriteDevice` where the output failed, and `Memory` alone beside it.
+pub(crate) fn put_block<O: Output>(
+    alloc: Global,
+    block: &mut Writer<Vec<u8>>,
+    output: &mut O,
+) -> Result<(), MergeTextsRefused>
+    requires { O.count output.old < 2 ^ 64 - 1 }
+    ensures told { (start : Option (List ℕ)) → (text : List ℕ) → IsTold start text block.old (O.told output.old)
+        → OnOk result (Appends start (O.told output.new) text × HasWritten block.new [] []) }
+    ensures device { result ≡ Err MergeTextsRefused.WriteDevice → O.count output.new ≡ O.count output.old + 1 }
+    ensures kept { result ≢ Err MergeTextsRefused.WriteDevice → O.count output.new ≡ O.count output.old }
+    ensures fault { IfErr result (λ e. e ≢ MergeTextsRefused.WriteDevice → e ≡ MergeTextsRefused.Merge MergeRefused.Memory) }
+{
+    let full = mem::replace(block, empty_block(alloc));
+    let Ok(text) = full.into_inner() else {
+        return Err(MergeTextsRefused::Merge(MergeRefused::Memory));
+    };
+    match output.put(text.as_slice()) {
+        Ok(()) => Ok(()),
+        Err(Failed) => Err(MergeTextsRefused::WriteDevice),
+    }
+}
+
+/// Writes a row behind those in a block, which is put on the output where it is full.
+///
+/// # Errors
+///
+/// `WriteDevice` where the output failed, and `Memory` alone beside it.
+pub(crate) fn add_row<O: Output>(
+    alloc: Global,
+    row: &Fields,
+    block: &mut Writer<Vec<u8>>,
+    output: &mut O,
+) -> Result<(), MergeTextsRefused>
+    requires { O.count output.old < 2 ^ 64 - 1 }
+    ensures told { (start : Option (List ℕ)) → (text : List ℕ) → IsTold start text block.old (O.told output.old)
+        → OnOk result (IsTold start (text ++ row_text default_writer row.now) block.new (O.told output.new)) }
+    ensures device { result ≡ Err MergeTextsRefused.WriteDevice → O.count output.new ≡ O.count output.old + 1 }
+    ensures kept { result ≢ Err MergeTextsRefused.WriteDevice → O.count output.new ≡ O.count output.old }
+    ensures fault { IfErr result (λ e. e ≢ MergeTextsRefused.WriteDevice → e ≡ MergeTextsRefused.Merge MergeRefused.Memory) }
+{
+    if row.write(block).is_err() {
+        return Err(MergeTextsRefused::Merge(MergeRefused::Memory));
+    }
+    if block.get_ref().len() < BLOCK {
+        return Ok(());
+    }
+    put_block(alloc, block, output)
+}

@@ -1,0 +1,80 @@
+//! The header of a text of placed rows.
+
+ghost use Rattle.std.specs.Prelude.{◌≡◌};
+ghost use Rattle.std.specs.Cmp.Lexicographic.{pointwise};
+ghost use Rattle.std.specs.Str.{bytes_eq};
+ghost use Rattle.csv.specs.Records.{fields_of};
+ghost use Rattle.rj_merge.specs.Headers.{columns_named, only_one, place_columns};
+
+use crate::columns::Columns;
+use csv::ByteRecord;
+
+// The names of the two columns of a place.
+const LEFT_PLACE: &[u8] = b"left_place";
+
+const RIGHT_PLACE: &[u8] = b"right_place";
+
+/// The header that the inputs of a merge have, and where the places stand under it.
+#[derive(Drop)]
+pub(crate) struct Header {
+    pub(crate) names: ByteRecord,
+    pub(crate) columns: Columns,
+}
+
+// The column of this name, where there is exactly one.
+fn only_column(header: &ByteRecord, name: &[u8]) -> Option<usize>
+    ensures { result ≡ only_one (columns_named name.now 0 (fields_of header.now)) }
+{
+    let mut found = None;
+    for i in 0..header.len() {
+        let Some(field) = header.get(i) else {
+            unreachable!()
+        };
+        if field != name {
+            continue;
+        }
+        if found.is_some() {
+            return None;
+        }
+        found = Some(i);
+    }
+    found
+}
+
+/// Where the places stand under a header, which has exactly one column of each of the two names.
+pub(crate) fn columns_of(header: &ByteRecord) -> Option<Columns>
+    ensures { result ≡ place_columns (fields_of header.now) }
+{
+    match (
+        only_column(header, LEFT_PLACE),
+        only_column(header, RIGHT_PLACE),
+    ) {
+        (Some(left), Some(right)) => Some(Columns {
+            left,
+            right,
+            width: header.len(),
+        }),
+        _ => None,
+    }
+}
+
+/// Whether two records have the same fields.
+pub(crate) fn are_same(first: &ByteRecord, second: &ByteRecord) -> bool
+    ensures { result ≡ pointwise bytes_eq (fields_of first.now) (fields_of second.now) }
+{
+    if first.len() != second.len() {
+        return false;
+    }
+    for i in 0..first.len() {
+        let Some(here) = first.get(i) else {
+            unreachable!()
+        };
+        let Some(there) = second.get(i) else {
+            unreachable!()
+        };
+        if here != there {
+            return false;
+        }
+    }
+    true
+}

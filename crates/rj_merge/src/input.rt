@@ -1,0 +1,153 @@
+//! An input of a merge that is a text of CSV, read record by record.
+
+ghost use Rattle.std.specs.Prelude.{◌≡◌, ◌+◌, ◌∷◌, [], None, false, true, Ok, Err, IfOk, IfErr, MatchBool, if◌then◌else◌, IsTrue};
+ghost use Rattle.csv.specs.Records.{fields_of};
+ghost use Rattle.rj_csv_io.specs.Remaining.{IsBetween, records_remaining};
+ghost use Rattle.rj_merge.specs.Inputs.{input_reading, input_tells};
+ghost use Rattle.rj_merge.specs.Places.{IsAbove};
+ghost use Rattle.rj_merge.specs.Sources.{is_outside};
+ghost use Rattle.rj_merge.specs.Texts.{read_row, read_rows};
+
+use crate::columns::Columns;
+use crate::fields::Fields;
+use crate::number::{read_place, stands_above};
+use crate::place::{Place, Placed};
+use crate::refused::MergeRefused;
+use crate::source::Source;
+use csv::{ByteRecord, ErrorKind, Reader};
+use std::alloc::Global;
+use std::io::Read;
+
+/// Reads the next record of an input, and says whether there was one.
+pub(crate) fn next_record<R: Read>(
+    input: u32,
+    reader: &mut Reader<R>,
+    fields: &mut ByteRecord,
+) -> Result<bool, MergeRefused>
+    ensures fault { IfErr result (λ e. is_outside e ≡ true) }
+    ensures next { IfOk result (λ found. IsBetween R.remaining reader.old → MatchBool found
+        ((records_remaining R.remaining reader.old ≡ fields_of fields.new ∷ records_remaining R.remaining reader.new) × IsBetween R.remaining reader.new)
+        (records_remaining R.remaining reader.old ≡ [])) }
+{
+    match reader.read_byte_record(fields) {
+        Ok(found) => Ok(found),
+        Err(e) => match e.kind() {
+            ErrorKind::Io(_) => Err(MergeRefused::ReadDevice(input)),
+            _ => Err(MergeRefused::Memory),
+        },
+    }
+}
+
+// The row that a record is, behind a row of this place, if there is one.
+fn placed_row(
+    alloc: Global,
+    input: u32,
+    row: u64,
+    before: Option<Place>,
+    fields: &ByteRecord,
+    columns: Columns,
+    null: &[u8],
+) -> Result<Placed<Fields>, MergeRefused>
+    ensures row { IfOk result (λ p. read_row null.now columns input row before (fields_of fields.now) ≡ Ok p) }
+    ensures rises { IfOk result (λ p. IsAbove before p.place) }
+    ensures fault { IfErr result (λ e. is_outside e ≡ false → read_row null.now columns input row before (fields_of fields.now) ≡ Err e) }
+{
+    if fields.len() != columns.width {
+        return Err(MergeRefused::RaggedRow(input, row));
+    }
+    let place = match read_place(input, row, fields, columns, null) {
+        Ok(place) => place,
+        Err(e) => return Err(e),
+    };
+    if !stands_above(before, place) {
+        return Err(MergeRefused::NotInOrder(input, row));
+    }
+    match Fields::without_place(alloc, fields, columns) {
+        Ok(row) => Ok(Placed { place, row }),
+        Err(_) => Err(MergeRefused::Memory),
+    }
+}
+
+/// An input that is a text of CSV whose header was read already.
+#[derive(Drop)]
+pub(crate) struct TextSource<'n, R: Read + Drop> {
+    alloc: Global,
+    // On the heap, so that a merge moves little where it orders its inputs.
+    reader: Box<Reader<R>>,
+    fields: ByteRecord,
+    columns: Columns,
+    null: &'n [u8],
+    input: u32,
+    row: u64,
+    last: Option<Place>,
+    ended: bool,
+}
+
+impl<'n, R: Read + Drop> TextSource<'n, R> {
+    /// An input whose header was read, which says where its places stand.
+    pub(crate) fn new(
+        alloc: Global,
+        reader: Box<Reader<R>>,
+        columns: Columns,
+        null: &'n [u8],
+        input: u32,
+    ) -> TextSource<'n, R>
+        ensures tells { IsBetween R.remaining reader.value → input_tells R.remaining result }
+        ensures reading { input_reading R.remaining result ≡ read_rows null.now columns input 0 None (records_remaining R.remaining reader.value) }
+    {
+        TextSource {
+            alloc,
+            reader,
+            fields: ByteRecord::new(alloc),
+            columns,
+            null,
+            input,
+            row: 0,
+            last: None,
+            ended: false,
+        }
+    }
+}
+
+impl<'n, R: Read + Drop> Source for TextSource<'n, R> {
+    type Row = Fields;
+
+    ghost tells = { input_tells R.remaining };
+
+    ghost reading = { input_reading R.remaining };
+
+    ghost last = { λ s. s.last };
+
+    fn next(&mut self) -> Result<Option<Placed<Fields>>, MergeRefused> {
+        if self.ended {
+            return Ok(None);
+        }
+        match next_record(self.input, self.reader.as_mut(), &mut self.fields) {
+            Ok(true) => {}
+            Ok(false) => {
+                self.ended = true;
+                return Ok(None);
+            }
+            Err(e) => return Err(e),
+        }
+        let Some(row) = self.row.checked_add(1) else {
+            return Err(MergeRefused::Memory);
+        };
+        match placed_row(
+            self.alloc,
+            self.input,
+            row,
+            self.last,
+            &self.fields,
+            self.columns,
+            self.null,
+        ) {
+            Ok(placed) => {
+                self.row = row;
+                self.last = Some(placed.place);
+                Ok(Some(placed))
+            }
+            Err(e) => Err(e),
+        }
+    }
+}

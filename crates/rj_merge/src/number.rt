@@ -1,0 +1,107 @@
+//! The place that the fields of a record tell.
+
+ghost use Rattle.std.specs.Prelude.{◌≡◌, [], None, Some, if◌then◌else◌, slice_index_or};
+ghost use Rattle.std.specs.Str.{all_ascii_digits};
+ghost use Rattle.std.specs.Str.Parse.{digits_value};
+ghost use Rattle.csv.specs.Records.{fields_of};
+ghost use Rattle.rj_merge.specs.Texts.{is_above, is_number, number_of, place_in, place_of};
+
+use crate::columns::Columns;
+use crate::place::Place;
+use crate::refused::MergeRefused;
+use csv::ByteRecord;
+use std::str;
+
+fn are_digits(field: &[u8]) -> bool
+    ensures { result ≡ all_ascii_digits field.now }
+{
+    for i in 0..field.len() {
+        if !field[i].is_ascii_digit() {
+            return false;
+        }
+    }
+    true
+}
+
+// The number that a field of digits writes, if it has 64 bits.
+fn whole_number(field: &[u8]) -> Option<u64>
+    ensures { result ≡ (if is_number field.now then Some (digits_value 10 field.now) else None) }
+{
+    if !are_digits(field) {
+        return None;
+    }
+    match str::from_utf8(field) {
+        Err(_) => None,
+        Ok(text) => match text.parse::<u64>() {
+            Ok(n) => Some(n),
+            Err(_) => None,
+        },
+    }
+}
+
+// What a field of a place tells: no number where it is null, or a number; or nothing where it is neither.
+fn told_number(field: &[u8], null: &[u8]) -> Option<Option<u64>>
+    ensures { result ≡ number_of null.now field.now }
+{
+    if field == null {
+        return Some(None);
+    }
+    match whole_number(field) {
+        Some(n) => Some(Some(n)),
+        None => None,
+    }
+}
+
+// The place that two numbers tell.
+fn place_at(
+    input: u32,
+    row: u64,
+    left: Option<Option<u64>>,
+    right: Option<Option<u64>>,
+) -> Result<Place, MergeRefused>
+    ensures { result ≡ place_of input row left right }
+{
+    match (left, right) {
+        (Some(Some(left)), Some(Some(right))) => Ok(Place::Pair(left, right)),
+        (Some(Some(left)), Some(None)) => Ok(Place::LoneLeft(left)),
+        (Some(None), Some(Some(right))) => Ok(Place::LoneRight(right)),
+        (Some(None), Some(None)) => Err(MergeRefused::NoPlace(input, row)),
+        (None, _) => Err(MergeRefused::BadPlace(input, row)),
+        (Some(_), None) => Err(MergeRefused::BadPlace(input, row)),
+    }
+}
+
+// What the field at this place of a record tells; a place past its end is empty.
+fn number_at(fields: &ByteRecord, at: usize, null: &[u8]) -> Option<Option<u64>>
+    ensures { result ≡ number_of null.now (slice_index_or (fields_of fields.now) at []) }
+{
+    match fields.get(at) {
+        Some(field) => told_number(field, null),
+        None => told_number(&[], null),
+    }
+}
+
+/// The place that a record tells.
+pub(crate) fn read_place(
+    input: u32,
+    row: u64,
+    fields: &ByteRecord,
+    columns: Columns,
+    null: &[u8],
+) -> Result<Place, MergeRefused>
+    ensures { result ≡ place_in null.now columns input row (fields_of fields.now) }
+{
+    let left = number_at(fields, columns.left, null);
+    let right = number_at(fields, columns.right, null);
+    place_at(input, row, left, right)
+}
+
+/// Whether a place stands above another one, if there is that one.
+pub(crate) fn stands_above(before: Option<Place>, place: Place) -> bool
+    ensures { result ≡ is_above before place }
+{
+    match before {
+        Some(before) => before < place,
+        None => true,
+    }
+}

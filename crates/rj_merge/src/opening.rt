@@ -1,0 +1,168 @@
+//! Opening the texts that are merged.
+
+ghost use Rattle.std.specs.Prelude.{◌≡◌, ◌<◌, ◌^◌, ◌∷◌, [], false, List, ℕ, Some, All, Contains, IfOk, IfErr, map, vec_len};
+ghost use Rattle.csv.specs.Records.{fields_of};
+ghost use Rattle.rj_csv_io.specs.Cuts.{records_in};
+ghost use Rattle.rj_csv_io.specs.Remaining.{IsBetween, records_remaining};
+ghost use Rattle.rj_merge.specs.Headers.{place_columns};
+ghost use Rattle.rj_merge.specs.Inputs.{faults_of_readings, first_header, first_record, input_reading, input_tells, reading_of, readings};
+ghost use Rattle.rj_merge.specs.Sources.{is_outside};
+
+use crate::header::{Header, are_same, columns_of};
+use crate::input::{TextSource, next_record};
+use crate::refused::MergeRefused;
+use csv::{ByteRecord, Reader, ReaderBuilder};
+use std::alloc::Global;
+use std::io::Read;
+
+// A reader of all records of a text.
+fn open_reader<R: Read>(alloc: Global, source: R) -> Reader<R>
+    ensures { (text : List ℕ) → R.remaining source ≡ Some text
+        → IsBetween R.remaining result × (records_remaining R.remaining result ≡ records_in text) }
+{
+    ReaderBuilder::new()
+        .has_headers(false)
+        .flexible(true)
+        .from_reader(alloc, source)
+}
+
+// A text whose header was read.
+#[derive(Drop)]
+struct Begun<R: Read + Drop> {
+    header: ByteRecord,
+    reader: Box<Reader<R>>,
+}
+
+// Reads the header of a text.
+fn begin<R: Read + Drop>(alloc: Global, input: u32, source: R) -> Result<Begun<R>, MergeRefused>
+    ensures header { IfOk result (λ b. (text : List ℕ) → R.remaining source ≡ Some text
+        → IsBetween R.remaining b.reader.value × (records_in text ≡ fields_of b.header ∷ records_remaining R.remaining b.reader.value)) }
+    ensures fault { IfErr result (λ e. is_outside e ≡ false → (text : List ℕ) → R.remaining source ≡ Some text
+        → (e ≡ MergeRefused.NoHeader input) × (records_in text ≡ [])) }
+{
+    let mut reader = open_reader(alloc, source);
+    let mut header = ByteRecord::new(alloc);
+    match next_record(input, &mut reader, &mut header) {
+        Ok(true) => {}
+        Ok(false) => return Err(MergeRefused::NoHeader(input)),
+        Err(e) => return Err(e),
+    }
+    match Box::new(alloc, reader) {
+        Ok(reader) => Ok(Begun { header, reader }),
+        Err(_) => Err(MergeRefused::Memory),
+    }
+}
+
+// An input, and the header that each further one has to have.
+#[derive(Drop)]
+struct First<'n, R: Read + Drop> {
+    header: Header,
+    source: TextSource<'n, R>,
+}
+
+// Opens the first input.
+fn open_first<'n, R: Read + Drop>(
+    alloc: Global,
+    source: R,
+    null: &'n [u8],
+) -> Result<First<'n, R>, MergeRefused>
+    ensures places { IfOk result (λ f. place_columns (fields_of f.header.names) ≡ Some f.header.columns) }
+    ensures header { IfOk result (λ f. (text : List ℕ) → R.remaining source ≡ Some text → fields_of f.header.names ≡ first_record (records_in text)) }
+    ensures input { IfOk result (λ f. (text : List ℕ) → R.remaining source ≡ Some text → input_tells R.remaining f.source
+        × (input_reading R.remaining f.source ≡ reading_of null.now (first_record (records_in text)) 1 text)) }
+    ensures fault { IfErr result (λ e. is_outside e ≡ false → (text : List ℕ) → R.remaining source ≡ Some text
+        → (reading_of null.now (first_record (records_in text)) 1 text).fault ≡ Some e) }
+{
+    let Begun { header, reader } = match begin(alloc, 1, source) {
+        Ok(begun) => begun,
+        Err(e) => return Err(e),
+    };
+    let Some(columns) = columns_of(&header) else {
+        return Err(MergeRefused::NoPlaces(1));
+    };
+    let header = Header {
+        names: header,
+        columns,
+    };
+    let source = TextSource::new(alloc, reader, columns, null, 1);
+    Ok(First { header, source })
+}
+
+// Opens a further input, which has to have this header.
+fn open_next<'n, R: Read + Drop>(
+    alloc: Global,
+    input: u32,
+    source: R,
+    first: &Header,
+    null: &'n [u8],
+) -> Result<TextSource<'n, R>, MergeRefused>
+    requires { place_columns (fields_of first.now.names) ≡ Some first.now.columns }
+    ensures input { IfOk result (λ s. (text : List ℕ) → R.remaining source ≡ Some text → input_tells R.remaining s
+        × (input_reading R.remaining s ≡ reading_of null.now (fields_of first.now.names) input text)) }
+    ensures fault { IfErr result (λ e. is_outside e ≡ false → (text : List ℕ) → R.remaining source ≡ Some text
+        → (reading_of null.now (fields_of first.now.names) input text).fault ≡ Some e) }
+{
+    let Begun { header, reader } = match begin(alloc, input, source) {
+        Ok(begun) => begun,
+        Err(e) => return Err(e),
+    };
+    if !are_same(&header, &first.names) {
+        return Err(MergeRefused::OtherHeader(input));
+    }
+    Ok(TextSource::new(alloc, reader, first.columns, null, input))
+}
+
+/// Inputs whose headers were read, and the header that all of them have.
+#[derive(Drop)]
+pub(crate) struct Opened<'n, R: Read + Drop> {
+    pub(crate) header: Header,
+    pub(crate) sources: Vec<TextSource<'n, R>>,
+}
+
+/// Opens all inputs, in order.
+///
+/// # Errors
+///
+/// The first fault of a header. `Memory` and `ReadDevice` come from the machine alone.
+pub(crate) fn open_all<'n, R: Read + Drop>(
+    alloc: Global,
+    inputs: Vec<R>,
+    null: &'n [u8],
+) -> Result<Opened<'n, R>, MergeRefused>
+    requires some { 0 < vec_len inputs }
+    requires count { vec_len inputs < 2 ^ 32 }
+    ensures places { IfOk result (λ o. place_columns (fields_of o.header.names) ≡ Some o.header.columns) }
+    ensures header { IfOk result (λ o. (texts : List (List ℕ)) → map R.remaining inputs.items ≡ map Some texts
+        → fields_of o.header.names ≡ first_header texts) }
+    ensures tells { IfOk result (λ o. (texts : List (List ℕ)) → map R.remaining inputs.items ≡ map Some texts
+        → All (input_tells R.remaining) o.sources.items) }
+    ensures readings { IfOk result (λ o. (texts : List (List ℕ)) → map R.remaining inputs.items ≡ map Some texts
+        → readings null.now texts ≡ map (input_reading R.remaining) o.sources.items) }
+    ensures fault { IfErr result (λ e. is_outside e ≡ false → (texts : List (List ℕ)) → map R.remaining inputs.items ≡ map Some texts
+        → Contains (faults_of_readings (readings null.now texts)) e) }
+{
+    let mut left = inputs.into_iter();
+    let Some(first) = left.next() else {
+        unreachable!()
+    };
+    let First { header, source } = match open_first(alloc, first, null) {
+        Ok(first) => first,
+        Err(e) => return Err(e),
+    };
+    let mut sources = Vec::new(alloc);
+    if sources.push(source).is_err() {
+        return Err(MergeRefused::Memory);
+    }
+    let mut input = 1;
+    'inputs: while let Some(next) = left.next() {
+        input += 1;
+        let source = match open_next(alloc, input, next, &header, null) {
+            Ok(source) => source,
+            Err(e) => return Err(e),
+        };
+        if sources.push(source).is_err() {
+            return Err(MergeRefused::Memory);
+        }
+    }
+    Ok(Opened { header, sources })
+}

@@ -1,0 +1,102 @@
+//! Texts of placed rows merged into one text.
+
+ghost use Rattle.std.specs.Prelude.{◌≡◌, ◌≢◌, ◌⊎◌, ◌<◌, ◌+◌, ◌-◌, ◌^◌, ◌++◌, [], false, List, ℕ, Some, Err, All, Contains, OnOk, map, vec_len};
+ghost use Rattle.std.specs.Io.KnownBytes.{Appends};
+ghost use Rattle.rj_csv_io.specs.Written.{HasWritten};
+ghost use Rattle.rj_merge.specs.declared.place.Place.{Place};
+ghost use Rattle.rj_merge.specs.declared.place.Placed.{Placed};
+ghost use Rattle.rj_merge.specs.declared.refused.MergeRefused.{MergeRefused};
+ghost use Rattle.rj_merge.specs.Inputs.{input_reading, input_tells};
+ghost use Rattle.rj_merge.specs.MergedTexts.{HaveNoFault, IsFaultOfTexts, IsMergedText, records_text};
+ghost use Rattle.rj_merge.specs.Merging.{faults_of_inputs, rows_of_inputs};
+ghost use Rattle.rj_merge.specs.Sources.{is_outside};
+ghost use Rattle.rj_merge.specs.Wholes.{HasTwice, IsMerge};
+
+use crate::block::{add_row, empty_block, put_block};
+use crate::fields::Fields;
+use crate::input::TextSource;
+use crate::merge::Merge;
+use crate::opening::{Opened, open_all};
+use crate::refused::{MergeRefused, MergeTextsRefused};
+use csv::Writer;
+use rj_csv_io::Output;
+use std::alloc::Global;
+use std::io::Read;
+
+// Merges inputs, and puts their rows on the output behind what stands in a block.
+fn put_rows<'n, R: Read + Drop, O: Output>(
+    alloc: Global,
+    sources: Vec<TextSource<'n, R>>,
+    block: Writer<Vec<u8>>,
+    output: &mut O,
+) -> Result<(), MergeTextsRefused>
+    requires { O.count output.old < 2 ^ 64 - 1 }
+    ensures merge { OnOk result ((text : List ℕ) → HasWritten block text [] → All (input_tells R.remaining) sources.entry.items
+        → (rows : List (Placed (List (List ℕ)))) × IsMerge (map (λ s. (input_reading R.remaining s).rows) sources.entry.items) rows
+        × Appends (O.told output.old) (O.told output.new) (text ++ records_text rows)) }
+    ensures faults { OnOk result (All (input_tells R.remaining) sources.entry.items → faults_of_inputs (input_reading R.remaining) sources.entry.items ≡ []) }
+    ensures fault { (e : MergeRefused) → result ≡ Err (MergeTextsRefused.Merge e) → is_outside e ≡ false → All (input_tells R.remaining) sources.entry.items
+        → Contains (faults_of_inputs (input_reading R.remaining) sources.entry.items) e
+        ⊎ ((place : Place) × (e ≡ MergeRefused.RepeatedPlace place) × HasTwice (rows_of_inputs (input_reading R.remaining) sources.entry.items) place) }
+    ensures device { result ≡ Err MergeTextsRefused.WriteDevice → O.count output.new ≡ O.count output.old + 1 }
+    ensures kept { result ≢ Err MergeTextsRefused.WriteDevice → O.count output.new ≡ O.count output.old }
+{
+    let mut block = block;
+    let mut merge = match Merge::open(alloc, sources) {
+        Ok(merge) => merge,
+        Err(e) => return Err(MergeTextsRefused::Merge(e)),
+    };
+    'rows: for _turn in 0..u64::MAX {
+        let placed = match merge.next() {
+            Ok(Some(placed)) => placed,
+            Ok(None) => return put_block(alloc, &mut block, output),
+            Err(e) => return Err(MergeTextsRefused::Merge(e)),
+        };
+        match add_row(alloc, &placed.row, &mut block, output) {
+            Ok(()) => {}
+            Err(e) => return Err(e),
+        }
+    }
+    Err(MergeTextsRefused::Merge(MergeRefused::Memory))
+}
+
+/// Merges texts of placed rows, and puts the merge on the output: their header and their rows in order, without the two
+/// columns of the places, as csv's default writer writes records, block by block. A field of a place that is the null text
+/// tells no number.
+///
+/// It holds a block and one row of each text.
+///
+/// # Errors
+///
+/// `Merge` with the first fault of a header, or else with a fault of a text or `RepeatedPlace`; `Memory` and `ReadDevice` in
+/// it come from the machine alone. `WriteDevice` where the output failed. Nothing is known then of how much was put.
+pub fn merge_texts<R: Read + Drop, O: Output>(
+    alloc: Global,
+    inputs: Vec<R>,
+    null: &str,
+    output: &mut O,
+) -> Result<(), MergeTextsRefused>
+    requires some { 0 < vec_len inputs }
+    requires count { vec_len inputs < 2 ^ 32 }
+    requires failures { O.count output.old < 2 ^ 64 - 1 }
+    ensures merge { OnOk result ((texts : List (List ℕ)) → map R.remaining inputs.items ≡ map Some texts
+        → (text : List ℕ) × IsMergedText null.now texts text × Appends (O.told output.old) (O.told output.new) text) }
+    ensures faults { OnOk result ((texts : List (List ℕ)) → map R.remaining inputs.items ≡ map Some texts → HaveNoFault null.now texts) }
+    ensures fault { (e : MergeRefused) → result ≡ Err (MergeTextsRefused.Merge e) → is_outside e ≡ false
+        → (texts : List (List ℕ)) → map R.remaining inputs.items ≡ map Some texts → IsFaultOfTexts null.now texts e }
+    ensures device { result ≡ Err MergeTextsRefused.WriteDevice → O.count output.new ≡ O.count output.old + 1 }
+    ensures kept { result ≢ Err MergeTextsRefused.WriteDevice → O.count output.new ≡ O.count output.old }
+{
+    let Opened { header, sources } = match open_all(alloc, inputs, null.as_bytes()) {
+        Ok(opened) => opened,
+        Err(e) => return Err(MergeTextsRefused::Merge(e)),
+    };
+    let mut block = empty_block(alloc);
+    let Ok(names) = Fields::without_place(alloc, &header.names, header.columns) else {
+        return Err(MergeTextsRefused::Merge(MergeRefused::Memory));
+    };
+    if names.write(&mut block).is_err() {
+        return Err(MergeTextsRefused::Merge(MergeRefused::Memory));
+    }
+    put_rows(alloc, sources, block, output)
+}

@@ -1,0 +1,23 @@
+-- Rows of two tables that are numbered by places which rise, in place of 0, 1, 2 and so on.
+use Rattle.std.specs.Prelude.{ℕ, ◌<◌, List, map}
+use Rattle.rj_merge.specs.declared.place.Place.{Place}
+use Rattle.rj_merge.specs.declared.place.Place.TheVariants.{Pair, LoneLeft, LoneRight}
+use Rattle.rj_merge.specs.declared.place.Placed.{Placed}
+
+-- later rows have greater numbers
+abbrev pub Rises : (ℕ → ℕ) → Type 0
+Rises number = (i j : ℕ) → i < j → number i < number j
+
+-- a place by the new numbers of left and right rows
+abbrev pub renumbered_place : (ℕ → ℕ) → (ℕ → ℕ) → Place → Place
+renumbered_place left right (Pair i j) = Pair (left i) (right j)
+renumbered_place left right (LoneLeft i) = LoneLeft (left i)
+renumbered_place left right (LoneRight j) = LoneRight (right j)
+
+-- a row at its place by the new numbers
+abbrev pub renumbered : {T : Type 0} → (ℕ → ℕ) → (ℕ → ℕ) → Placed T → Placed T
+renumbered left right row = record { place = renumbered_place left right row.place; row = row.row }
+
+-- rows at their places by the new numbers
+abbrev pub all_renumbered : {T : Type 0} → (ℕ → ℕ) → (ℕ → ℕ) → List (Placed T) → List (Placed T)
+all_renumbered left right rows = map (renumbered left right) rows

@@ -1,0 +1,59 @@
+//! Where a file can be cut.
+
+use crate::dividing::fault_of_division;
+use crate::failure::Failure;
+use crate::files::{file_size, open_range, read_head};
+use crate::line::Line;
+use rj_command::Fault;
+use rj_csv_io::{CountedWriter, Output};
+use rj_divide::find_cuts;
+use std::alloc::Global;
+use std::fs::Files;
+use std::io;
+
+// The most bytes that are read before a place is looked for.
+const BLOCK: u64 = 1 << 20;
+
+// The lines of places that count from a byte of the file, but for one at its end.
+fn lines_of(alloc: Global, begin: u64, cuts: &[u64], end: u64) -> Result<String, Failure> {
+    let mut text = String::new(alloc);
+    for cut in cuts {
+        let place = begin.saturating_add(*cut);
+        if place < end {
+            text.push_str(format!(in alloc; "{place}\n")?.as_str())?;
+        }
+    }
+    Ok(text)
+}
+
+/// Prints at which bytes the file of the side can be cut into so many ranges of about one size, or fewer; a file below 64 KiB
+/// isn't cut. Nothing but the file's records is looked at: what is wrong with it is told when it is divided.
+///
+/// # Errors
+///
+/// The file can't be read, standard output can't be written, or memory was refused.
+pub(crate) fn print_cuts<R: Files + AllocGlobal + Print>(
+    rt: &R,
+    line: &Line<'_>,
+    ranges: u32,
+) -> Result<(), Failure> {
+    let file = line.operand(line.side).file;
+    let head = match read_head(rt, file, line.side) {
+        Ok(head) => head,
+        Err(Fault::NoHeader(_)) => return Ok(()),
+        Err(fault) => return Err(Failure::Told(fault)),
+    };
+    let end = file_size(rt, file, line.side)?;
+    let mut input = open_range(rt, file, line.side, head.begin, 1 << 62)?;
+    let least = (end / u64::from(ranges.max(1))).saturating_add(1);
+    let block = least.min(BLOCK) as usize;
+    let cuts = match find_cuts(rt.alloc(), &mut input, least, block) {
+        Ok(cuts) => cuts,
+        Err(refused) => return Err(Failure::Told(fault_of_division(line.side, refused))),
+    };
+    let text = lines_of(rt.alloc(), head.begin, cuts.as_slice(), end)?;
+    match CountedWriter::new(io::writer(rt)).put(text.as_bytes()) {
+        Ok(()) => Ok(()),
+        Err(_) => Err(Failure::Told(Fault::WriteDevice)),
+    }
+}

@@ -1,0 +1,265 @@
+//! Dividing a range of a file.
+
+ghost use Rattle.std.specs.Prelude.{◌≡◌, ◌<◌, ◌-◌, ◌^◌, All, IfOk, IsTrue, length, true};
+ghost use Rattle.rj_condition.specs.Fits.{fits};
+ghost use Rattle.rj_condition.specs.Parts.{split_fits};
+ghost use Rattle.rj_csv_io.specs.Tables.{is_null_text};
+
+use crate::failure::Failure;
+use crate::files::{Head, open_range, read_head};
+use crate::line::{Line, Operand};
+use crate::outputs::{Nowhere, OnePart, part_files};
+use rj_columns::{ColumnType, Table};
+use rj_command::{Fault, Side, bind_clause, fault_of_read};
+use rj_condition::{BoundJoin, split};
+use rj_csv_io::{CountedWriter, Output, is_lawful_null};
+use rj_divide::{DivideRefused, Division, Route, divide, write_headers};
+use rj_radix::Mixed;
+use rj_shards::{ShardRoute, Shards};
+use std::alloc::{AllocError, Global};
+use std::fs::Files;
+use std::io;
+
+/// How many bytes of a file are read at once. With the rows that they hold and the texts that are made of these, the program
+/// takes less than 256 MiB, whatever the file's size.
+pub(crate) const BLOCK: usize = 8 << 20;
+
+// The last byte that a range may begin at, 2^62.
+const MOST: u64 = 1 << 62;
+
+// The range of a side's file that is divided, under its header.
+#[derive(Clone, Copy)]
+struct Range<'a> {
+    line: &'a Line<'a>,
+    head: &'a Head,
+    types: &'a [ColumnType],
+    from: u64,
+    to: u64,
+}
+
+// The name of the column with the places of a side's rows.
+fn place_name(side: Side) -> &'static str {
+    match side {
+        Side::Left => "left_place",
+        Side::Right => "right_place",
+    }
+}
+
+fn other_side(side: Side) -> Side {
+    match side {
+        Side::Left => Side::Right,
+        Side::Right => Side::Left,
+    }
+}
+
+// The table without rows that a header begins.
+fn empty_table(
+    alloc: Global,
+    head: &Head,
+    operand: &Operand<'_>,
+    side: Side,
+) -> Result<Table, Fault> {
+    match head.header.table(alloc, operand.types.as_slice()) {
+        Ok(table) => Ok(table),
+        Err(refused) => Err(fault_of_read(side, refused)),
+    }
+}
+
+// The types of a table's columns.
+fn types_of(alloc: Global, table: &Table) -> Result<Vec<ColumnType>, AllocError>
+    ensures { IfOk result (λ v. v.items ≡ table.now.types) }
+{
+    let mut types = Vec::new(alloc);
+    for column in 0..table.columns() {
+        types.push(table.column_type(column))?;
+    }
+    Ok(types)
+}
+
+// The join of the side's table and the other one.
+fn bind_sides(
+    alloc: Global,
+    line: &Line<'_>,
+    own: &Table,
+    other: &Table,
+) -> Result<BoundJoin, Failure>
+    ensures { IfOk result (λ j. (line.now.side ≡ Side.Left → fits j own.now.types other.now.types ≡ true)
+        × (line.now.side ≡ Side.Right → fits j other.now.types own.now.types ≡ true)) }
+{
+    let join = match line.side {
+        Side::Left => bind_clause(alloc, line.clause, own, other)?,
+        Side::Right => bind_clause(alloc, line.clause, other, own)?,
+    };
+    Ok(join)
+}
+
+// The shards of a join, and the key columns of the side's table.
+fn shards_of(
+    alloc: Global,
+    line: &Line<'_>,
+    own: &Table,
+    other: &Table,
+) -> Result<(Shards, Vec<usize>), Failure>
+    ensures { IfOk result (λ p. All (λ c. c < length own.now.types) p.1.items) }
+{
+    let join = bind_sides(alloc, line, own, other)?;
+    let split = split(alloc, &join)?;
+    let Some(shards) = Shards::of_split(&split, line.parts) else {
+        return Err(Failure::NoKey);
+    };
+    let columns = match line.side {
+        Side::Left => split.left_columns(alloc)?,
+        Side::Right => split.right_columns(alloc)?,
+    };
+    Ok((shards, columns))
+}
+
+// The same, of the other table's file.
+fn plan<R: Files + AllocGlobal>(
+    rt: &R,
+    line: &Line<'_>,
+    own: &Table,
+) -> Result<(Shards, Vec<usize>), Failure>
+    ensures { IfOk result (λ p. All (λ c. c < length own.now.types) p.1.items) }
+{
+    let side = other_side(line.side);
+    let operand = line.operand(side);
+    let head = read_head(rt, operand.file, side)?;
+    let other = empty_table(rt.alloc(), &head, operand, side)?;
+    shards_of(rt.alloc(), line, own, &other)
+}
+
+/// The fault of a side's file that wasn't divided.
+pub(crate) fn fault_of_division(side: Side, refused: DivideRefused) -> Fault {
+    match refused {
+        DivideRefused::Read(refused) => fault_of_read(side, refused),
+        DivideRefused::TooLong => Fault::TooManyRows(side),
+        DivideRefused::ReadDevice => Fault::ReadDevice(side),
+        DivideRefused::WriteDevice(_) => Fault::WriteDevice,
+        DivideRefused::Memory => Fault::Memory,
+    }
+}
+
+// Puts each row of a range to the output of its part, and says how many rows there are.
+fn divide_rows<R: Files + AllocGlobal, W: Route, O: Output>(
+    rt: &R,
+    range: &Range<'_>,
+    route: &W,
+    outputs: &mut [O],
+) -> Result<u64, Failure>
+    requires types { W.fits route.now range.now.types.now }
+    requires outputs { length outputs.old ≡ W.count route.now }
+    requires null { IsTrue (is_null_text range.now.line.now.null.now) }
+    requires writes { All (λ o. O.count o < 2 ^ 64 - 1) outputs.old }
+{
+    let side = range.line.side;
+    let file = range.line.operand(side).file;
+    let is_first = range.from == 0;
+    let begin = if is_first {
+        range.head.begin
+    } else {
+        range.from
+    };
+    let mut input = open_range(rt, file, side, begin, range.to)?;
+    let division = Division {
+        header: &range.head.header,
+        types: range.types,
+        null: range.line.null,
+        route,
+        first: range.from.min(MOST),
+    };
+    match divide(rt.alloc(), &mut input, &division, is_first, BLOCK, outputs) {
+        Ok(rows) => Ok(rows),
+        Err(refused) => Err(Failure::Told(fault_of_division(side, refused))),
+    }
+}
+
+// Prints how many rows a range has, and how many bytes the header of each part.
+fn print_counts<R: AllocGlobal + Print>(rt: &R, rows: u64, header: u64) -> Result<(), Failure> {
+    let text = format!(in rt.alloc(); "rows {rows} header {header}\n")?;
+    match CountedWriter::new(io::writer(rt)).put(text.as_bytes()) {
+        Ok(()) => Ok(()),
+        Err(_) => Err(Failure::Told(Fault::WriteDevice)),
+    }
+}
+
+// Divides a range among the files of a folder.
+fn divide_among_files<R: Files + AllocGlobal + Print>(
+    rt: &R,
+    range: &Range<'_>,
+    own: &Table,
+    plan: &(Shards, Vec<usize>),
+    folder: &str,
+) -> Result<(), Failure>
+    requires keys { All (λ c. c < length range.now.types.now) plan.now.1.items }
+    requires null { IsTrue (is_null_text range.now.line.now.null.now) }
+{
+    let (shards, columns) = plan;
+    let route = ShardRoute {
+        shards: *shards,
+        columns: columns.as_slice(),
+        hash: &Mixed,
+    };
+    let mut files = part_files(rt, folder, shards.parts)?;
+    let header = match write_headers(
+        rt.alloc(),
+        own,
+        place_name(range.line.side),
+        files.as_mut_slice(),
+    ) {
+        Ok(header) => header,
+        Err(refused) => return Err(Failure::Told(fault_of_division(range.line.side, refused))),
+    };
+    let rows = divide_rows(rt, range, &route, files.as_mut_slice())?;
+    print_counts(rt, rows, header)
+}
+
+// Looks at a range's rows where they can't be divided for a failure that is told after their own.
+fn look_at_rows<R: Files + AllocGlobal + Print>(
+    rt: &R,
+    range: &Range<'_>,
+    failure: Failure,
+) -> Result<(), Failure>
+    requires null { IsTrue (is_null_text range.now.line.now.null.now) }
+{
+    let mut nowhere = [Nowhere];
+    let rows = divide_rows(rt, range, &OnePart, nowhere.as_mut_slice())?;
+    print_counts(rt, rows, 0)?;
+    Err(failure)
+}
+
+/// Divides the bytes of a side's file from one place up to another, or to its end, among the files of a folder, and prints how
+/// many rows they have.
+///
+/// # Errors
+///
+/// The first fault of the side's file; then one of the other file's header, or of the clause, and the rows are counted all
+/// the same.
+pub(crate) fn divide_range<R: Files + AllocGlobal + Print>(
+    rt: &R,
+    line: &Line<'_>,
+    from: u64,
+    to: Option<u64>,
+    folder: &str,
+) -> Result<(), Failure> {
+    let own = line.operand(line.side);
+    let head = read_head(rt, own.file, line.side)?;
+    if !is_lawful_null(line.null) {
+        return Err(Failure::Told(Fault::BadNull));
+    }
+    let table = empty_table(rt.alloc(), &head, own, line.side)?;
+    let types = types_of(rt.alloc(), &table)?;
+    let range = Range {
+        line,
+        head: &head,
+        types: types.as_slice(),
+        from,
+        to: to.unwrap_or(MOST),
+    };
+    match plan(rt, line, &table) {
+        Ok(plan) => divide_among_files(rt, &range, &table, &plan, folder),
+        Err(Failure::NoKey) => Err(Failure::NoKey),
+        Err(Failure::Told(Fault::Memory)) => Err(Failure::Told(Fault::Memory)),
+        Err(failure) => look_at_rows(rt, &range, failure),
+    }
+}

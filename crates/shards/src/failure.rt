@@ -1,0 +1,52 @@
+//! Why a file wasn't divided.
+
+use rj_command::{Fault, Told};
+use std::alloc::AllocError;
+
+/// Why a file wasn't divided. The text is the line that is printed, without its line end; a fault of a file or of the
+/// clause has the line that `radixjoin` prints.
+#[derive(Debug, Drop, thiserror::Error)]
+pub(crate) enum Failure {
+    #[error("{0}")]
+    Told(Fault),
+    #[error("shards: an argument is not text")]
+    NotText,
+    #[error("shards: one of --out and --cuts has to be given")]
+    NoTask,
+    #[error("shards: the clause has no key, so that its tables can't be divided")]
+    NoKey,
+}
+
+impl From<Fault> for Failure {
+    fn from(fault: Fault) -> Failure {
+        Failure::Told(fault)
+    }
+}
+
+impl From<AllocError> for Failure {
+    fn from(_error: AllocError) -> Failure {
+        Failure::Told(Fault::Memory)
+    }
+}
+
+impl Told for Failure {
+    // 0 help and version, 2 command line, 3 input, 4 clause, 5 memory, 6 device.
+    fn status(&self) -> u8 {
+        match self {
+            Failure::Told(fault) => fault.status(),
+            Failure::NotText | Failure::NoTask => 2,
+            Failure::NoKey => 4,
+        }
+    }
+
+    fn by_clap(&self) -> Option<&clap::Error> {
+        match self {
+            Failure::Told(fault) => fault.by_clap(),
+            _ => None,
+        }
+    }
+
+    fn failed_write() -> Failure {
+        Failure::Told(Fault::WriteDevice)
+    }
+}

@@ -1,0 +1,176 @@
+//! The files that are read and written.
+
+ghost use Rattle.std.specs.Prelude.{◌≡◌, IfOk};
+ghost use Rattle.rj_csv_io.specs.Devices.{read_failures_of};
+
+use rj_command::{Fault, Side, fault_of_read};
+use rj_csv_io::{
+    CountedReader, CountedWriter, Failed, Header, Output, last_cut, read_up_to, without_bom,
+};
+use std::alloc::Global;
+use std::fs::{self, Files, OpenFile, OpenOptions};
+use std::io::{ErrorKind, Read, Seek, SeekFrom, Take};
+
+/// The bytes that are read of a file for its header at first.
+const HEADER_BYTES: usize = 1 << 16;
+
+/// The header of a file, and where the text that it stands in begins.
+#[derive(Drop)]
+pub(crate) struct Head {
+    /// The header.
+    pub(crate) header: Header,
+    /// How many bytes stand before the text: those of its byte order mark.
+    pub(crate) begin: u64,
+}
+
+/// Opens a file.
+///
+/// # Errors
+///
+/// `ReadDevice`, or `Memory` where memory was refused.
+pub(crate) fn open_file<R: Files>(rt: &R, name: &str, side: Side) -> Result<R::File, Fault> {
+    match fs::open(rt, name) {
+        Ok(file) => Ok(file),
+        Err(error) if error.kind() == ErrorKind::OutOfMemory => Err(Fault::Memory),
+        Err(_) => Err(Fault::ReadDevice(side)),
+    }
+}
+
+/// Opens a file to be read from one place up to another.
+///
+/// # Errors
+///
+/// Those of [`open_file`].
+pub(crate) fn open_range<R: Files>(
+    rt: &R,
+    name: &str,
+    side: Side,
+    from: u64,
+    to: u64,
+) -> Result<CountedReader<Take<R::File>>, Fault>
+    ensures { IfOk result (λ r. read_failures_of r ≡ 0) }
+{
+    let mut file = open_file(rt, name, side)?;
+    match file.seek(SeekFrom::Start(from)) {
+        Ok(_) => Ok(CountedReader::new(file.take(to.saturating_sub(from)))),
+        Err(_) => Err(Fault::ReadDevice(side)),
+    }
+}
+
+/// How many bytes a file has.
+///
+/// # Errors
+///
+/// Those of [`open_file`].
+pub(crate) fn file_size<R: Files>(rt: &R, name: &str, side: Side) -> Result<u64, Fault> {
+    match open_file(rt, name, side)?.metadata() {
+        Ok(metadata) => Ok(metadata.len()),
+        Err(_) => Err(Fault::ReadDevice(side)),
+    }
+}
+
+// The header of a text that may go on, if the text has a whole record.
+fn head_of(alloc: Global, bytes: &[u8], is_whole: bool, side: Side) -> Result<Option<Head>, Fault> {
+    let text = without_bom(bytes);
+    let end = if is_whole { text.len() } else { last_cut(text) };
+    let begin = bytes.len().saturating_sub(text.len()) as u64;
+    match Header::of(alloc, &text[..end]) {
+        Ok(Some(header)) => Ok(Some(Head { header, begin })),
+        Ok(None) => {
+            if is_whole {
+                return Err(Fault::NoHeader(side));
+            }
+            Ok(None)
+        }
+        Err(_) => Err(Fault::Memory),
+    }
+}
+
+/// Reads the header of a file.
+///
+/// # Errors
+///
+/// `NoHeader` where it has no record, `ReadDevice`, or `Memory`.
+pub(crate) fn read_head<R: Files + AllocGlobal>(
+    rt: &R,
+    name: &str,
+    side: Side,
+) -> Result<Head, Fault> {
+    let mut input = CountedReader::new(open_file(rt, name, side)?);
+    let mut bytes = Vec::new(rt.alloc());
+    let mut size = HEADER_BYTES;
+    for _turn in 0..64 {
+        let is_whole = match read_up_to(&mut input, &mut bytes, size) {
+            Ok(is_whole) => is_whole,
+            Err(refused) => return Err(fault_of_read(side, refused)),
+        };
+        if let Some(head) = head_of(rt.alloc(), bytes.as_slice(), is_whole, side)? {
+            return Ok(head);
+        }
+        size = size.saturating_mul(2);
+    }
+    Err(Fault::Memory)
+}
+
+/// A file that a part of the rows is written to. It is open only while something is put, so that there can be more parts than
+/// a process may have open files.
+#[derive(Drop)]
+pub(crate) struct PartFile<'r, R: Files> {
+    rt: &'r R,
+    path: String,
+    is_begun: bool,
+    failures: u64,
+}
+
+impl<'r, R: Files> PartFile<'r, R> {
+    /// The file at this path, which is made anew when something is put first.
+    pub(crate) fn new(rt: &'r R, path: String) -> PartFile<'r, R>
+        ensures { result.failures ≡ 0 }
+    {
+        PartFile {
+            rt,
+            path,
+            is_begun: false,
+            failures: 0,
+        }
+    }
+
+    // Puts bytes at the end of the file.
+    fn append(&self, bytes: &[u8]) -> Result<(), Failed> {
+        let mut options = OpenOptions::new();
+        let opened = if self.is_begun {
+            options.append(true).open(self.rt, self.path.as_str())
+        } else {
+            options
+                .write(true)
+                .create(true)
+                .truncate(true)
+                .open(self.rt, self.path.as_str())
+        };
+        match opened {
+            Ok(file) => CountedWriter::new(file).put(bytes),
+            Err(_) => Err(Failed),
+        }
+    }
+}
+
+impl<'r, R: Files> Output for PartFile<'r, R> {
+    ghost count = { λ f. f.failures };
+
+    fn put(&mut self, bytes: &[u8]) -> Result<(), Failed> {
+        match self.append(bytes) {
+            Ok(()) => {
+                self.is_begun = true;
+                Ok(())
+            }
+            Err(Failed) => {
+                self.failures += 1;
+                Err(Failed)
+            }
+        }
+    }
+
+    fn failures(&self) -> u64 {
+        self.failures
+    }
+}

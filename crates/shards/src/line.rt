@@ -1,0 +1,217 @@
+//! The command line.
+
+use crate::failure::Failure;
+use clap::error::ErrorKind;
+use clap::{Arg, ArgAction, ArgMatches, Command, Error, value_parser};
+use rj_columns::ColumnType;
+use rj_command::{Fault, Side, VERSION, read_types};
+use std::alloc::{AllocError, Global};
+
+/// One of the two tables.
+#[derive(Drop)]
+pub(crate) struct Operand<'a> {
+    /// The name of its file.
+    pub(crate) file: &'a str,
+    /// The types of its columns.
+    pub(crate) types: Vec<ColumnType>,
+}
+
+/// What is to be done with the file of one side.
+#[derive(Clone, Copy)]
+pub(crate) enum Task<'a> {
+    /// To divide the bytes from one place up to another, or to the end, into files of this folder.
+    Divide(u64, Option<u64>, &'a str),
+    /// To print where the file can be cut into so many ranges.
+    Cut(u32),
+}
+
+/// What the words of the command line say.
+#[derive(Drop)]
+pub(crate) struct Line<'a> {
+    /// The side whose file is divided.
+    pub(crate) side: Side,
+    /// The left table.
+    pub(crate) left: Operand<'a>,
+    /// The right table.
+    pub(crate) right: Operand<'a>,
+    /// The text of the join clause.
+    pub(crate) clause: &'a str,
+    /// The text that stands for null.
+    pub(crate) null: &'a str,
+    /// How many parts there are.
+    pub(crate) parts: u32,
+    /// What is to be done.
+    pub(crate) task: Task<'a>,
+}
+
+impl<'a> Line<'a> {
+    /// The table of a side.
+    pub(crate) fn operand(&self, side: Side) -> &Operand<'a> {
+        match side {
+            Side::Left => &self.left,
+            Side::Right => &self.right,
+        }
+    }
+}
+
+// An option that takes a text.
+fn text_option<'a>(alloc: Global, name: &'a str, is_required: bool, help: &'a str) -> Arg<'a> {
+    Arg::new(alloc, name)
+        .long(name)
+        .action(ArgAction::Set)
+        .required(is_required)
+        .help(help)
+}
+
+// The options that name the two tables and the join of them, as `radixjoin` has them.
+fn with_tables<'a>(alloc: Global, command: Command<'a>) -> Result<Command<'a>, AllocError> {
+    command
+        .arg(text_option(
+            alloc,
+            "left",
+            true,
+            "CSV file of the left table, which a clause calls L",
+        ))?
+        .arg(text_option(
+            alloc,
+            "right",
+            true,
+            "CSV file of the right table, which a clause calls R",
+        ))?
+        .arg(text_option(
+            alloc,
+            "left-types",
+            true,
+            "Types of the left columns, each int, num(p,s) or text, as int,num(9,2),text",
+        ))?
+        .arg(text_option(
+            alloc,
+            "right-types",
+            true,
+            "Types of the right columns, each int, num(p,s) or text, as int,num(9,2),text",
+        ))?
+        .arg(text_option(
+            alloc,
+            "join",
+            true,
+            "How to join, as 'LEFT JOIN USING (id)'; it needs a key",
+        ))?
+        .arg(text_option(
+            alloc,
+            "null",
+            false,
+            "Text of a field that is null, read and written [default: an empty field]",
+        ))
+}
+
+// The options that say which rows go where.
+fn with_division<'a>(alloc: Global, command: Command<'a>) -> Result<Command<'a>, AllocError> {
+    let places = value_parser!(u64).range(..=1 << 62);
+    command
+        .arg(text_option(alloc, "from", false, "First byte to divide [default: 0]").value_parser(
+            places,
+        ))?
+        .arg(text_option(
+            alloc,
+            "to",
+            false,
+            "Byte to divide up to [default: the file's end]",
+        )
+        .value_parser(places))?
+        .arg(text_option(
+            alloc,
+            "out",
+            false,
+            "Folder of the parts, which are named 0000.csv, 0001.csv and so on",
+        ))?
+        .arg(text_option(
+            alloc,
+            "cuts",
+            false,
+            "Divide nothing: print at which bytes the file can be cut into so many ranges, 1 to 100000",
+        )
+        .value_parser(value_parser!(u32).range(1..=100_000)))
+}
+
+fn line_command<'a>(alloc: Global) -> Result<Command<'a>, AllocError> {
+    let command = Command::new(alloc, "shards")
+        .about(
+            "Divides a CSV file by the hash of its rows' keys, so that a join can be done part by part",
+        )
+        .version(VERSION)
+        .no_binary_name(true);
+    let side = text_option(alloc, "side", true, "Table that is divided").value_parser([
+        "left", "right",
+    ].as_slice());
+    let parts = text_option(
+        alloc,
+        "parts",
+        true,
+        "How many parts there are, 1 to 1024",
+    ).value_parser(value_parser!(u32).range(1..=1_024));
+    let command = with_tables(alloc, command.arg(side)?)?;
+    with_division(alloc, command.arg(parts)?)
+}
+
+fn read_matches<'a>(alloc: Global, words: &'a [&'a str]) -> Result<ArgMatches<'a>, Error> {
+    let command = line_command(alloc)?;
+    command.try_get_matches_from(words)
+}
+
+fn operand_of<'a>(
+    alloc: Global,
+    matches: &ArgMatches<'a>,
+    side: Side,
+    names: (&str, &str),
+) -> Result<Operand<'a>, Fault> {
+    Ok(Operand {
+        file: matches.get_str(names.0).unwrap_or(""),
+        types: read_types(alloc, matches.get_str(names.1).unwrap_or(""), side)?,
+    })
+}
+
+fn task_of<'a>(matches: &ArgMatches<'a>) -> Option<Task<'a>> {
+    match (matches.get_one("cuts"), matches.get_str("out")) {
+        (Some(ranges), None) => Some(Task::Cut(ranges)),
+        (None, Some(folder)) => Some(Task::Divide(
+            matches.get_one("from").unwrap_or(0),
+            matches.get_one("to"),
+            folder,
+        )),
+        _ => None,
+    }
+}
+
+/// Reads the words after the program's name.
+///
+/// # Errors
+///
+/// A line that `clap` refuses, or that asks for help or the version; a bad type list, the left one before the right one;
+/// both or neither of `--out` and `--cuts`; or memory was refused.
+pub(crate) fn read_line<'a>(alloc: Global, words: &'a [&'a str]) -> Result<Line<'a>, Failure> {
+    let matches = match read_matches(alloc, words) {
+        Ok(matches) => matches,
+        Err(error) if error.kind() == ErrorKind::OutOfMemory => return Err(Failure::Told(
+            Fault::Memory,
+        )),
+        Err(error) => return Err(Failure::Told(Fault::CommandLine(error))),
+    };
+    let left = operand_of(alloc, &matches, Side::Left, ("left", "left-types"))?;
+    let right = operand_of(alloc, &matches, Side::Right, ("right", "right-types"))?;
+    let Some(task) = task_of(&matches) else {
+        return Err(Failure::NoTask);
+    };
+    let side = match matches.get_str("side") {
+        Some("right") => Side::Right,
+        _ => Side::Left,
+    };
+    Ok(Line {
+        side,
+        left,
+        right,
+        clause: matches.get_str("join").unwrap_or(""),
+        null: matches.get_str("null").unwrap_or(""),
+        parts: matches.get_one("parts").unwrap_or(1),
+        task,
+    })
+}

@@ -1,0 +1,68 @@
+//! Where rows go: to the files of a folder, or nowhere.
+
+ghost use Rattle.std.specs.Prelude.{◌≡◌, ◌<◌, ◌-◌, ◌^◌, All, IfOk, length};
+
+use crate::files::PartFile;
+use rj_columns::Table;
+use rj_csv_io::{Failed, Output};
+use rj_divide::Route;
+use std::alloc::AllocError;
+use std::fs::{self, Files};
+
+/// One part, to which all rows go.
+#[derive(Clone, Copy)]
+pub(crate) struct OnePart;
+
+impl Route for OnePart {
+    ghost part = { λ _ _. 0 };
+
+    ghost count = { λ _. 1 };
+
+    ghost fits = { λ _ _. Unit {0} };
+
+    fn parts(&self) -> u32 {
+        1
+    }
+
+    fn part_of(&self, _table: &Table, _row: u32) -> u32 {
+        0
+    }
+}
+
+/// An output that takes everything and keeps nothing.
+#[derive(Clone, Copy)]
+pub(crate) struct Nowhere;
+
+impl Output for Nowhere {
+    ghost count = { λ _. 0 };
+
+    fn put(&mut self, _bytes: &[u8]) -> Result<(), Failed> {
+        Ok(())
+    }
+
+    fn failures(&self) -> u64 {
+        0
+    }
+}
+
+/// The files of so many parts in a folder, which is made if it isn't there.
+///
+/// # Errors
+///
+/// It fails only where memory is refused. That the folder can't be made shows when a file is written.
+pub(crate) fn part_files<'r, R: Files + AllocGlobal>(
+    rt: &'r R,
+    folder: &str,
+    parts: u32,
+) -> Result<Vec<PartFile<'r, R>>, AllocError>
+    ensures count { IfOk result (λ v. length v.items ≡ parts) }
+    ensures writes { IfOk result (λ v. All (λ f. f.failures < 2 ^ 64 - 1) v.items) }
+{
+    let _ = fs::create_dir_all(rt, folder);
+    let mut files = Vec::new(rt.alloc());
+    for part in 0..parts {
+        let path = format!(in rt.alloc(); "{folder}/{part:04}.csv")?;
+        files.push(PartFile::new(rt, path))?;
+    }
+    Ok(files)
+}

@@ -1,0 +1,189 @@
+"""Runs cluster/radixjoin-cluster on a Dask cluster of three processes of this machine, and compares what it writes with what
+`radixjoin` does: on the examples, on some hundred thousand rows, and where a process is killed in the middle.
+
+It needs Dask, which `./test` installs (Debian's python3-dask and python3-distributed). Where it can't be had, this part is
+left out and says so."""
+import contextlib
+import os
+import pathlib
+import random
+import signal
+import subprocess
+import time
+import tomllib
+
+import examples
+import harness
+
+SCRIPT = harness.ROOT / "cluster" / "radixjoin-cluster"
+PROCESSES = 3
+SECONDS = 120
+NO_KEY = b"shards: the clause has no key, so that its tables can't be divided\n"
+
+
+def python_with_dask():
+    """A Python that has Dask, or None."""
+    for python in ("python3", "/usr/bin/python3"):
+        with contextlib.suppress(OSError):
+            if subprocess.run([python, "-c", "import distributed"], capture_output=True, check=False).returncode == 0:
+                return python
+    return None
+
+
+class Cluster:
+    """Processes that wait for tasks, and a folder with links to the built programs."""
+
+    def __init__(self, python, programs):
+        self.python = python
+        self.programs = programs
+        for name in ("radixjoin", "shards", "merges"):
+            pathlib.Path(programs, name).symlink_to(harness.program(name))
+        words = [python, harness.ROOT / "tests" / "cluster_processes.py", str(PROCESSES)]
+        self.running = subprocess.Popen(words, stdin=subprocess.PIPE, stdout=subprocess.PIPE, stderr=subprocess.DEVNULL)
+        self.address = self.running.stdout.readline().decode().strip()
+
+    def numbers(self):
+        """The numbers of the processes."""
+        self.running.stdin.write(b"\n")
+        self.running.stdin.flush()
+        return [int(word) for word in self.running.stdout.readline().split()]
+
+    def words(self, words, *more):
+        """The command that joins on these processes."""
+        return [self.python, SCRIPT, "--scheduler", self.address, "--programs", self.programs, *words, "--out", "out.csv", *more]
+
+    def close(self):
+        self.running.stdin.close()
+        self.running.wait(SECONDS)
+
+
+def left_behind(folder, known):
+    """What a run left in a folder beside what was there and its result."""
+    return sorted(it.name for it in folder.iterdir() if it.name not in {*known, "out.csv"})
+
+
+def faults_of_run(ran, folder, known, wanted):
+    """How a run on the cluster, which ended so, differs from `radixjoin`'s own."""
+    faults = harness.differences(harness.Ran(ran.returncode, b"", ran.stderr), b"", wanted.stderr, wanted.status)
+    out = folder / "out.csv"
+    if wanted.status == 0:
+        got = out.read_bytes() if out.exists() else None
+        if got != wanted.stdout:
+            faults.append(f"out.csv: {harness.shorten(got)}, and not {harness.shorten(wanted.stdout)}")
+    elif out.exists():
+        faults.append("there is an out.csv in spite of the fault")
+    return faults + [f"{name} was left behind" for name in left_behind(folder, known)]
+
+
+def started(cluster, words, folder, *more):
+    return subprocess.Popen([str(word) for word in cluster.words(words, *more)], cwd=folder, stdin=subprocess.DEVNULL, stdout=subprocess.DEVNULL, stderr=subprocess.PIPE)
+
+
+def ended(process):
+    """How a started process ended."""
+    _, stderr = process.communicate(timeout=SECONDS)
+    return subprocess.CompletedProcess(process.args, process.returncode, None, stderr)
+
+
+def run_example(cluster, case, files, tally):
+    """Runs one example by `radixjoin` and on the cluster: they tell the same. A clause without a key is refused in a line of its own."""
+    with harness.folder() as name:
+        folder = pathlib.Path(name)
+        words = examples.words_of(case, files, folder)
+        known = {it.name for it in folder.iterdir()}
+        wanted = harness.run([harness.program("radixjoin"), *words], folder)
+        ran = ended(started(cluster, words, folder, "--parts", "3"))
+        if ran.stderr == NO_KEY:
+            wanted = harness.Ran(4, b"", NO_KEY)
+        tally.check(f"cluster: {case['name']}", faults_of_run(ran, folder, known, wanted))
+    return ran.stderr == NO_KEY
+
+
+def is_example(case):
+    """Whether an example is a join whose output is looked at, with no more options than a null text, and room for a column of places."""
+    options = case.get("options", [])
+    if case["name"] == "hostile_inputs, 256 columns":
+        return False
+    return "left" in case and "right" in case and case.get("output", "read") == "read" and all(word.startswith("--null") for word in options)
+
+
+def run_examples(cluster, tally):
+    with open(harness.ROOT / "tests" / "examples.toml", "rb") as text:
+        table = tomllib.load(text)
+    cases = [case for case in table["case"] if is_example(case)]
+    tasks = [lambda own, case=case: run_example(cluster, case, table["file"], own) for case in cases]
+    without_key = sum(harness.side_by_side(tally, tasks))
+    tally.check("cluster: most examples have a key", [] if 0 < without_key < len(cases) / 2 else [f"{without_key} of {len(cases)} have none"])
+
+
+def write_table(path, name, rows, seed):
+    """Writes a table of so many rows: a key out of some thousands, null now and then, and a text with what has to be quoted."""
+    pick = random.Random(seed)
+    texts = ("plain", '"a, b"', '"two\nlines"', '""')
+    with open(path, "w", newline="") as file:
+        file.write(f"k,{name}\n")
+        for at in range(rows):
+            key = "" if pick.random() < 0.01 else pick.randrange(40_000)
+            file.write(f"{key},{pick.choice(texts)}\n")
+
+
+def write_tables(folder):
+    write_table(folder / "left.csv", "a", 200_000, 19)
+    write_table(folder / "right.csv", "b", 50_000, 20)
+    return ["--left", "left.csv", "--right", "right.csv", "--left-types", "int,text", "--right-types", "int,text", "--join", "FULL JOIN USING (k)"]
+
+
+def kill_one(cluster, folder):
+    """Kills one of the processes as soon as a run has begun to divide the files. It gives whether there was one to kill."""
+    until = time.monotonic() + SECONDS
+    while time.monotonic() < until:
+        if list(folder.glob("radixjoin-*/*/*.csv")):
+            os.kill(cluster.numbers()[0], signal.SIGKILL)
+            return True
+        time.sleep(0.001)
+    return False
+
+
+def run_large(cluster, tally):
+    """Joins 200,000 by 50,000 rows, undisturbed and with a process killed in the middle, and checks a fault's row through the whole file."""
+    with harness.folder() as name:
+        folder = pathlib.Path(name)
+        words = write_tables(folder)
+        known = {it.name for it in folder.iterdir()}
+        wanted = harness.run([harness.program("radixjoin"), *words], folder)
+        for more in (["--parts", "5"], ["--parts", "16", "--ranges", "7", "--workers", "2"], ["--parts", "1", "--memory", "700"]):
+            ran = ended(started(cluster, words, folder, *more))
+            tally.check(f"cluster: 200,000 by 50,000 rows, {' '.join(more)}", faults_of_run(ran, folder, known, wanted))
+            (folder / "out.csv").unlink(missing_ok=True)
+        running = started(cluster, words, folder, "--parts", "64", "--ranges", "12")
+        was_killed = kill_one(cluster, folder)
+        faults = faults_of_run(ended(running), folder, known, wanted)
+        tally.check("cluster: a process is killed", faults + ([] if was_killed else ["there was none to kill"]))
+        (folder / "out.csv").unlink(missing_ok=True)
+        for row in (3, 150_000, 199_999):
+            run_with_fault(cluster, folder, words, row, tally)
+
+
+def run_with_fault(cluster, folder, words, row, tally):
+    """Joins with a left file whose row of this number has a key that is none."""
+    path = folder / "faulty.csv"
+    path.write_text("k,a\n" + "7,x\n" * (row - 1) + "seven,x\n" + "7,x\n" * 10 + "eight,x\n")
+    words = ["faulty.csv" if word == "left.csv" else word for word in words]
+    wanted = harness.Ran(3, b"", b"radixjoin: E6 BadInteger left row %d column 1\n" % row)
+    ran = ended(started(cluster, words, folder, "--ranges", "6"))
+    tally.check(f"cluster: a fault in row {row}", faults_of_run(ran, folder, {*[it.name for it in folder.iterdir() if it.suffix == ".csv"]}, wanted))
+    path.unlink()
+
+
+def run_all(tally):
+    python = python_with_dask()
+    if python is None:
+        print("cluster: left out, since there is no Dask (Debian's python3-dask and python3-distributed)")
+        return
+    with harness.folder() as programs:
+        cluster = Cluster(python, programs)
+        try:
+            run_examples(cluster, tally)
+            run_large(cluster, tally)
+        finally:
+            cluster.close()

@@ -1,0 +1,268 @@
+"""Divides, joins and merges as cluster/radixjoin-cluster does, one task after another and without Dask, and compares with what
+`radixjoin` writes: on the examples that have a key, on random tables in several numbers of parts and ranges, and with faults.
+It also looks at what `shards` and `merges` tell of their own faults."""
+import contextlib
+import csv
+import importlib.machinery
+import importlib.util
+import io
+import pathlib
+import random
+import subprocess
+import sys
+import tempfile
+import tomllib
+
+import examples
+import harness
+
+NO_KEY = "shards: the clause has no key, so that its tables can't be divided"
+
+
+def load_script():
+    """The script as a module."""
+    sys.dont_write_bytecode = True
+    loader = importlib.machinery.SourceFileLoader("radixjoin_cluster", str(harness.ROOT / "cluster" / "radixjoin-cluster"))
+    module = importlib.util.module_from_spec(importlib.util.spec_from_loader("radixjoin_cluster", loader))
+    loader.exec_module(module)
+    return module
+
+
+SCRIPT = load_script()
+
+
+class OneByOne:
+    """Runs tasks one after another, in place of a cluster."""
+
+    def answers(self, tasks):
+        return [SCRIPT.answer(*task) for task in tasks]
+
+
+def joined(words, folder, ranges):
+    """What the script's tasks give for these words: how they end, and the bytes of the result, if there is one."""
+    out = folder / "out.csv"
+    out.unlink(missing_ok=True)
+    asked = SCRIPT.read_line([*map(str, words), "--out", str(out)])
+    status, line = 0, b""
+    with tempfile.TemporaryDirectory(prefix="radixjoin-", dir=folder) as scratch:
+        try:
+            SCRIPT.join(SCRIPT.Job(asked, scratch), OneByOne(), ranges)
+        except SCRIPT.Told as told:
+            status, line = told.status, told.line.encode() + b"\n"
+    return harness.Ran(status, out.read_bytes() if out.exists() else b"", line)
+
+
+def placed_in(words, folder):
+    """The words with the names of the files in a folder."""
+    return [str(folder / word) if word in ("left.csv", "right.csv") else word for word in words]
+
+
+def faults_of(words, folder, parts, ranges, wanted):
+    """How the joined parts differ from what `radixjoin` wrote. A clause without a key is refused."""
+    ran = joined([*words, "--parts", str(parts)], folder, ranges)
+    if ran.stderr == NO_KEY.encode() + b"\n":
+        # (before the rows are read)
+        return [] if ran.status == 4 and wanted.status in (0, 3) else [f"refused for want of a key, where radixjoin ends by {wanted.status}"]
+    return harness.differences(ran, wanted.stdout, wanted.stderr, wanted.status)
+
+
+def is_example(case):
+    """Whether an example is a join with no more options than a null text, and leaves room for a column of places."""
+    options = case.get("options", [])
+    if case["name"] == "hostile_inputs, 256 columns":
+        return False
+    return "left" in case and "right" in case and case.get("output", "read") == "read" and all(word.startswith("--null") for word in options)
+
+
+def run_example(case, files, tally):
+    with harness.folder() as name:
+        folder = pathlib.Path(name)
+        words = placed_in(examples.words_of(case, files, folder), folder)
+        wanted = harness.run([harness.program("radixjoin"), *words], folder)
+        for parts, ranges in ((1, 1), (3, 2)):
+            faults = faults_of(words, folder, parts, ranges, wanted)
+            tally.check(f"shards: {case['name']}, {parts} parts of {ranges} ranges", faults)
+
+
+def run_examples(tally):
+    with open(harness.ROOT / "tests" / "examples.toml", "rb") as text:
+        table = tomllib.load(text)
+    cases = [case for case in table["case"] if is_example(case)]
+    harness.side_by_side(tally, [lambda own, case=case: run_example(case, table["file"], own) for case in cases])
+
+
+CLAUSES = (
+    "JOIN USING (k)",
+    "FULL JOIN USING (k)",
+    "NATURAL LEFT JOIN",
+    "RIGHT JOIN ON L.k = R.k AND L.n > 0",
+    "FULL JOIN ON L.n = R.k AND (L.a <> R.b OR R.b IS NULL)",
+    "LEFT JOIN ON L.a = R.b",
+)
+ENDS = ("\n", "\r\n")
+
+
+def random_rows(pick, rows, end):
+    """Lines of a key, a number and a text with what has to be quoted, some of them null; now and then an empty line."""
+    texts = ("plain", '"a, b"', '"two\nlines"', '"say ""x"""', "", '"\r\n"')
+    lines = []
+    for _ in range(rows):
+        key, number = ("" if pick.random() < 0.1 else pick.randrange(20) - 5 for _ in range(2))
+        lines.append(f"{key},{number},{pick.choice(texts)}{end}" + (end if pick.random() < 0.05 else ""))
+    return "".join(lines)
+
+
+def run_random(seed, tally):
+    """Joins two random tables in several numbers of parts and ranges."""
+    pick = random.Random(seed)
+    end = pick.choice(ENDS)
+    mark = "\ufeff" if pick.random() < 0.3 else ""
+    with harness.folder() as name:
+        folder = pathlib.Path(name)
+        # (a file below 64 KiB isn't cut)
+        rows = 15_000 if seed % 6 == 0 else pick.randrange(60)
+        (folder / "left.csv").write_bytes(f"{mark}k,n,a{end}{random_rows(pick, rows, end)}".encode())
+        (folder / "right.csv").write_bytes(f"k,m,b{end}{random_rows(pick, pick.randrange(60), end)}".encode())
+        types = ["--left-types", "int,int,text", "--right-types", "num(9,2),int,text"]
+        words = ["--left", "left.csv", "--right", "right.csv", *types, "--join", pick.choice(CLAUSES)]
+        words = placed_in(words, folder)
+        wanted = harness.run([harness.program("radixjoin"), *words], folder)
+        for parts, ranges in ((1, 1), (2, 5), (7, 3), (64, 40)):
+            tally.check(f"shards: random tables {seed}, {parts} parts of {ranges} ranges", faults_of(words, folder, parts, ranges, wanted))
+
+
+def run_cuts(tally):
+    """The ranges between the places that `--cuts` prints have the records of the file, and are of about one size."""
+    pick = random.Random(7)
+    with harness.folder() as name:
+        folder = pathlib.Path(name)
+        text = "\ufeff\n\nk,n,a\n" + random_rows(pick, 60_000, "\n")
+        words = division(folder, cuts="5", out=None)
+        (folder / "left.csv").write_bytes(text.encode())
+        ran = harness.run([harness.program("shards"), *words], folder)
+        places = [0, *map(int, ran.stdout.split()), len(text.encode())]
+        ranges = [text.encode()[start:end].decode() for start, end in zip(places, places[1:])]
+        records = [record for it in ranges for record in csv.reader(io.StringIO(it.removeprefix("\ufeff"), newline="")) if record]
+        wanted = [record for record in csv.reader(io.StringIO(text.removeprefix("\ufeff"), newline="")) if record]
+        faults = harness.differences(ran, None)
+        if records != wanted:
+            faults.append("the records of the ranges are others than those of the file")
+        if not 3 <= len(ranges) <= 5 or max(map(len, ranges)) > len(text) / 5 + (1 << 17):
+            faults.append(f"{len(ranges)} ranges of {[len(it) for it in ranges]} characters")
+        tally.check("shards: cuts", faults)
+
+
+def run_fault(row, tally):
+    """Joins with a left file whose row of this number has a key that is none: it is told with its number in the whole file."""
+    with harness.folder() as name:
+        folder = pathlib.Path(name)
+        (folder / "left.csv").write_text("k,a\n" + "7,x\n" * (row - 1) + "seven,x\n" + "7,x\n" * 10 + "eight,x\n")
+        (folder / "right.csv").write_text("k,b\n1,y\n")
+        words = ["--left", "left.csv", "--right", "right.csv", "--left-types", "int,text", "--right-types", "int,text", "--join", "JOIN USING (k)"]
+        words = placed_in(words, folder)
+        wanted = harness.Ran(3, b"", b"radixjoin: E6 BadInteger left row %d column 1\n" % row)
+        for ranges in (1, 6):
+            tally.check(f"shards: a fault in row {row} of {ranges} ranges", faults_of(words, folder, 4, ranges, wanted))
+
+
+def division(folder, **more):
+    """The words that divide a small left file, some of them others."""
+    (folder / "left.csv").write_text('k,a\n1,"x\ny"\n2,\n,z\n3,w\n')
+    (folder / "right.csv").write_text("k,b\n")
+    words = {"side": "left", "left": "left.csv", "right": "right.csv", "left-types": "int,text", "right-types": "int,text", "join": "JOIN USING (k)", "parts": "2", "out": "parts"}
+    return [f"--{name}={value}" for name, value in {**words, **more}.items() if value is not None]
+
+
+# What is told of a command line: the words that are others, the status, and a part of what is told.
+LINES = (
+    ({"cuts": "2"}, 2, b"shards: one of --out and --cuts has to be given\n"),
+    ({"out": None}, 2, b"shards: one of --out and --cuts has to be given\n"),
+    ({"join": "CROSS JOIN"}, 4, NO_KEY.encode() + b"\n"),
+    ({"join": "JOIN ON L.k < R.k"}, 4, NO_KEY.encode() + b"\n"),
+    ({"join": "JOIN USING (q)"}, 4, b"radixjoin: E13 UnknownColumn\n"),
+    ({"left": "none.csv"}, 6, b"radixjoin: E19 ReadDevice left\n"),
+    ({"right": "none.csv"}, 6, b"radixjoin: E19 ReadDevice right\n"),
+    ({"null": "no null"}, 3, b"radixjoin: E10 BadNull\n"),
+    ({"left-types": "int"}, 3, b"radixjoin: E4 TypeCount left\n"),
+    ({"left-types": "int,int"}, 3, b"radixjoin: E6 BadInteger left row 1 column 2\n"),
+    ({"right-types": "int"}, 3, b"radixjoin: E4 TypeCount right\n"),
+    ({"out": "left.csv/parts"}, 6, b"radixjoin: E20 WriteDevice\n"),
+    ({"parts": "0"}, 2, b"0 is not in 1..=1024"),
+    ({"parts": "1025"}, 2, b"1025 is not in 1..=1024"),
+    ({"side": "both"}, 2, b"possible values: left, right"),
+    ({"cuts": "0", "out": None}, 2, b"0 is not in 1..=100000"),
+)
+
+
+def run_shards_alone(tally):
+    """What `shards` writes of a small file, and tells of its command line."""
+    with harness.folder() as name:
+        folder = pathlib.Path(name)
+        ran = harness.run([harness.program("shards"), *division(folder)], folder)
+        faults = harness.differences(ran, b"rows 4 header 15\n")
+        # (the mixed hash of 1 is odd, those of 2 and 3 are even)
+        wanted = {"0000.csv": 'k,a,left_place\n2,,1\n,z,2\n3,w,3\n', "0001.csv": 'k,a,left_place\n1,"x\ny",0\n'}
+        got = {it.name: it.read_text() for it in sorted((folder / "parts").glob("*"))}
+        tally.check("shards: a small file", faults + ([] if got == wanted else [f"{got}, and not {wanted}"]))
+        for more, status, told in LINES:
+            ran = harness.run([harness.program("shards"), *division(folder, **more)], folder)
+            faults = harness.differences(ran, None, None, status) + ([] if told in ran.stderr else [harness.shorten(ran.stderr)])
+            tally.check(f"shards: {more}", faults)
+
+
+# Inputs of `merges`, and how it ends: its status, and what it writes or tells.
+MERGES = (
+    ("two inputs", ["left_place,a,right_place\n0,x,5\n1,y,\n", "left_place,a,right_place\n0,z,7\n,w,2\n"], 0, b"a\nx\nz\ny\nw\n"),
+    ("no rows", ["a,left_place,right_place\n"], 0, b"a\n"),
+    ("quotes", ['a,left_place,right_place\n"x\n, ""y""",0,0\n'], 0, b'a\n"x\n, ""y"""\n'),
+    ("no header", ["left_place,right_place\n", ""], 3, None),
+    ("no places", ["left_place,a\n1,x\n"], 3, None),
+    ("places twice", ["left_place,right_place,left_place\n1,1,1\n"], 3, None),
+    ("another header", ["left_place,right_place,a\n", "left_place,right_place,b\n"], 3, None),
+    ("a ragged row", ["left_place,right_place,a\n1,1\n"], 3, None),
+    ("a place that is none", ["left_place,right_place,a\n1,x,y\n"], 3, None),
+    ("both places null", ["left_place,right_place,a\n,,y\n"], 3, None),
+    ("not in order", ["left_place,right_place,a\n1,1,y\n1,0,z\n"], 3, None),
+    ("a place twice", ["left_place,right_place,a\n1,1,y\n", "left_place,right_place,a\n1,1,z\n"], 3, None),
+)
+
+
+def run_merges_alone(tally):
+    """What `merges` writes of small inputs, or how it ends."""
+    for name, texts, status, written in MERGES:
+        with harness.folder() as place:
+            folder = pathlib.Path(place)
+            for number, text in enumerate(texts):
+                (folder / f"{number}.csv").write_bytes(text.encode())
+            ran = harness.run([harness.program("merges"), *(f"{number}.csv" for number in range(len(texts)))], folder)
+            faults = harness.differences(ran, written, b"" if status == 0 else None, status)
+            if status and not ran.stderr.startswith(b"merges: "):
+                faults.append(f"it tells {harness.shorten(ran.stderr)}")
+            tally.check(f"merges: {name}", faults)
+
+
+def run_in_bounds(tally):
+    """Divides a file of some megabytes with an address space that is smaller than the file."""
+    with harness.folder() as name, contextlib.suppress(FileNotFoundError):
+        folder = pathlib.Path(name)
+        words = division(folder, parts="16")
+        with open(folder / "left.csv", "w", newline="") as file:
+            file.write("k,a\n")
+            for at in range(300_000):
+                file.write(f"{at * 7919 % 1_000_003},{'x' * 1_000}\n")
+        limit = ["sh", "-c", 'ulimit -v 262144 && exec "$@"', "sh"]
+        ran = subprocess.run([*limit, harness.program("shards"), *words], cwd=folder, capture_output=True, timeout=harness.SECONDS, check=False)
+        faults = harness.differences(harness.Ran(ran.returncode, ran.stdout, ran.stderr), b"rows 300000 header 15\n")
+        total = sum(it.stat().st_size for it in (folder / "parts").glob("*"))
+        tally.check("shards: 300 MB in 256 MiB of memory", faults + ([] if total > 300_000_000 else [f"{total} bytes"]))
+
+
+def run_all(tally):
+    run_examples(tally)
+    harness.side_by_side(tally, [lambda own, seed=seed: run_random(seed, own) for seed in range(60)])
+    run_cuts(tally)
+    for row in (1, 3, 50_000):
+        run_fault(row, tally)
+    run_shards_alone(tally)
+    run_merges_alone(tally)
+    run_in_bounds(tally)
