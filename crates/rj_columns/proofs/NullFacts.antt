@@ -1,5 +1,5 @@
 -- Values with the marks of nulls, after a push, a cut, a removal and a join.
-use Rattle.std.proofs.Common.{◌≡◌, ◌≤◌, ◌<◌, ◌+◌, ◌-◌, ◌∙◌, ℕ, zero, suc, List, [], ◌∷◌, ◌++◌, length, None, Some, Bool, true, false, refl, ap, arith, take}
+use Rattle.std.proofs.Common.{◌≡◌, ◌≤◌, ◌<◌, ◌+◌, ◌-◌, ◌∙◌, ℕ, zero, suc, List, [], ◌∷◌, ◌++◌, length, map, None, Some, Bool, true, false, refl, ap, arith, take}
 use Rattle.std.specs.Prelude.{slice_get, slice_index_or, replicate}
 use Rattle.std.specs.List.{remove}
 use Rattle.std.proofs.lemmas.List.{length-append, length-replicate}
@@ -104,3 +104,10 @@ remove-values (v ∷ values) [] (suc zero) = ap (λ t. Some v ∷ t) (remove-val
 remove-values (v ∷ values) [] (suc (suc i)) = ap (λ t. Some v ∷ t) (remove-values values [] (suc i))
 remove-values (v ∷ values) (n ∷ nulls) zero = refl
 remove-values (v ∷ values) (n ∷ nulls) (suc i) = ap (λ t. unless n v ∷ t) (remove-values values nulls i)
+
+-- values without marks
+pub all-present : {A : Type 0} (values : List A) (nulls : List Bool) → length nulls ≡ 0 → map Some values ≡ with_nulls values nulls
+unfolding with_nulls
+all-present [] nulls h = refl
+all-present (v ∷ values) [] h = ap (λ t. Some v ∷ t) (all-present values [] h)
+all-present (v ∷ values) (n ∷ nulls) h = absurd (omega arith)

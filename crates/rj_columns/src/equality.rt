@@ -1,21 +1,25 @@
 //! Whether the values of two columns are equal, as their stores keep them.
 
-ghost use Rattle.std.specs.Prelude.{◌≡◌, ◌≤◌};
+ghost use Rattle.std.specs.Prelude.{◌≡◌, ◌<◌, ◌≤◌, length, map, slice_index_or};
 ghost use Rattle.std.specs.Option.{option_copied};
 ghost use Rattle.rj_columns.specs.Compare.{are_equal};
+ghost use Rattle.rj_columns.specs.Contents.{nothing};
 ghost use Rattle.rj_columns.specs.Stores.{decimal_content, number_content, text_content};
 
+use crate::ints::Ints;
 use rj_decimal::{Decimal, compare};
 use std::cmp::Ordering;
 
-// Whether both are whole numbers, and the same one.
+// Whether the whole numbers at two rows are the same one, and neither is null.
 #[inline]
-pub(crate) fn are_same_ints(left: Option<i64>, right: Option<i64>) -> bool
-    ensures { result ≡ are_equal (number_content left) (number_content right) }
+pub(crate) fn are_same_ints(left: &Ints, i: usize, right: &Ints, j: usize) -> bool
+    requires left { i < length left.now }
+    requires right { j < length right.now }
+    ensures { result ≡ are_equal (slice_index_or (map number_content left.now) i nothing) (slice_index_or (map number_content right.now) j nothing) }
 {
-    match left {
+    match left.get(i) {
         None => false,
-        Some(m) => match right {
+        Some(m) => match right.get(j) {
             None => false,
             Some(n) => m == n,
         },

@@ -1,6 +1,6 @@
 //! Hashes that take up the cells of a column at some rows.
 
-ghost use Rattle.std.specs.Prelude.{◌≡◌, ◌<◌, ℕ, All, Option, length, map, slice_index_or};
+ghost use Rattle.std.specs.Prelude.{◌≡◌, ◌<◌, ℕ, All, Option, Some, length, map, slice_index_or};
 ghost use Rattle.rj_columns.specs.Contents.{Content, IsInLimits, content_of, nothing};
 ghost use Rattle.rj_columns.specs.Hashed.{HaveTaken};
 ghost use Rattle.rj_columns.specs.Stores.{decimal_content, number_content, text_content};
@@ -22,7 +22,19 @@ pub trait CellHash {
         ensures { result ≡ added self.now hash (content_of cell.entry) };
 }
 
-// Adds the whole numbers at these rows to the hashes at their places.
+// Adds the numbers at these rows, where none is null.
+fn hash_present<H: CellHash>(values: &[i64], rows: &[u32], by: &H, hashes: &mut [Option<u64>])
+    requires rows { All (λ r. r < length values.now) rows.now }
+    requires len { length hashes.old ≡ length rows.now }
+    ensures { HaveTaken (H.added by.now) (λ r. slice_index_or (map number_content (map Some values.now)) r nothing) rows.now hashes.old hashes.new }
+{
+    for i in 0..rows.len() {
+        let cell = int_cell(Some(values[rows[i] as usize]));
+        hashes[i] = by.add(hashes[i], cell);
+    }
+}
+
+// Adds the whole numbers at these rows to the hashes at their places. Whether any is null is asked once for all.
 pub(crate) fn hash_ints<H: CellHash>(
     numbers: &Ints,
     rows: &[u32],
@@ -33,6 +45,10 @@ pub(crate) fn hash_ints<H: CellHash>(
     requires len { length hashes.old ≡ length rows.now }
     ensures { HaveTaken (H.added by.now) (λ r. slice_index_or (map number_content numbers.now) r nothing) rows.now hashes.old hashes.new }
 {
+    if let Some(values) = numbers.present() {
+        hash_present(values, rows, by, hashes);
+        return;
+    }
     for i in 0..rows.len() {
         let cell = int_cell(numbers.get(rows[i] as usize));
         hashes[i] = by.add(hashes[i], cell);
