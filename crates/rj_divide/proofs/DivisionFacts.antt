@@ -49,7 +49,7 @@ module _ (part : List Content → ℕ) (p : ℕ) where
       let A = part_rows part p first a in let B = part_rows part p (first + length a) b in
       let X = map (map (shown null)) A in let Y = map (map (shown null)) B in
       let texts : flat_map (row_text default_writer) (X ++ Y) ≡ rows_text X ++ rows_text Y =
-          rw (rows_text-flat X, rows_text-flat Y) (flat_map-append (row_text default_writer) X Y) in
+      rw (rows_text-flat X, rows_text-flat Y) (flat_map-append (row_text default_writer) X Y) in
       ap (λ l. rows_text (map (map (shown null)) l)) (part_rows-append first a b)
       ∙ (ap rows_text (map-append (map (shown null)) A B) ∙ (rows_text-flat (X ++ Y) ∙ texts))
 
