@@ -6,7 +6,6 @@ by that too; nothing is on standard output then but after a write that failed.""
 import functools
 import os
 import pathlib
-import subprocess
 
 import harness
 import refused_allocations
@@ -71,10 +70,8 @@ RUNS = [
 
 def ended(run, folder, environment):
     """How a run ended."""
-    how = {"cwd": folder, "input": run.stdin, "stderr": subprocess.PIPE, "env": environment, "timeout": SECONDS}
-    with open("/dev/full", "wb") as full:
-        ran = subprocess.run([harness.program(run.program), *run.words], stdout=full if run.is_full else subprocess.PIPE, **how)
-    return harness.Ran(ran.returncode, ran.stdout or b"", ran.stderr)
+    words = [harness.program(run.program), *run.words]
+    return harness.run(words, folder, run.stdin, "full" if run.is_full else "read", environment, SECONDS)
 
 
 def faults_of(run, ran):

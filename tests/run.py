@@ -12,6 +12,7 @@ import os
 import sys
 import time
 import tomllib
+import traceback
 
 import examples
 import harness
@@ -39,10 +40,14 @@ TABLES = ("examples.toml", "arrivals.toml", "ends.toml")
 
 
 def run_part(name):
-    """Runs a part in a process of its own. It gives how many passed and failed, and what it told."""
+    """Runs a part in a process of its own. It gives how many passed and failed, and what it told. A part that breaks
+    off has failed."""
     tally, told, start = harness.Tally(), io.StringIO(), time.monotonic()
     with contextlib.redirect_stdout(told):
-        importlib.import_module(name).run_all(tally)
+        try:
+            importlib.import_module(name).run_all(tally)
+        except Exception:
+            tally.check(name, traceback.format_exc().splitlines())
     print(f"{name}: {time.monotonic() - start:.0f} s", file=told)
     return tally.passed, tally.failed, told.getvalue()
 
