@@ -2,6 +2,9 @@
    a thread of the program that it is loaded into, and writes into a file whether it came to that.
 
    REFUSE_ALLOCATION=N or REFUSE_THREAD=N, counted from 1 and from the program's own start; REFUSE_REPORT=FILE.
+   REFUSE_TIMES=K refuses K in a row from the Nth on, 0 for all of them; 1 where it is not given.
+   REFUSE_OF_THREAD=T counts the allocations of the Tth thread alone that the program starts, its first one being 1.
+   REFUSE_TOTALS=FILE has two longs: how many allocations and how many starts of threads were counted so far.
    The dynamic loader's own allocations, before the program starts, are not counted. */
 #define _GNU_SOURCE
 #include <dlfcn.h>
@@ -11,12 +14,29 @@
 #include <stdatomic.h>
 #include <stdlib.h>
 #include <string.h>
+#include <sys/mman.h>
 #include <unistd.h>
 
-static long wanted_allocation, wanted_thread;
-static atomic_long allocations, threads;
+/* More threads than a test starts. */
+#define MOST_STARTED 4096
+
+struct counts {
+    atomic_long allocations, threads;
+};
+
+static long wanted_allocation, wanted_thread, wanted_times, counted_thread;
+static struct counts in_memory, *counts = &in_memory;
 static atomic_int is_counting;
 static const char *report;
+
+/* Which of the started threads this one is; 0 for the first thread of the program. */
+static __thread long own_number __attribute__((tls_model("initial-exec")));
+
+/* What a started thread does. */
+static struct {
+    void *(*work)(void *);
+    void *argument;
+} started[MOST_STARTED];
 
 static void *(*next_malloc)(size_t);
 static void *(*next_calloc)(size_t, size_t);
@@ -29,10 +49,22 @@ static int (*next_pthread_create)(pthread_t *, const pthread_attr_t *, void *(*)
 static char early[4096];
 static size_t early_used;
 
-static long number(const char *name)
+static long number(const char *name, long otherwise)
 {
     const char *text = getenv(name);
-    return text ? atol(text) : 0;
+    return text ? atol(text) : otherwise;
+}
+
+/* Has the counts stand in a file from now on, so that they outlast the program, however it ends. */
+static void count_in(const char *name)
+{
+    int file = name ? open(name, O_RDWR | O_CREAT | O_TRUNC, 0644) : -1;
+    if (file < 0 || ftruncate(file, sizeof in_memory))
+        return;
+    void *at = mmap(NULL, sizeof in_memory, PROT_READ | PROT_WRITE, MAP_SHARED, file, 0);
+    if (at != MAP_FAILED)
+        counts = at;
+    close(file);
 }
 
 __attribute__((constructor)) static void begin(void)
@@ -43,9 +75,12 @@ __attribute__((constructor)) static void begin(void)
     next_aligned_alloc = dlsym(RTLD_NEXT, "aligned_alloc");
     next_posix_memalign = dlsym(RTLD_NEXT, "posix_memalign");
     next_pthread_create = dlsym(RTLD_NEXT, "pthread_create");
-    wanted_allocation = number("REFUSE_ALLOCATION");
-    wanted_thread = number("REFUSE_THREAD");
+    wanted_allocation = number("REFUSE_ALLOCATION", 0);
+    wanted_thread = number("REFUSE_THREAD", 0);
+    wanted_times = number("REFUSE_TIMES", 1);
+    counted_thread = number("REFUSE_OF_THREAD", 0);
     report = getenv("REFUSE_REPORT");
+    count_in(getenv("REFUSE_TOTALS"));
     atomic_store(&is_counting, 1);
 }
 
@@ -63,15 +98,25 @@ static void tell(void)
 
 static int is_refused(atomic_long *count, long wanted)
 {
-    if (!atomic_load(&is_counting) || atomic_fetch_add(count, 1) + 1 != wanted)
+    if (!atomic_load(&is_counting))
+        return 0;
+    long at = atomic_fetch_add(count, 1) + 1;
+    if (!wanted || at < wanted || (wanted_times && at >= wanted + wanted_times))
         return 0;
     tell();
     return 1;
 }
 
+static int is_refused_memory(void)
+{
+    if (counted_thread && own_number != counted_thread)
+        return 0;
+    return is_refused(&counts->allocations, wanted_allocation);
+}
+
 void *malloc(size_t size)
 {
-    if (is_refused(&allocations, wanted_allocation)) {
+    if (is_refused_memory()) {
         errno = ENOMEM;
         return NULL;
     }
@@ -82,7 +127,7 @@ void *malloc(size_t size)
 
 void *calloc(size_t count, size_t size)
 {
-    if (is_refused(&allocations, wanted_allocation)) {
+    if (is_refused_memory()) {
         errno = ENOMEM;
         return NULL;
     }
@@ -96,7 +141,7 @@ void *calloc(size_t count, size_t size)
 
 void *realloc(void *old, size_t size)
 {
-    if (is_refused(&allocations, wanted_allocation)) {
+    if (is_refused_memory()) {
         errno = ENOMEM;
         return NULL;
     }
@@ -107,7 +152,7 @@ void *realloc(void *old, size_t size)
 
 void *aligned_alloc(size_t alignment, size_t size)
 {
-    if (is_refused(&allocations, wanted_allocation)) {
+    if (is_refused_memory()) {
         errno = ENOMEM;
         return NULL;
     }
@@ -116,14 +161,27 @@ void *aligned_alloc(size_t alignment, size_t size)
 
 int posix_memalign(void **found, size_t alignment, size_t size)
 {
-    if (is_refused(&allocations, wanted_allocation))
+    if (is_refused_memory())
         return ENOMEM;
     return next_posix_memalign(found, alignment, size);
 }
 
+static void *do_work(void *place)
+{
+    long number = (long)place;
+    own_number = number;
+    return started[number].work(started[number].argument);
+}
+
 int pthread_create(pthread_t *thread, const pthread_attr_t *how, void *(*work)(void *), void *argument)
 {
-    if (is_refused(&threads, wanted_thread))
+    static atomic_long count;
+    if (is_refused(&counts->threads, wanted_thread))
         return EAGAIN;
-    return next_pthread_create(thread, how, work, argument);
+    long number = atomic_fetch_add(&count, 1) + 1;
+    if (number >= MOST_STARTED)
+        return EAGAIN;
+    started[number].work = work;
+    started[number].argument = argument;
+    return next_pthread_create(thread, how, do_work, (void *)number);
 }

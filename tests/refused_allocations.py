@@ -4,6 +4,7 @@ Each run ends as if nothing had been refused, or with `E18 Memory`, status 5 and
 import functools
 import os
 import pathlib
+import struct
 import subprocess
 
 import harness
@@ -47,6 +48,11 @@ def library(folder):
     source = harness.ROOT / "tests" / "refuse.c"
     subprocess.run(["gcc", "-O2", "-shared", "-fPIC", "-o", made, source, "-ldl"], check=True)
     return made
+
+
+def totals_of(file):
+    """How many allocations and how many starts of threads the library counted into a file."""
+    return struct.unpack("ll", file.read_bytes())
 
 
 def faults_of(ran, name, stdout):

@@ -66,22 +66,37 @@ fn all_made(alloc: Global, made: Vec<Result<Column, AllocError>>) -> Result<Vec<
     Ok(columns)
 }
 
-// The columns of the table that several make, each made by one thread or refused.
+// A result for each column, none of which is made yet.
+fn unmade(alloc: Global, columns: usize) -> Result<Vec<Result<Column, AllocError>>, AllocError>
+    ensures { IfOk result (λ v. length v.items ≡ columns) }
+{
+    let mut made = Vec::with_capacity(alloc, columns)?;
+    for _col in 0..columns {
+        made.push(Err(AllocError))?;
+    }
+    Ok(made)
+}
+
+// The columns of the table that several make, each made or refused, by up to so many threads with the calling one.
 fn make_columns<R: Threads + Sync>(
     rt: &R,
     alloc: Global,
     parts: &[Table],
+    workers: usize,
 ) -> Result<Vec<Result<Column, AllocError>>, AllocError>
-    requires { AreAlike parts.now }
+    requires alike { AreAlike parts.now }
+    requires workers { 0 < workers }
     ensures count { IfOk result (λ v. length v.items ≡ length (concatenated parts.now).types) }
     ensures each { IfOk result (λ v. GiveColumnsOf (concatenated parts.now) v.items) }
 {
-    thread::map_indices(
+    let mut made = unmade(alloc, parts[0].columns())?;
+    thread::for_each_mut(
         rt,
-        alloc,
-        parts[0].columns(),
-        &|col| concat_column(alloc, parts, col),
-    )
+        made.as_mut_slice(),
+        workers,
+        &|col, column: &mut Result<Column, AllocError>| *column = concat_column(alloc, parts, col),
+    );
+    Ok(made)
 }
 
 // The same, where each was made.
@@ -89,18 +104,21 @@ fn concat_columns<R: Threads + Sync>(
     rt: &R,
     alloc: Global,
     parts: &[Table],
+    workers: usize,
 ) -> Result<Vec<Column>, AllocError>
-    requires { AreAlike parts.now }
+    requires alike { AreAlike parts.now }
+    requires workers { 0 < workers }
     ensures count { IfOk result (λ v. length v.items ≡ length (concatenated parts.now).types) }
     ensures each { IfOk result (λ v. AreColumnsOf (concatenated parts.now) v.items) }
 {
-    all_made(alloc, make_columns(rt, alloc, parts)?)
+    all_made(alloc, make_columns(rt, alloc, parts, workers)?)
 }
 
 impl Table {
     /// The rows of several tables, one after another, in one table under the names and the types that each of them
-    /// has. There is a table, and there are fewer than 2^31 rows in all. The columns are made side by side, each by one
-    /// thread.
+    /// has. There is a table, and there are fewer than 2^31 rows in all. The columns are divided among so many workers,
+    /// at least one, and each worker is a thread: the calling one is the first, and the others are started where there
+    /// are as many columns.
     ///
     /// # Errors
     ///
@@ -109,15 +127,17 @@ impl Table {
         rt: &R,
         alloc: Global,
         parts: &[Table],
+        workers: usize,
     ) -> Result<Table, AllocError>
         requires alike { AreAlike parts.now }
+        requires workers { 0 < workers }
         requires room { length (rows_of_all parts.now) < 2 ^ 31 }
         ensures { IfOk result (λ t. t ≡ concatenated parts.now) }
     {
         let first = &parts[0];
         Ok(Table {
             names: first.names.copy()?,
-            columns: concat_columns(rt, alloc, parts)?,
+            columns: concat_columns(rt, alloc, parts, workers)?,
             rows: count_rows(parts),
         })
     }

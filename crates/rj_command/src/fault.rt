@@ -148,6 +148,3 @@ impl Fault {
         }
     }
 }
-
-#[cfg(test)]
-mod tests;

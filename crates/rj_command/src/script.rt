@@ -126,6 +126,3 @@ pub fn arrivals<W: Output>(
         Err(Failed) => Err(Fault::WriteDevice),
     }
 }
-
-#[cfg(test)]
-mod tests;

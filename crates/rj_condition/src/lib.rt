@@ -21,8 +21,6 @@ mod resolving;
 mod splitting;
 mod steps;
 mod stop;
-#[cfg(test)]
-mod tests;
 mod token;
 mod tree;
 mod truth;

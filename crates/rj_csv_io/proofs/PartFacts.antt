@@ -16,7 +16,9 @@ use Rattle.rj_csv_io.specs.declared.refused.ReadRefused.{ReadRefused}
 use Rattle.rj_csv_io.specs.declared.refused.ReadRefused.TheVariants as refused
 use Rattle.rj_csv_io.specs.Rows.{read_rows}
 use Rattle.rj_csv_io.proofs.PartRowFacts.{part-rows, part-many, part-fault, fault-first}
+use Rattle.rj_csv_io.proofs.TableFacts.{header_fault, read_bad_header, read_fault, rows_fault}
 use Rattle.rj_csv_io.specs.Cuts.{records_in, records_in_all}
+use Rattle.rj_csv_io.specs.Tables.{of_begun, read_records}
 use Rattle.rj_csv_io.specs.Parts.{AreReadings, AreTables, moved, row_records, under_header}
 
 all-append : (a b : List (List ℕ)) → records_in_all (a ++ b) ≡ records_in_all a ++ records_in_all b
@@ -103,6 +105,14 @@ table-of-none null types header records t u b e same none =
 not-memory : (n : ℕ) (e : ReadRefused) → moved n e ≢ refused.Memory → e ≢ refused.Memory
 not-memory n e ne q = ne (ap (moved n) q)
 
+-- a fault of the header has no row
+moved-header : (n : ℕ) (f : BuildRefused) → moved n (of_begun f) ≡ of_begun f
+moved-header n build.TooManyColumns = refl
+moved-header n (build.BadName column) = refl
+moved-header n (build.RepeatedName column) = refl
+moved-header n build.TypeCount = refl
+moved-header n build.Memory = refl
+
 -- how many rows there are with one more table's
 pub rows-more : (tables : List TableValue) (t : TableValue) → length (rows_of_all (tables ++ t ∷ [])) ≡ length (rows_of_all tables) + length t.rows
 rows-more tables t =
@@ -145,8 +155,26 @@ module _ (null : List ℕ) (types : List ColumnType) (header : List (List ℕ)) 
       → read_rows null types [] (under_header texts) ≡ Err (moved (length (rows_of_all tables)) x)
   part-bad x t e b ne =
       let is = rw e at (are i (Err x) h) in
-      let so = part-fault null types (under_header (take i texts)) _ (rows_of_all tables) x read.rows (is (not-memory _ x ne) t b) read.few in
+      let so = part-fault null types (under_header (take i texts)) _ (rows_of_all tables) x read.rows (rows_fault null types header (row_records (i == 0) (slice_index_or texts i [])) t x b (is (not-memory _ x ne))) read.few in
       rw rest-on (fault-first null types (under_header (take i texts) ++ row_records (i == 0) (slice_index_or texts i [])) _ _ so)
+
+  -- and so the reading of all ends
+  pub part-over : (t : TableValue) → slice_index_or parts i (Ok t) ≡ Ok t → 2 ^ 31 - 1 < length (rows_of_all tables) + length t.rows
+      → read_records null types (header ∷ under_header texts) ≡ Err refused.TooManyRows
+  part-over t e many =
+      let is = rw e at (are i (Ok t) h) in
+      read_fault null types header (under_header texts) record t { rows = [] } refused.TooManyRows is.0 (part-past t e many)
+
+  pub part-stops : (x : ReadRefused) → slice_index_or parts i (Err x) ≡ Err x → moved (length (rows_of_all tables)) x ≢ refused.Memory
+      → read_records null types (header ∷ under_header texts) ≡ Err (moved (length (rows_of_all tables)) x)
+  part-stops x e ne = go (begun header types) refl
+    where
+      go : (r : Result TableValue BuildRefused) → begun header types ≡ r → read_records null types (header ∷ under_header texts) ≡ Err (moved (length (rows_of_all tables)) x)
+      go (Ok t) b = read_fault null types header (under_header texts) t (moved (length (rows_of_all tables)) x) b (part-bad x t e b ne)
+      go (Err f) b =
+          let is = rw e at (are i (Err x) h) in
+          let own = header_fault null types header (row_records (i == 0) (slice_index_or texts i [])) f x b (is (not-memory _ x ne)) in
+          read_bad_header null types header (under_header texts) f b ∙ ap Err (sym (ap (moved (length (rows_of_all tables))) own ∙ moved-header (length (rows_of_all tables)) f))
 
 -- the records of a text by its texts
 pub records-by : (texts : List (List ℕ)) (bytes : List ℕ) (header : List (List ℕ)) (rest : List (List (List ℕ))) → 0 < length texts

@@ -15,8 +15,25 @@ use Rattle.rj_csv_io.proofs.PlaceFacts.{line-ends, open-after, run-to}
 
 -- a text of which no byte was looked at
 pub no-end : (text : List ℕ) → IsLastEnd text 0 0
+no-end text = record { within = omega arith; here = inl refl; none = λ at a b e. absurd (omega arith) }
+
+-- a record ends there, or none began
+pub last-ends : (text : List ℕ) (end last : ℕ) → IsLastEnd text end last → state_after st.StartRecord (take last text) ≡ st.StartRecord
 unfolding state_after
-no-end text = record { within = omega arith; ends = refl; none = λ at a b e. absurd (omega arith) }
+last-ends text end last h = elim h.here [
+  | inl none ↦ rw none refl
+  | inr e ↦ e.ends
+]
+
+-- there is one last place
+pub one-last : (text : List ℕ) (end last other : ℕ) → IsLastEnd text end last → IsLastEnd text end other → other ≡ last
+one-last text end last other h o = elim (cases_lt last other) [
+  | inl later ↦ elim o.here [ inl none ↦ absurd (omega arith) | inr e ↦ absurd (h.none other later o.within e) ]
+  | inr before ↦ elim (cases_lt other last) [
+    | inl sooner ↦ elim h.here [ inl none ↦ absurd (omega arith) | inr e ↦ absurd (o.none last sooner h.within e) ]
+    | inr same ↦ omega arith
+  ]
+]
 
 -- a byte other than LF is between quotes where the stretch began there
 still-open : (c : ℕ) → is_open_place (after_run place.Open c) ≡ true
@@ -62,7 +79,7 @@ module _ (text : List ℕ) (at next : ℕ) (order : at < next) (within : next �
   pub none-open : (last : ℕ) → is_open_place (place_after place.Fresh (take at text)) ≡ true → IsLastEnd text at last → IsLastEnd text next last
   none-open last opened h = record {
     within = omega (arith, h.within);
-    ends = h.ends;
+    here = h.here;
     none = λ k a b e. elim (cases_lt at k) [
       | inr old ↦ h.none k a old e
       | inl new ↦ (
@@ -96,7 +113,7 @@ module _ (text : List ℕ) (at next : ℕ) (order : at < next) (within : next �
       → IsLastEnd text next last
   none-closed last h absent = record {
     within = omega (arith, h.within);
-    ends = h.ends;
+    here = h.here;
     none = λ k a b e. elim (cases_lt at k) [
       | inr old ↦ h.none k a old e
       | inl new ↦ after-all 0 k (omega arith) b absent e.feed
@@ -118,7 +135,7 @@ module _ (text : List ℕ) (at next : ℕ) (order : at < next) (within : next �
       let shut = ap is_open_place run ∙ still-closed (place_after place.Fresh (take at text)) (get_or text (at + k + 1 - 1) 0) closed in
       record {
         within = omega (arith, size, high);
-        ends = line-ends text (at + k) (omega (arith, size, high)) lf shut;
+        here = inr record { behind = omega arith; feed = byte; ends = line-ends text (at + k) (omega (arith, size, high)) lf shut };
         none = λ j a b e. after-all (k + 1) j (omega arith) b absent e.feed;
       }
 

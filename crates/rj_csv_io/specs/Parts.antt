@@ -5,6 +5,7 @@ use Rattle.rj_columns.specs.Tables.{TableValue, rows_of_all}
 use Rattle.rj_columns.specs.Names.{begun}
 use Rattle.rj_csv_io.specs.Cuts.{records_in, records_in_all}
 use Rattle.rj_csv_io.specs.Rows.{read_rows}
+use Rattle.rj_csv_io.specs.Tables.{read_records}
 use Rattle.rj_csv_io.specs.declared.refused.ReadRefused.{ReadRefused}
 use Rattle.rj_csv_io.specs.declared.refused.ReadRefused.TheVariants as refused
 
@@ -37,10 +38,10 @@ unfoldable pub under_header : List (List ℕ) → List (List (List ℕ))
 under_header [] = []
 under_header (text ∷ texts) = drop 1 (records_in text) ++ records_in_all texts
 
--- what the reading of records under a header gives
+-- what the reading of records under a header gives: the table, or the first fault of the header and the records; or memory is refused
 abbrev pub IsReading : List ℕ → List ColumnType → List (List ℕ) → List (List (List ℕ)) → Result TableValue ReadRefused → Type 0
 IsReading null types header records (Ok t) = (begun header types ≡ Ok record t { rows = [] }) × (read_rows null types [] records ≡ Ok t.rows)
-IsReading null types header records (Err e) = e ≢ refused.Memory → (t : TableValue) → begun header types ≡ Ok t → read_rows null types [] records ≡ Err e
+IsReading null types header records (Err e) = e ≢ refused.Memory → read_records null types (header ∷ records) ≡ Err e
 
 -- each part is what the reading of its text gives
 abbrev pub AreReadings : List ℕ → List ColumnType → List (List ℕ) → List (List ℕ) → List (Result TableValue ReadRefused) → Type 0

@@ -1,5 +1,5 @@
 -- Texts that are read piece by piece: each ends where a record ends, and the first one has the header.
-use Rattle.std.specs.Prelude.{ℕ, ◌≡◌, ◌≤◌, ◌<◌, ◌-◌, Bool, true, false, List, [], ◌∷◌, length, take, drop, slice_index_or, Ok}
+use Rattle.std.specs.Prelude.{ℕ, ◌≡◌, ◌≤◌, ◌<◌, ◌-◌, ◌⊎◌, Bool, true, false, List, [], ◌∷◌, length, take, drop, slice_index_or, Ok}
 use Rattle.csv.specs.Reading.{default_config, records}
 use Rattle.csv.specs.Records.{fields_of}
 use Rattle.csv.specs.declared.parser.State.TheVariants as st
@@ -11,13 +11,14 @@ use Rattle.rj_csv_io.specs.declared.pieces.Header.{Header}
 
 -- a line feed that ends a record stands before this place
 pub record IsLineEnd (text : List ℕ) (at : ℕ) : Type 0 where
+  pub behind : 0 < at
   pub feed : slice_index_or text (at - 1) 0 ≡ 10
   pub ends : state_after st.StartRecord (take at text) ≡ st.StartRecord
 
 -- the last place up to `end` behind such a line feed, or 0 where there is none
 pub record IsLastEnd (text : List ℕ) (end last : ℕ) : Type 0 where
   pub within : last ≤ end
-  pub ends : state_after st.StartRecord (take last text) ≡ st.StartRecord
+  pub here : (last ≡ 0) ⊎ IsLineEnd text last
   pub none : (at : ℕ) → last < at → at ≤ end → IsLineEnd text at → ⊥
 
 -- the names in a header

@@ -1,6 +1,6 @@
 //! Cuts of a text after the ends of records.
 
-ghost use Rattle.std.specs.Prelude.{◌≡◌, ◌<◌, ◌≤◌, IfSome, IfOk, true, false, length, take, drop, map};
+ghost use Rattle.std.specs.Prelude.{◌≡◌, ◌<◌, ◌≤◌, IfSome, IfOk, true, false, length, max, take, drop, map};
 ghost use Rattle.csv.specs.Reading.{strip_bom};
 ghost use Rattle.csv.specs.declared.parser.State.TheVariants as st;
 ghost use Rattle.rj_csv_io.specs.Cuts.{has_bom, records_in, records_in_all, state_after};
@@ -59,7 +59,8 @@ pub(crate) fn cut_text<'a>(
     text: &'a [u8],
     count: usize,
 ) -> Result<Vec<&'a [u8]>, AllocError>
-    ensures { IfOk result (λ v. records_in_all (map (λ p. p.now) v.items) ≡ records_in text.now) }
+    ensures few { IfOk result (λ v. length v.items ≤ max 1 count) }
+    ensures records { IfOk result (λ v. records_in_all (map (λ p. p.now) v.items) ≡ records_in text.now) }
 {
     let mut parts = Vec::new(alloc);
     let mut rest = without_bom(text);

@@ -38,10 +38,3 @@ pub use stretches::last_cut;
 pub use write::{WriteRefused, write_rows};
 pub use write_in_parts::write_rows_in_parts;
 pub use write_more::write_more_rows;
-
-#[cfg(test)]
-mod tests;
-#[cfg(test)]
-mod tests_parts;
-#[cfg(test)]
-mod tests_pieces;

@@ -84,8 +84,8 @@ impl Header {
     ///
     /// # Errors
     ///
-    /// The first fault of the piece's records, its row counted from the piece's first one; or `Memory`, and then
-    /// nothing is known of faults.
+    /// The fault of the header, as [`Header::table`] tells it, or the first fault of the piece's records, its row counted
+    /// from the piece's first one; or `Memory`, and then nothing is known of faults.
     pub fn read_piece(
         &self,
         alloc: Global,

@@ -55,7 +55,8 @@ fn tables_of_parts(
     Ok(tables)
 }
 
-// The table of the texts' records under the header, which is the first record of the first text.
+// The table of the texts' records under the header, which is the first record of the first text. As many texts as there are
+// workers at most are read at a time, and so are columns put together.
 fn read_texts<R: Threads + Sync>(
     rt: &R,
     alloc: Global,
@@ -63,8 +64,10 @@ fn read_texts<R: Threads + Sync>(
     header: &ByteRecord,
     types: &[ColumnType],
     null: &[u8],
+    workers: usize,
 ) -> Result<Table, ReadRefused>
     requires some { 0 < length texts.now }
+    requires workers { 0 < workers }
     ensures { IsReading null.now types.now (fields_of header.now) (under_header (map (λ t. t.now) texts.now)) result }
 {
     let read = thread::map_indices(
@@ -80,7 +83,7 @@ fn read_texts<R: Threads + Sync>(
         Ok(tables) => tables,
         Err(e) => return Err(e),
     };
-    match Table::concat(rt, alloc, tables.as_slice()) {
+    match Table::concat(rt, alloc, tables.as_slice(), workers) {
         Ok(table) => Ok(table),
         Err(_) => Err(ReadRefused::Memory),
     }
@@ -95,6 +98,7 @@ fn read_in_parts<R: Threads + Sync>(
     null: &str,
     parts: usize,
 ) -> Result<Table, ReadRefused>
+    requires { 0 < parts }
     ensures table { IfOk result (λ t. read_of bytes.now types.now null.now ≡ Ok t) }
     ensures fault { IfErr result (λ e. e ≢ ReadRefused.Memory → read_of bytes.now types.now null.now ≡ Err e) }
     ensures lawful { OnOk result (IsTrue (is_null_text null.now)) }
@@ -118,7 +122,7 @@ fn read_in_parts<R: Threads + Sync>(
         Ok(_) => {}
         Err(e) => return Err(e),
     }
-    match read_texts(rt, alloc, texts, &header, types, null.as_bytes()) {
+    match read_texts(rt, alloc, texts, &header, types, null.as_bytes(), parts) {
         Ok(table) => Ok(table),
         Err(e) => Err(e),
     }
@@ -146,7 +150,8 @@ pub(crate) fn read_in_parts_of<R: Threads + Sync>(
     read_in_parts(rt, alloc, bytes, types, null, parts)
 }
 
-/// Reads a table as [`read_table`] does, in up to so many parts at a time, each by a thread.
+/// Reads a table as [`read_table`] does, in up to so many parts at a time, each by a thread. The calling thread reads one
+/// of them, and as many threads at most put the columns of the parts together.
 ///
 /// A part has at least 256 KiB, so that no thread is started for few bytes. The answer doesn't depend on the parts.
 ///

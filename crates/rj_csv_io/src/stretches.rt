@@ -35,7 +35,7 @@ fn later_end(text: &[u8], at: usize, next: usize, place: Place, last: usize) -> 
         return last;
     }
     match memrchr(b'\n', &text[at..next]) {
-        Some(k) => at + k + 1,
+        Some(feed) => at + feed + 1,
         None => last,
     }
 }
@@ -46,6 +46,7 @@ fn later_end(text: &[u8], at: usize, next: usize, place: Place, last: usize) -> 
 /// carriage returns has no cut. It takes no memory.
 pub fn last_cut(text: &[u8]) -> usize
     ensures last { IsLastEnd text.now (length text.now) result }
+    ensures only { (at : ℕ) → IsLastEnd text.now (length text.now) at → at ≡ result }
     ensures records { (more : List ℕ) → records default_config (text.now ++ more)
         ≡ records default_config (take result text.now) ++ records default_config (drop result text.now ++ more) }
 {

@@ -1,6 +1,6 @@
 //! Writing a header and the rows of a source, whose texts several threads make.
 
-ghost use Rattle.std.specs.Prelude.{◌≡◌, ◌≢◌, ◌<◌, ◌≤◌, ◌+◌, ◌-◌, ◌^◌, length, map, IfOk, OnOk, OnErr, Err, IsTrue};
+ghost use Rattle.std.specs.Prelude.{◌≡◌, ◌≢◌, ◌<◌, ◌≤◌, ◌+◌, ◌-◌, ◌^◌, length, max, map, IfOk, OnOk, OnErr, Err, IsTrue};
 ghost use Rattle.std.specs.Io.KnownBytes.{Appends};
 ghost use Rattle.std.specs.List.{concat};
 ghost use Rattle.rj_csv_io.specs.RowParts.{part_start, IsPartText, ArePartTexts};
@@ -19,7 +19,8 @@ const LEAST_ROWS: u64 = 4096;
 
 /// How many parts to make of rows: no more than asked for or than can have so many rows each, and at least one.
 pub(crate) fn part_count(rows: u64, parts: usize, least: u64) -> usize
-    ensures { 0 < result }
+    ensures some { 0 < result }
+    ensures few { result ≤ max 1 parts }
 {
     (rows / least.max(1)).min(parts as u64).max(1) as usize
 }
@@ -77,7 +78,8 @@ fn all_made<S: RowSource>(
 // How many jobs make so many parts of rows. The last job is the starting thread's own, and has no part where the rows are
 // many: threads that start then take over the memory that ended ones gave back, and the starting thread has none of it.
 fn job_count(rows: u64, parts: usize) -> usize
-    ensures { parts ≤ result }
+    ensures enough { parts ≤ result }
+    ensures few { result ≤ parts + 1 }
 {
     if rows < LEAST_ROWS {
         return parts;

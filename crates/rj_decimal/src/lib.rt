@@ -20,6 +20,3 @@ pub use forms::{hash, least};
 pub use numeric::NumericType;
 pub use read::read_numeric;
 pub use text::DecimalBuffer;
-
-#[cfg(test)]
-mod tests;

@@ -13,8 +13,10 @@ use Rattle.rj_csv_io.specs.declared.refused.ReadRefused.{ReadRefused}
 use Rattle.rj_csv_io.specs.declared.refused.ReadRefused.TheVariants as read
 use Rattle.rj_csv_io.specs.Pieces.{AreRows}
 use Rattle.rj_csv_io.specs.Rows.{read_row, read_rows}
+use Rattle.rj_csv_io.specs.Tables.{read_records}
 use Rattle.rj_csv_io.specs.Typed.{bad_cell, read_cell, read_cells}
 use Rattle.rj_csv_io.proofs.RowsFacts.{rows-end, rows-fault, rows-step}
+use Rattle.rj_csv_io.proofs.TableFacts.{rows_fault}
 use Rattle.rj_divide.specs.declared.refused.DivideRefused.{DivideRefused}
 use Rattle.rj_divide.specs.declared.refused.DivideRefused.TheVariants as refused
 use Rattle.rj_divide.specs.Readings.{IsFaultBehind, IsFirstFault, fault_behind, numbered_row, row_told}
@@ -268,7 +270,7 @@ module _ (null : List ℕ) where
     ]
 
     pub piece-fault : (before : ℕ) (xs : List (List (List ℕ))) (e : ReadRefused) (r : DivideRefused) (names : List (List ℕ)) (outputs : ℕ) → (row_told e < 2 ^ 63 → r ≡ fault_behind before e)
-        → (e ≢ read.Memory → (t : TableValue) → begun names types ≡ Ok t → read_rows null types [] xs ≡ Err e) → (t : TableValue) → begun names types ≡ Ok t → IsFaultBehind null types before outputs xs r
+        → (e ≢ read.Memory → read_records null types (names ∷ xs) ≡ Err e) → (t : TableValue) → begun names types ≡ Ok t → IsFaultBehind null types before outputs xs r
     piece-fault before xs e r names outputs is reading t b = elim (memory-or e) [
       | inl memory ↦ (
           let small : row_told e < 2 ^ 63 = rw memory (lit< tt) in
@@ -277,7 +279,7 @@ module _ (null : List ℕ) where
           subst P (sym same) tt)
       | inr other ↦ (
           let P : Result (List (List Content)) ReadRefused → Type 0 = Outcome [] xs in
-          fault-of before xs e r names outputs is (subst P (reading other t b) (outcome xs [])))
+          fault-of before xs e r names outputs is (subst P (rows_fault null types names xs t e b (reading other)) (outcome xs [])))
     ]
 
     pub rows-append : (xs ys : List (List (List ℕ))) (rows more : List (List Content)) → AreRows null types xs rows → AreRows null types ys more → AreRows null types (xs ++ ys) (rows ++ more)

@@ -18,6 +18,3 @@ pub use piece::Division;
 pub use refused::DivideRefused;
 pub use route::Route;
 pub use whole::divide;
-
-#[cfg(test)]
-mod tests;

@@ -2,6 +2,7 @@
 #![tactic(auto)]
 
 mod cells;
+mod closes;
 mod collecting;
 mod dealing;
 mod gathering;
@@ -15,11 +16,10 @@ mod scattering;
 mod settings;
 mod shards;
 mod sizes;
-#[cfg(test)]
-mod tests;
 mod view;
 mod working;
 
+pub use closes::nothing_after_close;
 pub use gathering::gather;
 pub use joined::{Joined, JoinedRow, Rows};
 pub use marks::unmatched;

@@ -10,7 +10,7 @@ use Rattle.rj_exchange.specs.declared.boxes.Outbox.{Outbox}
 use Rattle.rj_exchange.specs.declared.boxes.Exchange.{Exchange}
 use Rattle.rj_exchange.specs.declared.stripes.StripeSeat.{StripeSeat}
 use Rattle.rj_exchange.specs.Passing.{of, posted_by}
-use Rattle.rj_exchange.specs.Boxes.{where_at, sent_of, IsStubOf, IsAllSent, AreAllOutboxes, AreLeftAt, AreStubsOf}
+use Rattle.rj_exchange.specs.Boxes.{where_at, sent_of, IsStubOf, IsAllSent, IsOutboxOf, AreAllOutboxes, AreLeftAt, IsPartOf, AreStubsOf, AreStubsFrom}
 use Rattle.rj_exchange.specs.Tickets.{times, EachOnce}
 use Rattle.rj_exchange.specs.Totals.{total}
 use Rattle.rj_exchange.specs.Stripes.{held, Holds, HasHolder}
@@ -52,6 +52,12 @@ stubs_by_partition e p os ss all pl left = record {
       let b = all.1 o d ol in
       let is = left.each o k d s ol kl in
       subst (λ (z : ℕ × Stub). IsStubOf (where_at e p k) z.0 (get_or e.queues.items (p * e.lanes + k) l) z.1) (λ i. (b.1 i, sym is i)) (b.0.tokens p k l s pl kl);
+}
+
+pub stubs_of_one : (e : Exchange) (p : ℕ) (o : Outbox) (ss : List Stub) → IsOutboxOf e o → p < e.partitions → IsPartOf e p o ss → AreStubsFrom e p o.number ss
+stubs_of_one e p o ss h pl part = record {
+  many = part.many;
+  stubs = λ k l s kl. subst (IsStubOf (where_at e p k) o.number (get_or e.queues.items (p * e.lanes + k) l)) (sym (part.each k s kl)) (h.tokens p k l s pl kl);
 }
 
 -- membership, by the list

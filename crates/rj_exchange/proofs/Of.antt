@@ -48,7 +48,7 @@ of-append k (x ∷ xs) ys = dite (ℕ_discrete x.outbox k)
     (λ e. chosen x.outbox k _ _ e ∙ ap (λ l. x.parcel ∷ l) (of-append k xs ys) ∙ ap (λ l. l ++ of k ys) (sym (chosen x.outbox k (x.parcel ∷ of k xs) (of k xs) e)))
     (λ n. passed x.outbox k _ _ n ∙ of-append k xs ys ∙ ap (λ l. l ++ of k ys) (sym (passed x.outbox k (x.parcel ∷ of k xs) (of k xs) n)))
 
-append_none : (xs : List Parcel) → xs ++ [] ≡ xs
+pub append_none : (xs : List Parcel) → xs ++ [] ≡ xs
 append_none [] = refl
 append_none (x ∷ xs) = ap (λ l. x ∷ l) (append_none xs)
 

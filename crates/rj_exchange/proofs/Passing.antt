@@ -10,13 +10,17 @@ use Rattle.crossbeam_queue.proofs.Lists.{at_set}
 use Rattle.rj_exchange.specs.declared.posted.Posted.{Posted}
 use Rattle.rj_exchange.specs.declared.queue.Where.{Where}
 use Rattle.rj_exchange.specs.declared.queue.Trace.{Trace}
-use Rattle.rj_exchange.specs.Passing.{of, Interleaves, Belongs, nowhere, nobody, blank, taker, sender, FitsSender, FitsTaker, Passing, HeldAt, Left, Took}
-use Rattle.rj_exchange.proofs.Of.{chosen, passed, snoc_cases, within, past_end, before_end, at_end, of_hit, of_miss}
+use Rattle.rj_exchange.specs.Passing.{of, Interleaves, Belongs, nowhere, nobody, blank, taker, sender, FitsSender, FitsTaker, Passing, HeldAt, HasAllHeard, Left, Took}
+use Rattle.rj_exchange.proofs.Of.{chosen, passed, snoc_cases, within, past_end, before_end, at_end, of-append, of_hit, of_miss}
 
 -- where the taker knows of every outbox, it knows the whole
 pub whole : (reader : ℕ) (owner : ℕ → ℕ) (place : Where) (got items : List Posted) (pass : ℕ) (v : Trace) → FitsTaker reader owner place got items pass v → length v.known ≡ v.made → Interleaves v.known (v.taken ++ items)
 whole reader owner place got items pass v f all k =
     ap (λ l. of k (l ++ items)) f.taken ∙ dite (dec_le v.made k) (λ le. (f.later k le).1 ∙ sym (past_end v.known k [] (omega arith))) (λ n. (f.ended k (let lt = lt_of_not-le n in omega arith)).1)
+
+-- what the taker has heard of is taken or left
+has_all : (reader : ℕ) (owner : ℕ → ℕ) (place : Where) (got items : List Posted) (pass : ℕ) (v : Trace) → FitsTaker reader owner place got items pass v → HasAllHeard v (v.taken ++ items)
+has_all reader owner place got items pass v f = (λ k lt. ap (λ l. of k (l ++ items)) f.taken ∙ (f.ended k lt).1, whole reader owner place got items pass v f)
 
 -- a view of one kind is none of the other
 not_both : (b : Bool) → b ≡ true → b ≡ false → ⊥
@@ -83,14 +87,18 @@ takes pass v may placed x items views h at = let w : Trace = taker v.place v.mad
             (λ y. absurd (y.0 ((h.takers j u y.1 t).only ∙ sym mine.only)))
             (at_set views pass j w u e);
       },
-      (refl, subst (λ p. Belongs p x) (sym (mine.there placed)) (All-head (Belongs h.place) x items h.belong), (items, λ all. whole h.reader h.owner h.place h.got (x ∷ items) pass v mine all)),
+      (
+        refl,
+        subst (λ p. Belongs p x) (sym (mine.there placed)) (All-head (Belongs h.place) x items h.belong),
+        (items, (subst (λ p. All (Belongs p) (x ∷ items)) (sym (mine.there placed)) h.belong, has_all h.reader h.owner h.place h.got (x ∷ items) pass v mine)),
+      ),
     )
 
 pub learns_left : (pass : ℕ) (v : Trace) → v.takes ≡ true → v.placed ≡ true → Learns Passing pass v (Left v)
-learns_left pass v may placed items views h at = let f = h.takers pass v at may in (subst (λ p. All (Belongs p) items) (sym (f.there placed)) h.belong, λ all. whole h.reader h.owner h.place h.got items pass v f all)
+learns_left pass v may placed items views h at = let f = h.takers pass v at may in (subst (λ p. All (Belongs p) items) (sym (f.there placed)) h.belong, has_all h.reader h.owner h.place h.got items pass v f)
 
 pub learns_held : (pass : ℕ) (v : Trace) → v.sends ≡ true → Learns Passing pass v (HeldAt v.place v.outbox v.sent)
-learns_held pass v may items views h at = let f = h.senders pass v at may in (subst (λ p. All (Belongs p) items) (sym f.there) h.belong, (h.got, sym f.sent))
+learns_held pass v may items views h at = let f = h.senders pass v at may in (subst (λ p. All (Belongs p) items) (sym f.there) h.belong, (of v.outbox h.got, f.sent ∙ of-append v.outbox h.got items))
 
 pub opens : Passing [] (blank ∷ [])
 opens = record {

@@ -7,7 +7,7 @@ use Rattle.rj_exchange.specs.declared.boxes.Exchange.{Exchange}
 use Rattle.rj_exchange.specs.declared.boxes.Inbox.{Inbox}
 use Rattle.rj_exchange.specs.declared.queue.Where.{Where}
 use Rattle.rj_exchange.specs.Passing.{taker}
-use Rattle.rj_exchange.specs.Boxes.{Queue, taken_of, heard_of, takens, heards, where_at, IsEndOf, TakesFrom, IsInboxOf}
+use Rattle.rj_exchange.specs.Boxes.{Queue, taken_of, heard_of, takens, heards, where_at, IsEndOf, TakesFrom, IsInboxOf, HasHeard}
 use Rattle.rj_exchange.proofs.Stubs.{kept, was}
 
 -- the token of a lane, and its queue
@@ -47,3 +47,6 @@ still x o n lane at queue old new h p s e =
 
 pub untold : (x : Exchange) (o n : Inbox) → IsInboxOf x o → TakesFrom x n × (heards n ≡ heards o) → IsInboxOf x n
 untold x o n h s = record { takes = s.0; untold = λ k. ap (λ l. get_or l k []) s.1 ∙ h.untold k }
+
+pub as_told : (x : Exchange) (o n : Inbox) → TakesFrom x n × (heards n ≡ heards o) → (m : ℕ) → HasHeard x m o → HasHeard x m n
+as_told x o n s m h = record { takes = s.0; heard = λ k lt. ap (λ l. length (get_or l k [])) s.1 ∙ h.heard k lt }

@@ -70,6 +70,11 @@ pub record IsInboxOf (e : Exchange) (i : Inbox) : Type 0 where
   pub takes : TakesFrom e i
   pub untold : (k : ℕ) → slice_index_or (heards i) k [] ≡ []
 
+-- an inbox that has heard of the ends of the first n outboxes
+pub record HasHeard (e : Exchange) (n : ℕ) (i : Inbox) : Type 0 where
+  pub takes : TakesFrom e i
+  pub heard : (k : ℕ) → k < e.lanes → length (slice_index_or (heards i) k []) ≡ n
+
 -- outbox number n, and the inbox of partition p
 abbrev pub IsOutboxAt : Exchange → ℕ → Outbox → Type 0
 IsOutboxAt e n o = IsOutboxOf e o × (o.number ≡ n)
@@ -86,6 +91,11 @@ pub record AreLeftAt (e : Exchange) (p : ℕ) (os : List Outbox) (ss : List Stub
   pub many : length ss ≡ e.outboxes * e.lanes
   pub each : (o k : ℕ) (d : Outbox) (s : Stub) → o < e.outboxes → k < e.lanes
       → slice_index_or ss (o * e.lanes + k) s ≡ slice_index_or (slice_index_or os o d).stubs.items (p * e.lanes + k) s
+
+-- of what one outbox leaves, the stubs for partition p, lane by lane
+pub record IsPartOf (e : Exchange) (p : ℕ) (o : Outbox) (ss : List Stub) : Type 0 where
+  pub many : length ss ≡ e.lanes
+  pub each : (k : ℕ) (s : Stub) → k < e.lanes → slice_index_or ss k s ≡ slice_index_or o.stubs.items (p * e.lanes + k) s
 
 -- what is left of a list after its first n
 abbrev pub IsLater : ℕ → List Stub → List Stub → Type 0

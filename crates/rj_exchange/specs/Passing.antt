@@ -61,17 +61,21 @@ pub record Passing (items : List Posted) (views : List Trace) : Type 0 where
   pub senders : (pass : ℕ) (v : Trace) → get_elem? views pass ≡ some v → v.sends ≡ true → FitsSender reader owner place (got ++ items) pass v
   pub takers : (pass : ℕ) (v : Trace) → get_elem? views pass ≡ some v → v.takes ≡ true → FitsTaker reader owner place got items pass v
 
--- what a sender learns of what the queue holds
+-- what a sender learns of what the queue holds: all of it belongs there, and its own parcels there are the last ones that it sent, in order
 abbrev pub HeldAt : Where → ℕ → List Parcel → List Posted → Type 0
-HeldAt p k sent items = All (Belongs p) items × ((got : List Posted) × (of k (got ++ items) ≡ sent))
+HeldAt p k sent items = All (Belongs p) items × ((before : List Parcel) × (sent ≡ before ++ of k items))
 
--- what the taker learns of what is left: it belongs there, and where each outbox has ended, what was taken with it is what they sent
+-- of each outbox whose end the taker has heard of, the list has all that it sent; where it has heard of all of them, it has that and no more
+abbrev pub HasAllHeard : Trace → List Posted → Type 0
+HasAllHeard v xs = ((k : ℕ) → k < length v.known → of k xs ≡ slice_index_or v.known k []) × (length v.known ≡ v.made → Interleaves v.known xs)
+
+-- what the taker learns of what is left: it belongs there, and what was taken with it has all that was heard of
 abbrev pub Left : Trace → List Posted → Type 0
-Left v items = All (Belongs v.place) items × ((length v.known ≡ v.made) → Interleaves v.known (v.taken ++ items))
+Left v items = All (Belongs v.place) items × HasAllHeard v (v.taken ++ items)
 
--- x is the first of what is left: where each outbox has ended, what was taken, then x, then some more, is what they sent
+-- x is the first of what is left
 abbrev pub Next : Trace → Posted → Type 0
-Next v x = (items : List Posted) × (length v.known ≡ v.made → Interleaves v.known (v.taken ++ x ∷ items))
+Next v x = (items : List Posted) × Left v (x ∷ items)
 
 -- what a pop tells the taker
 abbrev pub Took : Trace → Posted → Trace → Type 0

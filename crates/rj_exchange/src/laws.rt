@@ -1,13 +1,17 @@
 //! Laws: each of these functions does nothing, and its contract is a fact about all stubs, seats and parcels.
-ghost use Rattle.std.specs.Prelude.{List, [], ◌∷◌, ◌++◌, ◌≡◌, ◌<◌, ◌+◌, ◌*◌, ◌↔◌, ℕ, map, Contains, slice_index_or};
+ghost use Rattle.std.specs.Prelude.{List, [], ◌∷◌, ◌++◌, ◌≡◌, ◌<◌, ◌≤◌, ◌+◌, ◌*◌, ◌↔◌, ℕ, length, map, Contains, slice_index_or};
+ghost use Rattle.crossbeam_queue.specs.Fifo.{Held};
 ghost use Rattle.rj_ledger.specs.declared.parcel.Parcel.{Parcel};
 ghost use Rattle.rj_exchange.specs.declared.posted.Posted.{Posted};
 ghost use Rattle.rj_exchange.specs.declared.boxes.Stub.{Stub};
 ghost use Rattle.rj_exchange.specs.declared.boxes.Outbox.{Outbox};
 ghost use Rattle.rj_exchange.specs.declared.boxes.Exchange.{Exchange};
+ghost use Rattle.rj_exchange.specs.declared.boxes.Inbox.{Inbox};
 ghost use Rattle.rj_exchange.specs.declared.stripes.StripeSeat.{StripeSeat};
-ghost use Rattle.rj_exchange.specs.Passing.{posted_by};
-ghost use Rattle.rj_exchange.specs.Boxes.{sent_of, AreAllOutboxes, AreLeftAt, AreStubsOf, IsAllSent};
+ghost use Rattle.rj_exchange.specs.declared.queue.Where.{Where};
+ghost use Rattle.rj_exchange.specs.Passing.{posted_by, HeldAt};
+ghost use Rattle.rj_exchange.specs.Boxes.{sent_of, AreAllOutboxes, IsOutboxOf, AreLeftAt, IsPartOf, AreStubsOf, AreStubsFrom, IsAllSent};
+ghost use Rattle.rj_exchange.specs.Boxes.{IsInboxOf, HasHeard};
 ghost use Rattle.rj_exchange.specs.Tickets.{times, EachOnce};
 ghost use Rattle.rj_exchange.specs.Striping.{without};
 ghost use Rattle.rj_exchange.specs.Stripes.{held, HasHolder};
@@ -25,6 +29,21 @@ pub fn put_back_undoes()
 /// Of what all outboxes leave, the stubs for a partition, by outbox and then lane, are those that its inbox asks for.
 pub fn stubs_by_partition()
     ensures { (e : Exchange) (p : ℕ) (os : List Outbox) (ss : List Stub) → AreAllOutboxes e os → p < e.partitions → AreLeftAt e p os ss → AreStubsOf e p ss }
+{}
+
+/// Of what one outbox leaves, the stubs for a partition, lane by lane, are those that its inbox asks for as it hears of this outbox's end.
+pub fn stubs_of_one()
+    ensures { (e : Exchange) (p : ℕ) (o : Outbox) (ss : List Stub) → IsOutboxOf e o → p < e.partitions → IsPartOf e p o ss → AreStubsFrom e p o.number ss }
+{}
+
+/// An inbox that has heard of no outbox's end has heard of the first 0.
+pub fn heard_of_none()
+    ensures { (e : Exchange) (i : Inbox) → IsInboxOf e i → HasHeard e 0 i }
+{}
+
+/// Where there is one outbox, Full comes only once it has posted as many parcels to the queue as this holds.
+pub fn full_alone()
+    ensures { (p : Where) (n : ℕ) (sent : List Parcel) → p.outboxes ≡ 1 → Held n (HeldAt p 0 sent) → n ≤ length sent }
 {}
 
 /// What is all that was sent to a lane has a parcel with an outbox's number exactly where this outbox sent it there.

@@ -15,13 +15,14 @@ mod laws;
 mod posted;
 mod queue;
 mod stripes;
-#[cfg(test)]
-mod tests;
 mod tickets;
 
 pub use boxes::{Exchange, Finished, Full, Inbox, Outbox, Stub};
 pub use halt::{Halt, HaltSeat};
-pub use laws::{all_sent_holds, holder, put_back_undoes, stubs_by_partition};
+pub use laws::{
+    all_sent_holds, full_alone, heard_of_none, holder, put_back_undoes, stubs_by_partition,
+    stubs_of_one,
+};
 pub use posted::Posted;
 pub use stripes::{StripeSeat, Stripes};
 pub use tickets::{Seat, Tickets};

@@ -22,6 +22,3 @@ pub use laws::{
 };
 pub use ledger::{Ledger, replay};
 pub use parcel::{Answer, Block, Body, Parcel, Reason};
-
-#[cfg(test)]
-mod tests;

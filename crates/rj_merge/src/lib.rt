@@ -25,8 +25,3 @@ pub use refused::{MergeRefused, MergeTextsRefused};
 pub use source::Source;
 pub use texts::merge_texts;
 pub use whole::{merge_all, one_merge};
-
-#[cfg(test)]
-mod tests;
-#[cfg(test)]
-mod tests_texts;

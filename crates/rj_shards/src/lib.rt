@@ -7,8 +7,6 @@ mod laws;
 mod merging;
 mod route;
 mod shards;
-#[cfg(test)]
-mod tests;
 
 pub use laws::{
     kept_rows_meet, no_place_twice, renumbered_shards_merge_to_whole, rows_are_shown,

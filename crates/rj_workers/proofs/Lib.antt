@@ -7,6 +7,7 @@ pub mod Ledgers
 pub mod Ends
 pub mod Parts
 pub mod Wholes
+pub mod Closed
 pub mod Openings
 pub mod Numbers
 pub mod MadeShares

@@ -11,7 +11,7 @@ use Rattle.rj_ledger.specs.declared.parcel.Parcel.{Parcel}
 use Rattle.rj_ledger.specs.Cutting.{plan}
 use Rattle.rj_ledger.specs.Standing.{Standing, nothing_yet}
 use Rattle.std.specs.List.{range_with_len}
-use Rattle.rj_ledger.specs.Ledgers.{LedgerValue, opened, standing, after_all}
+use Rattle.rj_ledger.specs.Ledgers.{LedgerValue, IsSameShape, opened, standing, after_all}
 use Rattle.rj_ledger.specs.Lawful.{IsPlanned}
 use Rattle.rj_ledger.specs.Delivery.{DeliversAll}
 use Rattle.rj_exchange.specs.declared.boxes.Outbox.{Outbox}
@@ -118,7 +118,8 @@ module _ (due : Due) (stripes block : ℕ) (e : Exchange) (h : Halt) (st : Strip
 module _ (due : Due) (stripes block : ℕ) (e : Exchange) (h : Halt) (st : Stripes) (rs : List Scanner) (scans : AreScans due block stripes e h st rs)
     (calm : (o : ℕ) (d : Scanner) → o < e.outboxes → IsCalm (get_or rs o d).seat) (once : EachOnce stripes (map held (map (λ (r : Scanner). r.draws) rs)))
     (suffice : (q : ℕ) (xs : List Parcel) → All (IsPlanned due block) xs → ((s : ℕ) → s < stripes + stripes → All (Contains xs) (plan block (due s q) s q))
-    → DeliversAll due q (stripes + stripes) (after_all (opened q (stripes + stripes) block) xs)) where
+    → DeliversAll due q (stripes + stripes) (after_all (opened q (stripes + stripes) block) xs))
+    (stays : (v : LedgerValue) (xs : List Parcel) → IsSameShape v (after_all v xs)) where
   -- each stripe was posted by the scanner that holds it
   posted_by_some : (x : ℕ) → x < stripes → (o : ℕ) × (o < e.outboxes) × ((d : Scanner) → HasPostedStripe due block stripes e x (sents (get_or rs o d).outbox))
   posted_by_some x lt =
@@ -153,7 +154,12 @@ module _ (due : Due) (stripes block : ℕ) (e : Exchange) (h : Halt) (st : Strip
     pub delivered_of : (v : LedgerValue) → v ≡ after_all (opened p (stripes + stripes) block) xs → IsDelivered due (stripes + stripes) p v
     delivered_of v is =
         let d = suffice p xs all_planned among in
-        (ap (λ (u : LedgerValue). length u.senders) is ∙ d.senders, λ s sl. ap (λ (u : LedgerValue). (standing u s).rows) is ∙ d.rows s sl)
+        subst (IsDelivered due (stripes + stripes) p) (sym is) (record {
+          partition = (stays (opened p (stripes + stripes) block) xs).partition;
+          senders = d.senders;
+          complete = d.complete;
+          rows = d.rows;
+        })
 
   pub settled_of : {T : Type 0} (builds : Builds T) (p : ℕ) (d : Ended T) → p < e.partitions → IsEnded builds (stripes + stripes) block e (stub_lists (map (λ (z : Scanner). z.outbox) rs)) p d → IsSettled builds due (stripes + stripes) p d
   settled_of builds p d pl is = let f = is.filled in record { delivered = delivered_of p f.0 pl f.1 d.ledger f.2; number = is.number; built = is.built }
@@ -169,4 +175,4 @@ rows_from (t ∷ ts) f (suc n) from len each =
     ap (λ (x : List ℕ). x ∷ map (λ (u : Standing). u.rows) ts) first ∙ ap (λ (l : List (List ℕ)). f from ∷ l) rest
 
 pub delivered_rows : (due : Due) (n p : ℕ) (v : LedgerValue) → IsDelivered due n p v → rows_by_sender v ≡ due_lists due n p
-delivered_rows due n p v is = rows_from v.senders (λ s. due s p) n 0 is.0 (λ s lt. is.1 s lt ∙ ap (λ (q : ℕ). due q p) (let z : s ≡ 0 + s = omega arith in z))
+delivered_rows due n p v is = rows_from v.senders (λ s. due s p) n 0 is.senders (λ s lt. is.rows s lt ∙ ap (λ (q : ℕ). due q p) (let z : s ≡ 0 + s = omega arith in z))

@@ -1,8 +1,12 @@
 -- What takers have taken, and what has arrived in the end.
-use Rattle.std.specs.Prelude.{◌≡◌, ℕ, ◌+◌, ◌*◌, ◌<◌, List, [], map, length, slice_index_or, Contains}
+use Rattle.std.specs.Prelude.{◌≡◌, ℕ, ◌+◌, ◌*◌, ◌<◌, true, false, List, [], map, length, slice_index_or, Contains}
 use Rattle.std.specs.List.{flat_map, range_with_len}
 use Rattle.rj_ledger.specs.declared.parcel.Parcel.{Parcel}
-use Rattle.rj_ledger.specs.Ledgers.{LedgerValue, opened, standing, after_all}
+use Rattle.rj_ledger.specs.declared.parcel.Reason.TheVariants.{AfterClose}
+use Rattle.rj_ledger.specs.declared.parcel.Answer.TheVariants.{Refused}
+use Rattle.rj_ledger.specs.Reading.{IsRefused}
+use Rattle.rj_ledger.specs.Rules.{is_bad_length}
+use Rattle.rj_ledger.specs.Ledgers.{LedgerValue, IsComplete, opened, standing, answer_to, after_all}
 use Rattle.rj_exchange.specs.declared.posted.Posted.{Posted}
 use Rattle.rj_exchange.specs.declared.boxes.Exchange.{Exchange}
 use Rattle.rj_exchange.specs.declared.boxes.Inbox.{Inbox}
@@ -75,6 +79,17 @@ abbrev pub AreOutboxes : Exchange → List Outbox → Type 0
 AreOutboxes e os = (length os ≡ e.outboxes)
     × ((o : ℕ) (d : Outbox) → o < e.outboxes → IsOutboxOf e (slice_index_or os o d) × ((slice_index_or os o d).number ≡ o))
 
--- what each sender has for partition p was delivered
-abbrev pub IsDelivered : Due → ℕ → ℕ → LedgerValue → Type 0
-IsDelivered due senders p v = (length v.senders ≡ senders) × ((s : ℕ) → s < senders → (standing v s).rows ≡ due s p)
+-- the ledger of partition p and n senders is complete, and has delivered of each what it has for this partition
+pub record IsDelivered (due : Due) (n p : ℕ) (v : LedgerValue) : Type 0 where
+  pub partition : v.partition ≡ p
+  pub senders : length v.senders ≡ n
+  pub complete : IsComplete v
+  pub rows : (s : ℕ) → s < n → (standing v s).rows ≡ due s p
+
+-- the ledger of partition p has the close of each of n senders. Whatever is offered to it is refused and changes nothing; a parcel
+-- for this partition, of a known sender and a lawful length, is refused for that close
+pub record AcceptsNoMore (n p : ℕ) (v : LedgerValue) : Type 0 where
+  pub closed : (s : ℕ) → s < n → (standing v s).closed ≡ true
+  pub refused : (x : Parcel) → IsRefused (answer_to v x)
+  pub for_the_close : (x : Parcel) → x.partition ≡ p → x.sender < n → is_bad_length v.block x.body ≡ false → answer_to v x ≡ Refused AfterClose
+  pub stays : (xs : List Parcel) → after_all v xs ≡ v

@@ -16,7 +16,7 @@ use crate::scan::Scanner;
 use crate::take::{Building, Held, Taker};
 use crate::words::Words;
 use rj_exchange::{Halt, HaltSeat, Outbox, StripeSeat, Stripes};
-use rj_ledger::{Ledger, contained_suffice};
+use rj_ledger::{Ledger, contained_suffice, shape_stays};
 use std::alloc::{AllocError, Global};
 use std::sync::Wait;
 
@@ -172,6 +172,7 @@ pub(crate) fn conclude<R: Wait, J: Job>(
         IfOk result (λ v. AreSettled (J.builds shared.now.job.now) (J.due shared.now.job.now) senders shared.now.exchange.now.partitions v.items) }
 {
     contained_suffice();
+    shape_stays();
     let mut seats = Vec::new(alloc);
     let mut draws = Vec::new(alloc);
     let outboxes = hand_scanned(alloc, back.scanners, &mut seats, &mut draws)?;

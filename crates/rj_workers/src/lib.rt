@@ -2,7 +2,8 @@
 //! and build them, and the starting thread, which ends the exchange. Then workers draw shares of what was built.
 //!
 //! What is scanned and built is a [`Job`]. Whatever the schedule of the threads, each ledger has in the end delivered what
-//! was due to its partition, or memory was refused. What is drawn then are [`Shares`].
+//! was due to its partition, or memory was refused. What is drawn then are [`Shares`]. The function of `laws` does
+//! nothing: its contract is a fact that callers conclude from.
 #![tactic(auto)]
 
 mod closing;
@@ -11,6 +12,7 @@ mod ending;
 mod floor;
 mod gate;
 mod job;
+mod laws;
 mod pause;
 mod places;
 mod post;
@@ -21,14 +23,13 @@ mod shares;
 mod sharing;
 mod start;
 mod take;
-#[cfg(test)]
-mod tests;
 mod words;
 
 pub use closing::Delivered;
 pub use crew::Crew;
 pub use gate::{Gate, Open, Place};
 pub use job::Job;
+pub use laws::closed_once_delivered;
 pub use run::run_workers;
 pub use shares::Shares;
 pub use sharing::run_shares;

@@ -63,8 +63,8 @@ where
 }
 
 /// Scans the stripes of both tables and builds their partitions, with so many scanners and takers at the same time. Whatever
-/// the schedule of the threads, each ledger has delivered what was due to its partition, and the pairs of each partition are
-/// those of its rows.
+/// the schedule of the threads, each ledger is complete and has delivered what was due to its partition, and each partition was
+/// built of its rows.
 ///
 /// # Errors
 ///

@@ -4,7 +4,7 @@ ghost use Rattle.crossbeam_queue.specs.Passes.{view, ruled_capacity};
 ghost use Rattle.crossbeam_queue.specs.Fifo.{Held};
 ghost use Rattle.rj_exchange.specs.Passing.{Belongs, HeldAt, Left, Next, sender, taker, posted_by};
 ghost use Rattle.rj_exchange.specs.Boxes.{sent_of, taken_of, heard_of, sents, takens, heards, where_at, queue_of, IsStubOf, IsEndOf, IsOutboxOf};
-ghost use Rattle.rj_exchange.specs.Boxes.{TakesFrom, IsInboxOf};
+ghost use Rattle.rj_exchange.specs.Boxes.{TakesFrom, IsInboxOf, HasHeard};
 
 use crate::boxes::{Exchange, Full, Inbox, Outbox, Stub};
 use crate::posted::Posted;
@@ -65,7 +65,8 @@ impl Outbox {
     ///
     /// # Errors
     ///
-    /// `Full` gives the parcel back, with nothing posted, and comes only where the queue was full at a moment of the call.
+    /// `Full` gives the parcel back, with nothing posted, and comes only where the queue was full at a moment of the call: it then
+    /// held as many parcels as its capacity, and those of this outbox among them were the last ones that it had posted there.
     pub fn post<R: Wait>(&mut self, rt: &R, exchange: &Exchange, parcel: Parcel) -> Result<(), Full>
         requires { IsOutboxOf exchange.now self.old × (parcel.partition < exchange.now.partitions) }
         ensures same { IsOutboxOf exchange.now self.new × (self.new.number ≡ self.old.number) }
@@ -106,12 +107,13 @@ impl Inbox {
         self.partition
     }
 
-    /// Takes the oldest parcel of one lane, in one step. `None` comes only where the queue was empty at a moment of the call:
-    /// an inbox that has heard of the end of each outbox has then taken all that they sent there. Takes no memory.
+    /// Takes the oldest parcel of one lane, in one step. `None` comes only where the queue was empty at a moment of the call: the
+    /// inbox has then taken all that was posted there by each outbox of whose end it has heard. Takes no memory.
     pub fn take<R: Wait>(&mut self, rt: &R, exchange: &Exchange, lane: u32) -> Option<Parcel>
         requires { TakesFrom exchange.now self.old × (lane < exchange.now.lanes) }
         ensures same { TakesFrom exchange.now self.new × (self.new.partition ≡ self.old.partition) × (heards self.new ≡ heards self.old) }
         ensures inbox { IsInboxOf exchange.now self.old → IsInboxOf exchange.now self.new }
+        ensures heard { (n : ℕ) → HasHeard exchange.now n self.old → HasHeard exchange.now n self.new }
         ensures taken { let was = slice_index_or (takens self.old) lane [] in let place = where_at exchange.now self.old.partition lane in
             let v = taker place exchange.now.outboxes was (slice_index_or (heards self.old) lane []) in
             MatchOption result ((takens self.new ≡ takens self.old) × Held 0 (Left v))

@@ -1,12 +1,12 @@
 //! The end of an inbox, which is handed what each outbox sent.
-ghost use Rattle.std.specs.Prelude.{◌≡◌, ◌<◌, ◌≤◌, ◌*◌, ◌+◌, ◌∷◌, ◌++◌, [], ℕ, length, All, IfOk, MatchResult, slice_index_or};
+ghost use Rattle.std.specs.Prelude.{◌≡◌, ◌<◌, ◌≤◌, ◌*◌, ◌+◌, ◌∷◌, ◌++◌, [], ℕ, length, map, All, IfOk, MatchResult, slice_index_or};
 ghost use Rattle.std.specs.Vec.Iter.{into_iter_items};
 ghost use Rattle.crossbeam_queue.specs.Passes.{view, IsPassOf, ruled_capacity};
 ghost use Rattle.rj_exchange.specs.Passing.{Belongs, Interleaves, sender, taker};
 ghost use Rattle.rj_exchange.specs.declared.boxes.Stub.{Stub};
 ghost use Rattle.rj_exchange.specs.declared.posted.Posted.{Posted};
 ghost use Rattle.rj_exchange.specs.Boxes.{Queue, sent_of, taken_of, takens, where_at, IsStubOf, IsInboxOf, IsLater, IsTaker, IsGrown, AreStubsOf};
-ghost use Rattle.rj_exchange.specs.Boxes.{known_of, Knows, IsAllSent, IsRoom, PostedVec};
+ghost use Rattle.rj_exchange.specs.Boxes.{known_of, Knows, IsAllSent, IsRoom, PostedVec, heards, HasHeard, AreStubsFrom};
 
 use crate::boxes::{Exchange, Finished, Inbox, Stub};
 use crate::posted::Posted;
@@ -125,6 +125,19 @@ fn drain_all<R: Wait>(
 }
 
 impl Inbox {
+    /// Hears of the end of an outbox, the next one by number: asks its stubs for this partition, lane by lane. From now on `None`
+    /// of `take` means that all that this outbox posted there was taken. Once the inbox has heard of all outboxes, it has all parcels
+    /// of a lane where it is answered `None`. Takes no memory.
+    pub fn hear(&mut self, exchange: &Exchange, outbox: u32, stubs: Vec<Stub>)
+        requires { HasHeard exchange.now outbox self.old × AreStubsFrom exchange.now self.old.partition outbox stubs.items }
+        ensures same { HasHeard exchange.now (outbox + 1) self.new × (self.new.partition ≡ self.old.partition) × (takens self.new ≡ takens self.old) }
+        ensures heard { (k : ℕ) → k < exchange.now.lanes
+            → slice_index_or (heards self.new) k [] ≡ slice_index_or (heards self.old) k [] ++ slice_index_or (map sent_of stubs.items) k [] ∷ [] }
+    {
+        let mut left = stubs.into_iter();
+        round(exchange, self.partition, outbox, &mut self.ends, &mut left);
+    }
+
     /// What is left of the parcels of this partition, once every outbox has ended: asks the stubs of its queues from all
     /// outboxes, by outbox and then lane. For each lane what was taken, followed by the rest, interleaves what the outboxes
     /// posted there: nothing is lost, doubled or invented, and each outbox's parcels come in its order.

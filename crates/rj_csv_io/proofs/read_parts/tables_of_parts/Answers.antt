@@ -3,7 +3,7 @@ use Rattle.std.proofs.lemmas.List.{length-map, length-append, drop-drop}
 use Rattle.csv.specs.Records.{fields_of}
 use Rattle.rj_columns.specs.Tables.{rows_of_all}
 use Rattle.rj_csv_io.specs.Parts.{moved}
-use Rattle.rj_csv_io.proofs.PartFacts.{head-at, none-read, part-bad, part-more, part-past, rows-more}
+use Rattle.rj_csv_io.proofs.PartFacts.{head-at, none-read, part-more, part-over, part-stops, rows-more}
 use Rattle.rj_csv_io.proofs.read_parts.tables_of_parts.Goals as goal
 
 pub loop-i-init : goal.loop-i-init
@@ -18,22 +18,22 @@ loop-i-init c =
     }
 
 pub returns-then-more-gt-MAX_ROWS-clause-fault : goal.returns-then-more-gt-MAX_ROWS-clause-fault
-returns-then-more-gt-MAX_ROWS-clause-fault c = λ _ t b.
+returns-then-more-gt-MAX_ROWS-clause-fault c = λ _.
     let texts = map (λ (t : Bor (List ℕ)). t.now) c.args.texts.now in
     let size = length-map c.args.texts.now (λ (t : Bor (List ℕ)). t.now) in
     let h : c.loop-i._i < length texts = omega (arith, size, c.loop-i-test.true, c.loop-i.invariant.end, c.requires.count) in
-    part-past c.args.null.now c.args.types.now (fields_of c.args.header.now) texts c.args.parts.items c.requires.parts c.loop-i._i h c.loop-i.tables.items c.loop-i.invariant.read c.in-Ok.table
+    part-over c.args.null.now c.args.types.now (fields_of c.args.header.now) texts c.args.parts.items c.requires.parts c.loop-i._i h c.loop-i.tables.items c.loop-i.invariant.read c.in-Ok.table
     (head-at c.args.parts.items c.loop-i.parts.items c.loop-i._i _ c.loop-i.invariant.rest c.in-Ok.ensures.value)
     (omega (arith, c.rows.ensures.count, c.loop-i.invariant.rows, c.if-more-gt-MAX_ROWS.true))
 
 pub returns-in-Err-clause-fault : goal.returns-in-Err-clause-fault
-returns-in-Err-clause-fault c = λ ne t b.
+returns-in-Err-clause-fault c = λ ne.
     let texts = map (λ (t : Bor (List ℕ)). t.now) c.args.texts.now in
     let size = length-map c.args.texts.now (λ (t : Bor (List ℕ)). t.now) in
     let h : c.loop-i._i < length texts = omega (arith, size, c.loop-i-test.true, c.loop-i.invariant.end, c.requires.count) in
     let is = c.moved_on.ensures ∙ ap (λ n. moved n c.in-Err.e) c.loop-i.invariant.rows in
-    part-bad c.args.null.now c.args.types.now (fields_of c.args.header.now) texts c.args.parts.items c.requires.parts c.loop-i._i h c.loop-i.tables.items c.loop-i.invariant.read c.in-Err.e t
-    (head-at c.args.parts.items c.loop-i.parts.items c.loop-i._i _ c.loop-i.invariant.rest c.in-Err.ensures.value) b (λ q. ne (is ∙ q)) ∙ ap Err (sym is)
+    part-stops c.args.null.now c.args.types.now (fields_of c.args.header.now) texts c.args.parts.items c.requires.parts c.loop-i._i h c.loop-i.tables.items c.loop-i.invariant.read c.in-Err.e
+    (head-at c.args.parts.items c.loop-i.parts.items c.loop-i._i _ c.loop-i.invariant.rest c.in-Err.ensures.value) (λ q. ne (is ∙ q)) ∙ ap Err (sym is)
 
 pub loop-i-preserved : goal.loop-i-preserved
 loop-i-preserved c =

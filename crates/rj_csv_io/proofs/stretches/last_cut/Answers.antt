@@ -1,6 +1,7 @@
-use Rattle.std.proofs.Common.{◌≡◌, ◌≤◌, sym, arith}
+use Rattle.std.proofs.Common.{◌≡◌, ◌≤◌, length, sym, subst, arith}
+use Rattle.rj_csv_io.specs.Pieces.{IsLastEnd}
 use Rattle.rj_csv_io.specs.declared.place.Place.TheVariants as place
-use Rattle.rj_csv_io.proofs.PieceFacts.{no-end, cut-records}
+use Rattle.rj_csv_io.proofs.PieceFacts.{cut-records, last-ends, no-end, one-last}
 use Rattle.rj_csv_io.proofs.PlaceFacts.{next-place, place-none}
 use Rattle.rj_csv_io.proofs.stretches.last_cut.Goals as goal
 
@@ -16,4 +17,9 @@ loop-at-preserved c = record {
 }
 
 pub returns-clause-records : goal.returns-clause-records
-returns-clause-records c = λ more. cut-records c.args.text.now more c.loop-at.last c.loop-at.invariant.last.ends
+returns-clause-records c = λ more. cut-records c.args.text.now more c.loop-at.last (last-ends c.args.text.now c.loop-at.at c.loop-at.last c.loop-at.invariant.last)
+
+pub returns-clause-only : goal.returns-clause-only
+returns-clause-only c = λ at other.
+    let whole : c.loop-at.at ≡ length c.args.text.now = omega (arith, c.loop-at-test.false, c.loop-at.invariant.within) in
+    one-last c.args.text.now (length c.args.text.now) c.loop-at.last at (subst (λ end. IsLastEnd c.args.text.now end c.loop-at.last) whole c.loop-at.invariant.last) other

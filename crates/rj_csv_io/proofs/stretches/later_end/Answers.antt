@@ -11,7 +11,7 @@ returns-then-is_open c =
 pub returns-in-Some : goal.returns-in-Some
 returns-in-Some c =
     let closed = sym (ap is_open_place c.requires.place) ∙ (sym c.is_open.ensures ∙ c.if-is_open.false) in
-    last-closed c.args.text.now c.args.at c.args.next c.requires.order c.requires.within c.requires.plain c.in-Some.k closed c.in-Some.ensures.0.high c.in-Some.ensures.1 c.in-Some.ensures.0.after
+    last-closed c.args.text.now c.args.at c.args.next c.requires.order c.requires.within c.requires.plain c.in-Some.feed closed c.in-Some.ensures.0.high c.in-Some.ensures.1 c.in-Some.ensures.0.after
 
 pub returns-in-None : goal.returns-in-None
 returns-in-None c =

@@ -1,4 +1,5 @@
 use Rattle.std.proofs.Common.{rules, ◌≡◌, arith, length, refl}
+use Rattle.rj_csv_io.proofs.PieceFacts.{last-ends}
 use Rattle.rj_divide.proofs.UnderwayFacts.{last-records}
 use Rattle.rj_divide.proofs.next.next_piece.Goals as goal
 
@@ -9,3 +10,7 @@ pub returns-in-Ok-true-clause-records : goal.returns-in-Ok-true-clause-records
 returns-in-Ok-true-clause-records g c = λ more none.
     let all : c.len.result ≡ length c.read_more.new.bytes.items = search rules in
     last-records c.read_more.new.bytes.items more c.len.result all (none refl)
+
+pub returns-then-end-gt0-clause-ends : goal.returns-then-end-gt0-clause-ends
+returns-then-end-gt0-clause-ends g c = λ _.
+    rw c.as_slice.ensures.value at (last-ends c.as_slice.result.now (length c.as_slice.result.now) c.last_cut-end.result c.last_cut-end.ensures.last)

@@ -21,7 +21,7 @@ build_one-requires-clause-senders g c =
     let s = ended_at (g.J.Job.builds c.args.job.now) (g.J.Job.due c.args.job.now) (g.J.Job.stripes c.args.job.now + g.J.Job.stripes c.args.job.now)
     (g.J.Job.partitions c.args.job.now) c.loop-ended.yielded (into_iter_items c.loop-ended.ended-iterator)
     (into_iter_items c.next.new.self) c.args.all.items c.in-Some.ended c.in-Some.ensures.steps.0 c.loop-ended.invariant.rest c.requires.len c.requires.each in
-    s.1.delivered.0
+    s.1.delivered.senders
 
 pub build_one-requires-clause-rows : goal.build_one-requires-clause-rows
 build_one-requires-clause-rows g c =

@@ -7,7 +7,7 @@ use Rattle.rj_exchange.specs.declared.posted.Posted.{Posted}
 use Rattle.rj_exchange.specs.Passing.{Belongs, Left, Next}
 use Rattle.rj_exchange.specs.Boxes.{taken_of}
 use Rattle.rj_exchange.proofs.Stubs.{told}
-use Rattle.rj_exchange.proofs.Taking.{IsAt, knows, still, untold}
+use Rattle.rj_exchange.proofs.Taking.{IsAt, knows, still, untold, as_told}
 use Rattle.rj_exchange.proofs.boxes.Inbox.take.Goals as goal
 
 pub returns-clause-same : goal.returns-clause-same
@@ -17,6 +17,9 @@ returns-clause-same g c =
 
 pub returns-clause-inbox : goal.returns-clause-inbox
 returns-clause-inbox g c = let s = returns-clause-same g c in λ h. untold _ _ _ h (s.0, s.2)
+
+pub returns-clause-heard : goal.returns-clause-heard
+returns-clause-heard g c = let s = returns-clause-same g c in as_told _ _ _ (s.0, s.2)
 
 pub returns-clause-taken : goal.returns-clause-taken
 returns-clause-taken g c =
@@ -39,6 +42,9 @@ returns-in_err-posted-clause-same g c =
 
 pub returns-in_err-posted-clause-inbox : goal.returns-in_err-posted-clause-inbox
 returns-in_err-posted-clause-inbox g c = let s = returns-in_err-posted-clause-same g c in λ h. untold _ _ _ h (s.0, s.2)
+
+pub returns-in_err-posted-clause-heard : goal.returns-in_err-posted-clause-heard
+returns-in_err-posted-clause-heard g c = let s = returns-in_err-posted-clause-same g c in as_told _ _ _ (s.0, s.2)
 
 pub returns-in_err-posted-clause-taken : goal.returns-in_err-posted-clause-taken
 returns-in_err-posted-clause-taken g c =

@@ -1,6 +1,0 @@
-//! Worked examples of the parts, of the join beside the plain one, and of workers that are held up at a gate.
-
-mod gates;
-mod joins;
-mod parts;
-mod tables;

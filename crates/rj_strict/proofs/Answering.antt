@@ -1,0 +1,37 @@
+-- What a verdict says of a text.
+use Rattle.std.specs.Prelude.{◌≡◌, Bool, List, ℕ, Result, Ok, Err, OnOk, IfErr}
+use Rattle.std.proofs.Common.{ap, ◌∙◌}
+use Rattle.rj_strict.specs.Grammar.{File, Derives}
+use Rattle.rj_strict.specs.Faults.{HasFault}
+use Rattle.rj_strict.specs.Steps.{begun, verdict}
+use Rattle.rj_strict.specs.declared.header.Header.{Header}
+use Rattle.rj_strict.specs.declared.fault.StrictFault.{StrictFault}
+use Rattle.rj_strict.proofs.Parsing.{parse, untaken}
+use Rattle.rj_strict.proofs.Seen.{told, verdict-parse}
+use Rattle.rj_strict.proofs.Sound.{GoodEnd, sound}
+use Rattle.rj_strict.proofs.Complete.{derived, faulty}
+
+module _ (h : Header) (full : Bool) (text : List ℕ) where
+  from-ok : (r : Result (Unit {0}) StrictFault) (p : Result File StrictFault) → r ≡ told p → GoodEnd h full text p → OnOk r ((file : File) × Derives h full text file)
+  from-ok (Ok u) (Ok file) e g = (file, g)
+  from-ok (Ok u) (Err f) e g = cc e
+  from-ok (Err f) p e g = tt
+
+  from-err : (r : Result (Unit {0}) StrictFault) (p : Result File StrictFault) → r ≡ told p → GoodEnd h full text p → IfErr r (λ f. HasFault h full text f)
+  from-err (Ok u) p e g = tt
+  from-err (Err f) (Ok file) e g = cc e
+  from-err (Err f) (Err x) e g =
+      let same : f ≡ x = cc e in
+      rw same g
+
+  pub is-derived : (r : Result (Unit {0}) StrictFault) → r ≡ verdict full (begun h) text → OnOk r ((file : File) × Derives h full text file)
+  is-derived r e = from-ok r (parse h full untaken text) (e ∙ verdict-parse h full text) (sound h full text)
+
+  pub has-fault : (r : Result (Unit {0}) StrictFault) → r ≡ verdict full (begun h) text → IfErr r (λ f. HasFault h full text f)
+  has-fault r e = from-err r (parse h full untaken text) (e ∙ verdict-parse h full text) (sound h full text)
+
+  pub says-ok : (file : File) → Derives h full text file → verdict full (begun h) text ≡ Ok tt
+  says-ok file d = verdict-parse h full text ∙ ap told (derived h full text file d)
+
+  pub says-err : (f : StrictFault) → HasFault h full text f → verdict full (begun h) text ≡ Err f
+  says-err f d = verdict-parse h full text ∙ ap told (faulty h full text f d)

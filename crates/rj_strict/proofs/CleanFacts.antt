@@ -1,0 +1,81 @@
+-- Walks over a text, piece by piece.
+use Rattle.std.specs.Prelude.{ℕ, zero, suc, ◌==◌, ◌≡◌, ◌+◌, ◌-◌, ◌<◌, ◌≤◌, ◌||◌, not, Bool, true, false, List, [], ◌∷◌, ◌++◌, length, get_or, take, drop, Option, Some, IfSome, option_and_then}
+use Rattle.std.proofs.Common.{refl, sym, ap, subst, ◌∙◌, arith}
+use Rattle.std.proofs.lemmas.Bool.{and_from, not_from_false, false≢true}
+use Rattle.std.proofs.lemmas.List.{take_all, take_more, take-append-drop, drop-drop, at_drop_more}
+use Rattle.rj_strict.specs.Grammar.{comma, dquote, cr, lf}
+use Rattle.rj_strict.specs.Walk.{walk, over_quote, place_after, may_not_follow, all_follow}
+use Rattle.rj_strict.specs.declared.standing.Place.{Place}
+use Rattle.rj_strict.specs.declared.standing.Place.TheVariants as place
+use Rattle.rj_strict.proofs.WalkFacts.{last_of, follow-none, follow-more, follow-walk, walk-none, walk-append, walk-quote, closed-walk}
+
+pub follow-empty : (before : ℕ) (text : List ℕ) → length text ≡ 0 → all_follow before text ≡ true
+follow-empty before [] e = follow-none before
+follow-empty before (c ∷ text) e = absurd (omega arith)
+
+pub follow-one : (before : ℕ) (text : List ℕ) → (length text == 0) ≡ false → may_not_follow before (get_or text 0 0) ≡ false → all_follow before (take 1 text) ≡ true
+unfolding all_follow
+follow-one before [] e f = absurd (false≢true (sym e))
+follow-one before (c ∷ text) e f = and_from (not (may_not_follow before c)) true (not_from_false (may_not_follow before c) f) refl
+
+last-take : (before i : ℕ) (text : List ℕ) → i < length text → last_of before (take (suc i) text) ≡ get_or text i 0
+last-take before i [] h = absurd (omega arith)
+last-take before zero (c ∷ text) h = refl
+last-take before (suc i) (c ∷ text) h = last-take c i text (omega arith)
+
+follow-step : (before : ℕ) (text : List ℕ) (j : ℕ) → suc j < length text → all_follow before (take (suc j) text) ≡ true
+    → may_not_follow (get_or text j 0) (get_or text (suc j) 0) ≡ false → all_follow before (take (suc j + 1) text) ≡ true
+follow-step before text j h e f =
+    let last = last-take before j text (omega arith) in
+    let bad : may_not_follow (last_of before (take (suc j) text)) (get_or text (suc j) 0) ≡ false = ap (λ (x : ℕ). may_not_follow x (get_or text (suc j) 0)) last ∙ f in
+    ap (λ (t : List ℕ). all_follow before t) (take_more text (suc j) 0 h) ∙ follow-more before (take (suc j) text) (get_or text (suc j) 0) e bad
+
+-- one byte more
+pub follow-at : (before : ℕ) (text : List ℕ) (i : ℕ) → 1 ≤ i → i < length text → all_follow before (take i text) ≡ true
+    → may_not_follow (get_or text (i - 1) 0) (get_or text i 0) ≡ false → all_follow before (take (i + 1) text) ≡ true
+follow-at before text i low =
+    let next : suc (i - 1) ≡ i = omega arith in
+    subst (λ (x : ℕ). x < length text → all_follow before (take x text) ≡ true → may_not_follow (get_or text (i - 1) 0) (get_or text x 0) ≡ false → all_follow before (take (x + 1) text) ≡ true)
+    next (follow-step before text (i - 1))
+
+pub or-none : (x y : Bool) → (x || y) ≡ false → (x ≡ false) × (y ≡ false)
+or-none true y e = absurd (false≢true (sym e))
+or-none false y e = (refl, e)
+
+pub follow-whole : (before : ℕ) (text : List ℕ) → 0 < length text → all_follow before text ≡ true → walk (place_after before) text ≡ Some (place_after (get_or text (length text - 1) 0))
+follow-whole before text h e =
+    let i = length text - 1 in
+    let whole : take (suc i) text ≡ text = take_all (suc i) text (omega arith) in
+    let last : last_of before text ≡ get_or text i 0 = sym (ap (λ (t : List ℕ). last_of before t) whole) ∙ last-take before i text (omega arith) in
+    follow-walk before text e ∙ ap (λ (b : ℕ). Some (place_after b)) last
+
+pub walk-empty : (p : Place) (text : List ℕ) → length text ≡ 0 → walk p text ≡ Some p
+walk-empty p [] e = walk-none p
+walk-empty p (c ∷ text) e = absurd (omega arith)
+
+pub closed-head : (text : List ℕ) → (length text == 0) ≡ false
+    → ((get_or text 0 0 == comma) || (get_or text 0 0 == lf) || (get_or text 0 0 == cr)) ≡ true → walk place.Closed text ≡ walk place.Inside text
+closed-head [] e f = absurd (false≢true (sym e))
+closed-head (c ∷ text) e f = closed-walk c text f
+
+pub some-is : {X : Type 0} (o : Option X) (x : X) (P : X → Type 0) → o ≡ Some x → IfSome o P → P x
+some-is {X = X} o x P e = subst (λ (r : Option X). IfSome r P → P x) (sym e) (λ p. p)
+
+-- from one quote to behind the next one
+pub turn : (text : List ℕ) (at k : ℕ) (p p2 p3 : Place) → at + k < length text → get_or text (at + k) 0 ≡ dquote
+    → walk p (take (at + k - at) (drop at text)) ≡ Some p2 → over_quote p2 ≡ Some p3
+    → walk p (drop at text) ≡ walk p3 (drop (at + (k + 1)) text)
+turn text at k p p2 p3 h quote e f =
+    let size : at + k - at ≡ k = omega arith in
+    let parts : drop at text ≡ take k (drop at text) ++ drop (at + k) text =
+    sym (take-append-drop k (drop at text)) ∙ ap (λ (t : List ℕ). take k (drop at text) ++ t) (drop-drop k at text) in
+    let here : drop (at + k) text ≡ get_or text (at + k) 0 ∷ drop (at + k + 1) text = at_drop_more (λ (t : List ℕ). t) text (at + k) 0 h in
+    let more : at + k + 1 ≡ at + (k + 1) = omega arith in
+    let quoted : drop (at + k) text ≡ dquote ∷ drop (at + (k + 1)) text = here ∙ ap (λ (b : ℕ). b ∷ drop (at + k + 1) text) quote ∙ ap (λ (n : ℕ). dquote ∷ drop n text) more in
+    let first : walk p (take k (drop at text)) ≡ Some p2 = sym (ap (λ (n : ℕ). walk p (take n (drop at text))) size) ∙ e in
+    ap (λ (t : List ℕ). walk p t) parts
+    ∙ walk-append p (take k (drop at text)) (drop (at + k) text)
+    ∙ ap (λ (o : Option Place). option_and_then (λ q. walk q (drop (at + k) text)) o) first
+    ∙ ap (λ (t : List ℕ). walk p2 t) quoted
+    ∙ walk-quote p2 (drop (at + (k + 1)) text)
+    ∙ ap (λ (o : Option Place). option_and_then (λ q. walk q (drop (at + (k + 1)) text)) o) f

@@ -1,0 +1,15 @@
+pub mod StepFacts
+pub mod Parsing
+pub mod Seen
+pub mod Texts
+pub mod Sound
+pub mod Complete
+pub mod Records
+pub mod CsvFacts
+pub mod Marks
+pub mod Answering
+pub mod QuotedFacts
+pub mod WalkFacts
+pub mod Slices
+pub mod CleanFacts
+pub mod JoinedFacts

@@ -1,0 +1,52 @@
+-- The place where a text stops being derived by RFC 4180's grammar.
+use Rattle.std.specs.Prelude.{ℕ, ◌+◌, ◌==◌, ◌≡◌, ◌<◌, Bool, false, List, [], ◌∷◌, ◌++◌, length, IsTrue}
+use Rattle.std.specs.List.{list_all}
+use Rattle.rj_strict.specs.Grammar.{Field, escaped, LineEnd, Line, dquote, cr, lf, is_textdata, doubled, field_text, is_field, fields_text, is_blank, end_text, is_line, lines_text, names_of}
+use Rattle.rj_strict.specs.declared.header.Header.{Header}
+use Rattle.rj_strict.specs.declared.header.Header.TheVariants.{First, Above}
+use Rattle.rj_strict.specs.declared.fault.StrictFault.{StrictFault}
+use Rattle.rj_strict.specs.declared.fault.StrictFault.TheVariants as fault
+
+-- the row of a text's first record: the header's is 0, and 1 that of the record under it
+abbrev pub first_row : Header → ℕ
+first_row First = 0
+first_row (Above names) = 1
+
+-- these bytes are what is left of the text at a field: behind whole lines, and behind whole fields each with its comma
+pub record FieldAt (header : Header) (text : List ℕ) (row column : ℕ) (left : List ℕ) : Type 0 where
+  pub lines : List Line
+  pub fields : List Field
+  pub spelled : text ≡ lines_text lines ++ (fields_text fields ++ left)
+  pub are_lines : IsTrue (list_all (is_line (names_of header lines)) lines)
+  pub are_fields : IsTrue (list_all is_field fields)
+  pub at_row : row ≡ first_row header + length lines
+  pub at_column : column ≡ length fields + 1
+
+abbrev pub starts_with_lf : List ℕ → Bool
+starts_with_lf [] = false
+starts_with_lf (c ∷ bytes) = c == lf
+
+-- the text has this fault
+abbrev pub HasFault : Header → Bool → List ℕ → StrictFault → Type 0
+-- a quote opens the field, and no other one closes it
+HasFault header full text (fault.OpenQuote row column) =
+    (bytes : List ℕ) × FieldAt header text row column (dquote ∷ doubled bytes)
+-- TEXTDATA stands behind an escaped field
+HasFault header full text (fault.AfterQuote row column) =
+    (bytes : List ℕ) × (c : ℕ) × (more : List ℕ) × IsTrue (is_textdata c)
+    × FieldAt header text row column (field_text (escaped bytes) ++ c ∷ more)
+-- a quote stands behind TEXTDATA
+HasFault header full text (fault.BareQuote row column) =
+    (c : ℕ) × (bytes : List ℕ) × (more : List ℕ) × IsTrue (list_all is_textdata (c ∷ bytes))
+    × FieldAt header text row column ((c ∷ bytes) ++ dquote ∷ more)
+-- a CR with no LF stands behind a field
+HasFault header full text (fault.BareReturn row column) =
+    (f : Field) × (more : List ℕ) × IsTrue (is_field f) × (starts_with_lf more ≡ false)
+    × FieldAt header text row column (field_text f ++ cr ∷ more)
+-- an empty line stands under more than one name
+HasFault header full text (fault.EmptyLine row) =
+    (ended : LineEnd) × (more : List ℕ) × (at : FieldAt header text row 1 (end_text ended ++ more)) × (1 < names_of header at.lines)
+-- a full file has a last record with no line's end
+HasFault header full text (fault.CutShort row) =
+    IsTrue full × (column : ℕ) × (last : Field) × IsTrue (is_field last)
+    × (at : FieldAt header text row column (field_text last)) × (is_blank (record { before = at.fields; last = last }) ≡ false)

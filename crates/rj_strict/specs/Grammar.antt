@@ -1,0 +1,138 @@
+-- RFC 4180's grammar (section 2): its derivations, each with the text that it derives and the records that stand there.
+-- TEXTDATA is widened to all bytes but COMMA, DQUOTE, CR and LF, and a line may end in LF alone.
+use Rattle.std.specs.Prelude.{ℕ, ◌+◌, ◌==◌, ◌≡◌, ◌||◌, ◌&&◌, not, nat_le, if◌then◌else◌, Bool, true, false, List, [], ◌∷◌, ◌++◌, map, flat_map, length, Option, Some, None, IsTrue}
+use Rattle.std.specs.List.{list_all}
+use Rattle.rj_strict.specs.declared.header.Header.{Header}
+use Rattle.rj_strict.specs.declared.header.Header.TheVariants.{First, Above}
+
+abbrev pub comma : ℕ
+comma = 44
+
+abbrev pub dquote : ℕ
+dquote = 34
+
+abbrev pub cr : ℕ
+cr = 13
+
+abbrev pub lf : ℕ
+lf = 10
+
+-- TEXTDATA = any byte but COMMA, DQUOTE, CR and LF
+abbrev pub is_textdata : ℕ → Bool
+is_textdata c = not ((c == comma) || (c == dquote) || (c == cr) || (c == lf))
+
+-- *(TEXTDATA / COMMA / CR / LF / 2DQUOTE), of the bytes that it stands for
+unfoldable pub doubled : List ℕ → List ℕ
+doubled [] = []
+doubled (c ∷ bytes) = if c == dquote then dquote ∷ dquote ∷ doubled bytes else c ∷ doubled bytes
+
+-- field = (escaped / non-escaped), of the bytes that it stands for
+pub data Field : Type 0 where
+  escaped : List ℕ → Field
+  non-escaped : List ℕ → Field
+
+-- escaped = DQUOTE *(TEXTDATA / COMMA / CR / LF / 2DQUOTE) DQUOTE, and non-escaped = *TEXTDATA
+abbrev pub field_text : Field → List ℕ
+field_text (escaped bytes) = dquote ∷ (doubled bytes ++ dquote ∷ [])
+field_text (non-escaped bytes) = bytes
+
+abbrev pub is_field : Field → Bool
+is_field (escaped bytes) = true
+is_field (non-escaped bytes) = list_all is_textdata bytes
+
+-- record = field *(COMMA field), which is *(field COMMA) field
+pub record Record : Type 0 where
+  pub before : List Field
+  pub last : Field
+
+-- *(field COMMA)
+abbrev pub fields_text : List Field → List ℕ
+fields_text fields = flat_map (λ f. field_text f ++ comma ∷ []) fields
+
+abbrev pub record_text : Record → List ℕ
+record_text r = fields_text r.before ++ field_text r.last
+
+abbrev pub is_record : Record → Bool
+is_record r = list_all is_field r.before && is_field r.last
+
+-- how many fields there are
+abbrev pub width : Record → ℕ
+width r = length r.before + 1
+
+-- nothing at all: one non-escaped field of no bytes
+abbrev pub is_blank : Record → Bool
+is_blank r = none r.before r.last
+  where
+    none : List Field → Field → Bool
+    none [] (non-escaped []) = true
+    none [] (non-escaped (c ∷ bytes)) = false
+    none [] (escaped bytes) = false
+    none (f ∷ fields) last = false
+
+pub data LineEnd : Type 0 where
+  LF : LineEnd
+  CRLF : LineEnd
+
+abbrev pub end_text : LineEnd → List ℕ
+end_text LF = lf ∷ []
+end_text CRLF = cr ∷ lf ∷ []
+
+pub record Line : Type 0 where
+  pub fields : Record
+  pub ended : LineEnd
+
+abbrev pub line_text : Line → List ℕ
+line_text l = record_text l.fields ++ end_text l.ended
+
+-- an empty line is a record where there is one name
+abbrev pub is_line : ℕ → Line → Bool
+is_line names l = is_record l.fields && (nat_le names 1 || not (is_blank l.fields))
+
+abbrev pub lines_text : List Line → List ℕ
+lines_text lines = flat_map line_text lines
+
+-- how many names the header has: header = name *(COMMA name), a record as any other, is the first one where it stands in the text
+abbrev pub names_of : Header → List Line → ℕ
+names_of First [] = 1
+names_of First (l ∷ lines) = width l.fields
+names_of (Above names) lines = names
+
+-- file = [header line-end] record *(line-end record) [line-end], which is *(record line-end) [record] with a last record of
+-- one byte or more, so that a line's end at the end of the text begins no record
+pub record File : Type 0 where
+  pub lines : List Line
+  pub rest : Option Record
+
+abbrev pub rest_text : Option Record → List ℕ
+rest_text None = []
+rest_text (Some r) = record_text r
+
+abbrev pub file_text : File → List ℕ
+file_text file = lines_text file.lines ++ rest_text file.rest
+
+-- in a full file each record has its line's end
+abbrev pub is_rest : Bool → Option Record → Bool
+is_rest full None = true
+is_rest full (Some r) = is_record r && not (is_blank r) && not full
+
+-- the text is derived so
+pub record Derives (header : Header) (full : Bool) (text : List ℕ) (file : File) : Type 0 where
+  pub spelled : text ≡ file_text file
+  pub lines : IsTrue (list_all (is_line (names_of header file.lines)) file.lines)
+  pub rest : IsTrue (is_rest full file.rest)
+
+-- the bytes that a field stands for
+abbrev pub value_of : Field → List ℕ
+value_of (escaped bytes) = bytes
+value_of (non-escaped bytes) = bytes
+
+abbrev pub values_of : Record → List (List ℕ)
+values_of r = map value_of (r.before ++ r.last ∷ [])
+
+abbrev pub rest_records : Option Record → List (List (List ℕ))
+rest_records None = []
+rest_records (Some r) = values_of r ∷ []
+
+-- the records that stand in a file
+abbrev pub records_of : File → List (List (List ℕ))
+records_of file = map (λ l. values_of l.fields) file.lines ++ rest_records file.rest

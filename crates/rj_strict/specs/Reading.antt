@@ -1,0 +1,29 @@
+-- What stands in a text beside what the library csv reads there: csv reads no record in an empty line.
+use Rattle.std.specs.Prelude.{ℕ, not, Bool, false, if◌then◌else◌, List, [], ◌∷◌, map, filter}
+use Rattle.csv.specs.Reading.{is_bom, strip_bom}
+use Rattle.rj_strict.specs.Grammar.{Line, File, escaped, is_blank}
+use Rattle.rj_strict.specs.declared.header.Header.{Header}
+use Rattle.rj_strict.specs.declared.header.Header.TheVariants.{First, Above}
+
+-- a text that begins with the header may begin with a byte order mark, which is no part of the file
+abbrev pub body_of : Header → List ℕ → List ℕ
+body_of First text = strip_bom text
+body_of (Above names) text = text
+
+-- a text that begins with a byte order mark
+unfoldable pub has_mark : List ℕ → Bool
+has_mark [] = false
+has_mark (a ∷ []) = false
+has_mark (a ∷ b ∷ []) = false
+has_mark (a ∷ b ∷ c ∷ rest) = is_bom a b c
+
+-- a file without its empty lines
+abbrev pub without_empty : File → File
+without_empty file = record { lines = filter (λ l. not (is_blank l.fields)) file.lines; rest = file.rest }
+
+-- an empty line with an escaped field of no bytes in it, as csv writes a record of one empty field
+abbrev pub quoted_line : Line → Line
+quoted_line l = if is_blank l.fields then record { fields = record { before = []; last = escaped [] }; ended = l.ended } else l
+
+abbrev pub quoted : File → File
+quoted file = record { lines = map quoted_line file.lines; rest = file.rest }

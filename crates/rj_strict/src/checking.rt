@@ -1,0 +1,54 @@
+//! Whether a text is derived by RFC 4180's grammar.
+
+ghost use Rattle.std.specs.Prelude.{◌≡◌, Ok, Err, OnOk, IfErr};
+ghost use Rattle.rj_strict.specs.Faults.{HasFault};
+ghost use Rattle.rj_strict.specs.Grammar.{Derives, File};
+ghost use Rattle.rj_strict.specs.Reading.{body_of};
+ghost use Rattle.rj_strict.specs.Steps.{begun, verdict};
+ghost use Rattle.rj_strict.specs.declared.fault.StrictFault.{StrictFault};
+
+use crate::clean::is_clean;
+use crate::fault::StrictFault;
+use crate::header::Header;
+use crate::mark::body;
+use crate::standing::{begin, finish, step};
+
+// The verdict, byte by byte.
+fn check_bytes(text: &[u8], header: Header, full: bool) -> Result<(), StrictFault>
+    ensures { result ≡ verdict full (begun header) text.now }
+{
+    let mut standing = begin(header);
+    for i in 0..text.len() {
+        match step(standing, text[i]) {
+            Ok(next) => standing = next,
+            Err(e) => return Err(e),
+        }
+    }
+    finish(standing, full)
+}
+
+// The verdict, by the fast look where it is enough.
+fn judge(text: &[u8], header: Header, full: bool) -> Result<(), StrictFault>
+    ensures { result ≡ verdict full (begun header) text.now }
+{
+    if is_clean(text, full) {
+        return Ok(());
+    }
+    check_bytes(text, header, full)
+}
+
+/// Whether a text is derived by RFC 4180's grammar, or the first place where it stops being so. In a full text the last
+/// record has its line's end. It takes no memory.
+///
+/// # Errors
+/// The one fault that the text has.
+pub fn check(text: &[u8], header: Header, full: bool) -> Result<(), StrictFault>
+    // What is answered is so.
+    ensures derived { OnOk result ((file : File) × Derives header full (body_of header text.now) file) }
+    ensures fault { IfErr result (λ f. HasFault header full (body_of header text.now) f) }
+    // What is so is answered.
+    ensures each_file { (file : File) → Derives header full (body_of header text.now) file → result ≡ Ok tt }
+    ensures each_fault { (f : StrictFault) → HasFault header full (body_of header text.now) f → result ≡ Err f }
+{
+    judge(body(text, header), header, full)
+}

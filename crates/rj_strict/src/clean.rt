@@ -1,0 +1,129 @@
+//! A fast look at a text that has neither a fault nor an empty line.
+
+ghost use Rattle.std.specs.Prelude.{◌≡◌, ◌<◌, ◌==◌, ℕ, true, false, Bool, Ok, Some, IfSome, length, slice_index};
+ghost use Rattle.rj_strict.specs.Steps.{begun, verdict};
+ghost use Rattle.rj_strict.specs.Walk.{all_follow, may_end, may_not_follow, over_quote, place_after, walk};
+ghost use Rattle.rj_strict.specs.declared.header.Header.{Header as Heading};
+ghost use Rattle.rj_strict.specs.declared.standing.Place.TheVariants.{Start};
+
+use crate::standing::Place;
+use memchr::memchr;
+
+// Whether a byte may not follow another outside quotes.
+fn is_bad(before: u8, byte: u8) -> bool
+    ensures { result ≡ may_not_follow before byte }
+{
+    (byte == b'"')
+        | ((before == b'\n') & ((byte == b'\n') | (byte == b'\r')))
+        | ((before == b'\r') & (byte != b'\n'))
+}
+
+// The place after a byte that is no quote, outside quotes.
+fn place_behind(byte: u8) -> Place
+    ensures { result ≡ place_after byte }
+{
+    match byte {
+        b',' => Place::Fresh,
+        b'\n' => Place::Start,
+        b'\r' => Place::Return,
+        _ => Place::Inside,
+    }
+}
+
+// Whether each byte may follow the one before it.
+fn all_may_follow(before: u8, text: &[u8]) -> bool
+    ensures { result ≡ true → all_follow before text.now ≡ true }
+{
+    if text.is_empty() {
+        return true;
+    }
+    let mut bad = is_bad(before, text[0]);
+    for i in 1..text.len() {
+        bad |= is_bad(text[i - 1], text[i]);
+    }
+    !bad
+}
+
+// The place after a text outside quotes that has none, behind this byte.
+fn follow(before: u8, text: &[u8]) -> Option<Place>
+    requires { 0 < length text.now }
+    ensures { IfSome result (λ p. walk (place_after before) text.now ≡ Some p) }
+{
+    if all_may_follow(before, text) {
+        return Some(place_behind(text[text.len() - 1]));
+    }
+    None
+}
+
+// The place after a text with no quote.
+fn stretch(place: Place, text: &[u8]) -> Option<Place>
+    requires { (i : ℕ) → i < length text.now → (slice_index text.now i == 34) ≡ false }
+    ensures { IfSome result (λ p. walk place text.now ≡ Some p) }
+{
+    if text.is_empty() {
+        return Some(place);
+    }
+    match place {
+        Place::Open => Some(Place::Open),
+        Place::Start => follow(b'\n', text),
+        Place::Closed => {
+            let byte = text[0];
+            if (byte == b',') | (byte == b'\n') | (byte == b'\r') {
+                return follow(b'a', text);
+            }
+            None
+        }
+        Place::Fresh | Place::Inside | Place::Blank | Place::Return => None,
+    }
+}
+
+// The place after a quote.
+fn behind_quote(place: Place) -> Option<Place>
+    ensures { result ≡ over_quote place }
+{
+    match place {
+        Place::Start | Place::Fresh | Place::Closed => Some(Place::Open),
+        Place::Open => Some(Place::Closed),
+        Place::Inside | Place::Blank | Place::Return => None,
+    }
+}
+
+// The place after a text that has neither a fault nor an empty line, from quote to quote.
+fn place_at_end(text: &[u8]) -> Option<Place>
+    ensures { IfSome result (λ p. walk Start text.now ≡ Some p) }
+{
+    let mut place = Place::Start;
+    let mut at = 0usize;
+    for _turn in 0..text.len() {
+        match memchr(b'"', &text[at..]) {
+            None => return stretch(place, &text[at..]),
+            Some(k) => {
+                place = behind_quote(stretch(place, &text[at..at + k])?)?;
+                at += k + 1;
+            }
+        }
+    }
+    Some(place)
+}
+
+// Whether a text may end at a place.
+fn ends_well(place: Place, full: bool) -> bool
+    ensures { result ≡ may_end full place }
+{
+    match place {
+        Place::Start => true,
+        Place::Fresh | Place::Inside | Place::Closed => !full,
+        Place::Open | Place::Blank | Place::Return => false,
+    }
+}
+
+/// Whether a text is seen to be derived whatever its header is, in a look that is much faster than [`crate::check`]
+/// byte by byte. One with an empty line isn't.
+pub(crate) fn is_clean(text: &[u8], full: bool) -> bool
+    ensures { result ≡ true → (h : Heading) → verdict full (begun h) text.now ≡ Ok tt }
+{
+    match place_at_end(text) {
+        Some(place) => ends_well(place, full),
+        None => false,
+    }
+}

@@ -1,0 +1,10 @@
+//! Where the header of a text is.
+
+/// Where the header of a text is.
+#[derive(Clone, Copy, Debug, PartialEq, Eq)]
+pub enum Header {
+    /// It is the text's first record, and has row 0.
+    First,
+    /// It stands above the text and has so many names. The text's first record has row 1.
+    Above(u64),
+}

@@ -1,0 +1,20 @@
+//! Whether a text of CSV is derived by RFC 4180's grammar, and where it stops being so.
+//!
+//! What [`check`] answers is fixed by `Derives`, the grammar, and by `HasFault`. The laws say that a text has one derivation,
+//! what the library `csv` reads of it, and that texts can be checked in parts.
+#![tactic(auto)]
+
+mod checking;
+mod clean;
+mod fault;
+mod header;
+mod laws;
+mod mark;
+mod standing;
+
+pub use checking::check;
+pub use fault::StrictFault;
+pub use header::Header;
+pub use laws::{
+    joined_texts, one_derivation, reads_all_records, reads_quoted_records, reads_records,
+};

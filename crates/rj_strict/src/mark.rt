@@ -1,0 +1,38 @@
+//! The byte order mark that a text may begin with.
+
+ghost use Rattle.std.specs.Prelude.{◌≡◌, ◌≤◌, true, length};
+ghost use Rattle.csv.specs.Reading.{strip_bom};
+ghost use Rattle.rj_strict.specs.Reading.{body_of, has_mark};
+
+use crate::header::Header;
+
+// Whether a text begins with a byte order mark.
+fn starts_with_mark(text: &[u8]) -> bool
+    ensures value { result ≡ has_mark text.now }
+    ensures long { result ≡ true → 3 ≤ length text.now }
+{
+    if text.len() < 3 {
+        return false;
+    }
+    (text[0] == 0xEF) & (text[1] == 0xBB) & (text[2] == 0xBF)
+}
+
+// A text without the byte order mark at its start.
+fn without_mark(text: &[u8]) -> &[u8]
+    ensures { result.now ≡ strip_bom text.now }
+{
+    if starts_with_mark(text) {
+        return &text[3..];
+    }
+    text
+}
+
+/// A text without the byte order mark at its start, where the header stands in it.
+pub(crate) fn body(text: &[u8], header: Header) -> &[u8]
+    ensures { result.now ≡ body_of header text.now }
+{
+    match header {
+        Header::First => without_mark(text),
+        Header::Above(_) => text,
+    }
+}

@@ -1,0 +1,107 @@
+//! A job over rows made by hand.
+ghost use Rattle.std.specs.Prelude.{◌≡◌, ◌<◌, ◌≤◌, ◌+◌, ℕ, All, IfOk, IfSome, length, map};
+ghost use Rattle.std.proofs.Props.{props};
+ghost use Rattle.rj_radix.specs.Groups.{IsPart, group};
+
+use rj_ledger::Ledger;
+use rj_radix::{Scattered, scatter};
+use rj_workers::Job;
+use std::alloc::{AllocError, Global};
+
+/// How many partitions there are: a row goes to that of its number modulo this.
+pub const PARTITIONS: u32 = 3;
+
+/// The rows of one sender, with the partition of each.
+#[derive(Drop)]
+pub struct Rows {
+    pub rows: Vec<u32>,
+    routes: Vec<Option<u32>>,
+    ghost len: { length routes.items ≡ length rows.items },
+    ghost below: { All (λ r. IfSome r (λ p. p < 3)) routes.items } by { Prim.hlevel props },
+}
+
+/// These rows of a sender.
+pub fn rows_of(alloc: Global, given: &[u32]) -> Result<Rows, AllocError> {
+    let mut rows = Vec::new(alloc);
+    let mut routes = Vec::new(alloc);
+    for row in given {
+        rows.push(*row)?;
+        routes.push(Some(*row % PARTITIONS))?;
+    }
+    Ok(Rows { rows, routes })
+}
+
+/// The rows of all senders. A partition keeps each row of the first sender there, paired with itself.
+#[derive(Drop)]
+pub struct Dealt {
+    pub senders: Vec<Rows>,
+    pub stripes: u32,
+    ghost both: { length senders.items ≡ stripes + stripes },
+    ghost limits: { (1 ≤ stripes) × (stripes ≤ 64) },
+}
+
+// The rows of a sender by partition.
+fn scatter_rows(alloc: Global, sender: &Rows) -> Result<Scattered, AllocError>
+    ensures parts { IfOk result (λ s. length s.starts.items ≡ 3) }
+    ensures each { IfOk result (λ s. (p : ℕ) → p < 3 → IsPart s.rows.items s.starts.items p (group sender.now.rows.items sender.now.routes.items p)) }
+{
+    let scattered = scatter(alloc, &sender.rows, &sender.routes, PARTITIONS as usize)?;
+    Ok(scattered)
+}
+
+// Each row, paired with itself.
+fn pairs_of(alloc: Global, rows: &[u32]) -> Result<Vec<(u32, u32)>, AllocError>
+    ensures { IfOk result (λ v. v.items ≡ map (λ r. (r, r)) rows.now) }
+{
+    let mut pairs = Vec::new(alloc);
+    for row in rows {
+        pairs.push((*row, *row))?;
+    }
+    Ok(pairs)
+}
+
+impl Job for Dealt {
+    ghost use Rattle.std.specs.Prelude.{◌≡◌, [], map, slice_index_or};
+    ghost use Rattle.rj_radix.specs.Groups.{group};
+
+    ghost stripes = { λ s. s.stripes };
+
+    ghost partitions = { λ s. 3 };
+
+    ghost due = { λ s sender p.
+        group (slice_index_or (map (λ r. r.rows.items) s.senders.items) sender []) (slice_index_or (map (λ r. r.routes.items) s.senders.items) sender []) p };
+
+    ghost joinable = { λ s lists. Unit {0} };
+
+    type Built = Vec<(u32, u32)>;
+
+    ghost builds = { λ s p lists pairs. pairs.items ≡ map (λ r. (r, r)) (slice_index_or lists 0 []) };
+
+    fn scatter(&self, alloc: Global, stripe: u32) -> Result<(Scattered, Scattered), AllocError> {
+        let lefts = scatter_rows(alloc, &self.senders[stripe as usize])?;
+        let rights = scatter_rows(alloc, &self.senders[(self.stripes + stripe) as usize])?;
+        Ok((lefts, rights))
+    }
+
+    fn try_build(
+        &self,
+        alloc: Global,
+        partition: u32,
+        ledger: &Ledger,
+    ) -> Result<Option<Vec<(u32, u32)>>, AllocError> {
+        let pairs = self.build(alloc, partition, ledger)?;
+        Ok(Some(pairs))
+    }
+
+    fn build(
+        &self,
+        alloc: Global,
+        partition: u32,
+        ledger: &Ledger,
+    ) -> Result<Vec<(u32, u32)>, AllocError> {
+        let _job = self;
+        let _partition = partition;
+        let pairs = pairs_of(alloc, ledger.delivered(0))?;
+        Ok(pairs)
+    }
+}

@@ -1,0 +1,4 @@
+//! The faults' lines and statuses, and scripts of arrivals.
+
+mod faults;
+mod scripts;

@@ -1,0 +1,104 @@
+//! Where the stripes of a table begin and end, by what their senders delivered to the one partition that there is.
+
+ghost use Rattle.std.specs.Prelude.{◌≡◌, ◌≤◌, ◌+◌, true, IfSome, length, slice_index_or};
+ghost use Rattle.rj_condition.specs.Fits.{fits};
+ghost use Rattle.rj_ledger.specs.Ledgers.{LedgerValue};
+
+use crate::engine::tables::{join_of, keys};
+use rj_columns::Table;
+use rj_condition::BoundJoin;
+use rj_engine::{Joined, Open, Settings, run_join};
+use rj_radix::Plain;
+use std::alloc::Global;
+use std::sync::Wait;
+use std::test::Fail;
+use std::thread::Threads;
+use std::time::Clock;
+
+// The join of a table with itself by so many workers, in one partition; none where memory or a thread is refused.
+fn in_one_partition<R: Threads + Wait + Clock + Sync>(
+    rt: &R,
+    alloc: Global,
+    table: &Table,
+    join: &BoundJoin,
+    workers: u32,
+) -> Option<Joined>
+    requires { fits join.now table.now.types table.now.types ≡ true }
+    ensures ledgers { IfSome result (λ j. length j.ledgers ≡ 1) }
+    ensures senders { IfSome result (λ j. (d : LedgerValue) → length (slice_index_or j.ledgers 0 d).senders ≡ workers + workers) }
+{
+    let Some(settings) = Settings::new(workers, 0, 0, 1024, 1, 64, 1) else {
+        return None;
+    };
+    match run_join(rt, alloc, table, table, join, &settings, &Plain, &Open) {
+        Ok(joined) => Some(joined),
+        Err(_) => None,
+    }
+}
+
+// Whether the senders of the left and of the right stripes have delivered these rows.
+fn are_delivered(joined: &Joined, stripes: &[&[u32]]) -> bool
+    requires ledgers { length joined.now.ledgers ≡ 1 }
+    requires senders { (d : LedgerValue) → length (slice_index_or joined.now.ledgers 0 d).senders ≡ length stripes.now + length stripes.now }
+    requires few { length stripes.now ≤ 64 }
+{
+    let count = stripes.len() as u32;
+    for at in 0..stripes.len() {
+        let left = joined.delivered(0, at as u32);
+        let right = joined.delivered(0, count + at as u32);
+        if left != stripes[at] || right != stripes[at] {
+            return false;
+        }
+    }
+    true
+}
+
+// Whether the stripes of a table joined with itself are these.
+fn is_cut<R: Threads + Wait + Clock + Sync>(
+    rt: &R,
+    alloc: Global,
+    table: &Table,
+    stripes: &[&[u32]],
+) -> bool
+    requires { length stripes.now ≤ 64 }
+{
+    let Some(join) = join_of(alloc, "JOIN USING (k)", table, table) else {
+        return false;
+    };
+    match in_one_partition(rt, alloc, table, &join, stripes.len() as u32) {
+        Some(joined) => are_delivered(&joined, stripes),
+        None => false,
+    }
+}
+
+// Whether the stripes of so many rows are these.
+fn are_stripes<R: Threads + Wait + Clock + Sync>(
+    rt: &R,
+    alloc: Global,
+    rows: i64,
+    stripes: &[&[u32]],
+) -> Result<bool, Fail>
+    requires { length stripes.now ≤ 64 }
+{
+    let mut numbers = Vec::new(alloc);
+    for number in 0..rows {
+        numbers.push(number)?;
+    }
+    let table = keys(alloc, &numbers)?;
+    Ok(is_cut(rt, alloc, &table, stripes))
+}
+
+const FIVE: [&[u32]; 2] = [&[0, 1], &[2, 3, 4]];
+
+const TWO: [&[u32]; 3] = [&[], &[0], &[1]];
+
+const NONE: [&[u32]; 2] = [&[], &[]];
+
+// The stripes of 5 rows among two, of 2 rows among three and of no rows among two.
+#[test]
+fn stripe_cuts(rt: HostRuntime) -> Result<(), Fail> {
+    assert!(rt; are_stripes(&rt, rt.alloc(), 5, FIVE.as_slice())?);
+    assert!(rt; are_stripes(&rt, rt.alloc(), 2, TWO.as_slice())?);
+    assert!(rt; are_stripes(&rt, rt.alloc(), 0, NONE.as_slice())?);
+    Ok(())
+}

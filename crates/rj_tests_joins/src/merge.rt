@@ -1,0 +1,4 @@
+//! Merges of inputs that list their rows, and of texts.
+
+mod lists;
+mod texts;

@@ -1,0 +1,220 @@
+//! Texts of placed rows that are merged, with merges written by hand, and each of their faults.
+
+use rj_csv_io::{CountedWriter, Output};
+use rj_merge::{MergeRefused, MergeTextsRefused, Patient, Place, merge_texts};
+use std::alloc::Global;
+use std::fmt::Write as Format;
+use std::io;
+use std::io::{Read, Write};
+use std::test::Fail;
+
+// The merge of inputs, or why there is none.
+fn merge_inputs<R: Read + Drop>(
+    alloc: Global,
+    inputs: Vec<R>,
+    null: &str,
+) -> Result<Vec<u8>, MergeTextsRefused> {
+    if inputs.is_empty() || inputs.len() > 1000 {
+        return Err(MergeTextsRefused::Merge(MergeRefused::Memory));
+    }
+    let mut output = CountedWriter::new(Vec::new(alloc));
+    match merge_texts(alloc, inputs, null, &mut output) {
+        Ok(()) => Ok(output.into_inner()),
+        Err(e) => Err(e),
+    }
+}
+
+// The merge of texts, or why there is none.
+fn merge_of(alloc: Global, texts: &[&str], null: &str) -> Result<Vec<u8>, MergeTextsRefused> {
+    let mut inputs = Vec::new(alloc);
+    for text in texts {
+        if inputs.push(text.as_bytes()).is_err() {
+            return Err(MergeTextsRefused::Merge(MergeRefused::Memory));
+        }
+    }
+    merge_inputs(alloc, inputs, null)
+}
+
+// Whether texts with an empty null text have this merge.
+fn is_merge(alloc: Global, texts: &[&str], want: &str) -> Result<bool, MergeTextsRefused> {
+    match merge_of(alloc, texts, "") {
+        Ok(merge) => Ok(merge.as_slice() == want.as_bytes()),
+        Err(e) => Err(e),
+    }
+}
+
+// The fault of texts with an empty null text, or none.
+fn fault_of(alloc: Global, texts: &[&str]) -> Option<MergeRefused> {
+    match merge_of(alloc, texts, "") {
+        Err(MergeTextsRefused::Merge(e)) => Some(e),
+        _ => None,
+    }
+}
+
+const FIRST: &str = "left_place,k,right_place,v\n0,\"a,b\",3,1\n2,x,1,\n5,lone,,7\n";
+
+const SECOND: &str =
+    "left_place,k,right_place,v\n0,y,5,\"line\nbreak\"\n,only right,4,\"say \"\"hi\"\"\"\n";
+
+const BOTH: &str = "k,v\n\"a,b\",1\ny,\"line\nbreak\"\nx,\nlone,7\nonly right,\"say \"\"hi\"\"\"\n";
+
+#[test]
+fn rows_of_both_texts_by_their_places(rt: HostRuntime) -> Result<(), Fail> {
+    assert!(rt; is_merge(rt.alloc(), &[FIRST, SECOND], BOTH)?);
+    assert!(rt; is_merge(rt.alloc(), &[SECOND, FIRST], BOTH)?);
+    Ok(())
+}
+
+#[test]
+fn one_text_and_texts_without_rows(rt: HostRuntime) -> Result<(), Fail> {
+    let alloc = rt.alloc();
+    let alone = "right_place,n,left_place\r\n7,b,\r\n9,a,\r\n";
+    assert!(rt; is_merge(alloc, &[alone], "n\nb\na\n")?);
+    let bare = "\u{feff}left_place,n,right_place\n";
+    assert!(rt; is_merge(alloc, &[bare, bare], "n\n")?);
+    let none = "left_place,right_place\n1,1\n,0\n";
+    assert!(rt; is_merge(alloc, &[none], "\"\"\n\"\"\n\"\"\n")?);
+    let empty = "v,left_place,right_place\n,4,4\n";
+    assert!(rt; is_merge(alloc, &[empty], "v\n\"\"\n")?);
+    Ok(())
+}
+
+#[test]
+fn a_null_text(rt: HostRuntime) -> Result<(), Fail> {
+    let text = "left_place,right_place,v\n3,NULL,a\nNULL,2,NULL\n";
+    let merge = merge_of(rt.alloc(), &[text], "NULL")?;
+    assert!(rt; merge.as_slice() == b"v\na\nNULL\n".as_slice());
+    assert!(rt; fault_of(rt.alloc(), &[text]) == Some(MergeRefused::BadPlace(1, 1)));
+    Ok(())
+}
+
+#[test]
+fn faults_of_headers(rt: HostRuntime) {
+    let alloc = rt.alloc();
+    let good = "left_place,v,right_place\n";
+    assert!(rt; fault_of(alloc, &[""]) == Some(MergeRefused::NoHeader(1)));
+    assert!(rt; fault_of(alloc, &[good, "\n\n"]) == Some(MergeRefused::NoHeader(2)));
+    assert!(rt; fault_of(alloc, &["left_place,v\n"]) == Some(MergeRefused::NoPlaces(1)));
+    assert!(rt; fault_of(alloc, &["v,right_place\n"]) == Some(MergeRefused::NoPlaces(1)));
+    let twice = "left_place,right_place,left_place\n";
+    assert!(rt; fault_of(alloc, &[twice]) == Some(MergeRefused::NoPlaces(1)));
+    let other = "left_place,w,right_place\n";
+    assert!(rt; fault_of(alloc, &[good, good, other]) == Some(MergeRefused::OtherHeader(3)));
+    let longer = "left_place,v,right_place,v\n";
+    assert!(rt; fault_of(alloc, &[good, longer]) == Some(MergeRefused::OtherHeader(2)));
+}
+
+#[test]
+fn faults_of_rows(rt: HostRuntime) {
+    let alloc = rt.alloc();
+    let good = "left_place,right_place\n0,0\n";
+    let short = "left_place,right_place\n1,1\n2\n";
+    assert!(rt; fault_of(alloc, &[good, short]) == Some(MergeRefused::RaggedRow(2, 2)));
+    let signed = "left_place,right_place\n+1,1\n";
+    assert!(rt; fault_of(alloc, &[signed]) == Some(MergeRefused::BadPlace(1, 1)));
+    let long = "left_place,right_place\n1,18446744073709551616\n";
+    assert!(rt; fault_of(alloc, &[good, long]) == Some(MergeRefused::BadPlace(2, 1)));
+    let none = "left_place,right_place\n1,18446744073709551615\n,\n";
+    assert!(rt; fault_of(alloc, &[none]) == Some(MergeRefused::NoPlace(1, 2)));
+    let falls = "left_place,right_place\n,0\n0,\n";
+    assert!(rt; fault_of(alloc, &[good, falls]) == Some(MergeRefused::NotInOrder(2, 2)));
+    let repeated = Some(MergeRefused::RepeatedPlace(Place::Pair(0, 0)));
+    assert!(rt; fault_of(alloc, &[good, good]) == repeated);
+}
+
+#[test]
+fn more_than_a_block(rt: HostRuntime) -> Result<(), Fail> {
+    let alloc = rt.alloc();
+    let mut even = String::from_str(alloc, "left_place,v,right_place\n")?;
+    let mut odd = String::from_str(alloc, "left_place,v,right_place\n")?;
+    let mut want = String::from_str(alloc, "v\n")?;
+    for i in 0..8000u64 {
+        if i % 2 == 0 {
+            write!(even, "{i},the text of row {i},\n")?;
+        } else {
+            write!(odd, "{i},the text of row {i},\n")?;
+        }
+        write!(want, "the text of row {i}\n")?;
+    }
+    assert!(rt; is_merge(alloc, &[odd.as_str(), even.as_str()], want.as_str())?);
+    Ok(())
+}
+
+// A reader that a signal breaks off before each byte, and that may fail behind its text.
+#[derive(Drop)]
+struct Halting<'t> {
+    text: &'t [u8],
+    at: usize,
+    broken: bool,
+    fails: bool,
+}
+
+impl<'t> Read for Halting<'t> {
+    fn read(&mut self, buffer: &mut [u8]) -> io::Result<usize> {
+        if !self.broken {
+            self.broken = true;
+            return Err(io::Error::from(io::ErrorKind::Interrupted));
+        }
+        self.broken = false;
+        match (self.text.get(self.at), buffer.first_mut()) {
+            (Some(byte), Some(place)) => {
+                *place = *byte;
+                self.at = self.at.saturating_add(1);
+                Ok(1)
+            }
+            _ => {
+                if self.fails {
+                    return Err(io::Error::from(io::ErrorKind::Other));
+                }
+                Ok(0)
+            }
+        }
+    }
+}
+
+// A writer that takes nothing.
+#[derive(Drop)]
+struct Full;
+
+impl Write for Full {
+    fn write(&mut self, _bytes: &[u8]) -> io::Result<usize> {
+        Err(io::Error::from(io::ErrorKind::BrokenPipe))
+    }
+
+    fn flush(&mut self) -> io::Result<()> {
+        Ok(())
+    }
+}
+
+// A patient reader of such a text.
+fn patient(text: &str, fails: bool) -> Patient<Halting<'_>> {
+    Patient::new(Halting {
+        text: text.as_bytes(),
+        at: 0,
+        broken: false,
+        fails,
+    })
+}
+
+#[test]
+fn patient_readers(rt: HostRuntime) -> Result<(), Fail> {
+    let alloc = rt.alloc();
+    let whole = vec![in alloc; patient(SECOND, false), patient(FIRST, false)]?;
+    assert!(rt; merge_inputs(alloc, whole, "")?.as_slice() == BOTH.as_bytes());
+    let fails = vec![in alloc; patient(SECOND, false), patient(FIRST, true)]?;
+    let refused = merge_inputs(alloc, fails, "").map(|_| ());
+    let device = MergeTextsRefused::Merge(MergeRefused::ReadDevice(2));
+    assert_eq!(rt; refused, Err(device));
+    Ok(())
+}
+
+#[test]
+fn an_output_that_takes_nothing(rt: HostRuntime) -> Result<(), Fail> {
+    let alloc = rt.alloc();
+    let inputs = vec![in alloc; FIRST.as_bytes()]?;
+    let mut output = CountedWriter::new(Full);
+    let refused = merge_texts(alloc, inputs, "", &mut output);
+    assert_eq!(rt; refused, Err(MergeTextsRefused::WriteDevice));
+    assert_eq!(rt; output.failures(), 1);
+    Ok(())
+}

@@ -1,0 +1,175 @@
+//! What joins are split into: the pairs of key columns, and the truth of the remainder, which is that of a clause.
+
+ghost use Rattle.std.specs.Prelude.{◌≡◌, ◌<◌, length, true};
+ghost use Rattle.rj_condition.specs.Fits.{fits};
+ghost use Rattle.rj_condition.specs.Parts.{split_fits};
+
+use crate::condition::samples::{INT, Sample, join_of, tables};
+use rj_columns::{Cell, Table};
+use rj_condition::{BoundJoin, Split, split};
+use std::alloc::{AllocError, Global};
+
+// Whether the remainder is as true as a join at a left row and each right row.
+fn is_row(parts: &Split<'_>, rest: &BoundJoin, left: &Table, row: u32, right: &Table) -> bool
+    requires row { row < length left.now.rows }
+    requires parts { split_fits parts.now left.now.types right.now.types ≡ true }
+    requires rest { fits rest.now left.now.types right.now.types ≡ true }
+{
+    for j in 0..right.rows() as u32 {
+        if parts.remainder.truth(left, row, right, j) != rest.truth(left, row, right, j) {
+            return false;
+        }
+    }
+    true
+}
+
+// Whether it is at each pair of rows.
+fn are_rows(parts: &Split<'_>, rest: &BoundJoin, left: &Table, right: &Table) -> bool
+    requires parts { split_fits parts.now left.now.types right.now.types ≡ true }
+    requires rest { fits rest.now left.now.types right.now.types ≡ true }
+{
+    for i in 0..left.rows() as u32 {
+        if !is_row(parts, rest, left, i, right) {
+            return false;
+        }
+    }
+    true
+}
+
+// A clause, its key columns, the same in both tables, and a clause that its remainder means.
+type Case<'a> = (&'a str, &'a [usize], &'a str);
+
+fn are(columns: Result<Vec<usize>, AllocError>, want: &[usize]) -> bool {
+    match columns {
+        Ok(columns) => columns.as_slice() == want,
+        Err(_) => false,
+    }
+}
+
+fn has_keys(alloc: Global, parts: &Split<'_>, keys: &[usize]) -> bool {
+    are(parts.left_columns(alloc), keys) && are(parts.right_columns(alloc), keys)
+}
+
+fn has_rest(alloc: Global, parts: &Split<'_>, rest: &str, left: &Table, right: &Table) -> bool
+    requires { split_fits parts.now left.now.types right.now.types ≡ true }
+{
+    match join_of(alloc, rest, left, right) {
+        Ok(rest) => are_rows(parts, &rest, left, right),
+        Err(_) => false,
+    }
+}
+
+fn has_parts(alloc: Global, join: &BoundJoin, case: Case<'_>, left: &Table, right: &Table) -> bool
+    requires { fits join.now left.now.types right.now.types ≡ true }
+{
+    match split(alloc, join) {
+        Ok(parts) => {
+            has_keys(alloc, &parts, case.1) && has_rest(alloc, &parts, case.2, left, right)
+        }
+        Err(_) => false,
+    }
+}
+
+fn is_right(alloc: Global, case: Case<'_>, left: &Table, right: &Table) -> bool {
+    match join_of(alloc, case.0, left, right) {
+        Ok(join) => has_parts(alloc, &join, case, left, right),
+        Err(_) => false,
+    }
+}
+
+fn wrong_of<'a>(alloc: Global, cases: &[Case<'a>], left: &Table, right: &Table) -> &'a str {
+    for case in cases {
+        if !is_right(alloc, *case, left, right) {
+            return case.0;
+        }
+    }
+    ""
+}
+
+// The first clause of the cases that has other parts; empty where there is none.
+fn first_wrong<'a>(
+    alloc: Global,
+    left: Sample<'_>,
+    right: Sample<'_>,
+    cases: &[Case<'a>],
+) -> &'a str {
+    match tables(alloc, left, right) {
+        Some((left, right)) => wrong_of(alloc, cases, &left, &right),
+        None => "the tables",
+    }
+}
+
+const THREE_ROWS: Sample<'static> = (
+    &[b"a", b"d", b"x"],
+    &[INT, INT, INT],
+    &[
+        &[Cell::Int(1), Cell::Int(1), Cell::Int(5)],
+        &[Cell::Int(1), Cell::Int(2), Cell::Int(6)],
+        &[Cell::Int(2), Cell::Int(1), Cell::Int(9)],
+    ],
+);
+
+const TWO_ROWS: Sample<'static> = (
+    &[b"b", b"c"],
+    &[INT, INT],
+    &[&[Cell::Int(1), Cell::Int(2)], &[Cell::Null, Cell::Int(1)]],
+);
+
+const NESTED: [Case<'static>; 1] = [(
+    "JOIN ON L.a = R.b AND (R.c = L.d AND L.x > 5)",
+    &[0, 1],
+    "JOIN ON L.x > 5",
+)];
+
+#[test]
+fn nested_conjunction(rt: HostRuntime) {
+    assert_eq!(rt;
+        first_wrong(rt.alloc(), THREE_ROWS, TWO_ROWS, NESTED.as_slice()),
+        ""
+    );
+}
+
+const LEFTS: Sample<'static> = (
+    &[b"a", b"b"],
+    &[INT, INT],
+    &[
+        &[Cell::Int(1), Cell::Int(3)],
+        &[Cell::Int(2), Cell::Int(2)],
+        &[Cell::Int(2), Cell::Null],
+    ],
+);
+
+const RIGHTS: Sample<'static> = (
+    &[b"a", b"b"],
+    &[INT, INT],
+    &[
+        &[Cell::Int(2), Cell::Int(5)],
+        &[Cell::Int(1), Cell::Int(4)],
+        &[Cell::Null, Cell::Int(1)],
+    ],
+);
+
+const EITHER: &str = "JOIN ON L.a = R.a OR L.b < R.b";
+
+const TESTED: &str = "JOIN ON (L.a = R.a) IS TRUE";
+
+const KEYS_AND_RESTS: [Case<'static>; 6] = [
+    (EITHER, &[], EITHER),
+    (TESTED, &[], TESTED),
+    ("JOIN ON L.a = L.b AND R.a = L.a", &[0], "JOIN ON L.a = L.b"),
+    (
+        "JOIN ON (((L.a = R.a)) AND L.a = R.a)",
+        &[0, 0],
+        "CROSS JOIN",
+    ),
+    ("JOIN USING (a)", &[0], "CROSS JOIN"),
+    ("CROSS JOIN", &[], "CROSS JOIN"),
+];
+
+#[test]
+fn keys_and_remainders(rt: HostRuntime) {
+    assert_eq!(rt;
+        first_wrong(rt.alloc(), LEFTS, RIGHTS, KEYS_AND_RESTS.as_slice()),
+        ""
+    );
+}

@@ -1,0 +1,46 @@
+"""The repository's crates, and the code of the Rattle kit's command `rt`, for the tools beside this file."""
+
+import importlib.machinery
+import importlib.util
+import os
+import shutil
+import sys
+from pathlib import Path
+
+ROOT = Path(__file__).resolve().parent.parent
+
+
+def crates():
+    """What each crate of crates.txt stands on, by its name: its line, and the names of libraries."""
+    lines = {}
+    for line in (ROOT / "crates.txt").read_text().splitlines():
+        line = line.partition("#")[0].strip()
+        if line:
+            head, _, below = line.partition(":")
+            lines[head.split()[0]] = (line, below.split())
+    return lines
+
+
+def below(lines, name):
+    """The repository's crates that a crate stands on, lowest first."""
+    found = []
+    for it in lines[name][1]:
+        if it in lines:
+            found += [*below(lines, it), it]
+    return list(dict.fromkeys(found))
+
+
+def code_of_rt():
+    """The code of `rt`: what its command line can't be asked for, as checks of several crates at once, is asked of it."""
+    path = Path(shutil.which("rt")).resolve()
+    sys.path.insert(0, str(path.parent))
+    loader = importlib.machinery.SourceFileLoader("rt", str(path))
+    code = importlib.util.module_from_spec(importlib.util.spec_from_loader("rt", loader))
+    loader.exec_module(code)
+    # (its first call sets a signal's handler, which only the main thread may)
+    code.rtlib.guarded()
+    return code
+
+
+def processors():
+    return len(os.sched_getaffinity(0))
