@@ -31,7 +31,8 @@ def below(lines, name):
 
 
 def code_of_rt():
-    """The code of `rt`: what its command line can't be asked for, as checks of several crates at once, is asked of it."""
+    """The code of `rt`: what its command line can't be asked for, as checks of several crates at once, is asked of it. A kit that
+    can share what checks of one crate kept between clones does so."""
     path = Path(shutil.which("rt")).resolve()
     sys.path.insert(0, str(path.parent))
     loader = importlib.machinery.SourceFileLoader("rt", str(path))
@@ -39,7 +40,18 @@ def code_of_rt():
     loader.exec_module(code)
     # (its first call sets a signal's handler, which only the main thread may)
     code.rtlib.guarded()
+    if hasattr(code, "share_work"):
+        code.share_work(True)
     return code
+
+
+def copy_of_kept(code, folder, to):
+    """Copies what a check kept, for another check to go on from: by links where the kit's checks never write into a file that
+    they kept."""
+    if hasattr(code, "linked"):
+        code.linked(folder, to)
+    else:
+        shutil.copytree(folder, to)
 
 
 def processors():
