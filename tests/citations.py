@@ -1,4 +1,4 @@
-"""Checks that what the documents cite exists: links and their anchors, paths, and the names of calls, definitions and tests."""
+"""Checks that what the documents cite exists: links and their anchors, paths, the names of calls, definitions and tests, and crates."""
 import re
 import subprocess
 
@@ -102,6 +102,25 @@ def definition_faults(text):
                 yield f"{name} is defined in none of {', '.join(files)}"
 
 
+def listed_crates():
+    """What each crate of crates.txt stands on, by its name."""
+    lines = [line.partition("#")[0] for line in (harness.ROOT / "crates.txt").read_text().splitlines()]
+    return {line.split()[0].rstrip(":"): set(line.partition(":")[2].split()) for line in lines if line.strip()}
+
+
+def crate_faults(text):
+    """Where the table of crates differs from crates.txt: which there are, and what they stand on where that is told."""
+    listed, told = listed_crates(), set()
+    for names, below in re.findall(r"^\| (`[^|]*`) \|[^|]*\| ([^|]*) \|$", text.partition("\n## The way of the data")[0], re.MULTILINE):
+        row = re.findall(r"`(\w+)`", names)
+        told.update(row)
+        wanted, found = set().union(*(listed.get(name, set()) for name in row)), set(re.findall(r"`(\w+)`", below))
+        if found != wanted and "that they test" not in below:
+            yield f"{', '.join(row)}: stands on {', '.join(sorted(wanted)) or 'std alone'}, and {', '.join(sorted(found)) or 'nothing'} is told"
+    yield from (f"{name} is told, and crates.txt hasn't it" for name in sorted(told - set(listed)))
+    yield from (f"crates.txt has {name}, which isn't told" for name in sorted(set(listed) - told))
+
+
 def run_all(tally):
     """The links, paths and names of every document."""
     files = tracked()
@@ -115,3 +134,4 @@ def run_all(tally):
         if page not in FOR_USERS:
             tally.check(f"{page}: names", list(name_faults(prose, words)))
     tally.check("docs/specification.md: definitions", list(definition_faults((harness.ROOT / "docs" / "specification.md").read_text())))
+    tally.check("docs/architecture.md: crates", list(crate_faults((harness.ROOT / "docs" / "architecture.md").read_text())))
