@@ -1,4 +1,7 @@
-//! Runs over rows made by hand. Each test tells the same in every schedule.
+//! Runs over rows made by hand, and workers that are held up at a gate. Each test tells the same in every schedule.
 
 mod dealt;
+mod queues;
 mod runs;
+mod sharing;
+mod waiting;

@@ -1,4 +1,6 @@
-//! The faults' lines and statuses, and scripts of arrivals.
+//! The faults' lines and statuses, scripts of arrivals, and whole runs.
 
+mod broken;
 mod faults;
+mod runs;
 mod scripts;

@@ -1,6 +1,7 @@
-//! Worked examples of the parts, of the join beside the plain one, and of workers that are held up at a gate.
+//! Worked examples of the parts, of the join beside the plain one, of workers held up at a gate, and of a hash that counts.
 
 mod gates;
+mod hashed;
 mod joins;
 mod parts;
 mod shards;

@@ -1,4 +1,4 @@
-//! A job over rows made by hand.
+//! A job over rows made by hand, which counts how often each partition is built.
 ghost use Rattle.std.specs.Prelude.{◌≡◌, ◌<◌, ◌≤◌, ◌+◌, ℕ, All, IfOk, IfSome, length, map};
 ghost use Rattle.std.proofs.Props.{props};
 ghost use Rattle.rj_radix.specs.Groups.{IsPart, group};
@@ -7,6 +7,7 @@ use rj_ledger::Ledger;
 use rj_radix::{Scattered, scatter};
 use rj_workers::Job;
 use std::alloc::{AllocError, Global};
+use std::sync::atomic::{AtomicU64, Ordering};
 
 /// How many partitions there are: a row goes to that of its number modulo this.
 pub const PARTITIONS: u32 = 3;
@@ -36,8 +37,44 @@ pub fn rows_of(alloc: Global, given: &[u32]) -> Result<Rows, AllocError> {
 pub struct Dealt {
     pub senders: Vec<Rows>,
     pub stripes: u32,
+    builds: Vec<AtomicU64>,
     ghost both: { length senders.items ≡ stripes + stripes },
     ghost limits: { (1 ≤ stripes) × (stripes ≤ 64) },
+}
+
+/// Rows for so many senders of each table: sender 0 has the rows 0 to 4, sender 1 the rows 10 to 14, and so on.
+pub fn deal(alloc: Global, stripes: u32) -> Result<Dealt, AllocError>
+    requires { (1 ≤ stripes) × (stripes ≤ 64) }
+    ensures { IfOk result (λ d. d.stripes ≡ stripes) }
+{
+    let mut senders = Vec::new(alloc);
+    for sender in 0..stripes + stripes {
+        let first = sender * 10;
+        let rows = [first, first + 1, first + 2, first + 3, first + 4];
+        senders.push(rows_of(alloc, rows.as_slice())?)?;
+    }
+    let builds = vec![in alloc; AtomicU64::new(0), AtomicU64::new(0), AtomicU64::new(0)]?;
+    Ok(Dealt {
+        senders,
+        stripes,
+        builds,
+    })
+}
+
+impl Dealt {
+    // Counts that a partition is built.
+    fn count_build(&self, partition: u32) {
+        if let Some(count) = self.builds.get(partition as usize) {
+            count.fetch_add(1, Ordering::SeqCst);
+        }
+    }
+
+    /// Whether each partition was built so often.
+    pub fn is_built(&self, times: u64) -> bool {
+        self.builds
+            .iter()
+            .all(|count| count.load(Ordering::SeqCst) == times)
+    }
 }
 
 // The rows of a sender by partition.
@@ -89,7 +126,8 @@ impl Job for Dealt {
         partition: u32,
         ledger: &Ledger,
     ) -> Result<Option<Vec<(u32, u32)>>, AllocError> {
-        let pairs = self.build(alloc, partition, ledger)?;
+        self.count_build(partition);
+        let pairs = pairs_of(alloc, ledger.delivered(0))?;
         Ok(Some(pairs))
     }
 
@@ -99,8 +137,7 @@ impl Job for Dealt {
         partition: u32,
         ledger: &Ledger,
     ) -> Result<Vec<(u32, u32)>, AllocError> {
-        let _job = self;
-        let _partition = partition;
+        self.count_build(partition);
         let pairs = pairs_of(alloc, ledger.delivered(0))?;
         Ok(pairs)
     }

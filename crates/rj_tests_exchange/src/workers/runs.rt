@@ -1,7 +1,7 @@
-//! Runs of one, two and three workers.
+//! Runs of one, two, three and eight workers.
 ghost use Rattle.std.specs.Prelude.{◌≡◌, ◌<◌, ◌≤◌, ◌+◌, ℕ, IfOk, IfSome, length, slice_index_or};
 
-use crate::workers::dealt::{Dealt, PARTITIONS, rows_of};
+use crate::workers::dealt::{Dealt, PARTITIONS, deal};
 use rj_ledger::Ledger;
 use rj_workers::{Crew, Delivered, Open, run_workers};
 use std::alloc::{AllocError, Global};
@@ -9,20 +9,6 @@ use std::sync::Wait;
 use std::test::Fail;
 use std::thread::Threads;
 use std::time::Clock;
-
-// Sender 0 has the rows 0 to 4, sender 1 the rows 10 to 14, and so on.
-fn deal(alloc: Global, stripes: u32) -> Result<Dealt, AllocError>
-    requires { (1 ≤ stripes) × (stripes ≤ 64) }
-    ensures { IfOk result (λ d. d.stripes ≡ stripes) }
-{
-    let mut senders = Vec::new(alloc);
-    for sender in 0..stripes + stripes {
-        let first = sender * 10;
-        let rows = [first, first + 1, first + 2, first + 3, first + 4];
-        senders.push(rows_of(alloc, rows.as_slice())?)?;
-    }
-    Ok(Dealt { senders, stripes })
-}
 
 // A run with queues of one block; none where memory or a thread is refused.
 fn run<R: Threads + Wait + Clock + Sync>(
@@ -152,6 +138,29 @@ fn two_workers(rt: HostRuntime) -> Result<(), Fail> {
 fn three_workers(rt: HostRuntime) -> Result<(), Fail> {
     assert!(rt; runs(&rt, rt.alloc(), 3, 1, 0)?);
     assert!(rt; runs(&rt, rt.alloc(), 3, 2, 3)?);
+    Ok(())
+}
+
+// Whether a run of so many workers builds each partition once.
+fn builds_once<R: Threads + Wait + Clock + Sync>(
+    rt: &R,
+    alloc: Global,
+    workers: u32,
+) -> Result<bool, AllocError>
+    requires { (1 ≤ workers) × (workers ≤ 64) }
+{
+    let job = deal(alloc, workers)?;
+    match run(rt, alloc, &job, 1, 0) {
+        Some(_) => Ok(job.is_built(1)),
+        None => Ok(false),
+    }
+}
+
+#[test]
+fn partitions_are_built_once(rt: HostRuntime) -> Result<(), Fail> {
+    assert!(rt; builds_once(&rt, rt.alloc(), 1)?);
+    assert!(rt; builds_once(&rt, rt.alloc(), 2)?);
+    assert!(rt; builds_once(&rt, rt.alloc(), 8)?);
     Ok(())
 }
 

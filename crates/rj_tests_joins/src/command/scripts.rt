@@ -1,7 +1,8 @@
 //! Worked examples of scripts, and writers that fail.
 
+use crate::command::broken::Broken;
 use rj_command::{Fault, arrivals};
-use rj_csv_io::{CountedWriter, Failed, Output};
+use rj_csv_io::{CountedWriter, Output};
 use std::alloc::Global;
 
 // Whether a script is printed so, with no line unreadable or with one.
@@ -159,28 +160,9 @@ fn forms_of_a_line(rt: HostRuntime) {
     assert!(rt; is_printed(rt.alloc(), "000 0 00 close\n", 0, 1, 4, false, closed, true));
 }
 
-// A writer that takes nothing.
-#[derive(Drop)]
-struct Broken {
-    failures: u64,
-}
-
-impl Output for Broken {
-    ghost count = { λ w. w.failures };
-
-    fn put(&mut self, _bytes: &[u8]) -> Result<(), Failed> {
-        self.failures += 1;
-        Err(Failed)
-    }
-
-    fn failures(&self) -> u64 {
-        self.failures
-    }
-}
-
 #[test]
 fn broken_writer(rt: HostRuntime) {
-    let mut writer = Broken { failures: 0 };
+    let mut writer = Broken::new();
     let answer = arrivals(rt.alloc(), b"", 0, 1, 4, false, &mut writer);
     assert!(rt; matches!(answer, Err(Fault::WriteDevice)));
     assert_eq!(rt; writer.failures(), 1);

@@ -1,0 +1,31 @@
+//! A writer that takes nothing.
+
+use rj_csv_io::{Failed, Output};
+
+/// Fails whenever it is given bytes.
+#[derive(Drop)]
+pub struct Broken {
+    failures: u64,
+}
+
+impl Broken {
+    /// It has not failed yet.
+    pub fn new() -> Broken
+        ensures { Broken.Output.count result ≡ 0 }
+    {
+        Broken { failures: 0 }
+    }
+}
+
+impl Output for Broken {
+    ghost count = { λ w. w.failures };
+
+    fn put(&mut self, _bytes: &[u8]) -> Result<(), Failed> {
+        self.failures += 1;
+        Err(Failed)
+    }
+
+    fn failures(&self) -> u64 {
+        self.failures
+    }
+}

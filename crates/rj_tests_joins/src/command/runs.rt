@@ -1,0 +1,380 @@
+//! Whole runs by the words of a command line over the bytes of two tables, which are lent to the run or given to it.
+
+ghost use Rattle.std.specs.Prelude.{◌<◌, ◌-◌, ◌^◌};
+
+use crate::command::broken::Broken;
+use rj_command::{Fault, Open, Request, Stats, read_line, run, run_owned};
+use rj_csv_io::{CountedWriter, Output};
+use rj_engine::{Gate, Place};
+use std::alloc::{AllocError, Global};
+use std::sync::Wait;
+use std::sync::atomic::{AtomicU64, Ordering};
+use std::test::Fail;
+use std::thread::Threads;
+use std::time::Clock;
+
+const PEOPLE: &[u8] = b"id,name\n1,ann\n2,bob\n3,cy\n";
+
+const CITIES: &[u8] = b"id,city\n4,rome\n2,oslo\n5,lima\n";
+
+// Two tables, the types of their columns, a clause, and the null text.
+#[derive(Clone, Copy)]
+struct Asked<'a> {
+    left: &'a [u8],
+    left_types: &'a str,
+    right: &'a [u8],
+    right_types: &'a str,
+    clause: &'a str,
+    null: &'a str,
+    // Whether the bytes of the tables are given to the run.
+    owned: bool,
+}
+
+// A clause over the people and the cities.
+fn ask(clause: &str) -> Asked<'_> {
+    Asked {
+        left: PEOPLE,
+        left_types: "int,text",
+        right: CITIES,
+        right_types: "int,text",
+        clause,
+        null: "",
+        owned: false,
+    }
+}
+
+// The words of a command line that asks so, with these words behind them.
+fn words_of<'a>(
+    alloc: Global,
+    asked: &Asked<'a>,
+    further: &[&'a str],
+) -> Result<Vec<&'a str>, AllocError> {
+    let words = [
+        "--left",
+        "people",
+        "--left-types",
+        asked.left_types,
+        "--right",
+        "cities",
+        "--right-types",
+        asked.right_types,
+        "--join",
+        asked.clause,
+        "--null",
+        asked.null,
+    ];
+    let mut all = words.to_vec(alloc)?;
+    all.extend_from_slice(further)?;
+    Ok(all)
+}
+
+// A run over the tables.
+fn called<R: Threads + Wait + Clock + Sync, G: Gate + Sync, O: Output>(
+    rt: &R,
+    alloc: Global,
+    asked: &Asked<'_>,
+    request: &Request<'_>,
+    gate: &G,
+    writer: &mut O,
+) -> Result<Stats, Fault>
+    requires { O.count writer.old < 2 ^ 64 - 1 }
+{
+    if !asked.owned {
+        return run(rt, alloc, asked.left, asked.right, request, gate, writer);
+    }
+    let left = asked.left.to_vec(alloc)?;
+    let right = asked.right.to_vec(alloc)?;
+    run_owned(rt, alloc, left, right, request, gate, writer)
+}
+
+// What a run writes, and the line of its fault, if it has one.
+fn written<R: Threads + Wait + Clock + Sync>(
+    rt: &R,
+    alloc: Global,
+    asked: &Asked<'_>,
+) -> Result<(Vec<u8>, String), Fail> {
+    let words = words_of(alloc, asked, [].as_slice())?;
+    let line = read_line(alloc, words.as_slice())?;
+    let mut writer = CountedWriter::new(Vec::new(alloc));
+    let fault = match called(rt, alloc, asked, &line.request, &Open, &mut writer) {
+        Ok(_) => String::new(alloc),
+        Err(fault) => format!(in alloc; "{fault}")?,
+    };
+    Ok((writer.into_inner(), fault))
+}
+
+// Whether a run writes this text, whether its bytes are lent or given.
+fn writes<R: Threads + Wait + Clock + Sync>(
+    rt: &R,
+    alloc: Global,
+    asked: Asked<'_>,
+    text: &[u8],
+) -> Result<bool, Fail> {
+    for owned in [false, true] {
+        let mut asked = asked;
+        asked.owned = owned;
+        let (bytes, fault) = written(rt, alloc, &asked)?;
+        if bytes.as_slice() != text || !fault.is_empty() {
+            return Ok(false);
+        }
+    }
+    Ok(true)
+}
+
+// Whether a run writes nothing and ends by the fault of this line, whether its bytes are lent or given.
+fn tells<R: Threads + Wait + Clock + Sync>(
+    rt: &R,
+    alloc: Global,
+    asked: Asked<'_>,
+    line: &str,
+) -> Result<bool, Fail> {
+    for owned in [false, true] {
+        let mut asked = asked;
+        asked.owned = owned;
+        let (bytes, fault) = written(rt, alloc, &asked)?;
+        if !bytes.is_empty() || fault.as_str() != line {
+            return Ok(false);
+        }
+    }
+    Ok(true)
+}
+
+#[test]
+fn joined_tables_are_written(rt: HostRuntime) -> Result<(), Fail> {
+    let alloc = rt.alloc();
+    let inner = ask("JOIN USING (id)");
+    assert!(rt; writes(&rt, alloc, inner, b"id,name,city\n2,bob,oslo\n")?);
+    let full = ask("FULL JOIN ON L.id = R.id");
+    let wanted = concat!(
+        "id,name,id,city\n",
+        "2,bob,2,oslo\n",
+        "1,ann,,\n",
+        "3,cy,,\n",
+        ",,4,rome\n",
+        ",,5,lima\n",
+    );
+    assert!(rt; writes(&rt, alloc, full, wanted.as_bytes())?);
+    Ok(())
+}
+
+#[test]
+fn faults_of_the_left_table(rt: HostRuntime) -> Result<(), Fail> {
+    for (left, line) in [
+        (b"".as_slice(), "radixjoin: E1 NoHeader left"),
+        (b"id,\n1,ann\n", "radixjoin: E2 BadName left column 2"),
+        (
+            b"id,ID\n1,ann\n",
+            "radixjoin: E3 RepeatedName left column 2",
+        ),
+        (b"id\n1\n", "radixjoin: E4 TypeCount left"),
+        (b"id,name\n1,ann\n2\n", "radixjoin: E5 RaggedRow left row 2"),
+        (
+            b"id,name\nx,ann\n",
+            "radixjoin: E6 BadInteger left row 1 column 1",
+        ),
+        (
+            b"id,name\n1,\xff\n",
+            "radixjoin: E7 BadText left row 1 column 2",
+        ),
+    ] {
+        let mut asked = ask("JOIN USING (id)");
+        asked.left = left;
+        assert!(rt; tells(&rt, rt.alloc(), asked, line)?, "{line}");
+    }
+    Ok(())
+}
+
+// The names c0, c1 and so on of so many columns, with commas between them.
+fn names(alloc: Global, columns: u32) -> Result<String, Fail> {
+    let mut text = String::from_str(alloc, "c")?;
+    for column in 1..columns {
+        let name = format!(in alloc; "{column},c")?;
+        text.push_str(&name)?;
+    }
+    text.push('0')?;
+    Ok(text)
+}
+
+#[test]
+fn faults_of_the_right_table(rt: HostRuntime) -> Result<(), Fail> {
+    let alloc = rt.alloc();
+    let columns = names(alloc, 257)?;
+    for (right, line) in [
+        (b"\n".as_slice(), "radixjoin: E1 NoHeader right"),
+        (
+            b"id,city\n4,rome\n2,\"oslo\",1\n",
+            "radixjoin: E5 RaggedRow right row 2",
+        ),
+        (columns.as_bytes(), "radixjoin: E9 TooManyColumns right"),
+    ] {
+        let mut asked = ask("JOIN USING (id)");
+        asked.right = right;
+        assert!(rt; tells(&rt, alloc, asked, line)?, "{line}");
+    }
+    let mut asked = ask("JOIN USING (id)");
+    asked.null = "a,b";
+    assert!(rt; tells(&rt, alloc, asked, "radixjoin: E10 BadNull")?);
+    Ok(())
+}
+
+// A clause with so many blanks at its end.
+fn with_blanks(alloc: Global, clause: &str, blanks: usize) -> Result<String, Fail> {
+    let mut text = String::from_str(alloc, clause)?;
+    for _ in 0..blanks {
+        text.push(' ')?;
+    }
+    Ok(text)
+}
+
+// A condition in so many parentheses.
+fn nested(alloc: Global, depth: usize) -> Result<String, Fail> {
+    let mut text = String::from_str(alloc, "JOIN ON ")?;
+    for _ in 0..depth {
+        text.push('(')?;
+    }
+    text.push_str("L.id = R.id")?;
+    for _ in 0..depth {
+        text.push(')')?;
+    }
+    Ok(text)
+}
+
+#[test]
+fn faults_of_the_clause(rt: HostRuntime) -> Result<(), Fail> {
+    let alloc = rt.alloc();
+    let deep = nested(alloc, 65)?;
+    let long = with_blanks(alloc, "JOIN USING (id)", 65_522)?;
+    for (clause, line) in [
+        ("JOIN USING id", "radixjoin: E11 Syntax byte 11"),
+        (deep.as_str(), "radixjoin: E12 TooDeep"),
+        ("JOIN USING (age)", "radixjoin: E13 UnknownColumn"),
+        ("JOIN ON id = 1", "radixjoin: E14 AmbiguousColumn"),
+        ("JOIN ON L.id = R.city", "radixjoin: E15 TypeMismatch"),
+        ("JOIN USING (id, id)", "radixjoin: E16 RepeatedUsing"),
+        (long.as_str(), "radixjoin: E17 ClauseTooLong"),
+    ] {
+        assert!(rt; tells(&rt, alloc, ask(clause), line)?, "{line}");
+    }
+    Ok(())
+}
+
+// Whether a run to a writer that fails ends by E20, after one failure.
+fn fails_once<R: Threads + Wait + Clock + Sync>(
+    rt: &R,
+    alloc: Global,
+    asked: &Asked<'_>,
+) -> Result<bool, Fail> {
+    let words = words_of(alloc, asked, [].as_slice())?;
+    let line = read_line(alloc, words.as_slice())?;
+    let mut writer = Broken::new();
+    let answer = called(rt, alloc, asked, &line.request, &Open, &mut writer);
+    Ok(matches!(answer, Err(Fault::WriteDevice)) && writer.failures() == 1)
+}
+
+#[test]
+fn fault_of_the_writer(rt: HostRuntime) -> Result<(), Fail> {
+    let mut asked = ask("JOIN USING (id)");
+    assert!(rt; fails_once(&rt, rt.alloc(), &asked)?);
+    asked.owned = true;
+    assert!(rt; fails_once(&rt, rt.alloc(), &asked)?);
+    Ok(())
+}
+
+// Counts how often workers came to each kind of place.
+#[derive(Drop)]
+struct Passes {
+    stripes: AtomicU64,
+    posted: AtomicU64,
+    takes: AtomicU64,
+    partitions: AtomicU64,
+    pieces: AtomicU64,
+}
+
+impl Passes {
+    fn none() -> Passes {
+        Passes {
+            stripes: AtomicU64::new(0),
+            posted: AtomicU64::new(0),
+            takes: AtomicU64::new(0),
+            partitions: AtomicU64::new(0),
+            pieces: AtomicU64::new(0),
+        }
+    }
+
+    fn at(&self, place: Place) -> &AtomicU64 {
+        match place {
+            Place::Stripe(_) => &self.stripes,
+            Place::Posted(_) => &self.posted,
+            Place::Take(_) => &self.takes,
+            Place::Partition(_) => &self.partitions,
+            Place::Piece(_, _) => &self.pieces,
+        }
+    }
+
+    fn counts(&self) -> [u64; 5] {
+        [
+            self.stripes.load(Ordering::SeqCst),
+            self.posted.load(Ordering::SeqCst),
+            self.takes.load(Ordering::SeqCst),
+            self.partitions.load(Ordering::SeqCst),
+            self.pieces.load(Ordering::SeqCst),
+        ]
+    }
+}
+
+impl Gate for Passes {
+    fn pass(&self, place: Place) {
+        self.at(place).fetch_add(1, Ordering::SeqCst);
+    }
+}
+
+// How often workers came to each kind of place in a run of two workers with two partitions, blocks and pieces of one row, and
+// how many pieces it counts; none where it is refused.
+fn counted<R: Threads + Wait + Clock + Sync>(
+    rt: &R,
+    alloc: Global,
+    hash: &str,
+    owned: bool,
+) -> Result<Option<([u64; 5], u64)>, Fail> {
+    let mut asked = ask("JOIN USING (id)");
+    asked.owned = owned;
+    let further = [
+        "--workers",
+        "2",
+        "--bits1",
+        "1",
+        "--block",
+        "1",
+        "--piece",
+        "1",
+        "--hash",
+        hash,
+    ];
+    let words = words_of(alloc, &asked, further.as_slice())?;
+    let line = read_line(alloc, words.as_slice())?;
+    let gate = Passes::none();
+    let mut writer = CountedWriter::new(Vec::new(alloc));
+    let answer = called(rt, alloc, &asked, &line.request, &gate, &mut writer);
+    Ok(match answer {
+        Ok(stats) => Some((gate.counts(), stats.pieces)),
+        Err(_) => None,
+    })
+}
+
+// Each of two workers scans a stripe; a parcel for each of six rows, and a close of each of four senders for each of two partitions,
+// are posted; each partition is drawn and built. By the plain hash, whose last bit is the key's, each partition has two rows on
+// one side, and so two pieces.
+#[test]
+fn gate_is_heeded(rt: HostRuntime) -> Result<(), Fail> {
+    for owned in [false, true] {
+        assert_eq!(rt;
+            counted(&rt, rt.alloc(), "plain", owned)?,
+            Some(([2, 14, 2, 2, 4], 4))
+        );
+        match counted(&rt, rt.alloc(), "mixed", owned)? {
+            Some((counts, pieces)) => assert_eq!(rt; counts, [2, 14, 2, 2, pieces]),
+            None => assert!(rt; false, "memory or a thread was refused"),
+        }
+    }
+    Ok(())
+}
