@@ -1,4 +1,4 @@
-//! A job over rows made by hand, which counts how often each partition is built.
+//! A job over rows made by hand, which counts how often each partition is built, and can refuse scans.
 ghost use Rattle.std.specs.Prelude.{◌≡◌, ◌<◌, ◌≤◌, ◌+◌, ℕ, All, IfOk, IfSome, length, map};
 ghost use Rattle.std.proofs.Props.{props};
 ghost use Rattle.rj_radix.specs.Groups.{IsPart, group};
@@ -37,6 +37,9 @@ pub fn rows_of(alloc: Global, given: &[u32]) -> Result<Rows, AllocError> {
 pub struct Dealt {
     pub senders: Vec<Rows>,
     pub stripes: u32,
+    /// How many scans are refused memory: the first ones.
+    pub refused: u64,
+    scans: AtomicU64,
     builds: Vec<AtomicU64>,
     ghost both: { length senders.items ≡ stripes + stripes },
     ghost limits: { (1 ≤ stripes) × (stripes ≤ 64) },
@@ -57,6 +60,8 @@ pub fn deal(alloc: Global, stripes: u32) -> Result<Dealt, AllocError>
     Ok(Dealt {
         senders,
         stripes,
+        refused: 0,
+        scans: AtomicU64::new(0),
         builds,
     })
 }
@@ -115,6 +120,9 @@ impl Job for Dealt {
     ghost builds = { λ s p lists pairs. pairs.items ≡ map (λ r. (r, r)) (slice_index_or lists 0 []) };
 
     fn scatter(&self, alloc: Global, stripe: u32) -> Result<(Scattered, Scattered), AllocError> {
+        if self.scans.fetch_add(1, Ordering::SeqCst) < self.refused {
+            return Err(AllocError);
+        }
         let lefts = scatter_rows(alloc, &self.senders[stripe as usize])?;
         let rights = scatter_rows(alloc, &self.senders[(self.stripes + stripe) as usize])?;
         Ok((lefts, rights))

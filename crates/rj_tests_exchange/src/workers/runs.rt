@@ -164,6 +164,34 @@ fn partitions_are_built_once(rt: HostRuntime) -> Result<(), Fail> {
     Ok(())
 }
 
+// Whether a run of one worker ends with all that was dealt, where so many scans are refused memory.
+fn ends<R: Threads + Wait + Clock + Sync>(
+    rt: &R,
+    alloc: Global,
+    refused: u64,
+    retries: u32,
+) -> Result<bool, AllocError> {
+    let mut job = deal(alloc, 1)?;
+    job.refused = refused;
+    match run(rt, alloc, &job, 1, retries) {
+        Some(delivered) => {
+            let whole = is_whole(alloc, &delivered, 2)?;
+            Ok(whole)
+        }
+        None => Ok(false),
+    }
+}
+
+// A stripe whose scan is refused memory is scanned again, as often as the retries allow.
+#[test]
+fn refused_stripes_are_scanned_again(rt: HostRuntime) -> Result<(), Fail> {
+    assert!(rt; !ends(&rt, rt.alloc(), 1, 0)?);
+    assert!(rt; ends(&rt, rt.alloc(), 1, 1)?);
+    assert!(rt; ends(&rt, rt.alloc(), 3, 3)?);
+    assert!(rt; !ends(&rt, rt.alloc(), 4, 3)?);
+    Ok(())
+}
+
 // Sender 0 has the rows 0 to 4, and the only other sender 10 to 14.
 #[test]
 fn rows_by_partition(rt: HostRuntime) -> Result<(), Fail> {

@@ -5,16 +5,8 @@ use rj_csv_io::{Failed, Output};
 /// Fails whenever it is given bytes.
 #[derive(Drop)]
 pub struct Broken {
-    failures: u64,
-}
-
-impl Broken {
-    /// It has not failed yet.
-    pub fn new() -> Broken
-        ensures { Broken.Output.count result ≡ 0 }
-    {
-        Broken { failures: 0 }
-    }
+    /// How often it failed.
+    pub failures: u64,
 }
 
 impl Output for Broken {

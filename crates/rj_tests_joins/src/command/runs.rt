@@ -266,7 +266,7 @@ fn fails_once<R: Threads + Wait + Clock + Sync>(
 ) -> Result<bool, Fail> {
     let words = words_of(alloc, asked, [].as_slice())?;
     let line = read_line(alloc, words.as_slice())?;
-    let mut writer = Broken::new();
+    let mut writer = Broken { failures: 0 };
     let answer = called(rt, alloc, asked, &line.request, &Open, &mut writer);
     Ok(matches!(answer, Err(Fault::WriteDevice)) && writer.failures() == 1)
 }

@@ -162,7 +162,7 @@ fn forms_of_a_line(rt: HostRuntime) {
 
 #[test]
 fn broken_writer(rt: HostRuntime) {
-    let mut writer = Broken::new();
+    let mut writer = Broken { failures: 0 };
     let answer = arrivals(rt.alloc(), b"", 0, 1, 4, false, &mut writer);
     assert!(rt; matches!(answer, Err(Fault::WriteDevice)));
     assert_eq!(rt; writer.failures(), 1);
