@@ -6,6 +6,7 @@ use Rattle.std.proofs.lemmas.List.{append-nil, length-append}
 use Rattle.rj_columns.specs.declared.cell.ColumnType.{ColumnType}
 use Rattle.rj_columns.specs.declared.cell.ColumnType.TheVariants as kind
 use Rattle.rj_columns.specs.declared.refused.BuildRefused.{BuildRefused}
+use Rattle.rj_columns.specs.declared.refused.BuildRefused.TheVariants as build
 use Rattle.rj_columns.specs.Contents.{Content}
 use Rattle.rj_columns.specs.Names.{begun, name_fault}
 use Rattle.rj_columns.specs.Tables.{TableValue}
@@ -13,13 +14,13 @@ use Rattle.rj_csv_io.specs.declared.refused.ReadRefused.{ReadRefused}
 use Rattle.rj_csv_io.specs.declared.refused.ReadRefused.TheVariants as read
 use Rattle.rj_csv_io.specs.Pieces.{AreRows}
 use Rattle.rj_csv_io.specs.Rows.{read_row, read_rows}
-use Rattle.rj_csv_io.specs.Tables.{read_records}
+use Rattle.rj_csv_io.specs.Tables.{of_begun, read_records}
 use Rattle.rj_csv_io.specs.Typed.{bad_cell, read_cell, read_cells}
 use Rattle.rj_csv_io.proofs.RowsFacts.{rows-end, rows-fault, rows-step}
-use Rattle.rj_csv_io.proofs.TableFacts.{rows_fault}
+use Rattle.rj_csv_io.proofs.TableFacts.{header_fault, rows_fault}
 use Rattle.rj_divide.specs.declared.refused.DivideRefused.{DivideRefused}
 use Rattle.rj_divide.specs.declared.refused.DivideRefused.TheVariants as refused
-use Rattle.rj_divide.specs.Readings.{IsFaultBehind, IsFirstFault, fault_behind, numbered_row, row_told}
+use Rattle.rj_divide.specs.Readings.{IsFaultBehind, IsFirstFault, IsHeaderRefusal, IsInputFault, fault_behind, numbered_row, row_told}
 
 abbrev Row : Type 0
 Row = Result (List Content) ReadRefused
@@ -112,6 +113,44 @@ memory-or read.TooManyColumns = inr (λ h. cc)
 memory-or read.BadNull = inr (λ h. cc)
 memory-or read.ReadDevice = inr (λ h. cc)
 memory-or read.Memory = inl refl
+
+-- what a header is refused for has no row
+refusal-behind : (b : BuildRefused) (n : ℕ) → IsHeaderRefusal b (fault_behind n (of_begun b))
+refusal-behind build.TooManyColumns n = refl
+refusal-behind (build.BadName c) n = refl
+refusal-behind (build.RepeatedName c) n = refl
+refusal-behind build.TypeCount n = refl
+refusal-behind build.Memory n = tt
+
+refusal-small : (b : BuildRefused) → row_told (of_begun b) < 2 ^ 63
+refusal-small build.TooManyColumns = lit< tt
+refusal-small (build.BadName c) = lit< tt
+refusal-small (build.RepeatedName c) = lit< tt
+refusal-small build.TypeCount = lit< tt
+refusal-small build.Memory = lit< tt
+
+-- a piece under a header that makes no table
+pub refusal-of : (null : List ℕ) (types : List ColumnType) (names : List (List ℕ)) (xs : List (List (List ℕ))) (n : ℕ) (e : ReadRefused) (r : DivideRefused) (b : BuildRefused)
+    → (row_told e < 2 ^ 63 → r ≡ fault_behind n e) → (e ≢ read.Memory → read_records null types (names ∷ xs) ≡ Err e) → begun names types ≡ Err b → IsHeaderRefusal b r
+refusal-of null types names xs n e r b is reading begins = elim (memory-or e) [
+  | inl memory ↦ (
+      let small : row_told e < 2 ^ 63 = rw memory (lit< tt) in
+      let same : r ≡ refused.Memory = is small ∙ ap (fault_behind n) memory in
+      subst (IsHeaderRefusal b) (sym same) tt)
+  | inr other ↦ (
+      let told : e ≡ of_begun b = header_fault null types names xs b e begins (reading other) in
+      let small : row_told e < 2 ^ 63 = rw told (refusal-small b) in
+      let same : r ≡ fault_behind n (of_begun b) = is small ∙ ap (fault_behind n) told in
+      subst (IsHeaderRefusal b) (sym same) (refusal-behind b n))
+]
+
+-- the device that gives bytes failed, or memory was refused
+pub refusal-input : (b : BuildRefused) (e : DivideRefused) → IsInputFault e → IsHeaderRefusal b e
+refusal-input b (refused.Read f) h = absurd h
+refusal-input b refused.TooLong h = absurd h
+refusal-input b refused.ReadDevice h = tt
+refusal-input b (refused.WriteDevice p) h = absurd h
+refusal-input b refused.Memory h = tt
 
 -- the fault of a row tells it, and follows its number
 abbrev RowTells : ℕ → Row → Type 0

@@ -1,10 +1,12 @@
 -- The first fault of records, whatever number its row has, and when a division ends with which fault.
 use Rattle.std.specs.Prelude.{ℕ, ◌+◌, ◌-◌, ◌^◌, ◌==◌, ◌≡◌, ◌≤◌, ◌<◌, ◌⊎◌, if◌then◌else◌, Bool, List, [], ◌∷◌, ◌++◌, length, Result, Ok, Err}
 use Rattle.rj_columns.specs.declared.cell.ColumnType.{ColumnType}
+use Rattle.rj_columns.specs.declared.refused.BuildRefused.{BuildRefused}
 use Rattle.rj_columns.specs.Contents.{Content}
 use Rattle.rj_csv_io.specs.declared.refused.ReadRefused.{ReadRefused}
 use Rattle.rj_csv_io.specs.declared.refused.ReadRefused.TheVariants as read
 use Rattle.rj_csv_io.specs.Pieces.{AreRows, piece_records}
+use Rattle.rj_csv_io.specs.Tables.{of_begun}
 use Rattle.rj_csv_io.specs.Typed.{read_cells}
 use Rattle.rj_divide.specs.declared.refused.DivideRefused.{DivideRefused}
 use Rattle.rj_divide.specs.declared.refused.DivideRefused.TheVariants as refused
@@ -94,6 +96,15 @@ IsDivisionFault null types is_first text outputs refused.TooLong = (2 ^ 31 ≤ l
 IsDivisionFault null types is_first text outputs refused.ReadDevice = Unit {0}
 IsDivisionFault null types is_first text outputs (refused.WriteDevice p) = p < outputs
 IsDivisionFault null types is_first text outputs refused.Memory = Unit {0}
+
+-- why nothing is divided under a header that makes no table with the types: what it is refused for, where the device that gives
+-- bytes doesn't fail first and memory isn't refused
+abbrev pub IsHeaderRefusal : BuildRefused → DivideRefused → Type 0
+IsHeaderRefusal b (refused.Read f) = f ≡ of_begun b
+IsHeaderRefusal b refused.TooLong = ⊥
+IsHeaderRefusal b refused.ReadDevice = Unit {0}
+IsHeaderRefusal b (refused.WriteDevice p) = ⊥
+IsHeaderRefusal b refused.Memory = Unit {0}
 
 -- any fault but one of the device that gives bytes
 abbrev pub IsAfterReading : DivideRefused → Type 0

@@ -1,12 +1,13 @@
 //! A piece of a text, divided among parts.
 
-ghost use Rattle.std.specs.Prelude.{◌≡◌, ◌<◌, ◌≤◌, ◌+◌, ◌-◌, ◌^◌, length, map, All, IsTrue, IfErr, IfOk, Ok};
+ghost use Rattle.std.specs.Prelude.{◌≡◌, ◌<◌, ◌≤◌, ◌+◌, ◌-◌, ◌^◌, length, map, All, IsTrue, IfErr, IfOk, OnOk, Ok, Err};
+ghost use Rattle.rj_columns.specs.declared.refused.BuildRefused.{BuildRefused};
 ghost use Rattle.rj_columns.specs.Names.{begun};
 ghost use Rattle.rj_columns.specs.Tables.{TableValue};
 ghost use Rattle.rj_csv_io.specs.Pieces.{names_in, piece_records};
 ghost use Rattle.rj_csv_io.specs.Tables.{is_null_text};
 ghost use Rattle.rj_divide.specs.Divisions.{IsDivided, counts_after};
-ghost use Rattle.rj_divide.specs.Readings.{IsAfterReading, IsFaultBehind, IsReadingFault, fault_behind, row_told};
+ghost use Rattle.rj_divide.specs.Readings.{IsAfterReading, IsFaultBehind, IsHeaderRefusal, IsReadingFault, fault_behind, row_told};
 
 use crate::refused::DivideRefused;
 use crate::route::Route;
@@ -81,6 +82,10 @@ pub(crate) fn divide_piece<O: Output, R: Route>(
     ensures counts { map O.count outputs.new ≡ counts_after result (map O.count outputs.old) }
     ensures fault { IfErr result (λ e. (t : TableValue) → begun (names_in division.now.header.now) division.now.types.now ≡ Ok t
         → IsFaultBehind division.now.null.now division.now.types.now before (length outputs.old) (piece_records is_first text.now) e) }
+    ensures begins { OnOk result ((t : TableValue) × (begun (names_in division.now.header.now) division.now.types.now ≡ Ok t)) }
+    ensures refusal { IfErr result (λ e. (b : BuildRefused) → begun (names_in division.now.header.now) division.now.types.now ≡ Err b
+        → before ≡ 0 → IsHeaderRefusal b e) }
+    ensures untouched { (b : BuildRefused) → begun (names_in division.now.header.now) division.now.types.now ≡ Err b → outputs.new ≡ outputs.old }
 {
     if before > MOST_ROWS {
         return Err(DivideRefused::TooLong);

@@ -1,14 +1,15 @@
 //! A text, divided among parts piece by piece.
 
-ghost use Rattle.std.specs.Prelude.{◌≡◌, ◌<◌, ◌≤◌, ◌+◌, ◌-◌, ◌^◌, ◌++◌, ℕ, List, [], Bool, true, Ok, Option, Some, length, map, take, drop, if◌then◌else◌, All, IsTrue, IfErr, IfOk, IfSome, OnOk};
+ghost use Rattle.std.specs.Prelude.{◌≡◌, ◌<◌, ◌≤◌, ◌+◌, ◌-◌, ◌^◌, ◌++◌, ℕ, List, [], Bool, true, Ok, Err, Option, Some, length, map, take, drop, if◌then◌else◌, All, IsTrue, IfErr, IfOk, IfSome, OnOk};
 ghost use Rattle.std.specs.Io.KnownBytes.{IsAtEnd};
 ghost use Rattle.csv.specs.Reading.{default_config, records};
+ghost use Rattle.rj_columns.specs.declared.refused.BuildRefused.{BuildRefused};
 ghost use Rattle.rj_columns.specs.Names.{begun};
 ghost use Rattle.rj_columns.specs.Tables.{TableValue};
 ghost use Rattle.rj_csv_io.specs.Pieces.{names_in, piece_records};
 ghost use Rattle.rj_csv_io.specs.Tables.{is_null_text};
 ghost use Rattle.rj_divide.specs.Divisions.{IsDivided, counts_after};
-ghost use Rattle.rj_divide.specs.Readings.{IsAfterReading, IsDivisionFault, IsFaultBehind, reads_after};
+ghost use Rattle.rj_divide.specs.Readings.{IsAfterReading, IsDivisionFault, IsFaultBehind, IsHeaderRefusal, reads_after};
 ghost use Rattle.rj_divide.specs.Underway.{IsUnderway, SplitsAs};
 
 use crate::next::{drop_front, next_piece};
@@ -70,6 +71,10 @@ fn divide_front<O: Output, R: Route>(
     ensures fault { IfErr result (λ e. (t : TableValue) → begun (names_in division.now.header.now) division.now.types.now ≡ Ok t
         → IsFaultBehind division.now.null.now division.now.types.now rest.old.rows (length outputs.old)
         (piece_records rest.old.is_first (take end rest.old.bytes.items)) e) }
+    ensures begins { OnOk result ((t : TableValue) × (begun (names_in division.now.header.now) division.now.types.now ≡ Ok t)) }
+    ensures refusal { IfErr result (λ e. (b : BuildRefused) → begun (names_in division.now.header.now) division.now.types.now ≡ Err b
+        → rest.old.rows ≡ 0 → IsHeaderRefusal b e) }
+    ensures untouched { (b : BuildRefused) → begun (names_in division.now.header.now) division.now.types.now ≡ Err b → outputs.new ≡ outputs.old }
 {
     let text = &rest.bytes[..end];
     let Ok(is_first) = is_header_ahead(alloc, text, rest.is_first) else {
@@ -112,6 +117,10 @@ fn divide_next<I: Input, O: Output, R: Route>(
         → IsUnderway division.now.null.now division.now.types.now (R.part division.now.route.now) division.now.first is_first all before
         (I.tells input.old) rest.old (map O.told outputs.old) n
         → IsDivisionFault division.now.null.now division.now.types.now is_first all (length outputs.old) e) }
+    ensures begins { OnOk result ((t : TableValue) × (begun (names_in division.now.header.now) division.now.types.now ≡ Ok t)) }
+    ensures refusal { IfErr result (λ e. (b : BuildRefused) → begun (names_in division.now.header.now) division.now.types.now ≡ Err b
+        → rest.old.rows ≡ 0 → IsHeaderRefusal b e) }
+    ensures untouched { (b : BuildRefused) → begun (names_in division.now.header.now) division.now.types.now ≡ Err b → outputs.new ≡ outputs.old }
 {
     let piece = match next_piece(input, &mut rest.bytes, block) {
         Ok(piece) => piece,
@@ -131,8 +140,10 @@ fn divide_next<I: Input, O: Output, R: Route>(
 ///
 /// # Errors
 ///
-/// The first fault of a record, its row counted from the text's first one; `ReadDevice` or `WriteDevice` where a device
-/// failed; `TooLong`; or `Memory`. The outputs may have got rows then.
+/// The reason why the header and the types make no table, as [`Header::table`] tells it; the outputs are unchanged then.
+/// Else the first fault of a record, its row counted from the text's first one; `TooLong`; or `WriteDevice` where an output
+/// failed: the outputs may have got rows. `ReadDevice` where the device that gives bytes failed, and `Memory`, may come in
+/// place of each of these.
 pub fn divide<I: Input, O: Output, R: Route>(
     alloc: Global,
     input: &mut I,
@@ -157,6 +168,12 @@ pub fn divide<I: Input, O: Output, R: Route>(
     // where the header and the types go together, as `Header::table` tells, an error comes for this alone
     ensures fault { IfErr result (λ e. (t : TableValue) → begun (names_in division.now.header.now) division.now.types.now ≡ Ok t
         → IfSome (I.tells input.old) (λ all. IsDivisionFault division.now.null.now division.now.types.now is_first all (length outputs.old) e)) }
+
+    // where they don't, nothing is divided, and it is told why they don't
+    ensures begins { OnOk result ((t : TableValue) × (begun (names_in division.now.header.now) division.now.types.now ≡ Ok t)) }
+    ensures refusal { IfErr result (λ e. (b : BuildRefused) → begun (names_in division.now.header.now) division.now.types.now ≡ Err b
+        → IsHeaderRefusal b e) }
+    ensures untouched { (b : BuildRefused) → begun (names_in division.now.header.now) division.now.types.now ≡ Err b → outputs.new ≡ outputs.old }
 {
     let mut rest = Rest {
         bytes: Vec::new(alloc),

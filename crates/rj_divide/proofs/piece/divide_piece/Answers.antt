@@ -1,7 +1,7 @@
-use Rattle.std.proofs.Common.{ℕ, arith, length, map}
+use Rattle.std.proofs.Common.{ℕ, [], arith, length, map}
 use Rattle.rj_csv_io.specs.Pieces.{names_in, piece_records}
 use Rattle.rj_divide.proofs.DivisionFacts.{reading-counts}
-use Rattle.rj_divide.proofs.ReadingFacts.{piece-fault, read-rows}
+use Rattle.rj_divide.proofs.ReadingFacts.{piece-fault, read-rows, refusal-of}
 use Rattle.rj_divide.proofs.piece.divide_piece.Goals as goal
 
 pub returns-in-Err-clause-counts : goal.returns-in-Err-clause-counts
@@ -26,3 +26,15 @@ returns-in-Ok-divide_table-clause-divided g c =
       many = c.rows-rows.ensures.count;
       parts = c.in-Ok-divide_table.ensures.divided;
     }
+
+pub returns-in-Err-clause-refusal : goal.returns-in-Err-clause-refusal
+returns-in-Err-clause-refusal g c = λ b begins none.
+    let d = c.args.division.now in
+    refusal-of d.null.now d.types.now (names_in d.header.now) (piece_records c.args.is_first c.args.text.now) c.args.before c.in-Err.e c.behind.result b
+    c.behind.ensures.fault (rw c.as_bytes.ensures.value at c.in-Err.ensures) begins
+
+pub returns-in-Ok-divide_table-clause-begins : goal.returns-in-Ok-divide_table-clause-begins
+returns-in-Ok-divide_table-clause-begins g c = (record c.in-Ok.table { rows = [] }, c.in-Ok.ensures.0)
+
+pub returns-in-Ok-divide_table-clause-untouched : goal.returns-in-Ok-divide_table-clause-untouched
+returns-in-Ok-divide_table-clause-untouched g c = λ b begins. let made = c.in-Ok.ensures.0 in absurd (cc)

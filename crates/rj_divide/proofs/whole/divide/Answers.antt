@@ -13,6 +13,7 @@ loop-turn-init g c =
           (record { bytes = c.new.result; rows = 0; is_first = c.args.is_first }) (g.I.Input.tells c.args.input.now) e c.new.ensures.items refl refl;
       reads = refl;
       writes = refl;
+      untouched = λ b begins. (refl, refl, refl);
     }
 
 pub divide_next-requires-clause-writes : goal.divide_next-requires-clause-writes
@@ -42,8 +43,24 @@ loop-turn-preserved g c = record {
       (c.in-Ok-false.ensures.divided c.args.is_first all (map g.O.Output.told c.args.outputs.now) c.loop-turn._turn (c.loop-turn.invariant.underway all e));
   reads = c.in-Ok-false.ensures.reads ∙ c.loop-turn.invariant.reads;
   writes = c.in-Ok-false.ensures.writes ∙ c.loop-turn.invariant.writes;
+  untouched = λ b begins. let made = c.in-Ok-false.ensures.begins.1 in absurd (cc);
 }
 
 pub returns-clause-fault : goal.returns-clause-fault
 returns-clause-fault g c = λ t b.
     if-some (g.I.Input.tells c.args.input.now) _ (λ all e. inr (omega (arith, (c.loop-turn.invariant.underway all e).shorter, c.loop-turn-test.false)))
+
+pub returns-in-Ok-true-clause-untouched : goal.returns-in-Ok-true-clause-untouched
+returns-in-Ok-true-clause-untouched g c = λ b begins. let made = c.in-Ok-true.ensures.begins.1 in absurd (cc)
+
+pub returns-in-Err-clause-refusal : goal.returns-in-Err-clause-refusal
+returns-in-Err-clause-refusal g c = λ b begins. c.in-Err.ensures.refusal b begins (c.loop-turn.invariant.untouched b begins).1
+
+pub returns-in-Err-clause-untouched : goal.returns-in-Err-clause-untouched
+returns-in-Err-clause-untouched g c = λ b begins. c.divide_next.ensures.untouched b begins ∙ (c.loop-turn.invariant.untouched b begins).2
+
+pub returns-clause-refusal : goal.returns-clause-refusal
+returns-clause-refusal g c = λ b begins. absurd (omega (arith, (c.loop-turn.invariant.untouched b begins).0, c.loop-turn-test.false))
+
+pub returns-clause-untouched : goal.returns-clause-untouched
+returns-clause-untouched g c = λ b begins. (c.loop-turn.invariant.untouched b begins).2

@@ -1,4 +1,7 @@
-use Rattle.std.proofs.Common.{◌≡◌, ℕ, List, Some, map}
+use Rattle.std.proofs.Common.{◌≡◌, ℕ, List, Some, Err, map}
+use Rattle.rj_columns.specs.declared.refused.BuildRefused.{BuildRefused}
+use Rattle.rj_columns.specs.Names.{begun}
+use Rattle.rj_csv_io.specs.Pieces.{names_in}
 use Rattle.rj_divide.specs.Underway.{IsUnderway}
 use Rattle.rj_divide.proofs.whole.divide.Given as goal
 
@@ -9,4 +12,5 @@ invariant-loop-turn g l = record {
       (g.I.Input.tells l.input) l.rest (map g.O.Output.told l.outputs) l._turn;
   reads : g.I.Input.count l.input ≡ g.I.Input.count l.fn.input;
   writes : map g.O.Output.count l.outputs ≡ map g.O.Output.count l.fn.outputs;
+  untouched : (b : BuildRefused) → begun (names_in l.division.header.now) l.division.types.now ≡ Err b → (l._turn ≡ 0) × (l.rest.rows ≡ 0) × (l.outputs ≡ l.fn.outputs);
 }

@@ -1,6 +1,7 @@
 use Rattle.std.proofs.Common.{rules, ◌≡◌, ◌≤◌, ℕ, arith, length, map}
 use Rattle.std.proofs.lemmas.List.{length-map}
 use Rattle.rj_divide.proofs.DivisionFacts.{piece-reads}
+use Rattle.rj_divide.proofs.ReadingFacts.{refusal-input}
 use Rattle.rj_divide.proofs.UnderwayFacts.{fault-in, go-on}
 use Rattle.rj_divide.proofs.whole.divide_next.Goals as goal
 
@@ -26,3 +27,6 @@ returns-in-Err-divide_front-clause-fault g c = λ t is_first all before n b u.
     (g.I.Input.tells c.args.input.now) (g.I.Input.tells c.next_piece.new.input) (map g.O.Output.told c.args.outputs.now) n p.end p.is_last u
     c.in-Ok.ensures.bytes (λ e. (c.in-Ok.ensures.last e).1) c.in-Ok.ensures.records
     (length c.args.outputs.now) c.in-Err-divide_front.e (c.in-Err-divide_front.ensures.fault t b)
+
+pub returns-in-Err-clause-refusal : goal.returns-in-Err-clause-refusal
+returns-in-Err-clause-refusal g c = λ b begins none. refusal-input b c.in-Err.e c.in-Err.ensures.fault
