@@ -2,6 +2,7 @@
 
 mod gates;
 mod joins;
+mod once;
 mod parts;
 mod shards;
 mod stripes;
