@@ -23,3 +23,4 @@ pub mod ShardPairs
 pub mod ShardLone
 pub mod ShardMerges
 pub mod ShardFacts
+pub mod OnceFacts

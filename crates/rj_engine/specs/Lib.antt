@@ -8,3 +8,4 @@ pub mod Partitioned
 pub mod Stripes
 pub mod Pools
 pub mod Shards
+pub mod Once

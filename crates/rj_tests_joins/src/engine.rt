@@ -3,6 +3,7 @@
 mod gates;
 mod hashed;
 mod joins;
+mod once;
 mod parts;
 mod shards;
 mod stripes;
