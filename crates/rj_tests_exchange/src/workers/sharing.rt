@@ -1,7 +1,5 @@
 //! Twelve shares that four workers draw, who are held up at a gate.
 
-ghost use Rattle.std.specs.Prelude.{◌≡◌};
-
 use crate::workers::waiting::Meeting;
 use rj_workers::{Gate, Place, Shares, run_shares};
 use std::alloc::{AllocError, Global};

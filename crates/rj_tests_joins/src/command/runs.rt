@@ -311,14 +311,14 @@ impl Passes {
         }
     }
 
-    fn counts(&self) -> [u64; 5] {
-        [
+    // Those at stripes, posted parcels, first takes and partitions.
+    fn counts(&self) -> (u64, u64, u64, u64) {
+        (
             self.stripes.load(Ordering::SeqCst),
             self.posted.load(Ordering::SeqCst),
             self.takes.load(Ordering::SeqCst),
             self.partitions.load(Ordering::SeqCst),
-            self.pieces.load(Ordering::SeqCst),
-        ]
+        )
     }
 }
 
@@ -328,14 +328,14 @@ impl Gate for Passes {
     }
 }
 
-// How often workers came to each kind of place in a run of two workers with two partitions, blocks and pieces of one row, and
-// how many pieces it counts; none where it is refused.
+// How often workers came to stripes, posted parcels, first takes and partitions in a run of two workers with two partitions, blocks
+// and pieces of one row; none where it is refused, or where they did not come to each piece that it counts.
 fn counted<R: Threads + Wait + Clock + Sync>(
     rt: &R,
     alloc: Global,
     hash: &str,
     owned: bool,
-) -> Result<Option<([u64; 5], u64)>, Fail> {
+) -> Result<Option<(u64, u64, u64, u64)>, Fail> {
     let mut asked = ask("JOIN USING (id)");
     asked.owned = owned;
     let further = [
@@ -356,25 +356,20 @@ fn counted<R: Threads + Wait + Clock + Sync>(
     let mut writer = CountedWriter::new(Vec::new(alloc));
     let answer = called(rt, alloc, &asked, &line.request, &gate, &mut writer);
     Ok(match answer {
-        Ok(stats) => Some((gate.counts(), stats.pieces)),
-        Err(_) => None,
+        Ok(stats) if stats.pieces == gate.pieces.load(Ordering::SeqCst) => Some(gate.counts()),
+        _ => None,
     })
 }
 
 // Each of two workers scans a stripe; a parcel for each of six rows, and a close of each of four senders for each of two partitions,
-// are posted; each partition is drawn and built. By the plain hash, whose last bit is the key's, each partition has two rows on
-// one side, and so two pieces.
+// are posted; each partition is drawn and built.
 #[test]
 fn gate_is_heeded(rt: HostRuntime) -> Result<(), Fail> {
     for owned in [false, true] {
-        assert_eq!(rt;
-            counted(&rt, rt.alloc(), "plain", owned)?,
-            Some(([2, 14, 2, 2, 4], 4))
-        );
-        match counted(&rt, rt.alloc(), "mixed", owned)? {
-            Some((counts, pieces)) => assert_eq!(rt; counts, [2, 14, 2, 2, pieces]),
-            None => assert!(rt; false, "memory or a thread was refused"),
-        }
+        let plain = counted(&rt, rt.alloc(), "plain", owned)?;
+        assert_eq!(rt; plain, Some((2, 14, 2, 2)));
+        let mixed = counted(&rt, rt.alloc(), "mixed", owned)?;
+        assert_eq!(rt; mixed, Some((2, 14, 2, 2)));
     }
     Ok(())
 }
