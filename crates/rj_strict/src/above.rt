@@ -33,9 +33,7 @@ fn start_of_row(text: &[u8], header: Header, row: u64) -> usize
 /// The lines above the row of a text's fault, with the byte order mark that may stand before them. It takes no memory.
 pub fn above_fault(text: &[u8], header: Header, fault: StrictFault) -> &[u8]
     requires { (full : Bool) × HasFault header full (body_of header text.now) fault }
-    ensures {
-        (lines : List Line) × AreAbove header (body_of header text.now) (row_at fault) lines × (body_of header result.now ≡ lines_text lines)
-    }
+    ensures { (lines : List Line) × AreAbove header (body_of header text.now) (row_at fault) lines × (body_of header result.now ≡ lines_text lines) }
 {
     let unmarked = body(text, header);
     let mark = text.len() - unmarked.len();

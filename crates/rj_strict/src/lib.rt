@@ -19,7 +19,7 @@ pub use checking::check;
 pub use fault::StrictFault;
 pub use header::Header;
 pub use laws::{
-    derived_with_header, joined_texts, one_derivation, reads_all_records,
-    reads_quoted_records, reads_records,
+    derived_with_header, joined_texts, one_derivation, reads_all_records, reads_quoted_records,
+    reads_records,
 };
 pub use quoting::quote_empty_lines;

@@ -155,11 +155,7 @@ pub fn read_strictly<R: Threads + Sync>(
         },
         Err(fault) => {
             let above = above_fault(text, Header::First, fault);
-            Err(first_fault(
-                side,
-                fault,
-                read_lines(rt, alloc, above, request, side),
-            ))
+            Err(first_fault(side, fault, read_lines(rt, alloc, above, request, side)))
         }
     }
 }
