@@ -1,20 +1,18 @@
 -- Where a row begins in a text that has a fault.
 use Rattle.std.specs.Prelude.{ℕ, ◌+◌, ◌==◌, ◌≡◌, ◌<◌, ◌≤◌, if◌then◌else◌, Bool, true, false, List, [], ◌∷◌, ◌++◌, length, take, drop, Result, Ok, Err}
-use Rattle.std.specs.List.{list_all}
 use Rattle.std.proofs.Common.{refl, sym, ap, subst, arith, ◌∙◌, inl, inr, get_or, length-append, length-drop}
 use Rattle.std.specs.Prelude.{◌⊎◌}
 use Rattle.std.proofs.lemmas.List.{at_drop_more, at_drop_all}
 use Rattle.std.proofs.Math.Seq.{take-append_seam}
-use Rattle.rj_strict.specs.Grammar.{Field, escaped, non-escaped, Line, fields_text, is_line, lines_text, names_of}
-use Rattle.rj_strict.specs.Faults.{AreAbove, HasFault, first_row, row_at}
-use Rattle.rj_strict.specs.Steps.{at_comma, at_cr, at_dquote, at_lf, at_textdata, begun, end_empty, end_of, forbids_empty, next_line, step_of, verdict}
+use Rattle.rj_strict.specs.Grammar.{Field, escaped, non-escaped, Line, fields_text, lines_text}
+use Rattle.rj_strict.specs.Faults.{AreAbove, HasFault, row_at}
+use Rattle.rj_strict.specs.Steps.{at_comma, at_cr, at_dquote, at_lf, at_textdata, begun, end_empty, end_of, forbids_empty, step_of, verdict}
 use Rattle.rj_strict.specs.declared.header.Header.{Header}
 use Rattle.rj_strict.specs.declared.header.Header.TheVariants.{First, Above}
 use Rattle.rj_strict.specs.declared.fault.StrictFault.{StrictFault}
-use Rattle.rj_strict.specs.declared.standing.Place.{Place}
 use Rattle.rj_strict.specs.declared.standing.Place.TheVariants as place
 use Rattle.rj_strict.specs.declared.standing.Standing.{Standing}
-use Rattle.rj_strict.proofs.Parsing.{Part, within, opened, returned, Taken, nothing, part_text, taken_text, take_byte, row_of, untaken}
+use Rattle.rj_strict.proofs.Parsing.{Part, within, opened, returned, Taken, nothing, part_text, taken_text, take_byte, untaken}
 use Rattle.rj_strict.proofs.Seen.{all_seen, begun-seen, byte-seen, place_of, seen}
 use Rattle.rj_strict.proofs.Sound.{Good, IsTaken, byte-good}
 use Rattle.rj_strict.proofs.StepFacts.{verdict-end, verdict-err, verdict-ok}
@@ -143,6 +141,10 @@ pub record Stands (h : Header) (row : ℕ) (text : List ℕ) (at : ℕ) (s : Sta
   pub spelled : text ≡ taken_text taken (drop at text)
   pub sees : s ≡ seen h taken
   pub starts : s.row ≡ row → s.place ≡ place.Start
+
+pub begun-near : (h : Header) → ((begun h).row ≤ 1) × ((begun h).column ≤ 1)
+begun-near First = (omega arith, omega arith)
+begun-near (Above names) = (omega arith, omega arith)
 
 begun-start : (h : Header) → (begun h).place ≡ place.Start
 begun-start First = refl

@@ -16,3 +16,4 @@ pub mod JoinedFacts
 pub mod HeaderFacts
 pub mod AboveFacts
 pub mod QuotingFacts
+pub mod MarkedParts

@@ -1,11 +1,11 @@
 -- What is written of a text with `""` in each empty line.
-use Rattle.std.specs.Prelude.{ℕ, ◌+◌, ◌==◌, ◌≡◌, ◌<◌, ◌≤◌, ◌&&◌, nat_lt, if◌then◌else◌, Bool, true, false, List, [], ◌∷◌, ◌++◌, length, map, drop, Option, Some, None, Result, Ok, Err}
-use Rattle.std.proofs.Common.{refl, sym, ap, subst, arith, ◌∙◌, inl, inr, get_or, append_assoc}
+use Rattle.std.specs.Prelude.{ℕ, ◌+◌, ◌==◌, ◌≡◌, ◌<◌, ◌≤◌, ◌&&◌, nat_lt, if◌then◌else◌, Bool, true, false, List, [], ◌∷◌, ◌++◌, length, map, drop, Some, None, Result, Ok, Err}
+use Rattle.std.proofs.Common.{refl, sym, ap, subst, ◌∙◌, get_or, append_assoc}
 use Rattle.std.proofs.lemmas.Bool.{eqb-true}
 use Rattle.std.proofs.lemmas.List.{append-nil, map-append, at_drop_more, at_drop_all}
 use Rattle.csv.specs.Reading.{strip_bom}
-use Rattle.rj_strict.specs.Grammar.{Field, escaped, non-escaped, Record, Line, LineEnd, LF, CRLF, File, comma, dquote, cr, lf, doubled, field_text, fields_text, is_blank, end_text, lines_text, names_of, rest_text, file_text, Derives}
-use Rattle.rj_strict.specs.Reading.{begins_empty, body_of, quoted, quoted_line}
+use Rattle.rj_strict.specs.Grammar.{Field, escaped, non-escaped, Line, LineEnd, LF, CRLF, File, comma, dquote, cr, lf, doubled, field_text, fields_text, is_blank, end_text, lines_text, names_of, file_text, Derives}
+use Rattle.rj_strict.specs.Reading.{begins_empty, quoted, quoted_line}
 use Rattle.rj_strict.specs.Steps.{begun, step_of}
 use Rattle.rj_strict.specs.declared.header.Header.{Header}
 use Rattle.rj_strict.specs.declared.header.Header.TheVariants.{First}
@@ -14,7 +14,7 @@ use Rattle.rj_strict.specs.declared.fault.StrictFault.TheVariants as fault
 use Rattle.rj_strict.specs.declared.standing.Place.{Place}
 use Rattle.rj_strict.specs.declared.standing.Place.TheVariants as place
 use Rattle.rj_strict.specs.declared.standing.Standing.{Standing}
-use Rattle.rj_strict.proofs.Parsing.{Part, within, opened, returned, Taken, nothing, row_of, record_with, with_line, grown, end_line, end_within, take_comma, take_lf, take_cr, take_dquote, take_textdata, take_byte, take_end, taken_then, parse, untaken}
+use Rattle.rj_strict.proofs.Parsing.{Part, within, opened, returned, Taken, row_of, record_with, with_line, end_line, end_within, take_comma, take_lf, take_cr, take_dquote, take_textdata, take_byte, take_end, taken_then, parse, untaken}
 use Rattle.rj_strict.proofs.Seen.{all_seen, begun-seen, byte-seen, opens, place_of, seen}
 use Rattle.rj_strict.proofs.Sound.{nothing-doubled}
 use Rattle.rj_strict.proofs.Texts.{doubled-dquote, doubled-plain, fields-more, lines-more}
@@ -208,6 +208,22 @@ parse-end h full t = refl
 
 ok-standing : (s t : Standing) → ◌≡◌ {A = Result Standing StrictFault} (Ok s) (Ok t) → s ≡ t
 ok-standing s t e = cc
+
+-- what stands behind the text so far, by whether quotes were written first
+pub wrote-quotes : (p : Place) (c : ℕ) (out mid out2 rest : List ℕ) (b : Bool) → b ≡ begins_empty p c → b ≡ true → mid ≡ out ++ dquote ∷ dquote ∷ [] → out2 ≡ mid ++ c ∷ []
+    → out2 ++ rest ≡ out ++ added p c rest
+wrote-quotes p c out mid out2 rest b is with-quotes m o =
+    ap (λ (x : List ℕ). x ++ rest) (o ∙ ap (λ (x : List ℕ). x ++ c ∷ []) m)
+    ∙ (ap (λ (x : List ℕ). x ++ rest) (append_assoc out (dquote ∷ dquote ∷ []) (c ∷ []))
+    ∙ (append_assoc out (dquote ∷ dquote ∷ c ∷ []) rest
+    ∙ ap (λ (x : Bool). out ++ (if x then dquote ∷ dquote ∷ c ∷ rest else c ∷ rest)) (sym with-quotes ∙ is)))
+
+pub wrote-byte : (p : Place) (c : ℕ) (out mid out2 rest : List ℕ) (b : Bool) → b ≡ begins_empty p c → b ≡ false → mid ≡ out → out2 ≡ mid ++ c ∷ []
+    → out2 ++ rest ≡ out ++ added p c rest
+wrote-byte p c out mid out2 rest b is no-quotes m o =
+    ap (λ (x : List ℕ). x ++ rest) (o ∙ ap (λ (x : List ℕ). x ++ c ∷ []) m)
+    ∙ (append_assoc out (c ∷ []) rest
+    ∙ ap (λ (x : Bool). out ++ (if x then dquote ∷ dquote ∷ c ∷ rest else c ∷ rest)) (sym no-quotes ∙ is))
 
 module _ (text : List ℕ) (at : ℕ) (s : Standing) (out : List ℕ) (q : Quotes text at s out) where
   here-byte : at < length text → drop at text ≡ get_or text at 0 ∷ drop (at + 1) text
