@@ -13,6 +13,17 @@ use Rattle.rj_command.specs.declared.join.options.LineOption.{LineOption}
 use Rattle.rj_command.specs.declared.join.options.Takes.{Takes}
 use Rattle.rj_command.specs.declared.join.options.Takes.TheVariants as takes
 
+-- a long option with one of these words, or with none, for which another text stands
+abbrev pub word_or_none : Text → Bor (List (Bor Text)) → Text → Rule
+word_or_none name words other =
+    record (new_rule name) {
+      long = Some name;
+      action = Some Set;
+      range = Some (record { start_inclusive = 0; end_inclusive = 1 });
+      missing = other ∷ [];
+      parser = Some (parser.Names words);
+    }
+
 -- a long option with one value, with one or none, or with none
 abbrev pub rule_for : Text → Takes → Rule
 rule_for name takes.Required = record (new_rule name) { long = Some name; action = Some Set; required = true }
@@ -21,27 +32,18 @@ rule_for name (takes.Number least most) =
     record (new_rule name) { long = Some name; action = Some Set; parser = Some (parser.Signed (pos least) (pos most)) }
 rule_for name (takes.Word words) =
     record (new_rule name) { long = Some name; action = Some Set; parser = Some (parser.Names words) }
-rule_for name (takes.WordOrNone words other) =
-    record (new_rule name) {
-      long = Some name;
-      action = Some Set;
-      range = Some (record { start_inclusive = 0; end_inclusive = 1 });
-      missing = other.now ∷ [];
-      parser = Some (parser.Names words);
-    }
+rule_for name (takes.WordOrNone words other) = word_or_none name words other.now
 rule_for name takes.Nothing = record (new_rule name) { long = Some name; action = Some SetTrue }
 
 abbrev pub rule_of_option : LineOption → Rule
 rule_of_option o = rule_for o.name.now o.takes
 
--- the words that `--hash` and `--strict` take, and the one that stands for `--strict` alone, wherever they stand in memory
+-- the words that `--hash` and `--strict` take, wherever they stand in memory
 pub record OptionWords : Type 0 where
   pub hashes : Bor (List (Bor Text))
   pub are_hashes : map (λ w. w.now) hashes.now ≡ codes "plain" ∷ codes "mixed" ∷ []
   pub levels : Bor (List (Bor Text))
   pub are_levels : map (λ w. w.now) levels.now ≡ codes "on" ∷ codes "full" ∷ []
-  pub level : Bor Text
-  pub is_level : level.now ≡ codes "on"
 
 -- the options, in order
 abbrev pub option_rules : OptionWords → List Rule
@@ -52,7 +54,7 @@ option_rules h =
     ∷ rule_for (codes "right-types") takes.Required
     ∷ rule_for (codes "join") takes.Required
     ∷ rule_for (codes "null") takes.Text
-    ∷ rule_for (codes "strict") (takes.WordOrNone h.levels h.level)
+    ∷ word_or_none (codes "strict") h.levels (codes "on")
     ∷ rule_for (codes "bits1") (takes.Number 0 10)
     ∷ rule_for (codes "bits2") (takes.Number 0 10)
     ∷ rule_for (codes "hash") (takes.Word h.hashes)
