@@ -1,6 +1,6 @@
-# Completion of radixjoin for bash: options that were not given yet, files, and the words of --hash.
+# Completion of radixjoin for bash: options that were not given yet, files, and the words of --hash and --strict.
 _radixjoin() {
-    local options="--left --right --left-types --right-types --join --null --stats --workers --bits1 --bits2 --hash
+    local options="--left --right --left-types --right-types --join --null --strict --stats --workers --bits1 --bits2 --hash
         --piece --block --capacity --lanes --retries --help --version"
     local word=${COMP_WORDS[COMP_CWORD]} before=${COMP_WORDS[COMP_CWORD - 1]}
     # `--left=a` is three words here: --left, = and a.
@@ -8,6 +8,10 @@ _radixjoin() {
         word=
     elif [[ $before == = ]]; then
         before=${COMP_WORDS[COMP_CWORD - 2]}
+    fi
+    # `--strict` may stand without a word of its own.
+    if [[ $before == --strict && $word == -* ]]; then
+        before=
     fi
     COMPREPLY=()
     case $before in
@@ -17,6 +21,9 @@ _radixjoin() {
             ;;
         --hash)
             mapfile -t COMPREPLY < <(compgen -W "plain mixed" -- "$word")
+            ;;
+        --strict)
+            mapfile -t COMPREPLY < <(compgen -W "on full" -- "$word")
             ;;
         --left-types | --right-types | --join | --null | --workers | --bits1 | --bits2 | --piece | --block | --capacity | --lanes | --retries) ;;
         *)

@@ -1,4 +1,4 @@
-# Completion of radixjoin for fish: options, files, and the words of --hash.
+# Completion of radixjoin for fish: options, files, and the words of --hash and --strict.
 complete -c radixjoin -f
 complete -c radixjoin -l left -r -F -d 'File of the left table'
 complete -c radixjoin -l right -r -F -d 'File of the right table'
@@ -6,6 +6,7 @@ complete -c radixjoin -l left-types -x -d 'Types of the left columns, as int,num
 complete -c radixjoin -l right-types -x -d 'Types of the right columns, as int,num(9,2),text'
 complete -c radixjoin -l join -x -d 'Clause of the join'
 complete -c radixjoin -l null -x -d 'Text that stands for null'
+complete -c radixjoin -l strict -x -a 'on full' -d 'Refuse files that are not of RFC 4180'
 complete -c radixjoin -l stats -d 'Tell how many rows were joined and written'
 complete -c radixjoin -l workers -x -d 'Threads that scan, and as many that join, 1 to 64'
 complete -c radixjoin -l bits1 -x -d 'Bits of the hash that name a partition, 0 to 10'

@@ -132,7 +132,8 @@ class Cases:
             if self.source.randrange(40) == 0:
                 files[side], types[side] = self.wide()
         null = self.source.choice(BAD_NULLS if self.source.randrange(30) == 0 else NULLS)
-        words = self.request([b"left", b"right"], types, self.source.choice(FILE_CLAUSES), null)
+        strict = self.source.choice([[], [], [b"--strict"], [b"--strict=full"]])
+        words = self.request([b"left", b"right"], types, self.source.choice(FILE_CLAUSES), null, strict)
         return Case("files", "radixjoin", words, {b"left": files[0], b"right": files[1]}, self.folder)
 
     def next_of_joins(self):

@@ -27,7 +27,7 @@ class Option:
 def options_of(program):
     """The options of a program's own help, by their names."""
     ran = harness.run([harness.program(program), "--help"], harness.ROOT)
-    found = re.findall(r"^ +(?:-\w, )?--([\w-]+)( <[^>]+>)?(.*(?:\n {10,}\S.*)*)$", ran.stdout.decode(), re.MULTILINE)
+    found = re.findall(r"^ +(?:-\w, )?--([\w-]+)( \[?<[^>]+>\]?)?(.*(?:\n {10,}\S.*)*)$", ran.stdout.decode(), re.MULTILINE)
     return {name: Option(name, bool(value), text) for name, value, text in found}
 
 

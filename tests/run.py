@@ -32,6 +32,7 @@ PARTS = (
     "parts_further",
     "amounts",
     "parts",
+    "strict",
     "threads",
     "retried",
     "installation",

@@ -28,6 +28,10 @@ class Word:
         self.default = default
 
 
+class WordOrNone(Word):
+    """One of a few words, or nothing, for which the first of them stands."""
+
+
 OPTIONS_OF = {
     "radixjoin": {
         "left": NEEDED_TEXT,
@@ -36,6 +40,7 @@ OPTIONS_OF = {
         "right-types": NEEDED_TEXT,
         "join": NEEDED_TEXT,
         "null": TEXT,
+        "strict": WordOrNone(("on", "full"), None),
         "bits1": Number(0, 10, 4),
         "bits2": Number(0, 10, 0),
         "hash": Word(("plain", "mixed"), "plain"),
@@ -70,11 +75,18 @@ def put(found, options, name, value):
     found[name] = number(value, options[name]) if isinstance(options[name], Number) else value
 
 
+def end_waiting(found, options, waiting):
+    """An option that waits for its value gets none."""
+    if not isinstance(options[waiting], WordOrNone):
+        raise BadLine
+    put(found, options, waiting, options[waiting].words[0])
+
+
 def take_option(found, options, word, waiting):
     """Reads a word `--name` or `--name=value`; the option that now waits for its value, or None."""
     name, has_value, value = word[2:].partition("=")
     if waiting is not None:
-        raise BadLine
+        end_waiting(found, options, waiting)
     if name in ("help", "version") and not has_value:
         raise Help
     if name not in options or (options[name] == FLAG and has_value):
@@ -110,7 +122,9 @@ def read_words(program, words):
             put(found, options, waiting, word)
             waiting = None
     needed = {name for name, takes in options.items() if takes == NEEDED_TEXT or (isinstance(takes, Number) and takes.default is None)}
-    if waiting is not None or not needed <= set(found):
+    if waiting is not None:
+        end_waiting(found, options, waiting)
+    if not needed <= set(found):
         raise BadLine
     return found
 
@@ -127,6 +141,7 @@ class Request:
         self.right = found["right"]
         self.clause = found["join"].encode()
         self.null = found.get("null", "").encode()
+        self.strict = found.get("strict")
         self.bits1 = found.get("bits1", options["bits1"].default)
         self.hash = found.get("hash", options["hash"].default)
         self.piece = found.get("piece", options["piece"].default)

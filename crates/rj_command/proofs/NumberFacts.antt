@@ -1,6 +1,6 @@
 -- What a parse knows of the numbers that options give.
 use Rattle.std.proofs.Common.{◌≡◌, ◌∙◌, ◌||◌, ◌<◌, ◌++◌, ℕ, Bool, zero, suc, true, false, refl, sym, ap, subst, inl, inr, arith, List, [], ◌∷◌, map, length, Option, Some, None, codes, true≢false}
-use Rattle.std.specs.Prelude.{option_and_then, option_map, slice_get, unwrap_or, pos}
+use Rattle.std.specs.Prelude.{◌⊎◌, option_and_then, option_map, slice_get, unwrap_or, pos}
 use Rattle.std.specs.Borrow.{Bor}
 use Rattle.std.specs.Str.{bytes_eq}
 use Rattle.std.specs.List.{All, list_all, list_any, slice_index_or}
@@ -23,8 +23,8 @@ use Rattle.clap.specs.declared.parser.matches.Found.{Found}
 use Rattle.clap.specs.declared.parser.matches.MatchedArg.{MatchedArg}
 use Rattle.clap.proofs.WalkLemmas.{list_any-map}
 use Rattle.clap.proofs.CallerLemmas.{added_plain, entry_by_id, same_rules_by_id}
-use Rattle.rj_command.specs.Line.{IsHashName, IsNumberIn}
-use Rattle.rj_command.specs.Options.{HashWords, IsBare, IsChain}
+use Rattle.rj_command.specs.Line.{IsHashName, IsNumberIn, IsStrictName}
+use Rattle.rj_command.specs.Options.{OptionWords, IsBare, IsChain}
 use Rattle.rj_command.specs.declared.join.request.Hash.TheVariants as hash
 use Rattle.rj_command.proofs.ChainFacts.{all_distinct, all_fit, are_distinct, fits_option, rule_at}
 
@@ -162,29 +162,45 @@ number_given start command rules m bare chain fits distinct k least most lt is p
     read id h None e = tt
     read id h (Some t) e = h t e
 
--- a text that is one of two is the name of a hash
-named : (texts : List (Bor Text)) (t : Text) → map (λ w. w.now) texts ≡ codes "plain" ∷ codes "mixed" ∷ [] → list_any (λ name. bytes_eq name.now t) texts ≡ true → IsHashName (Some t)
-named texts t are among =
-    let any : list_any (λ name. bytes_eq name t) (codes "plain" ∷ codes "mixed" ∷ []) ≡ true = ap (list_any (λ name. bytes_eq name t)) (sym are) ∙ (sym (list_any-map (λ name. bytes_eq name t) (λ (w : Bor Text). w.now) texts) ∙ among) in
-    by_first (bytes_eq (codes "plain") t) refl any
+-- a text that is among two
+among : (a b : Text) (texts : List (Bor Text)) (t : Text) → map (λ w. w.now) texts ≡ a ∷ b ∷ [] → list_any (λ name. bytes_eq name.now t) texts ≡ true → (t ≡ a) ⊎ (t ≡ b)
+among a b texts t are is =
+    let any : list_any (λ name. bytes_eq name t) (a ∷ b ∷ []) ≡ true = ap (list_any (λ name. bytes_eq name t)) (sym are) ∙ (sym (list_any-map (λ name. bytes_eq name t) (λ (w : Bor Text). w.now) texts) ∙ is) in
+    by_first (bytes_eq a t) refl any
   where
-    by_second : (b : Bool) → bytes_eq (codes "mixed") t ≡ b → (b || false) ≡ true → IsHashName (Some t)
-    by_second true e any = (hash.Mixed, sym ((bytes_eq-Decides (codes "mixed") t).0 e))
+    by_second : (x : Bool) → bytes_eq b t ≡ x → (x || false) ≡ true → (t ≡ a) ⊎ (t ≡ b)
+    by_second true e any = inr (sym ((bytes_eq-Decides b t).0 e))
     by_second false e any = absurd (true≢false (sym any))
 
-    by_first : (b : Bool) → bytes_eq (codes "plain") t ≡ b → (b || (bytes_eq (codes "mixed") t || false)) ≡ true → IsHashName (Some t)
-    by_first true e any = (hash.Plain, sym ((bytes_eq-Decides (codes "plain") t).0 e))
-    by_first false e any = by_second (bytes_eq (codes "mixed") t) refl any
+    by_first : (x : Bool) → bytes_eq a t ≡ x → (x || (bytes_eq b t || false)) ≡ true → (t ≡ a) ⊎ (t ≡ b)
+    by_first true e any = inl (sym ((bytes_eq-Decides a t).0 e))
+    by_first false e any = by_second (bytes_eq b t) refl any
+
+named : (texts : List (Bor Text)) (t : Text) → map (λ w. w.now) texts ≡ codes "plain" ∷ codes "mixed" ∷ [] → list_any (λ name. bytes_eq name.now t) texts ≡ true → IsHashName (Some t)
+named texts t are is = elim (among (codes "plain") (codes "mixed") texts t are is) [ inl e ↦ (hash.Plain, e) | inr e ↦ (hash.Mixed, e) ]
 
 -- the word of a rule of a chain that takes the names of hashes is one of them in each parse
 pub hash_given : (start command : Command) (rules : List Rule) (m : ArgMatches) → IsBare start → IsChain start rules command
-    → list_all fits_option rules ≡ true → are_distinct rules ≡ true → (k : ℕ) → k < length rules → (h : HashWords)
-    → (slice_index_or rules k (new_rule [])).parser ≡ Some (parser.Names h.words) → (slice_index_or rules k (new_rule [])).ignore_case ≡ false → IsParsedFrom command m
+    → list_all fits_option rules ≡ true → are_distinct rules ≡ true → (k : ℕ) → k < length rules → (h : OptionWords)
+    → (slice_index_or rules k (new_rule [])).parser ≡ Some (parser.Names h.hashes) → (slice_index_or rules k (new_rule [])).ignore_case ≡ false → IsParsedFrom command m
     → IsHashName (first_value (found_of m) (slice_index_or rules k (new_rule [])).id)
 hash_given start command rules m bare chain fits distinct k lt h is case p =
-    read _ (λ t first. subst (λ (b : Bool). Accepts b (parser.Names h.words) t) case
-    (value_given start command rules m bare chain fits distinct k lt (parser.Names h.words) is p t first)) _ refl
+    read _ (λ t first. subst (λ (b : Bool). Accepts b (parser.Names h.hashes) t) case
+    (value_given start command rules m bare chain fits distinct k lt (parser.Names h.hashes) is p t first)) _ refl
   where
-    read : (id : Text) → ((t : Text) → first_value (found_of m) id ≡ Some t → Accepts false (parser.Names h.words) t) → (o : Option Text) → first_value (found_of m) id ≡ o → IsHashName o
+    read : (id : Text) → ((t : Text) → first_value (found_of m) id ≡ Some t → Accepts false (parser.Names h.hashes) t) → (o : Option Text) → first_value (found_of m) id ≡ o → IsHashName o
     read id f None e = tt
-    read id f (Some t) e = named h.words.now t h.are (f t e)
+    read id f (Some t) e = named h.hashes.now t h.are_hashes (f t e)
+
+-- and so is that of the option that says how strictly files are read
+pub strict_given : (start command : Command) (rules : List Rule) (m : ArgMatches) → IsBare start → IsChain start rules command
+    → list_all fits_option rules ≡ true → are_distinct rules ≡ true → (k : ℕ) → k < length rules → (h : OptionWords)
+    → (slice_index_or rules k (new_rule [])).parser ≡ Some (parser.Names h.levels) → (slice_index_or rules k (new_rule [])).ignore_case ≡ false → IsParsedFrom command m
+    → IsStrictName (first_value (found_of m) (slice_index_or rules k (new_rule [])).id)
+strict_given start command rules m bare chain fits distinct k lt h is case p =
+    read _ (λ t first. subst (λ (b : Bool). Accepts b (parser.Names h.levels) t) case
+    (value_given start command rules m bare chain fits distinct k lt (parser.Names h.levels) is p t first)) _ refl
+  where
+    read : (id : Text) → ((t : Text) → first_value (found_of m) id ≡ Some t → Accepts false (parser.Names h.levels) t) → (o : Option Text) → first_value (found_of m) id ≡ o → IsStrictName o
+    read id f None e = tt
+    read id f (Some t) e = among (codes "on") (codes "full") h.levels.now t h.are_levels (f t e)

@@ -3,6 +3,7 @@ pub mod Line
 pub mod Operands
 pub mod Options
 pub mod Runs
+pub mod Sides
 pub mod Types
 pub mod Report
 pub mod Script

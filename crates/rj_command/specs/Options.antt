@@ -13,7 +13,18 @@ use Rattle.rj_command.specs.declared.join.options.LineOption.{LineOption}
 use Rattle.rj_command.specs.declared.join.options.Takes.{Takes}
 use Rattle.rj_command.specs.declared.join.options.Takes.TheVariants as takes
 
--- a long option with one value, or with none
+-- a long option with one of these words, or with none, for which another text stands
+abbrev pub word_or_none : Text → Bor (List (Bor Text)) → Text → Rule
+word_or_none name words other =
+    record (new_rule name) {
+      long = Some name;
+      action = Some Set;
+      range = Some (record { start_inclusive = 0; end_inclusive = 1 });
+      missing = other ∷ [];
+      parser = Some (parser.Names words);
+    }
+
+-- a long option with one value, with one or none, or with none
 abbrev pub rule_for : Text → Takes → Rule
 rule_for name takes.Required = record (new_rule name) { long = Some name; action = Some Set; required = true }
 rule_for name takes.Text = record (new_rule name) { long = Some name; action = Some Set }
@@ -21,18 +32,21 @@ rule_for name (takes.Number least most) =
     record (new_rule name) { long = Some name; action = Some Set; parser = Some (parser.Signed (pos least) (pos most)) }
 rule_for name (takes.Word words) =
     record (new_rule name) { long = Some name; action = Some Set; parser = Some (parser.Names words) }
+rule_for name (takes.WordOrNone words other) = word_or_none name words other.now
 rule_for name takes.Nothing = record (new_rule name) { long = Some name; action = Some SetTrue }
 
 abbrev pub rule_of_option : LineOption → Rule
 rule_of_option o = rule_for o.name.now o.takes
 
--- the words that `--hash` takes, wherever they stand in memory
-pub record HashWords : Type 0 where
-  pub words : Bor (List (Bor Text))
-  pub are : map (λ w. w.now) words.now ≡ codes "plain" ∷ codes "mixed" ∷ []
+-- the words that `--hash` and `--strict` take, wherever they stand in memory
+pub record OptionWords : Type 0 where
+  pub hashes : Bor (List (Bor Text))
+  pub are_hashes : map (λ w. w.now) hashes.now ≡ codes "plain" ∷ codes "mixed" ∷ []
+  pub levels : Bor (List (Bor Text))
+  pub are_levels : map (λ w. w.now) levels.now ≡ codes "on" ∷ codes "full" ∷ []
 
 -- the options, in order
-abbrev pub option_rules : HashWords → List Rule
+abbrev pub option_rules : OptionWords → List Rule
 option_rules h =
     rule_for (codes "left") takes.Required
     ∷ rule_for (codes "right") takes.Required
@@ -40,9 +54,10 @@ option_rules h =
     ∷ rule_for (codes "right-types") takes.Required
     ∷ rule_for (codes "join") takes.Required
     ∷ rule_for (codes "null") takes.Text
+    ∷ word_or_none (codes "strict") h.levels (codes "on")
     ∷ rule_for (codes "bits1") (takes.Number 0 10)
     ∷ rule_for (codes "bits2") (takes.Number 0 10)
-    ∷ rule_for (codes "hash") (takes.Word h.words)
+    ∷ rule_for (codes "hash") (takes.Word h.hashes)
     ∷ rule_for (codes "workers") (takes.Number 1 64)
     ∷ rule_for (codes "block") (takes.Number 1 65536)
     ∷ rule_for (codes "capacity") (takes.Number 1 4096)
@@ -58,7 +73,7 @@ with_rules app [] = app
 with_rules app (r ∷ rules) = with_rules (with_rule app r) rules
 
 -- the program's command line, which has a version, and whose words begin after its name
-abbrev pub line_app : HashWords → App
+abbrev pub line_app : OptionWords → App
 line_app h = with_rules (on_top (λ s. record s { has_version = true; no_binary_name = true }) (new_app (codes "radixjoin"))) (option_rules h)
 
 -- a command with the arguments of these rules more, each added in turn
@@ -75,7 +90,7 @@ pub record IsBare (c : Command) : Type 0 where
 -- a bare command with the program's options in turn
 pub record IsLineCommand (c : Command) : Type 0 where
   pub start : Command
-  pub hash_words : HashWords
+  pub option_words : OptionWords
   pub bare : IsBare start
-  pub chain : IsChain start (option_rules hash_words) c
-  pub app : app_of c ≡ line_app hash_words
+  pub chain : IsChain start (option_rules option_words) c
+  pub app : app_of c ≡ line_app option_words

@@ -26,7 +26,7 @@ impl fmt::Display for Side {
 }
 
 /// Why a run gave no output. Its text is the line that the program prints, without its line end. Rows and columns count from 1, the
-/// first row being the record after the header; bytes of a clause count from 0.
+/// first row being the record after the header, which has row 0; bytes of a clause count from 0.
 #[derive(Debug, Drop, Error)]
 pub enum Fault {
     /// `clap` refused the words of the command line, or they ask for help or for the version. The text is that of `clap`.
@@ -98,6 +98,24 @@ pub enum Fault {
     /// The writer failed.
     #[error("radixjoin: E20 WriteDevice")]
     WriteDevice,
+    /// A quoted field isn't closed at the file's end. This and the faults below are told where files are read strictly.
+    #[error("radixjoin: E21 OpenQuote {0} row {1} column {2}")]
+    OpenQuote(Side, u64, u64),
+    /// A byte other than a comma, a double quote, CR and LF stands behind a closing quote.
+    #[error("radixjoin: E22 AfterQuote {0} row {1} column {2}")]
+    AfterQuote(Side, u64, u64),
+    /// A double quote stands in a field that doesn't begin with one.
+    #[error("radixjoin: E23 BareQuote {0} row {1} column {2}")]
+    BareQuote(Side, u64, u64),
+    /// No LF follows a CR outside quotes.
+    #[error("radixjoin: E24 BareReturn {0} row {1} column {2}")]
+    BareReturn(Side, u64, u64),
+    /// A line is empty though the header has more than one name.
+    #[error("radixjoin: E25 EmptyLine {0} row {1}")]
+    EmptyLine(Side, u64),
+    /// The last record has no line end.
+    #[error("radixjoin: E26 CutShort {0} row {1}")]
+    CutShort(Side, u64),
 }
 
 impl Told for Fault {
@@ -135,7 +153,13 @@ impl Fault {
             | Fault::BadText(_, _, _)
             | Fault::TooManyRows(_)
             | Fault::TooManyColumns(_)
-            | Fault::BadNull => 3,
+            | Fault::BadNull
+            | Fault::OpenQuote(_, _, _)
+            | Fault::AfterQuote(_, _, _)
+            | Fault::BareQuote(_, _, _)
+            | Fault::BareReturn(_, _, _)
+            | Fault::EmptyLine(_, _)
+            | Fault::CutShort(_, _) => 3,
             Fault::Syntax(_)
             | Fault::TooDeep
             | Fault::UnknownColumn

@@ -6,11 +6,13 @@ mod options;
 mod request;
 mod running;
 mod stats;
+mod strict;
 mod types;
 
 pub use self::line::{Line, read_line};
 pub use self::operands::{bind_clause, fault_of_read};
-pub use self::request::{Hash, Request};
+pub use self::request::{Hash, Request, Strictness};
 pub use self::running::{run, run_owned};
 pub use self::stats::{PartitionRows, Stats};
+pub use self::strict::read_strictly;
 pub use self::types::read_types;

@@ -9,8 +9,8 @@ mod words;
 
 pub use fault::{Fault, Side};
 pub use join::{
-    Hash, Line, PartitionRows, Request, Stats, bind_clause, fault_of_read, read_line, read_types,
-    run, run_owned,
+    Hash, Line, PartitionRows, Request, Stats, Strictness, bind_clause, fault_of_read, read_line,
+    read_strictly, read_types, run, run_owned,
 };
 pub use rj_engine::Open;
 pub use script::arrivals;

@@ -264,7 +264,7 @@ reads h full text file d =
     ∙ ap (λ (x : List (List (List ℕ))). map line_values (filter solid file.lines) ++ x) (rest-run full file.rest d.rest)))
 
 -- under more than one name no line is empty
-line-solid : (names : ℕ) (l : Line) → nat_lt 1 names ≡ true → is_line names l ≡ true → solid l ≡ true
+pub line-solid : (names : ℕ) (l : Line) → nat_lt 1 names ≡ true → is_line names l ≡ true → solid l ≡ true
 line-solid names l n e = elim (and_cases (is_blank l.fields) (nat_lt 1 names) (ends-so names l e)) [
   | inl full ↦ not_from_false (is_blank l.fields) full
   | inr few ↦ absurd (false≢true (sym few ∙ n))

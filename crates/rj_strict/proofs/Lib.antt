@@ -13,3 +13,7 @@ pub mod WalkFacts
 pub mod Slices
 pub mod CleanFacts
 pub mod JoinedFacts
+pub mod HeaderFacts
+pub mod AboveFacts
+pub mod QuotingFacts
+pub mod MarkedParts

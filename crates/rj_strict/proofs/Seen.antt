@@ -14,7 +14,7 @@ use Rattle.rj_strict.specs.declared.standing.Place.TheVariants as place
 use Rattle.rj_strict.specs.declared.standing.Standing.{Standing}
 use Rattle.rj_strict.proofs.Parsing.{Part, within, opened, returned, Taken, nothing, row_of, column_of, with_line, end_line, take_comma, take_lf, take_cr, take_dquote, take_textdata, take_byte, take_end, taken_then, parse, untaken}
 
-abbrev place_of : List Field → Part → Place
+abbrev pub place_of : List Field → Part → Place
 place_of [] (within (non-escaped [])) = place.Start
 place_of (g ∷ fields) (within (non-escaped [])) = place.Fresh
 place_of [] (within (non-escaped (c ∷ bytes))) = place.Inside
@@ -30,15 +30,15 @@ place_of (g ∷ fields) (returned (non-escaped (c ∷ bytes))) = place.Return
 place_of [] (returned (escaped bytes)) = place.Return
 place_of (g ∷ fields) (returned (escaped bytes)) = place.Return
 
-abbrev header_seen : Header → List Line → Header
+abbrev pub header_seen : Header → List Line → Header
 header_seen First [] = First
 header_seen First (l ∷ lines) = Above (width l.fields)
 header_seen (Above names) lines = Above names
 
-abbrev seen : Header → Taken → Standing
+abbrev pub seen : Header → Taken → Standing
 seen h t = record { place = place_of t.fields t.part; header = header_seen h t.lines; row = row_of h t; column = column_of t }
 
-abbrev all_seen : Header → Result Taken StrictFault → Result Standing StrictFault
+abbrev pub all_seen : Header → Result Taken StrictFault → Result Standing StrictFault
 all_seen h (Ok t) = Ok (seen h t)
 all_seen h (Err e) = Err e
 
@@ -56,7 +56,7 @@ inside (g ∷ fields) [] c = refl
 inside [] (b ∷ bytes) c = refl
 inside (g ∷ fields) (b ∷ bytes) c = refl
 
-opens : (fields : List Field) (bytes : List ℕ) → place_of fields (opened bytes) ≡ place.Open
+pub opens : (fields : List Field) (bytes : List ℕ) → place_of fields (opened bytes) ≡ place.Open
 opens [] bytes = refl
 opens (g ∷ fields) bytes = refl
 
@@ -197,7 +197,7 @@ either : (h : Header) (b : Bool) (x y : Result Standing StrictFault) (u v : Resu
 either h true x y u v e f = e
 either h false x y u v e f = f
 
-byte-seen : (h : Header) (t : Taken) (c : ℕ) → step_of (seen h t) c ≡ all_seen h (take_byte h t c)
+pub byte-seen : (h : Header) (t : Taken) (c : ℕ) → step_of (seen h t) c ≡ all_seen h (take_byte h t c)
 byte-seen h t c =
     either h (c == comma) _ _ _ _ (comma-seen h t.lines t.fields t.part c)
     (either h (c == lf) _ _ _ _ (lf-seen h t.lines t.fields t.part c)
@@ -242,7 +242,7 @@ verdict-seen h full (c ∷ text) t =
     go (Ok t2) more = more t2
     go (Err e) more = refl
 
-begun-seen : (h : Header) → begun h ≡ seen h untaken
+pub begun-seen : (h : Header) → begun h ≡ seen h untaken
 begun-seen First = refl
 begun-seen (Above names) = refl
 

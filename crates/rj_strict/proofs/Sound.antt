@@ -12,19 +12,19 @@ use Rattle.rj_strict.specs.declared.fault.StrictFault.TheVariants as fault
 use Rattle.rj_strict.proofs.Parsing.{Part, within, opened, returned, Taken, part_text, taken_text, row_of, column_of, grown, record_with, with_line, end_line, take_comma, take_lf, take_cr, take_dquote, take_textdata, take_byte, take_end, end_within, taken_then, parse, untaken}
 use Rattle.rj_strict.proofs.Texts.{all-more, fields-more, lines-more, doubled-plain, doubled-dquote, is-textdata, blank-is, all-lines-more}
 
-abbrev is_part : Part → Bool
+abbrev pub is_part : Part → Bool
 is_part (within f) = is_field f
 is_part (opened bytes) = true
 is_part (returned f) = is_field f
 
 -- what is taken is lawful
-record IsTaken (h : Header) (t : Taken) : Type 0 where
-  lines : list_all (is_line (names_of h t.lines)) t.lines ≡ true
-  fields : list_all is_field t.fields ≡ true
-  part : is_part t.part ≡ true
+pub record IsTaken (h : Header) (t : Taken) : Type 0 where
+  pub lines : list_all (is_line (names_of h t.lines)) t.lines ≡ true
+  pub fields : list_all is_field t.fields ≡ true
+  pub part : is_part t.part ≡ true
 
 -- what a byte gives is lawful with what is left of the text, or the text's fault
-abbrev Good : Header → Bool → List ℕ → List ℕ → Result Taken StrictFault → Type 0
+abbrev pub Good : Header → Bool → List ℕ → List ℕ → Result Taken StrictFault → Type 0
 Good h full whole rest (Ok t) = IsTaken h t × (whole ≡ taken_text t rest)
 Good h full whole rest (Err e) = HasFault h full whole e
 
@@ -32,7 +32,7 @@ abbrev pub GoodEnd : Header → Bool → List ℕ → Result File StrictFault �
 GoodEnd h full whole (Ok file) = Derives h full whole file
 GoodEnd h full whole (Err e) = HasFault h full whole e
 
-nothing-doubled : (rest : List ℕ) → ◌≡◌ {A = List ℕ} (dquote ∷ rest) (dquote ∷ (doubled [] ++ rest))
+pub nothing-doubled : (rest : List ℕ) → ◌≡◌ {A = List ℕ} (dquote ∷ rest) (dquote ∷ (doubled [] ++ rest))
 unfolding doubled
 nothing-doubled rest = refl
 
@@ -143,7 +143,7 @@ module _ (h : Header) (full : Bool) (whole rest : List ℕ) (t : Taken) (lawful 
   good-if true x y p q = p refl
   good-if false x y p q = q refl
 
-  byte-good : (c : ℕ) → whole ≡ taken_text t (c ∷ rest) → Good h full whole rest (take_byte h t c)
+  pub byte-good : (c : ℕ) → whole ≡ taken_text t (c ∷ rest) → Good h full whole rest (take_byte h t c)
   byte-good c s =
       good-if (c == comma) _ _ (λ k. subst (λ (x : ℕ). whole ≡ taken_text t (x ∷ rest) → Good h full whole rest (take_comma h t t.part x)) (sym (eqb-true c comma k)) (comma-good t.part lawful.part) s)
       (λ k. good-if (c == lf) _ _ (λ n. subst (λ (x : ℕ). whole ≡ taken_text t (x ∷ rest) → Good h full whole rest (take_lf h t t.part x)) (sym (eqb-true c lf n)) (lf-good t.part lawful.part) s)

@@ -22,6 +22,22 @@ pub record FieldAt (header : Header) (text : List ℕ) (row column : ℕ) (left 
   pub at_row : row ≡ first_row header + length lines
   pub at_column : column ≡ length fields + 1
 
+-- the row of a fault
+abbrev pub row_at : StrictFault → ℕ
+row_at (fault.OpenQuote row column) = row
+row_at (fault.AfterQuote row column) = row
+row_at (fault.BareQuote row column) = row
+row_at (fault.BareReturn row column) = row
+row_at (fault.EmptyLine row) = row
+row_at (fault.CutShort row) = row
+
+-- these lines stand in the text above a row
+pub record AreAbove (header : Header) (text : List ℕ) (row : ℕ) (lines : List Line) : Type 0 where
+  pub left : List ℕ
+  pub spelled : text ≡ lines_text lines ++ left
+  pub are_lines : IsTrue (list_all (is_line (names_of header lines)) lines)
+  pub at_row : row ≡ first_row header + length lines
+
 abbrev pub starts_with_lf : List ℕ → Bool
 starts_with_lf [] = false
 starts_with_lf (c ∷ bytes) = c == lf

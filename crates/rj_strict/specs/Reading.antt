@@ -1,9 +1,11 @@
 -- What stands in a text beside what the library csv reads there: csv reads no record in an empty line.
-use Rattle.std.specs.Prelude.{ℕ, not, Bool, false, if◌then◌else◌, List, [], ◌∷◌, map, filter}
+use Rattle.std.specs.Prelude.{ℕ, ◌==◌, ◌||◌, not, Bool, false, if◌then◌else◌, List, [], ◌∷◌, map, filter}
 use Rattle.csv.specs.Reading.{is_bom, strip_bom}
-use Rattle.rj_strict.specs.Grammar.{Line, File, escaped, is_blank}
+use Rattle.rj_strict.specs.Grammar.{Line, File, cr, lf, escaped, is_blank}
 use Rattle.rj_strict.specs.declared.header.Header.{Header}
 use Rattle.rj_strict.specs.declared.header.Header.TheVariants.{First, Above}
+use Rattle.rj_strict.specs.declared.standing.Place.{Place}
+use Rattle.rj_strict.specs.declared.standing.Place.TheVariants as place
 
 -- a text that begins with the header may begin with a byte order mark, which is no part of the file
 abbrev pub body_of : Header → List ℕ → List ℕ
@@ -27,3 +29,13 @@ quoted_line l = if is_blank l.fields then record { fields = record { before = []
 
 abbrev pub quoted : File → File
 quoted file = record { lines = map quoted_line file.lines; rest = file.rest }
+
+-- the byte begins an empty line where a check stands
+abbrev pub begins_empty : Place → ℕ → Bool
+begins_empty place.Start c = (c == lf) || (c == cr)
+begins_empty place.Fresh c = false
+begins_empty place.Inside c = false
+begins_empty place.Open c = false
+begins_empty place.Closed c = false
+begins_empty place.Blank c = false
+begins_empty place.Return c = false

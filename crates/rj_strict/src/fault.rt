@@ -1,5 +1,8 @@
 //! Why a text isn't derived by RFC 4180's grammar.
 
+ghost use Rattle.std.specs.Prelude.{◌≡◌};
+ghost use Rattle.rj_strict.specs.Faults.{row_at};
+
 /// The place where a text stops being derived by RFC 4180's grammar: a row, and a column where it has one. Columns count
 /// from 1, and so do rows, the first being the record after the header, which has row 0.
 #[derive(Clone, Copy, Debug, PartialEq, Eq)]
@@ -16,4 +19,20 @@ pub enum StrictFault {
     EmptyLine(u64),
     /// The last record has no line's end.
     CutShort(u64),
+}
+
+impl StrictFault {
+    /// The row that has the fault.
+    pub fn row(&self) -> u64
+        ensures { result ≡ row_at self.now }
+    {
+        match *self {
+            StrictFault::OpenQuote(row, _)
+            | StrictFault::AfterQuote(row, _)
+            | StrictFault::BareQuote(row, _)
+            | StrictFault::BareReturn(row, _)
+            | StrictFault::EmptyLine(row)
+            | StrictFault::CutShort(row) => row,
+        }
+    }
 }

@@ -6,7 +6,7 @@ ghost use Rattle.rj_strict.specs.Grammar.{Derives, File, file_text, names_of, re
 ghost use Rattle.rj_strict.specs.Joined.{joined};
 ghost use Rattle.rj_strict.specs.Reading.{quoted, without_empty};
 ghost use Rattle.rj_strict.specs.declared.header.Header.{Header};
-ghost use Rattle.rj_strict.specs.declared.header.Header.TheVariants.{Above};
+ghost use Rattle.rj_strict.specs.declared.header.Header.TheVariants.{Above, First};
 
 /// A text has one derivation at most.
 pub fn one_derivation()
@@ -39,4 +39,10 @@ pub fn joined_texts()
     ensures { (header : Header) (full : Bool) (text more : List ℕ) (file other : File)
         → Derives header true text file → 0 < length file.lines → Derives (Above (names_of header file.lines)) full more other
         → Derives header full (text ++ more) (joined file other) }
+{}
+
+/// A text that is derived under more than one name has no empty line, and so it is derived with its header in it too.
+pub fn derived_with_header()
+    ensures { (names : ℕ) (full : Bool) (text : List ℕ) (file : File)
+        → 1 < names → Derives (Above names) full text file → Derives First full text file }
 {}

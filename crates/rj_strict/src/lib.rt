@@ -4,17 +4,22 @@
 //! what the library `csv` reads of it, and that texts can be checked in parts.
 #![tactic(auto)]
 
+mod above;
 mod checking;
 mod clean;
 mod fault;
 mod header;
 mod laws;
 mod mark;
+mod quoting;
 mod standing;
 
+pub use above::above_fault;
 pub use checking::check;
 pub use fault::StrictFault;
 pub use header::Header;
 pub use laws::{
-    joined_texts, one_derivation, reads_all_records, reads_quoted_records, reads_records,
+    derived_with_header, joined_texts, one_derivation, reads_all_records, reads_quoted_records,
+    reads_records,
 };
+pub use quoting::quote_empty_lines;

@@ -2,11 +2,11 @@
 
 ghost use Rattle.std.specs.Prelude.{◌≡◌, ◌⊎◌, ◌-◌, ◌^◌, IfOk, IfErr, Some, codes, is_some, map, true};
 ghost use Rattle.clap.specs.Words.{first_value, found_of, kind_of};
-ghost use Rattle.rj_command.specs.Line.{AreNumbersIn, AreSettings, IsHashName, IsHashOr, IsLineFault, IsLineOf, IsNumberIn, IsNumberOr, IsParseOf, is_true};
+ghost use Rattle.rj_command.specs.Line.{AreNumbersIn, AreSettings, IsHashName, IsHashOr, IsLineFault, IsLineOf, IsNumberIn, IsNumberOr, IsParseOf, IsStrictName, IsStrictness, is_true};
 
 use crate::fault::{Fault, Side};
 use crate::join::options::line_command;
-use crate::join::request::{Hash, Request};
+use crate::join::request::{Hash, Request, Strictness};
 use crate::join::types::read_types;
 use clap::error::ErrorKind;
 use clap::{ArgMatches, Error};
@@ -100,6 +100,18 @@ fn hash_of(matches: &ArgMatches<'_>) -> Hash
     }
 }
 
+// How strictly the files are read.
+fn strictness_of(matches: &ArgMatches<'_>) -> Strictness
+    requires { IsStrictName (first_value (found_of matches.now) (codes "strict")) }
+    ensures { IsStrictness (first_value (found_of matches.now) (codes "strict")) result }
+{
+    match matches.get_str("strict") {
+        Some("full") => Strictness::Full,
+        Some(_) => Strictness::On,
+        None => Strictness::Off,
+    }
+}
+
 // Whether a flag is given.
 fn is_given(matches: &ArgMatches<'_>, name: &str) -> bool
     ensures { result ≡ is_true (first_value (found_of matches.now) name.now) }
@@ -130,6 +142,7 @@ pub fn read_line<'a>(alloc: Global, words: &'a [&'a str]) -> Result<Line<'a>, Fa
             left_types,
             right_types,
             null: matches.get_str("null").unwrap_or(""),
+            strict: strictness_of(&matches),
             clause: given(&matches, "join"),
             settings: settings_of(&matches),
             hash: hash_of(&matches),

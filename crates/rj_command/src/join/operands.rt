@@ -1,15 +1,17 @@
 //! The two tables of a run and the join bound to them.
 
-ghost use Rattle.std.specs.Prelude.{◌≡◌, ◌≢◌, IfOk, IfErr, OnOk, Ok, Err, IsTrue, true};
+ghost use Rattle.std.specs.Prelude.{◌≡◌, ◌≢◌, IfOk, IfErr, OnOk, IsTrue, true};
 ghost use Rattle.rj_csv_io.specs.Tables.{is_null_text};
 ghost use Rattle.rj_condition.specs.Fits.{fits};
-ghost use Rattle.rj_command.specs.Operands.{AreOperands, IsFirstFault, IsJoinFault, IsJoinOf, bind_fault, parse_fault, read_fault, side_read, types_of};
+ghost use Rattle.rj_command.specs.Operands.{AreOperands, IsFirstFault, IsJoinFault, IsJoinOf, bind_fault, parse_fault};
+ghost use Rattle.rj_command.specs.Sides.{IsTable, IsTableFault, read_fault};
 
 use crate::fault::{Fault, Side};
-use crate::join::request::Request;
-use rj_columns::{ColumnType, Table};
+use crate::join::request::{Request, Strictness};
+use crate::join::strict::{read_strictly, read_text};
+use rj_columns::Table;
 use rj_condition::{BindRefused, BoundJoin, ParseRefused, bind, parse};
-use rj_csv_io::{ReadRefused, read_table_in_parts};
+use rj_csv_io::ReadRefused;
 use std::alloc::Global;
 use std::convert::AsSlice;
 use std::thread::Threads;
@@ -65,16 +67,7 @@ pub fn fault_of_read(side: Side, refused: ReadRefused) -> Fault
     }
 }
 
-fn types_of<'a>(request: &'a Request<'_>, side: Side) -> &'a [ColumnType]
-    ensures { result.now ≡ types_of request.now side }
-{
-    match side {
-        Side::Left => request.left_types.as_slice(),
-        Side::Right => request.right_types.as_slice(),
-    }
-}
-
-// The table of one side, read by as many threads as the request has workers. Bytes that it owns are given back before it returns.
+// The table of one side, read as strictly as is asked for. Bytes that it owns are given back before it returns.
 fn read_side<R: Threads + Sync, B: AsSlice<u8> + Drop>(
     rt: &R,
     alloc: Global,
@@ -82,22 +75,17 @@ fn read_side<R: Threads + Sync, B: AsSlice<u8> + Drop>(
     request: &Request<'_>,
     side: Side,
 ) -> Result<Table, Fault>
-    ensures table { IfOk result (λ t. side_read request.now side (B.items bytes) ≡ Ok t) }
-    ensures fault { IfErr result (λ f. f ≢ Fault.Memory →
-        (e : ReadRefused) × (side_read request.now side (B.items bytes) ≡ Err e) × (f ≡ read_fault side e)) }
+    ensures table { IfOk result (IsTable request.now side (B.items bytes)) }
+    ensures fault { IfErr result (λ f. f ≢ Fault.Memory → IsTableFault request.now side (B.items bytes) f) }
     ensures lawful { OnOk result (IsTrue (is_null_text request.now.null.now)) }
 {
-    let parts = request.settings.workers as usize;
-    match read_table_in_parts(
-        rt,
-        alloc,
-        bytes.as_slice(),
-        types_of(request, side),
-        request.null,
-        parts,
-    ) {
-        Ok(table) => Ok(table),
-        Err(refused) => Err(fault_of_read(side, refused)),
+    match request.strict {
+        Strictness::Off => match read_text(rt, alloc, bytes.as_slice(), request, side) {
+            Ok(table) => Ok(table),
+            Err(refused) => Err(fault_of_read(side, refused)),
+        },
+        Strictness::On => read_strictly(rt, alloc, bytes.as_slice(), request, side, false),
+        Strictness::Full => read_strictly(rt, alloc, bytes.as_slice(), request, side, true),
     }
 }
 

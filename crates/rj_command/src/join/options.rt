@@ -19,6 +19,8 @@ pub(crate) enum Takes {
     Number(u32, u32),
     // One of these words.
     Word(&'static [&'static str]),
+    // One of these words, or nothing, for which the other one stands.
+    WordOrNone(&'static [&'static str], &'static str),
     // Nothing: the option is given or not.
     Nothing,
 }
@@ -34,7 +36,7 @@ pub(crate) struct LineOption {
 // The bits of the hash that a pass partitions by.
 const BITS: Takes = Takes::Number(0, 10);
 
-const OPTIONS: [LineOption; 16] = [
+const OPTIONS: [LineOption; 17] = [
     LineOption {
         name: "left",
         takes: Takes::Required,
@@ -64,6 +66,11 @@ const OPTIONS: [LineOption; 16] = [
         name: "null",
         takes: Takes::Text,
         help: "Text of a field that is null, read and written [default: an empty field]",
+    },
+    LineOption {
+        name: "strict",
+        takes: Takes::WordOrNone(&["on", "full"], "on"),
+        help: "Refuse files that aren't of RFC 4180's grammar; full: also those whose last line has no end",
     },
     LineOption {
         name: "bits1",
@@ -133,6 +140,11 @@ fn argument<'a>(alloc: Global, option: &LineOption) -> Arg<'a>
             argument.action(ArgAction::Set).value_parser(numbers)
         }
         Takes::Word(words) => argument.action(ArgAction::Set).value_parser(words),
+        Takes::WordOrNone(words, other) => argument
+            .action(ArgAction::Set)
+            .num_args(0..=1)
+            .default_missing_value(other)
+            .value_parser(words),
         Takes::Nothing => argument.action(ArgAction::SetTrue),
     }
 }

@@ -12,6 +12,17 @@ pub enum Hash {
     Mixed,
 }
 
+/// Whether the texts of the two tables have to be of RFC 4180's grammar.
+#[derive(Clone, Copy)]
+pub enum Strictness {
+    /// They are read as the library `csv` reads them.
+    Off,
+    /// They have to be.
+    On,
+    /// They have to be, and the last record of each has its line end.
+    Full,
+}
+
 /// What a join of two files is asked to do.
 #[derive(Drop)]
 pub struct Request<'a> {
@@ -21,6 +32,8 @@ pub struct Request<'a> {
     pub right_types: Vec<ColumnType>,
     /// The text that stands for null, in both tables and in what is written.
     pub null: &'a str,
+    /// Whether their texts have to be of RFC 4180's grammar.
+    pub strict: Strictness,
     /// The text of the join clause.
     pub clause: &'a str,
     /// How the join is done. No setting changes its rows.

@@ -92,6 +92,60 @@ fn lines_of_tables(rt: HostRuntime) {
 }
 
 #[test]
+fn lines_of_texts(rt: HostRuntime) {
+    let alloc = rt.alloc();
+    let (left, right) = (Side::Left, Side::Right);
+    assert!(rt;
+        is_told(
+            alloc,
+            Fault::OpenQuote(left, 3, 2),
+            "radixjoin: E21 OpenQuote left row 3 column 2",
+            3
+        )
+    );
+    assert!(rt;
+        is_told(
+            alloc,
+            Fault::AfterQuote(right, 0, 256),
+            "radixjoin: E22 AfterQuote right row 0 column 256",
+            3
+        )
+    );
+    assert!(rt;
+        is_told(
+            alloc,
+            Fault::BareQuote(left, 2_147_483_648, 1),
+            "radixjoin: E23 BareQuote left row 2147483648 column 1",
+            3
+        )
+    );
+    assert!(rt;
+        is_told(
+            alloc,
+            Fault::BareReturn(right, 12, 7),
+            "radixjoin: E24 BareReturn right row 12 column 7",
+            3
+        )
+    );
+    assert!(rt;
+        is_told(
+            alloc,
+            Fault::EmptyLine(left, 5),
+            "radixjoin: E25 EmptyLine left row 5",
+            3
+        )
+    );
+    assert!(rt;
+        is_told(
+            alloc,
+            Fault::CutShort(right, 1203),
+            "radixjoin: E26 CutShort right row 1203",
+            3
+        )
+    );
+}
+
+#[test]
 fn lines_of_clauses(rt: HostRuntime) {
     let alloc = rt.alloc();
     assert!(rt;

@@ -4,23 +4,23 @@ use Rattle.clap.proofs.OnLiterals.{clap_on_literals}
 use Rattle.clap.proofs.WalkLemmas.{first_value-rows}
 use Rattle.rj_command.specs.Line.{IsLineFault}
 use Rattle.rj_command.specs.declared.fault.Fault.TheVariants as fault
-use Rattle.rj_command.specs.Options.{HashWords, line_app, option_rules}
+use Rattle.rj_command.specs.Options.{OptionWords, line_app, option_rules}
 use Rattle.rj_command.proofs.ChainFacts.{wanted_given}
-use Rattle.rj_command.proofs.NumberFacts.{hash_given, number_given}
+use Rattle.rj_command.proofs.NumberFacts.{hash_given, number_given, strict_given}
 use Rattle.rj_command.proofs.join.line.parse_words.Goals as goal
 
-simple : (h : HashWords) → is_simple (line_app h) ≡ true
+simple : (h : OptionWords) → is_simple (line_app h) ≡ true
 unfolding clap_on_literals
 simple h = refl
 
-free : (h : HashWords) → is_simple_and_free (line_app h) ≡ true
+free : (h : OptionWords) → is_simple_and_free (line_app h) ≡ true
 unfolding clap_on_literals
 free h = refl
 
 pub returns-in-Ok-try_get_matches_from-clause-ok : goal.returns-in-Ok-try_get_matches_from-clause-ok
 returns-in-Ok-try_get_matches_from-clause-ok c =
     let command = c.in-Ok.ensures in
-    let h = command.hash_words in
+    let h = command.option_words in
     let words : List Text = map (λ (w : Bor Text). w.now) c.args.words.now in
     let m = c.in-Ok-try_get_matches_from.matches in
     let got = c.in-Ok-try_get_matches_from.ensures in
@@ -28,7 +28,7 @@ returns-in-Ok-try_get_matches_from-clause-ok c =
     let given = wanted_given command.start c.in-Ok.command (option_rules h) m command.bare command.chain refl refl in
     let number = number_given command.start c.in-Ok.command (option_rules h) m command.bare command.chain refl refl in
     record {
-      hash_words = h;
+      option_words = h;
       accepted = ap (λ (a : App). fault_of a words) (sym command.app) ∙ got.kinds (ap is_simple_and_free command.app ∙ free h);
       values = λ name. first_value-rows (found_of m) name ∙ ap (first_of name) rows;
       left = given 0 (lit< tt) refl got.parsed;
@@ -37,22 +37,23 @@ returns-in-Ok-try_get_matches_from-clause-ok c =
       right_types = given 3 (lit< tt) refl got.parsed;
       join = given 4 (lit< tt) refl got.parsed;
       numbers = record {
-        bits1 = number 6 0 10 (lit< tt) refl got.parsed;
-        bits2 = number 7 0 10 (lit< tt) refl got.parsed;
-        workers = number 9 1 64 (lit< tt) refl got.parsed;
-        block = number 10 1 65536 (lit< tt) refl got.parsed;
-        capacity = number 11 1 4096 (lit< tt) refl got.parsed;
-        lanes = number 12 1 4 (lit< tt) refl got.parsed;
-        retries = number 13 0 3 (lit< tt) refl got.parsed;
-        piece = number 14 1 1048576 (lit< tt) refl got.parsed;
+        bits1 = number 7 0 10 (lit< tt) refl got.parsed;
+        bits2 = number 8 0 10 (lit< tt) refl got.parsed;
+        workers = number 10 1 64 (lit< tt) refl got.parsed;
+        block = number 11 1 65536 (lit< tt) refl got.parsed;
+        capacity = number 12 1 4096 (lit< tt) refl got.parsed;
+        lanes = number 13 1 4 (lit< tt) refl got.parsed;
+        retries = number 14 0 3 (lit< tt) refl got.parsed;
+        piece = number 15 1 1048576 (lit< tt) refl got.parsed;
       };
-      hash = hash_given command.start c.in-Ok.command (option_rules h) m command.bare command.chain refl refl 8 (lit< tt) h refl refl got.parsed;
+      hash = hash_given command.start c.in-Ok.command (option_rules h) m command.bare command.chain refl refl 9 (lit< tt) h refl refl got.parsed;
+      strict = strict_given command.start c.in-Ok.command (option_rules h) m command.bare command.chain refl refl 6 (lit< tt) h refl refl got.parsed;
     }
 
 pub returns-in-Err-clause-fault : goal.returns-in-Err-clause-fault
 returns-in-Err-clause-fault c =
     let command = c.in-Ok.ensures in
-    let h = command.hash_words in
+    let h = command.option_words in
     let words : List Text = map (λ (w : Bor Text). w.now) c.args.words.now in
     let memory : c.fault_of_error.result ≡ fault.Memory → IsLineFault words c.fault_of_error.result = λ is. subst (IsLineFault words) (sym is) tt in
     elim (c.in-Err.ensures.kinds (ap is_simple_and_free command.app ∙ free h)) [

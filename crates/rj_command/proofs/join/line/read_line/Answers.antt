@@ -1,7 +1,7 @@
 use Rattle.std.proofs.Common.{◌≡◌, ◌∙◌, ap, refl, subst, sym, [], Option, Some, None, unwrap_or, codes, is_some, option_map, map, rules, Bor}
 use Rattle.clap.specs.Words.{Text, first_value, found_of}
 use Rattle.rj_engine.specs.declared.settings.Settings.{Settings}
-use Rattle.rj_command.specs.Line.{AreSettings, IsHashOr, IsNumberOr, is_true}
+use Rattle.rj_command.specs.Line.{AreSettings, IsHashOr, IsNumberOr, IsStrictness, is_true}
 use Rattle.rj_command.specs.declared.join.request.Hash.TheVariants as hash
 use Rattle.rj_command.proofs.LineFacts.{left_list_fault, right_list_fault}
 use Rattle.rj_command.proofs.join.line.read_line.Goals as goal
@@ -36,7 +36,7 @@ pub returns-clause-line : goal.returns-clause-line
 returns-clause-line c =
     let parse = c.in_ok-matches.ensures.ok in
     record {
-      hash_words = parse.hash_words;
+      option_words = parse.option_words;
       accepted = parse.accepted;
       left = sym (parse.values (codes "left")) ∙ c.given-3.ensures;
       right = sym (parse.values (codes "right")) ∙ c.given-4.ensures;
@@ -44,6 +44,7 @@ returns-clause-line c =
       right_types = (c.given-2.result.now, sym (parse.values (codes "right-types")) ∙ c.given-2.ensures, c.in_ok-right_types.ensures.types);
       join = sym (parse.values (codes "join")) ∙ c.given-5.ensures;
       null = value-or _ c.get_str.result c.unwrap_or.result _ (c.get_str.ensures ∙ parse.values (codes "null")) c.unwrap_or.ensures refl;
+      strict = subst (λ (o : Option Text). IsStrictness o c.strictness_of.result) (parse.values (codes "strict")) c.strictness_of.ensures;
       settings = same-settings (first_value (found_of c.in_ok-matches.matches)) _ c.settings_of.result parse.values c.settings_of.ensures;
       hash = subst (λ (o : Option Text). IsHashOr hash.Plain o c.hash_of.result) (parse.values (codes "hash")) c.hash_of.ensures;
       tells_pieces = c.is_some.ensures ∙ same-given _ c.get_str-2.result (c.get_str-2.ensures ∙ parse.values (codes "piece"));
@@ -54,7 +55,7 @@ pub returns-in_err-left_types-clause-fault : goal.returns-in_err-left_types-clau
 returns-in_err-left_types-clause-fault c =
     let parse = c.in_ok-matches.ensures.ok in
     let left = sym (parse.values (codes "left-types")) ∙ c.given.ensures in
-    let told = left_list_fault (map (λ (w : Bor Text). w.now) c.args.words.now) parse.hash_words c.given.result.now c.in_err-left_types.field-0.0
+    let told = left_list_fault (map (λ (w : Bor Text). w.now) c.args.words.now) parse.option_words c.given.result.now c.in_err-left_types.field-0.0
     parse.accepted left c.in_err-left_types.ensures.fault in
     search (rules, told)
 
@@ -63,6 +64,6 @@ returns-in_err-right_types-clause-fault c =
     let parse = c.in_ok-matches.ensures.ok in
     let left = sym (parse.values (codes "left-types")) ∙ c.given.ensures in
     let right = sym (parse.values (codes "right-types")) ∙ c.given-2.ensures in
-    let told = right_list_fault (map (λ (w : Bor Text). w.now) c.args.words.now) parse.hash_words c.given.result.now c.given-2.result.now
+    let told = right_list_fault (map (λ (w : Bor Text). w.now) c.args.words.now) parse.option_words c.given.result.now c.given-2.result.now
     c.in_ok-left_types.left_types.items c.in_err-right_types.field-0.0 parse.accepted left c.in_ok-left_types.ensures.types right c.in_err-right_types.ensures.fault in
     search (rules, told)

@@ -1,0 +1,161 @@
+//! Reading a table whose text has to be of RFC 4180's grammar.
+
+ghost use Rattle.std.specs.Prelude.{◌≡◌, ◌≢◌, ◌∷◌, Bool, Err, IfErr, IfOk, IsTrue, OnOk, true};
+ghost use Rattle.csv.specs.Reading.{default_config, records, strip_bom};
+ghost use Rattle.rj_csv_io.specs.Tables.{is_null_text};
+ghost use Rattle.rj_strict.specs.Grammar.{Derives, File, records_of};
+ghost use Rattle.rj_strict.specs.Reading.{body_of};
+ghost use Rattle.rj_strict.specs.declared.header.Header.TheVariants.{Above, First};
+ghost use Rattle.rj_command.specs.Sides.{IsReading, IsStrictFault, IsStrictTable, fault_below, strict_fault, types_of};
+
+use crate::fault::{Fault, Side};
+use crate::join::operands::fault_of_read;
+use crate::join::request::Request;
+use rj_columns::{ColumnType, Table};
+use rj_csv_io::{ReadRefused, read_table_in_parts, without_bom};
+use rj_strict::{
+    Header, StrictFault, above_fault, check, derived_with_header, one_derivation,
+    quote_empty_lines, reads_all_records, reads_quoted_records,
+};
+use std::alloc::Global;
+use std::thread::Threads;
+
+// The fault of a text that isn't of the grammar.
+fn fault_of_text(side: Side, fault: StrictFault) -> Fault
+    ensures { result ≡ strict_fault side fault }
+{
+    match fault {
+        StrictFault::OpenQuote(row, column) => Fault::OpenQuote(side, row, column),
+        StrictFault::AfterQuote(row, column) => Fault::AfterQuote(side, row, column),
+        StrictFault::BareQuote(row, column) => Fault::BareQuote(side, row, column),
+        StrictFault::BareReturn(row, column) => Fault::BareReturn(side, row, column),
+        StrictFault::EmptyLine(row) => Fault::EmptyLine(side, row),
+        StrictFault::CutShort(row) => Fault::CutShort(side, row),
+    }
+}
+
+// The fault of a text that isn't of the grammar, by the reading of the records above.
+fn first_fault(side: Side, fault: StrictFault, above: Result<Table, ReadRefused>) -> Fault
+    ensures { result ≡ fault_below side fault above }
+{
+    match above {
+        Ok(_) | Err(ReadRefused::NoHeader) => fault_of_text(side, fault),
+        Err(refused) => fault_of_read(side, refused),
+    }
+}
+
+fn types_of<'a>(request: &'a Request<'_>, side: Side) -> &'a [ColumnType]
+    ensures { result.now ≡ types_of request.now side }
+{
+    match side {
+        Side::Left => request.left_types.as_slice(),
+        Side::Right => request.right_types.as_slice(),
+    }
+}
+
+/// The table of one side, read by as many threads as the request has workers, as the library `csv` reads its text.
+pub(crate) fn read_text<R: Threads + Sync>(
+    rt: &R,
+    alloc: Global,
+    text: &[u8],
+    request: &Request<'_>,
+    side: Side,
+) -> Result<Table, ReadRefused>
+    ensures reading { IsReading request.now side (records default_config (strip_bom text.now)) result }
+    ensures lawful { OnOk result (IsTrue (is_null_text request.now.null.now)) }
+{
+    let parts = request.settings.workers as usize;
+    read_table_in_parts(
+        rt,
+        alloc,
+        text,
+        types_of(request, side),
+        request.null,
+        parts,
+    )
+}
+
+// The table of all records of a text that is derived, in each of whose empty lines `""` is written first.
+fn read_quoted<R: Threads + Sync>(
+    rt: &R,
+    alloc: Global,
+    text: &[u8],
+    request: &Request<'_>,
+    side: Side,
+) -> Result<Table, ReadRefused>
+    requires { (full : Bool) × (file : File) × Derives First full (body_of First text.now) file }
+    ensures reading { (full : Bool) (file : File) → Derives First full (body_of First text.now) file → IsReading request.now side (records_of file) result }
+    ensures lawful { OnOk result (IsTrue (is_null_text request.now.null.now)) }
+{
+    reads_quoted_records();
+    let Ok(quoted) = quote_empty_lines(alloc, text) else {
+        return Err(ReadRefused::Memory);
+    };
+    read_text(rt, alloc, quoted.as_slice(), request, side)
+}
+
+// Whether a text is seen to be derived with no empty line in it.
+fn has_full_lines(text: &[u8], full: bool) -> bool
+    ensures { result ≡ true → (file : File) × Derives (Above 2) full (strip_bom text.now) file }
+{
+    check(without_bom(text), Header::Above(2), full).is_ok()
+}
+
+// The table of all records of a text of whole lines.
+fn read_lines<R: Threads + Sync>(
+    rt: &R,
+    alloc: Global,
+    text: &[u8],
+    request: &Request<'_>,
+    side: Side,
+) -> Result<Table, ReadRefused>
+    requires { (file : File) × Derives First true (body_of First text.now) file }
+    ensures { (file : File) → Derives First true (body_of First text.now) file → IsReading request.now side (records_of file) result }
+{
+    one_derivation();
+    reads_all_records();
+    derived_with_header();
+    if has_full_lines(text, true) {
+        return read_text(rt, alloc, text, request, side);
+    }
+    read_quoted(rt, alloc, text, request, side)
+}
+
+/// The table of one side, whose text has to be of RFC 4180's grammar: it has exactly the records of the text's one derivation.
+/// Where it is full, its last record has to have its line end. It is read by as many threads as the request has workers.
+///
+/// # Errors
+///
+/// Faults come in the order of the file: those of the records above the place where the text stops being of the grammar, and
+/// then that one. A null text that isn't lawful comes first. `Memory` comes only where a growth was refused.
+pub fn read_strictly<R: Threads + Sync>(
+    rt: &R,
+    alloc: Global,
+    text: &[u8],
+    request: &Request<'_>,
+    side: Side,
+    full: bool,
+) -> Result<Table, Fault>
+    ensures table { IfOk result (IsStrictTable full request.now side text.now) }
+    ensures fault { IfErr result (λ f. f ≢ Fault.Memory → IsStrictFault full request.now side text.now f) }
+    ensures lawful { OnOk result (IsTrue (is_null_text request.now.null.now)) }
+{
+    reads_all_records();
+    derived_with_header();
+    if has_full_lines(text, full) {
+        return match read_text(rt, alloc, text, request, side) {
+            Ok(table) => Ok(table),
+            Err(refused) => Err(fault_of_read(side, refused)),
+        };
+    }
+    match check(text, Header::First, full) {
+        Ok(()) => match read_quoted(rt, alloc, text, request, side) {
+            Ok(table) => Ok(table),
+            Err(refused) => Err(fault_of_read(side, refused)),
+        },
+        Err(fault) => {
+            let above = above_fault(text, Header::First, fault);
+            Err(first_fault(side, fault, read_lines(rt, alloc, above, request, side)))
+        }
+    }
+}

@@ -1,0 +1,5 @@
+use Rattle.rj_strict.proofs.HeaderFacts.{with-header}
+use Rattle.rj_strict.proofs.laws.derived_with_header.Goals as goal
+
+pub returns : goal.returns
+returns c = with-header

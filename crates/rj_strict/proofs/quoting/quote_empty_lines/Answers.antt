@@ -1,0 +1,55 @@
+use Rattle.std.proofs.Common.{◌≡◌, ◌<◌, ◌∙◌, ◌++◌, ◌∷◌, [], ap, arith, length, get_or, subst, sym, List, ℕ}
+use Rattle.std.specs.declared.alloc.Global.{Global}
+use Rattle.std.specs.declared.vec.Vec.{Vec}
+use Rattle.rj_strict.specs.Grammar.{Derives}
+use Rattle.rj_strict.specs.declared.header.Header.TheVariants.{First}
+use Rattle.rj_strict.proofs.AboveFacts.{begun-near}
+use Rattle.rj_strict.proofs.QuotingFacts.{added, never, quotes-begun, quotes-end, quotes-more, wrote-byte, wrote-quotes}
+use Rattle.rj_strict.proofs.StepFacts.{step-near}
+use Rattle.rj_strict.proofs.quoting.quote_empty_lines.Goals as goal
+use Rattle.rj_strict.proofs.quoting.quote_empty_lines.Goals.{then-begins_empty_line+in_ok-extend_from_slice-2, else-begins_empty_line}
+
+pub loop-i-init : goal.loop-i-init
+loop-i-init c =
+    let near = begun-near First in
+    let text = c.body-text.result.now in
+    let empty : c.extend_from_slice.new.self.items ≡ 239 ∷ 187 ∷ 191 ∷ [] =
+    c.in_ok-extend_from_slice.ensures.items ∙ ap (λ (x : List ℕ). x ++ (239 ∷ 187 ∷ 191 ∷ [])) c.in_ok-quoted.ensures.items in
+    record {
+      row = rw c.begin-standing.ensures near.0;
+      column = rw c.begin-standing.ensures near.1;
+      quotes = quotes-begun text c.begin-standing.result c.extend_from_slice.new.self.items
+          (c.requires.0, c.requires.1, subst (λ (x : List ℕ). Derives First c.requires.0 x c.requires.1) (sym c.body-text.ensures) c.requires.2) c.begin-standing.ensures empty;
+    }
+
+pub returns-in-Err : goal.returns-in-Err
+returns-in-Err c =
+    let within : c.loop-i.i < length c.body-text.result.now = omega arith in
+    λ full file d. absurd (never c.body-text.result.now c.loop-i.i c.loop-i.standing c.loop-i.quoted.items c.loop-i.invariant.quotes c.in-Err.field-0 within c.in-Err.ensures)
+
+pub loop-i-preserved : goal.loop-i-preserved
+loop-i-preserved c =
+    let text = c.body-text.result.now in
+    let out = c.loop-i.quoted.items in
+    let byte = get_or text c.loop-i.i 0 in
+    let within : c.loop-i.i < length text = omega arith in
+    let near = step-near c.loop-i.standing c.in-Ok.next byte c.in-Ok.ensures in
+    let wrote : (rest : List ℕ) → c.push.new.self.items ++ rest ≡ out ++ added c.loop-i.standing.place byte rest =
+    λ rest. elim c.if-begins_empty_line.branch [
+      | then-begins_empty_line+in_ok-extend_from_slice-2 w ↦
+          wrote-quotes c.loop-i.standing.place byte out c.if-begins_empty_line.quoted.items c.push.new.self.items rest c.begins_empty_line.result c.begins_empty_line.ensures w.if-begins_empty_line.true
+          (ap (λ (v : Vec ℕ Global). v.items) w.quoted-is ∙ w.in_ok-extend_from_slice-2.ensures.items) c.in_ok-push.ensures.items
+      | else-begins_empty_line w ↦
+          wrote-byte c.loop-i.standing.place byte out c.if-begins_empty_line.quoted.items c.push.new.self.items rest c.begins_empty_line.result c.begins_empty_line.ensures w.if-begins_empty_line.false
+          (ap (λ (v : Vec ℕ Global). v.items) w.quoted-is) c.in_ok-push.ensures.items
+    ] in
+    record {
+      row = omega (arith, near.0, c.loop-i.invariant.row);
+      column = omega (arith, near.1, c.loop-i.invariant.column);
+      quotes = quotes-more text c.loop-i.i c.loop-i.standing out c.loop-i.invariant.quotes c.in-Ok.next c.push.new.self.items within c.in-Ok.ensures wrote;
+    }
+
+pub returns : goal.returns
+returns c =
+    λ full file d. quotes-end c.body-text.result.now c.loop-i.i c.loop-i.standing c.loop-i.quoted.items c.loop-i.invariant.quotes (omega arith) full file
+    (subst (λ (x : List ℕ). Derives First full x file) (sym c.body-text.ensures) d)

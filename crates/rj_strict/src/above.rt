@@ -1,0 +1,42 @@
+//! What stands above a fault.
+
+ghost use Rattle.std.specs.Prelude.{◌≡◌, ◌≤◌, ◌+◌, ◌-◌, ◌^◌, ◌<◌, Bool, List, ℕ, length, take};
+ghost use Rattle.rj_strict.specs.Faults.{AreAbove, HasFault, row_at};
+ghost use Rattle.rj_strict.specs.Grammar.{Line, lines_text};
+ghost use Rattle.rj_strict.specs.Reading.{body_of};
+ghost use Rattle.rj_strict.specs.declared.fault.StrictFault.{StrictFault as Told};
+
+use crate::fault::StrictFault;
+use crate::header::Header;
+use crate::mark::body;
+use crate::standing::{begin, step};
+
+// Where the row begins that has the fault.
+fn start_of_row(text: &[u8], header: Header, row: u64) -> usize
+    requires { (full : Bool) × (f : Told) × HasFault header full text.now f × (row_at f ≡ row) }
+    ensures within { result ≤ length text.now }
+    ensures lines { (lines : List Line) × AreAbove header text.now row lines × (take result text.now ≡ lines_text lines) }
+{
+    let mut standing = begin(header);
+    for i in 0..text.len() {
+        if standing.row == row {
+            return i;
+        }
+        match step(standing, text[i]) {
+            Ok(next) => standing = next,
+            Err(_) => return i, // not reached, since the fault is in a later row
+        }
+    }
+    text.len()
+}
+
+/// The lines above the row of a text's fault, with the byte order mark that may stand before them. It takes no memory.
+pub fn above_fault(text: &[u8], header: Header, fault: StrictFault) -> &[u8]
+    requires { (full : Bool) × HasFault header full (body_of header text.now) fault }
+    ensures { (lines : List Line) × AreAbove header (body_of header text.now) (row_at fault) lines × (body_of header result.now ≡ lines_text lines) }
+{
+    let unmarked = body(text, header);
+    let mark = text.len() - unmarked.len();
+    let start = start_of_row(unmarked, header, fault.row());
+    &text[..mark + start]
+}
