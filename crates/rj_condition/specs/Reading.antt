@@ -84,6 +84,10 @@ unfoldable pub behind : Sign → List Token → Option (List Token)
 behind s (token.Sign r ∷ ts) = if same_sign r s then Some ts else None
 behind s _ = None
 
+-- a value, where its parenthesis is closed
+abbrev pub closed : {A : Type 0} → A → List Token → Read A
+closed x ts = behind sign.Close ts >>= λ us. Some (x, us)
+
 -- whether it came next, and the tokens behind it
 abbrev pub optionally : Option (List Token) → List Token → Bool × List Token
 optionally (Some us) ts = (true, us)

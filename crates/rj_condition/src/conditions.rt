@@ -6,7 +6,7 @@ ghost use Rattle.rj_condition.specs.Reading.{Gives, factor_at, factors_at, term_
 ghost use Rattle.rj_condition.specs.Reading as reading;
 
 use crate::predicates::predicate;
-use crate::steps::{after, behind, expect_sign, optional};
+use crate::steps::{after, behind, closed, optional};
 use crate::stop::Stop;
 use crate::token::{Keyword, Sign, Token};
 use crate::tree::Condition;
@@ -70,10 +70,11 @@ fn truth_test(
 ) -> Result<(Condition, &[Token]), Stop>
     ensures { Gives result (reading.truth_test_at condition (negated, tokens.now)) }
 {
+    let condition = Boxed::new(alloc, condition)?;
     let (truth, rest) = truth(tokens)?;
     Ok((
         Condition::Is {
-            condition: Boxed::new(alloc, condition)?,
+            condition,
             truth,
             negated,
         },
@@ -143,8 +144,7 @@ fn group(alloc: Global, limit: usize, tokens: &[Token]) -> Result<(Condition, &[
     ensures { Gives result (group_at limit tokens.now) }
 {
     let (inner, rest) = condition(alloc, limit, tokens)?;
-    let rest = expect_sign(rest, Sign::Close)?;
-    Ok((inner, rest))
+    closed(inner, rest)
 }
 
 #[cycle(reading)]

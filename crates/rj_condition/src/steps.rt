@@ -85,6 +85,18 @@ pub fn expect_sign(tokens: &[Token], sign: Sign) -> Result<&[Token], Stop>
     }
 }
 
+/// The value, and the tokens behind a closing parenthesis, which has to come next.
+///
+/// # Errors
+///
+/// It answers `Syntax` where no closing parenthesis comes next.
+pub fn closed<T: Drop>(value: T, tokens: &[Token]) -> Result<(T, &[Token]), Stop>
+    ensures { Gives result (reading.closed value tokens.now) }
+{
+    let rest = expect_sign(tokens, Sign::Close)?;
+    Ok((value, rest))
+}
+
 // Whether the keyword comes next, and the tokens behind it.
 pub fn optional(tokens: &[Token], keyword: Keyword) -> (bool, &[Token])
     ensures { (result.0, result.1.now) ≡ reading.opt keyword tokens.now }
