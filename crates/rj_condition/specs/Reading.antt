@@ -52,10 +52,6 @@ abbrev pub Gives : {A : Type 0} → Result (A × Bor (List Token)) Stop → Read
 Gives (Ok x) read = read ≡ Some (x.0, x.1.now)
 Gives (Err e) read = Fails e read
 
-abbrev pub GivesRest : Result (Bor (List Token)) Stop → Option (List Token) → Type 0
-GivesRest (Ok us) read = read ≡ Some us.now
-GivesRest (Err e) read = Fails e read
-
 abbrev pub GivesWhole : Result Clause Stop → Option Clause → Type 0
 GivesWhole (Ok c) read = read ≡ Some c
 GivesWhole (Err e) read = Fails e read

@@ -71,15 +71,17 @@ fn truth_test(
     ensures { Gives result (reading.truth_test_at condition (negated, tokens.now)) }
 {
     let condition = Boxed::new(alloc, condition)?;
-    let (truth, rest) = truth(tokens)?;
-    Ok((
-        Condition::Is {
-            condition,
-            truth,
-            negated,
-        },
-        rest,
-    ))
+    match truth(tokens) {
+        Ok((truth, rest)) => Ok((
+            Condition::Is {
+                condition,
+                truth,
+                negated,
+            },
+            rest,
+        )),
+        Err(stop) => Err(stop),
+    }
 }
 
 // `[IS [NOT] truth]`, behind a primary.
@@ -122,8 +124,10 @@ fn factor(alloc: Global, limit: usize, tokens: &[Token]) -> Result<(Condition, &
 fn test(alloc: Global, limit: usize, tokens: &[Token]) -> Result<(Condition, &[Token]), Stop>
     ensures { Gives result (test_at limit tokens.now) }
 {
-    let (inner, rest) = primary(alloc, limit, tokens)?;
-    suffix(alloc, inner, rest)
+    match primary(alloc, limit, tokens) {
+        Ok((inner, rest)) => suffix(alloc, inner, rest),
+        Err(stop) => Err(stop),
+    }
 }
 
 #[cycle(reading)]
@@ -143,8 +147,10 @@ fn primary(alloc: Global, limit: usize, tokens: &[Token]) -> Result<(Condition, 
 fn group(alloc: Global, limit: usize, tokens: &[Token]) -> Result<(Condition, &[Token]), Stop>
     ensures { Gives result (group_at limit tokens.now) }
 {
-    let (inner, rest) = condition(alloc, limit, tokens)?;
-    closed(inner, rest)
+    match condition(alloc, limit, tokens) {
+        Ok((inner, rest)) => closed(inner, rest),
+        Err(stop) => Err(stop),
+    }
 }
 
 #[cycle(reading)]
@@ -174,8 +180,10 @@ fn factors(
 fn term(alloc: Global, limit: usize, tokens: &[Token]) -> Result<(Condition, &[Token]), Stop>
     ensures { Gives result (term_at limit tokens.now) }
 {
-    let (conditions, rest) = factors(alloc, limit, tokens)?;
-    Ok((all(conditions), rest))
+    match factors(alloc, limit, tokens) {
+        Ok((conditions, rest)) => Ok((all(conditions), rest)),
+        Err(stop) => Err(stop),
+    }
 }
 
 #[cycle(reading)]
@@ -214,6 +222,8 @@ pub fn condition(
 ) -> Result<(Condition, &[Token]), Stop>
     ensures { Gives result (cond_at limit tokens.now) }
 {
-    let (conditions, rest) = terms(alloc, limit, tokens)?;
-    Ok((any(conditions), rest))
+    match terms(alloc, limit, tokens) {
+        Ok((conditions, rest)) => Ok((any(conditions), rest)),
+        Err(stop) => Err(stop),
+    }
 }
