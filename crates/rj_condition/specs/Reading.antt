@@ -52,10 +52,6 @@ abbrev pub Gives : {A : Type 0} → Result (A × Bor (List Token)) Stop → Read
 Gives (Ok x) read = read ≡ Some (x.0, x.1.now)
 Gives (Err e) read = Fails e read
 
-abbrev pub GivesRest : Result (Bor (List Token)) Stop → Option (List Token) → Type 0
-GivesRest (Ok us) read = read ≡ Some us.now
-GivesRest (Err e) read = Fails e read
-
 abbrev pub GivesWhole : Result Clause Stop → Option Clause → Type 0
 GivesWhole (Ok c) read = read ≡ Some c
 GivesWhole (Err e) read = Fails e read
@@ -83,6 +79,10 @@ after k _ = None
 unfoldable pub behind : Sign → List Token → Option (List Token)
 behind s (token.Sign r ∷ ts) = if same_sign r s then Some ts else None
 behind s _ = None
+
+-- a value, where its parenthesis is closed
+abbrev pub closed : {A : Type 0} → A → List Token → Read A
+closed x ts = behind sign.Close ts >>= λ us. Some (x, us)
 
 -- whether it came next, and the tokens behind it
 abbrev pub optionally : Option (List Token) → List Token → Bool × List Token

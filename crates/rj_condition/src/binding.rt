@@ -1,6 +1,6 @@
 //! Clauses bound to two tables.
 
-ghost use Rattle.std.specs.Prelude.{◌≡◌, ◌≢◌, IfOk, IfErr, Ok, Err, true, List};
+ghost use Rattle.std.specs.Prelude.{◌≡◌, ◌≢◌, IfOk, IfErr, Ok, Err, true, List, if◌then◌else◌};
 ghost use Rattle.rj_columns.specs.declared.cell.ColumnType.{ColumnType};
 ghost use Rattle.rj_condition.specs.Fits.{condition_fits, rule_fits, fits};
 ghost use Rattle.rj_condition.specs.Resolved.{bound_on};
@@ -17,6 +17,17 @@ use rj_columns::Table;
 use sqlite_items::Items;
 use std::alloc::Global;
 
+// What is bound, where its types fit.
+fn where_typed<T: Drop>(bound: T, typed: bool) -> Result<T, BindRefused>
+    ensures { result ≡ (if typed then Ok bound else Err BindRefused.TypeMismatch) }
+{
+    if typed {
+        Ok(bound)
+    } else {
+        Err(BindRefused::TypeMismatch)
+    }
+}
+
 // The condition bound to the two tables: all names come first, in the order of the text, then the types.
 fn bind_condition(
     alloc: Global,
@@ -29,11 +40,8 @@ fn bind_condition(
     ensures fits { IfOk result (λ b. condition_fits left.now.types right.now.types b ≡ true) }
 {
     let bound = resolve(alloc, condition, left, right)?;
-    if is_typed(&bound, left, right) {
-        Ok(bound)
-    } else {
-        Err(BindRefused::TypeMismatch)
-    }
+    let typed = is_typed(&bound, left, right);
+    where_typed(bound, typed)
 }
 
 // A join without join columns.

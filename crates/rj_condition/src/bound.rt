@@ -8,11 +8,21 @@ use crate::truth::Truth;
 use sqlite_items::{Boxed, Items};
 
 /// An operand with its name resolved: a column of the left or of the right table, counted from 0, or a literal.
-#[derive(Drop)]
 pub enum BoundOperand {
     Left(usize),
     Right(usize),
     Literal(Literal),
+}
+
+// By hand, so that a drop is one call in the proofs of those who hold an operand.
+impl Drop for BoundOperand {
+    fn drop(self) {
+        match self {
+            BoundOperand::Left(_) => {}
+            BoundOperand::Right(_) => {}
+            BoundOperand::Literal(_literal) => {}
+        }
+    }
 }
 
 /// A search condition with its names resolved; its cases are those of `Condition`.
@@ -49,7 +59,6 @@ pub enum BoundCondition {
 }
 
 /// Which pairs of rows a join keeps (SQL-92, 7.5).
-#[derive(Drop)]
 pub enum Rule {
     /// CROSS: every pair.
     AllPairs,
@@ -59,13 +68,34 @@ pub enum Rule {
     Condition(BoundCondition),
 }
 
+// By hand, as that of an operand.
+impl Drop for Rule {
+    fn drop(self) {
+        match self {
+            Rule::AllPairs => {}
+            Rule::EqualPartners => {}
+            Rule::Condition(_condition) => {}
+        }
+    }
+}
+
 /// A join clause bound to two tables: which unmatched rows it adds, which pairs of rows it keeps, and which
 /// columns of the two tables are one join column.
-#[derive(Drop)]
 pub struct BoundJoin {
     pub(crate) kind: JoinKind,
     pub(crate) partners: Items<Option<usize>>,
     pub(crate) rule: Rule,
+}
+
+// By hand, as that of an operand.
+impl Drop for BoundJoin {
+    fn drop(self) {
+        let BoundJoin {
+            kind: _,
+            partners: _partners,
+            rule: _rule,
+        } = self;
+    }
 }
 
 impl BoundJoin {

@@ -5,7 +5,7 @@ ghost use Rattle.rj_condition.specs.Reading.{Gives, GivesWhole};
 ghost use Rattle.rj_condition.specs.Reading as reading;
 
 use crate::conditions::condition;
-use crate::steps::{after, expect, expect_sign, names, optional, whole};
+use crate::steps::{after, behind, names, optional, whole};
 use crate::stop::Stop;
 use crate::token::{Keyword, Sign, Token};
 use crate::tree::{Clause, JoinKind};
@@ -36,8 +36,10 @@ fn join(tokens: &[Token]) -> Result<(JoinKind, &[Token]), Stop>
     ensures { Gives result (reading.join_at tokens.now) }
 {
     let (kind, rest) = kind(tokens);
-    let rest = expect(rest, Keyword::Join)?;
-    Ok((kind, rest))
+    match after(rest, Keyword::Join) {
+        Some(rest) => Ok((kind, rest)),
+        None => Err(Stop::Syntax(rest.len())),
+    }
 }
 
 // Behind CROSS.
@@ -45,8 +47,10 @@ fn join(tokens: &[Token]) -> Result<(JoinKind, &[Token]), Stop>
 fn cross(tokens: &[Token]) -> Result<Clause, Stop>
     ensures { GivesWhole result (reading.cross_at tokens.now) }
 {
-    let rest = expect(tokens, Keyword::Join)?;
-    whole(Clause::Cross, rest)
+    match after(tokens, Keyword::Join) {
+        Some(rest) => whole(Clause::Cross, rest),
+        None => Err(Stop::Syntax(tokens.len())),
+    }
 }
 
 // Behind NATURAL.
@@ -54,8 +58,10 @@ fn cross(tokens: &[Token]) -> Result<Clause, Stop>
 fn natural(tokens: &[Token]) -> Result<Clause, Stop>
     ensures { GivesWhole result (reading.natural_at tokens.now) }
 {
-    let (kind, rest) = join(tokens)?;
-    whole(Clause::Natural(kind), rest)
+    match join(tokens) {
+        Ok((kind, rest)) => whole(Clause::Natural(kind), rest),
+        Err(stop) => Err(stop),
+    }
 }
 
 // Behind ON.
@@ -63,8 +69,10 @@ fn natural(tokens: &[Token]) -> Result<Clause, Stop>
 fn on(alloc: Global, kind: JoinKind, tokens: &[Token]) -> Result<Clause, Stop>
     ensures { GivesWhole result (reading.on_at kind tokens.now) }
 {
-    let (condition, rest) = condition(alloc, tokens.len(), tokens)?;
-    whole(Clause::On(kind, condition), rest)
+    match condition(alloc, tokens.len(), tokens) {
+        Ok((condition, rest)) => whole(Clause::On(kind, condition), rest),
+        Err(stop) => Err(stop),
+    }
 }
 
 // USING and its names.
@@ -72,10 +80,16 @@ fn on(alloc: Global, kind: JoinKind, tokens: &[Token]) -> Result<Clause, Stop>
 fn using(alloc: Global, kind: JoinKind, tokens: &[Token]) -> Result<Clause, Stop>
     ensures { GivesWhole result (reading.using_at kind tokens.now) }
 {
-    let rest = expect(tokens, Keyword::Using)?;
-    let rest = expect_sign(rest, Sign::Open)?;
+    let Some(rest) = after(tokens, Keyword::Using) else {
+        return Err(Stop::Syntax(tokens.len()));
+    };
+    let Some(rest) = behind(rest, Sign::Open) else {
+        return Err(Stop::Syntax(rest.len()));
+    };
     let (names, rest) = names(alloc, rest)?;
-    let rest = expect_sign(rest, Sign::Close)?;
+    let Some(rest) = behind(rest, Sign::Close) else {
+        return Err(Stop::Syntax(rest.len()));
+    };
     whole(Clause::Using(kind, names), rest)
 }
 

@@ -6,7 +6,7 @@ ghost use Rattle.rj_condition.specs.Reading.{Gives, factor_at, factors_at, term_
 ghost use Rattle.rj_condition.specs.Reading as reading;
 
 use crate::predicates::predicate;
-use crate::steps::{after, behind, expect_sign, optional};
+use crate::steps::{after, behind, closed, optional};
 use crate::stop::Stop;
 use crate::token::{Keyword, Sign, Token};
 use crate::tree::Condition;
@@ -70,15 +70,18 @@ fn truth_test(
 ) -> Result<(Condition, &[Token]), Stop>
     ensures { Gives result (reading.truth_test_at condition (negated, tokens.now)) }
 {
-    let (truth, rest) = truth(tokens)?;
-    Ok((
-        Condition::Is {
-            condition: Boxed::new(alloc, condition)?,
-            truth,
-            negated,
-        },
-        rest,
-    ))
+    let condition = Boxed::new(alloc, condition)?;
+    match truth(tokens) {
+        Ok((truth, rest)) => Ok((
+            Condition::Is {
+                condition,
+                truth,
+                negated,
+            },
+            rest,
+        )),
+        Err(stop) => Err(stop),
+    }
 }
 
 // `[IS [NOT] truth]`, behind a primary.
@@ -121,8 +124,10 @@ fn factor(alloc: Global, limit: usize, tokens: &[Token]) -> Result<(Condition, &
 fn test(alloc: Global, limit: usize, tokens: &[Token]) -> Result<(Condition, &[Token]), Stop>
     ensures { Gives result (test_at limit tokens.now) }
 {
-    let (inner, rest) = primary(alloc, limit, tokens)?;
-    suffix(alloc, inner, rest)
+    match primary(alloc, limit, tokens) {
+        Ok((inner, rest)) => suffix(alloc, inner, rest),
+        Err(stop) => Err(stop),
+    }
 }
 
 #[cycle(reading)]
@@ -142,9 +147,10 @@ fn primary(alloc: Global, limit: usize, tokens: &[Token]) -> Result<(Condition, 
 fn group(alloc: Global, limit: usize, tokens: &[Token]) -> Result<(Condition, &[Token]), Stop>
     ensures { Gives result (group_at limit tokens.now) }
 {
-    let (inner, rest) = condition(alloc, limit, tokens)?;
-    let rest = expect_sign(rest, Sign::Close)?;
-    Ok((inner, rest))
+    match condition(alloc, limit, tokens) {
+        Ok((inner, rest)) => closed(inner, rest),
+        Err(stop) => Err(stop),
+    }
 }
 
 #[cycle(reading)]
@@ -174,8 +180,10 @@ fn factors(
 fn term(alloc: Global, limit: usize, tokens: &[Token]) -> Result<(Condition, &[Token]), Stop>
     ensures { Gives result (term_at limit tokens.now) }
 {
-    let (conditions, rest) = factors(alloc, limit, tokens)?;
-    Ok((all(conditions), rest))
+    match factors(alloc, limit, tokens) {
+        Ok((conditions, rest)) => Ok((all(conditions), rest)),
+        Err(stop) => Err(stop),
+    }
 }
 
 #[cycle(reading)]
@@ -214,6 +222,8 @@ pub fn condition(
 ) -> Result<(Condition, &[Token]), Stop>
     ensures { Gives result (cond_at limit tokens.now) }
 {
-    let (conditions, rest) = terms(alloc, limit, tokens)?;
-    Ok((any(conditions), rest))
+    match terms(alloc, limit, tokens) {
+        Ok((conditions, rest)) => Ok((any(conditions), rest)),
+        Err(stop) => Err(stop),
+    }
 }

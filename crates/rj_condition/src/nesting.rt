@@ -38,7 +38,9 @@ fn total(runs: &[usize]) -> usize
 fn step(runs: &mut Vec<usize>, token: &Token) -> Result<(), AllocError>
     requires some { 0 < length runs.old.items }
     requires low { length runs.old.items + sum runs.old.items ≤ 65 }
-    ensures { OnOk result (runs.new.items ≡ runs_after token.now runs.old.items) }
+    ensures after { OnOk result (runs.new.items ≡ runs_after token.now runs.old.items) }
+    ensures some { OnOk result (0 < length runs.new.items) }
+    ensures low { OnOk result (length runs.new.items + sum runs.new.items ≤ 66) }
 {
     match token {
         Token::Keyword(Keyword::Not) => runs[0] += 1,

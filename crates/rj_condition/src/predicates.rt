@@ -4,7 +4,7 @@ ghost use Rattle.std.specs.Prelude.{◌≡◌, [], ◌∷◌};
 ghost use Rattle.rj_condition.specs.Reading.{Gives};
 ghost use Rattle.rj_condition.specs.Reading as reading;
 
-use crate::steps::{after, behind, expect, expect_sign, name, optional};
+use crate::steps::{after, behind, name, optional};
 use crate::stop::Stop;
 use crate::token::{Keyword, Sign, Token};
 use crate::tree::{ColumnName, Comparison, Condition, Literal, Operand};
@@ -110,8 +110,10 @@ fn operator(tokens: &[Token]) -> Option<(Comparison, &[Token])>
 fn null(operand: Operand, negated: bool, tokens: &[Token]) -> Result<(Condition, &[Token]), Stop>
     ensures { Gives result (reading.null_at operand (negated, tokens.now)) }
 {
-    let rest = expect(tokens, Keyword::Null)?;
-    Ok((Condition::IsNull { operand, negated }, rest))
+    match after(tokens, Keyword::Null) {
+        Some(rest) => Ok((Condition::IsNull { operand, negated }, rest)),
+        None => Err(Stop::Syntax(tokens.len())),
+    }
 }
 
 // The bounds behind BETWEEN.
@@ -125,7 +127,9 @@ fn bounds(
     ensures { Gives result (reading.bounds_at operand_between negated tokens.now) }
 {
     let (low, rest) = operand(alloc, tokens)?;
-    let rest = expect(rest, Keyword::And)?;
+    let Some(rest) = after(rest, Keyword::And) else {
+        return Err(Stop::Syntax(rest.len()));
+    };
     let (high, rest) = operand(alloc, rest)?;
     Ok((
         Condition::Between {
@@ -148,9 +152,13 @@ fn members(
 ) -> Result<(Condition, &[Token]), Stop>
     ensures { Gives result (reading.members_at operand negated tokens.now) }
 {
-    let rest = expect_sign(tokens, Sign::Open)?;
+    let Some(rest) = behind(tokens, Sign::Open) else {
+        return Err(Stop::Syntax(tokens.len()));
+    };
     let (members, rest) = operands(alloc, rest)?;
-    let rest = expect_sign(rest, Sign::Close)?;
+    let Some(rest) = behind(rest, Sign::Close) else {
+        return Err(Stop::Syntax(rest.len()));
+    };
     Ok((
         Condition::In {
             operand,
@@ -217,6 +225,8 @@ fn test_of(alloc: Global, first: Operand, tokens: &[Token]) -> Result<(Condition
 pub fn predicate(alloc: Global, tokens: &[Token]) -> Result<(Condition, &[Token]), Stop>
     ensures { Gives result (reading.predicate_at tokens.now) }
 {
-    let (first, rest) = operand(alloc, tokens)?;
-    test_of(alloc, first, rest)
+    match operand(alloc, tokens) {
+        Ok((first, rest)) => test_of(alloc, first, rest),
+        Err(stop) => Err(stop),
+    }
 }

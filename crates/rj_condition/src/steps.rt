@@ -1,7 +1,7 @@
 //! Steps of the reader: the next token, where it is the one wanted.
 
 ghost use Rattle.std.specs.Prelude.{◌≡◌, [], ◌∷◌, IfOk, IsTrue, ◌↔◌, List};
-ghost use Rattle.rj_condition.specs.Reading.{Gives, GivesRest, GivesWhole, rest_view};
+ghost use Rattle.rj_condition.specs.Reading.{Gives, GivesWhole, rest_view};
 ghost use Rattle.rj_condition.specs.Reading as reading;
 
 use crate::stop::Stop;
@@ -57,30 +57,16 @@ pub fn behind(tokens: &[Token], sign: Sign) -> Option<&[Token]>
     }
 }
 
-/// The tokens behind the keyword, which has to come next.
+/// The value, and the tokens behind a closing parenthesis, which has to come next.
 ///
 /// # Errors
 ///
-/// It answers `Syntax` where the keyword doesn't come next.
-pub fn expect(tokens: &[Token], keyword: Keyword) -> Result<&[Token], Stop>
-    ensures { GivesRest result (reading.after keyword tokens.now) }
+/// It answers `Syntax` where no closing parenthesis comes next.
+pub fn closed<T: Drop>(value: T, tokens: &[Token]) -> Result<(T, &[Token]), Stop>
+    ensures { Gives result (reading.closed value tokens.now) }
 {
-    match after(tokens, keyword) {
-        Some(rest) => Ok(rest),
-        None => Err(Stop::Syntax(tokens.len())),
-    }
-}
-
-/// The tokens behind the sign, which has to come next.
-///
-/// # Errors
-///
-/// It answers `Syntax` where the sign doesn't come next.
-pub fn expect_sign(tokens: &[Token], sign: Sign) -> Result<&[Token], Stop>
-    ensures { GivesRest result (reading.behind sign tokens.now) }
-{
-    match behind(tokens, sign) {
-        Some(rest) => Ok(rest),
+    match behind(tokens, Sign::Close) {
+        Some(rest) => Ok((value, rest)),
         None => Err(Stop::Syntax(tokens.len())),
     }
 }

@@ -39,10 +39,19 @@ pub enum Literal {
 }
 
 /// What a predicate compares: a column or a literal.
-#[derive(Drop)]
 pub enum Operand {
     Column(ColumnName),
     Literal(Literal),
+}
+
+// By hand, as that of a word.
+impl Drop for Operand {
+    fn drop(self) {
+        match self {
+            Operand::Column(_column) => {}
+            Operand::Literal(_literal) => {}
+        }
+    }
 }
 
 /// An operator of a comparison (SQL-92, 8.2).
@@ -102,7 +111,6 @@ pub enum Condition {
 ///
 /// Its conditions and names have no name outside this crate, so that `parse` alone makes them: no condition is nested
 /// deeper than 64 levels, whoever hands a clause to `bind`.
-#[derive(Drop)]
 pub enum Clause {
     /// CROSS JOIN: every pair of rows.
     Cross,
@@ -112,4 +120,16 @@ pub enum Clause {
     On(JoinKind, Condition),
     /// USING: pairs whose named columns are equal.
     Using(JoinKind, Items<Name>),
+}
+
+// By hand, as that of a word.
+impl Drop for Clause {
+    fn drop(self) {
+        match self {
+            Clause::Cross => {}
+            Clause::Natural(_) => {}
+            Clause::On(_, _condition) => {}
+            Clause::Using(_, _names) => {}
+        }
+    }
 }
