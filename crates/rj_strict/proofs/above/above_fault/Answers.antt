@@ -27,5 +27,5 @@ returns c =
       found.0,
       subst (λ (x : List ℕ). AreAbove h x (row_at c.args.fault) found.0) is (subst (λ (r : ℕ). AreAbove h c.body-unmarked.result.now r found.0) c.row.ensures found.1),
       ap (λ (x : List ℕ). body_of h (take (length text - length x + start) text)) is
-      ∙ (body-start h text start within ∙ (ap (λ (x : List ℕ). take start x) (sym is) ∙ found.2)),
+          ∙ (body-start h text start within ∙ (ap (λ (x : List ℕ). take start x) (sym is) ∙ found.2)),
     )
