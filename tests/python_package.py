@@ -71,7 +71,7 @@ def tasks_of_scripts(programs):
 
 def installed(tally):
     """`pip install` of the folder, without a network: the package that it installs is the one here."""
-    python = python_with("pip", "setuptools")
+    python = python_with("setuptools", "pip")
     if python is None:
         print("skipped: pip install ./python: pip or setuptools is not installed")
         return
@@ -84,7 +84,8 @@ def installed(tally):
         for path in sorted(source.glob("radixjoin/*")):
             place = target / "radixjoin" / path.name
             faults += [] if place.is_file() and place.read_bytes() == path.read_bytes() else [f"{path.name} isn't installed"]
-        code = "import radixjoin, sys; print(radixjoin.__file__, [it for it in radixjoin.join([{'a': 1}], [{'a': 1}], natural=True)], 'pandas' in sys.modules)"
+        join = "list(radixjoin.join([{'a': 1}], [{'a': 1}], natural=True))"
+        code = f"import radixjoin, sys; print(radixjoin.__file__, {join}, 'pandas' in sys.modules)"
         ran = subprocess.run([python, "-c", code], env=environment(PYTHONPATH=str(target)), capture_output=True, timeout=SECONDS, check=False, cwd=name)
         wanted = f"{target / 'radixjoin' / '__init__.py'} [{{'a': 1}}] False\n"
         tally.check("python: pip install ./python", faults + harness.differences(harness.Ran(ran.returncode, ran.stdout, ran.stderr), wanted.encode()))

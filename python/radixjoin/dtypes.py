@@ -41,15 +41,19 @@ def kind_of_series(where: str, series: Any) -> str:
 
 
 def common(left: "Column", right: "Column") -> Optional[Any]:
-    """The dtype of the column in which two of one kind stand once."""
-    if left.dtype is None or right.dtype is None or left.dtype == right.dtype:
-        return right.dtype if left.dtype is None else left.dtype
-    if left.kind == "text":
-        import pandas
+    """The dtype of the column in which two of one kind stand once: one that holds the cells of both. A column that came from no
+    frame may have any cells."""
+    import pandas
 
-        strings = [it.dtype for it in (left, right) if isinstance(it.dtype, pandas.StringDtype)]
-        return strings[0] if strings else object
-    return _common_integers(left.dtype, right.dtype)
+    dtypes = [it.dtype for it in (left, right)]
+    if dtypes[0] is None and dtypes[1] is None:
+        return None
+    if all(it is not None for it in dtypes) and dtypes[0] == dtypes[1]:
+        return dtypes[0]
+    if left.kind == "int":
+        return _common_integers(*(pandas.Int64Dtype() if it is None else it for it in dtypes))
+    strings = [it for it in dtypes if isinstance(it, pandas.StringDtype)]
+    return strings[0] if strings else object
 
 
 def _common_integers(left: Any, right: Any) -> Any:
@@ -89,9 +93,7 @@ class Builder:
         if self.kind == "int":
             self.parts.append(numpy.array([0 if cell is None else cell for cell in cells] if has_nulls else cells, dtype=numpy.int64))
         else:
-            part = numpy.empty(len(cells), dtype=object)
-            part[:] = cells
-            self.parts.append(part)
+            self.parts.append(numpy.array(cells, dtype=object))
         self.masks.append(mask)
 
     def made(self) -> Any:
@@ -104,8 +106,14 @@ class Builder:
         self.parts, self.masks = [], []
         if self.kind != "int":
             values[mask] = pandas.NA
-            return values if self.dtype == object else pandas.array(values, dtype=self.dtype)
-        if isinstance(self.dtype, numpy.dtype) and not mask.any():
-            return values.astype(self.dtype)
-        dtype = pandas.api.types.pandas_dtype(nullable(self.dtype.name)) if isinstance(self.dtype, numpy.dtype) else self.dtype
-        return pandas.array(pandas.arrays.IntegerArray(values, mask), dtype=dtype)
+            made = values if self.dtype == object else pandas.array(values, dtype=self.dtype)
+        elif isinstance(self.dtype, numpy.dtype) and not mask.any():
+            made = values.astype(self.dtype)
+        else:
+            dtype = nullable(self.dtype.name) if isinstance(self.dtype, numpy.dtype) else self.dtype
+            made = pandas.array(pandas.arrays.IntegerArray(values, mask), dtype=dtype)
+        # (a narrower dtype would change a number, and a category lose a text, without a word)
+        is_whole = int(pandas.isna(made).sum()) == int(mask.sum())
+        if not is_whole or (self.kind == "int" and not numpy.array_equal(numpy.asarray(made[~mask]).astype(numpy.int64), values[~mask])):
+            raise RuntimeError(f"{self.dtype} doesn't hold all cells of a column")
+        return made

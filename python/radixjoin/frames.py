@@ -10,7 +10,7 @@ from .tables import Digits, Table
 
 _ROWS = 65_536
 _MOST = 2**63 - 1
-# Texts of a result's column that are the same one object, while there are no more of them than this.
+# Texts of a result's column that are made one object where they are equal: no more different ones than these.
 _SHARED = 65_536
 
 
@@ -111,7 +111,7 @@ class FrameTable(Table):
         for column in self.made:
             if column.kind == "text":
                 for some in column.pieces():
-                    found.update(dict.fromkeys(texts.intersection(cell for cell in some if cell is not None), column.name))
+                    found.update(dict.fromkeys(texts.intersection(some), column.name))
         return found
 
     def chunks(self, null: str) -> Iterator[bytes]:
@@ -121,11 +121,20 @@ class FrameTable(Table):
             yield text.with_nulls(text.encoded(lines), null, len(self.made) == 1)
 
 
-def _shared(cells: List[Any], known: Dict[Any, Any]) -> List[Any]:
-    """The cells, equal ones as one object, while not too many are known."""
-    if len(known) > _SHARED:
-        return cells
-    return [known.setdefault(cell, cell) for cell in cells]
+class _Shared:
+    """Makes equal texts of a column one object, as long as that leaves out at least half of them."""
+
+    def __init__(self) -> None:
+        self.known: Optional[Dict[Any, Any]] = {}
+
+    def of(self, cells: List[Any]) -> List[Any]:
+        if self.known is None:
+            return cells
+        before = len(self.known)
+        shared = list(map(self.known.setdefault, cells, cells))
+        if len(self.known) > _SHARED or len(self.known) - before > len(cells) / 2:
+            self.known = None
+        return shared
 
 
 def frame_of(names: Sequence[str], columns: Sequence[Column], pieces: Iterator[List[str]], null: str) -> Any:
@@ -135,11 +144,11 @@ def frame_of(names: Sequence[str], columns: Sequence[Column], pieces: Iterator[L
     width = len(columns)
     readers = [reader_of(column, null) for column in columns]
     builders = [Builder(column) for column in columns]
-    known: List[Dict[Any, Any]] = [{} for _ in columns]
+    shared = [_Shared() if column.kind == "text" else None for column in columns]
     for fields in pieces:
         for at, builder in enumerate(builders):
             cells = readers[at](fields[at::width])
-            builder.add(_shared(cells, known[at]) if columns[at].kind == "text" else cells)
+            builder.add(cells if shared[at] is None else shared[at].of(cells))
     frame = pandas.DataFrame({at: builder.made() for at, builder in enumerate(builders)}, copy=False)
     frame.columns = list(names)
     return frame

@@ -4,10 +4,11 @@ from __future__ import annotations
 import contextlib
 import fcntl
 import os
+import signal
 import subprocess
 import tempfile
 import threading
-from typing import IO, Any, BinaryIO, List, Optional, Sequence, Tuple, Union, cast
+from typing import IO, Any, BinaryIO, Iterator, List, Optional, Sequence, Tuple, Union, cast
 
 from .faults import fault_of
 from .programs import encoded
@@ -25,31 +26,61 @@ def _pipe() -> Tuple[int, int]:
     return ends
 
 
+class _Feeder(threading.Thread):
+    """Writes tables into pipes, in the order in which the program reads them."""
+
+    def __init__(self, feeds: List[Tuple[Table, int]], null: str) -> None:
+        super().__init__(name="radixjoin", daemon=True)
+        self.feeds = feeds
+        self.null = null
+        self.process: Optional[subprocess.Popen[bytes]] = None
+        # What went wrong with a table.
+        self.failed: Optional[BaseException] = None
+
+    def run(self) -> None:
+        """What goes wrong ends the program first: it never takes the beginning of a table for the whole."""
+        while self.feeds:
+            table, number = self.feeds[0]
+            try:
+                with open(number, "wb", buffering=0, closefd=False) as pipe:
+                    for chunk in table.chunks(self.null):
+                        _write(pipe, chunk)
+            except BrokenPipeError:
+                pass
+            except BaseException as error:  # pylint: disable=broad-except
+                self.failed = error
+                cast("subprocess.Popen[bytes]", self.process).kill()
+            self.close_first()
+
+    def close_first(self) -> None:
+        """Closes the pipe of the first table."""
+        os.close(self.feeds.pop(0)[1])
+
+
 class Run:
     """The program at work. `close` ends it, wherever it is: killed and waited for, with nothing left behind."""
 
-    def __init__(self, program: str, words: Sequence[Union[str, bytes]], tables: Sequence[Table], null: str, output: Union[int, IO[Any]] = subprocess.PIPE) -> None:
+    def __init__(self, program: str, words: Sequence[Union[str, bytes]], tables: Sequence[Table], null: str, output: Union[int, IO[Any]]) -> None:
         self._tables = tables
-        self._null = null
-        self._feeds: List[Tuple[Table, int]] = []
-        self._failed: Optional[BaseException] = None
-        self._feeder: Optional[threading.Thread] = None
+        self._feeder = _Feeder([], null)
         self._process: Optional[subprocess.Popen[bytes]] = None
         self._told = tempfile.TemporaryFile()
         given: List[int] = []
         lent: List[int] = []
         try:
-            files = [self._file(table, given, lent) for table in tables]
-            line = [encoded(program), *(b"--%s=%s" % (table.side.encode(), file) for table, file in zip(tables, files)), *map(encoded, words)]
-            self._process = subprocess.Popen(line, stdin=subprocess.DEVNULL, stdout=output, stderr=self._told, pass_fds=given + lent)
+            files = [b"--%s=%s" % (table.side.encode(), self._file(table, given, lent)) for table in tables]
+            line = [encoded(program), *files, *map(encoded, words)]
+            with _uninterrupted():
+                self._process = subprocess.Popen(line, stdin=subprocess.DEVNULL, stdout=output, stderr=self._told, pass_fds=given + lent)
+                while given:
+                    os.close(given.pop())
+                self._feeder.process = self._process
+                self._feeder.start()
         except BaseException:
+            while given:
+                os.close(given.pop())
             self.close()
             raise
-        finally:
-            for number in given:
-                os.close(number)
-        self._feeder = threading.Thread(target=self._feed, name="radixjoin", daemon=True)
-        self._feeder.start()
 
     def _file(self, table: Table, given: List[int], lent: List[int]) -> bytes:
         """The name by which the program opens a table: a path, or an open file or pipe of this process that it is given."""
@@ -62,25 +93,8 @@ class Run:
         else:
             number, writes = _pipe()
             given.append(number)
-            self._feeds.append((table, writes))
+            self._feeder.feeds.append((table, writes))
         return b"/dev/fd/%d" % number
-
-    def _feed(self) -> None:
-        """Writes the tables, in the order in which the program reads them. What goes wrong here ends the program first: it never
-        takes the beginning of a table for the whole."""
-        while self._feeds:
-            table, number = self._feeds[0]
-            try:
-                with open(number, "wb", buffering=0, closefd=False) as pipe:
-                    for chunk in table.chunks(self._null):
-                        _write(pipe, chunk)
-            except BrokenPipeError:
-                pass
-            except BaseException as error:  # pylint: disable=broad-except
-                self._failed = error
-                cast("subprocess.Popen[bytes]", self._process).kill()
-            os.close(number)
-            self._feeds.pop(0)
 
     @property
     def stdout(self) -> BinaryIO:
@@ -92,8 +106,8 @@ class Run:
         went wrong with a table while it was written."""
         process = cast("subprocess.Popen[bytes]", self._process)
         status = process.wait()
-        if self._failed is not None:
-            raise self._failed
+        if self._feeder.failed is not None:
+            raise self._feeder.failed
         self._told.seek(0)
         told = self._told.read().decode("utf-8", "replace")
         if status < 0:
@@ -111,21 +125,36 @@ class Run:
             if self._process.stdout is not None:
                 self._process.stdout.close()
         self._told.close()
-        if self._feeder is None:
-            for _, number in self._feeds:
-                os.close(number)
-            self._feeds = []
-        elif self._waits_long():
-            # (the thread ends with the file that it reads)
-            return
-        for table in self._tables:
-            table.close()
+        if self._feeder.ident is None:
+            while self._feeder.feeds:
+                self._feeder.close_first()
+        else:
+            # Nobody reads its pipe any more; but a file of the caller's may keep it waiting, and it ends with that.
+            self._feeder.join(None if all(table.is_written for table in self._tables) else 1)
+        if not self._feeder.is_alive():
+            for table in self._tables:
+                table.close()
 
-    def _waits_long(self) -> bool:
-        """Waits for the feeding thread, whose pipe nobody reads any more. It gives whether a file of the caller's keeps it waiting."""
-        feeder = cast(threading.Thread, self._feeder)
-        feeder.join(None if all(table.is_written for table in self._tables) else 1)
-        return feeder.is_alive()
+    def __del__(self) -> None:
+        if hasattr(self, "_told"):
+            self.close()
+
+
+@contextlib.contextmanager
+def _uninterrupted() -> Iterator[None]:
+    """Holds an interrupt by the keyboard back to the end of the block, so that no program starts that nobody knows of."""
+    before = signal.getsignal(signal.SIGINT)
+    if threading.current_thread() is not threading.main_thread() or not callable(before):
+        yield
+        return
+    came: List[Tuple[int, Any]] = []
+    signal.signal(signal.SIGINT, lambda number, frame: came.append((number, frame)))
+    try:
+        yield
+    finally:
+        signal.signal(signal.SIGINT, before)
+        if came:
+            before(*came[0])
 
 
 def _write(pipe: Any, chunk: bytes) -> None:

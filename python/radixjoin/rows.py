@@ -22,7 +22,9 @@ class Rows(Iterator[Row]):
     A cell is an int, a str, a decimal.Decimal, or None. `columns` are the names and `types` the program's types. Where not all
     rows are read `close`, or the end of a `with` block, ends the program; so does the end of the iterator's own life."""
 
-    def __init__(self, names: Sequence[str], columns: Sequence[Column], pieces: Iterator[List[str]], null: str, are_dicts: bool, close: Callable[[], None]) -> None:
+    def __init__(
+        self, names: Sequence[str], columns: Sequence[Column], pieces: Iterator[List[str]], null: str, are_dicts: bool, close: Callable[[], None]
+    ) -> None:
         self.columns = tuple(names)
         self.types = tuple(column.word for column in columns)
         self._close: Optional[Callable[[], None]] = close

@@ -202,7 +202,8 @@ class Digits:
         """The type `num(p,s)` that has room for all."""
         most = max(1, self.before + self.behind)
         if most > 18:
-            raise ValueError(f"{where} needs {self.before} digits before the point and {self.behind} behind it, and no type has more than 18: round it by quantize()")
+            digits = f"{self.before} digits before the point and {self.behind} behind it"
+            raise ValueError(f"{where} needs {digits}, and no type has more than 18: round it by quantize()")
         return f"num({most},{self.behind})"
 
 

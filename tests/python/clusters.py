@@ -31,12 +31,12 @@ def joins(client, programs, folder):
     yield from telling.differs("the path", gave, out)
     yield from telling.differs("the bytes", out.read_bytes() == alone.read_bytes(), True)
     out.unlink()
-    for clause, kind, code in (("JOIN USING (id", radixjoin.ClauseFault, "E11"), ("JOIN USING (nmae)", radixjoin.ClauseFault, "E13"), ("CROSS JOIN", radixjoin.ClauseFault, None)):
+    for clause, code in (("JOIN USING (id", "E11"), ("JOIN USING (nmae)", "E13"), ("CROSS JOIN", None)):
         error = telling.raised(cluster.join, client, left, right, clause, **options)
-        yield from [] if isinstance(error, kind) and error.code == code else [f"{clause}: {error!r}"]
+        yield from [] if isinstance(error, radixjoin.ClauseFault) and error.code == code else [f"{clause}: {error!r}"]
     left.write_text(LEFT + "x,y\n")
     error = telling.raised(cluster.join, client, left, right, CLAUSE, ranges=2, **options)
-    yield from telling.differs("a fault's place", (type(error).__name__, getattr(error, "line", None)), ("InputFault", "radixjoin: E6 BadInteger left row 3001 column 1"))
+    yield from telling.differs("a fault's place", repr(error), repr(radixjoin.InputFault("radixjoin: E6 BadInteger left row 3001 column 1", 3)))
     for named in ({"parts": 0}, {"no_such_option": 1}, {"ranges": 0}):
         error = telling.raised(cluster.join, client, left, right, CLAUSE, **named, **options)
         yield from [] if isinstance(error, (TypeError, ValueError)) and next(iter(named)) in str(error) else [f"{named}: {error!r}"]
@@ -47,8 +47,9 @@ def command(programs, folder):
     """The module as a command."""
     (folder / "left.csv").write_text("id\n2\n1\n")
     (folder / "right.csv").write_text("id\n1\n")
-    words = ["--left", "left.csv", "--left-types", "int", "--right", "right.csv", "--right-types", "int", "--join", "LEFT JOIN ON L.id = R.id", "--out", "out.csv"]
-    ran = subprocess.run([sys.executable, "-m", "radixjoin.cluster", "--programs", programs, *words], cwd=folder, capture_output=True, check=False)
+    tables = ["--left", "left.csv", "--left-types", "int", "--right", "right.csv", "--right-types", "int"]
+    words = ["--programs", programs, *tables, "--join", "LEFT JOIN ON L.id = R.id", "--out", "out.csv"]
+    ran = subprocess.run([sys.executable, "-m", "radixjoin.cluster", *words], cwd=folder, capture_output=True, check=False)
     yield from telling.differs("how it ends", (ran.returncode, ran.stdout, ran.stderr), (0, b"", b""))
     yield from telling.differs("the bytes", (folder / "out.csv").read_bytes(), b"id,id\n1,1\n2,\n")
 

@@ -25,101 +25,108 @@ except ImportError:
 D = decimal.Decimal
 SECONDS = 30
 ROWS = [{"id": 1, "name": "ann"}, {"id": 2, "name": None}]
-LOOSE = {"left_types": "int,text", "right_types": "int,text", "strict": False}
-PARTS = ("status", "code", "name", "side", "row", "column", "byte", "line", "explanation")
+LOOSE = {"strict": False, "null": "~"}
+PLACES = ("side", "row", "column", "byte")
 
 
-def parts(fault):
-    """The class of what was raised, and what it tells."""
-    return type(fault).__name__, tuple(getattr(fault, name, None) for name in PARTS)
+def limited(folder):
+    """The program, in a folder, where it may take no more than 20 MiB of address space. Its options are asked before."""
+    program = folder / "limited"
+    program.write_text(f'#!/bin/sh\n[ "$1" = --help ] || ulimit -v 20480\nexec "{os.environ["RADIXJOIN"]}" "$@"\n')
+    program.chmod(0o755)
+    return program
 
 
-def told(kind, status, code, name, line, **others):
-    return kind, tuple({"status": status, "code": code, "name": name, "line": line, "explanation": "", **others}.get(part) for part in PARTS)
+def cases_of_status(folder):
+    """For each fault its class, its line, the places that it tells, the two tables, and the other arguments."""
+    bad, good, none = folder / "bad.csv", folder / "good.csv", folder / "none.csv"
+    bad.write_bytes(b"id,name\n1,ann\nx,bob\n")
+    good.write_bytes(b"id,name\n1,ann\n")
+    by_id, cross = {"using": "id"}, {"how": "cross"}
+    of_left, of_right = {**by_id, **LOOSE, "left_types": "int,text"}, {**by_id, **LOOSE, "right_types": "int,text"}
+    many = [(number, "x" * 100) for number in range(200_000)]
+    left, right = {"side": "left"}, {"side": "right"}
+    line, table, clause = radixjoin.LineFault, radixjoin.InputFault, radixjoin.ClauseFault
+    memory, device = radixjoin.MemoryFault, radixjoin.DeviceFault
+    yield line, "bad type list left", left, bad, ROWS, {**of_left, "left_types": "int,texts"}
+    yield table, "E6 BadInteger left row 2 column 1", {**left, "row": 2, "column": 1}, bad, ROWS, of_left
+    yield table, "E4 TypeCount left", left, good, ROWS, {**of_left, "left_types": "int"}
+    yield table, "E6 BadInteger right row 1 column 1", {**right, "row": 1, "column": 1}, ROWS, [(2**63,)], {**by_id, "right_columns": ["id"]}
+    yield table, "E5 RaggedRow right row 2", {**right, "row": 2}, ROWS, [(1, 2), (1,)], {**by_id, "right_columns": ["id", "m"]}
+    yield table, "E5 RaggedRow right row 2", {**right, "row": 2}, ROWS, [(1,), ()], {**by_id, "right_columns": ["id"]}
+    yield table, "E5 RaggedRow right row 1", {**right, "row": 1}, ROWS, [("", "x", 1)], {**cross, "right_columns": ["a", "b"]}
+    yield table, "E7 BadText right row 1 column 1", {**right, "row": 1, "column": 1}, ROWS, [("a\ud800",)], {**cross, "right_columns": ["a"]}
+    yield table, "E10 BadNull", {}, ROWS, ROWS, {**by_id, "null": "a b"}
+    yield clause, "E11 Syntax byte 14", {"byte": 14}, ROWS, ROWS, {"on": "L.id == R.id"}
+    yield clause, "E13 UnknownColumn", {}, ROWS, ROWS, {"using": "nmae"}
+    yield clause, "E15 TypeMismatch", {}, ROWS, ROWS, {"on": "L.id = R.name"}
+    yield clause, "E16 RepeatedUsing", {}, ROWS, ROWS, {"using": ["id", "id"]}
+    yield clause, "E17 ClauseTooLong", {}, ROWS, ROWS, {"on": f"L.id IN ({'1, ' * 100_000}1)"}
+    yield memory, "E18 Memory", {}, many, many, {**by_id, "columns": ["id", "x"], "program": limited(folder)}
+    yield device, "E19 ReadDevice right", right, ROWS, none, of_right
+    yield device, "E19 ReadDevice left", left, folder, ROWS, of_left
+    yield device, "E20 WriteDevice", {}, ROWS, ROWS, {**by_id, "output": "/dev/full"}
+    yield device, "E20 WriteDevice", {}, ROWS, ROWS, {**by_id, "output": folder / "none" / "out.csv"}
 
 
-def limited(call, *words, **named):
-    """What a call raises where the program may take no more than 20 MiB of address space."""
-    script = f'#!/bin/sh\nulimit -v 20480\nexec "{os.environ["RADIXJOIN"]}" "$@"\n'
-    with tempfile.TemporaryDirectory() as folder:
-        program = pathlib.Path(folder, "radixjoin")
-        program.write_text(script)
-        program.chmod(0o755)
-        radixjoin.programs.options(str(program))
-        return telling.raised(call, *words, program=program, **named)
+STATUSES = {"LineFault": 2, "InputFault": 3, "ClauseFault": 4, "MemoryFault": 5, "DeviceFault": 6}
 
 
 def faults_of_each_status(folder):
-    """Each with its line, place and class."""
-    join = radixjoin.join
-    bad = folder / "bad.csv"
-    bad.write_bytes(b"id,name\n1,ann\nx,bob\n")
-    good = folder / "good.csv"
-    good.write_bytes(b"id,name\n1,ann\n")
-    many = [{"id": number, "name": "x" * 100} for number in range(200_000)]
-    cases = [
-        (telling.raised(join, ROWS, ROWS, using="id", bits1=11), None),
-        (telling.raised(join, bad, ROWS, using="id", left_types="int,texts", strict=False), told("LineFault", 2, None, None, "radixjoin: bad type list left", side="left")),
-        (telling.raised(join, bad, bad, using="id", **LOOSE), told("InputFault", 3, "E6", "BadInteger", "radixjoin: E6 BadInteger left row 2 column 1", side="left", row=2, column=1)),
-        (telling.raised(join, good, ROWS, using="id", **{**LOOSE, "right_types": None, "left_types": "int"}), told("InputFault", 3, "E4", "TypeCount", "radixjoin: E4 TypeCount left", side="left")),
-        (telling.raised(join, ROWS, [(2**63,)], right_columns=["id"], using="id"), told("InputFault", 3, "E6", "BadInteger", "radixjoin: E6 BadInteger right row 1 column 1", side="right", row=1, column=1)),
-        (telling.raised(join, ROWS, [(1, 2), (1,)], right_columns=["id", "m"], using="id"), told("InputFault", 3, "E5", "RaggedRow", "radixjoin: E5 RaggedRow right row 2", side="right", row=2)),
-        (telling.raised(join, ROWS, [(1,), ()], right_columns=["id"], using="id"), told("InputFault", 3, "E5", "RaggedRow", "radixjoin: E5 RaggedRow right row 2", side="right", row=2)),
-        (telling.raised(join, ROWS, [("a\ud800",)], right_columns=["id"], how="cross"), told("InputFault", 3, "E7", "BadText", "radixjoin: E7 BadText right row 1 column 1", side="right", row=1, column=1)),
-        (telling.raised(join, ROWS, ROWS, using="id", null="a b"), told("InputFault", 3, "E10", "BadNull", "radixjoin: E10 BadNull")),
-        (telling.raised(join, ROWS, ROWS, on="L.id == R.id"), told("ClauseFault", 4, "E11", "Syntax", "radixjoin: E11 Syntax byte 14", byte=14)),
-        (telling.raised(join, ROWS, ROWS, using="nmae"), told("ClauseFault", 4, "E13", "UnknownColumn", "radixjoin: E13 UnknownColumn")),
-        (telling.raised(join, ROWS, ROWS, on="L.id = R.name"), told("ClauseFault", 4, "E15", "TypeMismatch", "radixjoin: E15 TypeMismatch")),
-        (telling.raised(join, ROWS, ROWS, using=["id", "id"]), told("ClauseFault", 4, "E16", "RepeatedUsing", "radixjoin: E16 RepeatedUsing")),
-        (telling.raised(join, ROWS, ROWS, on="L.id IN (" + "1, " * 100_000 + "1)"), told("ClauseFault", 4, "E17", "ClauseTooLong", "radixjoin: E17 ClauseTooLong")),
-        (limited(join, many, many, using="id"), told("MemoryFault", 5, "E18", "Memory", "radixjoin: E18 Memory")),
-        (telling.raised(join, ROWS, folder / "none.csv", using="id", **{**LOOSE, "left_types": None}), told("DeviceFault", 6, "E19", "ReadDevice", "radixjoin: E19 ReadDevice right", side="right")),
-        (telling.raised(join, folder, ROWS, using="id", **{**LOOSE, "right_types": None}), told("DeviceFault", 6, "E19", "ReadDevice", "radixjoin: E19 ReadDevice left", side="left")),
-        (telling.raised(join, ROWS, ROWS, using="id", output="/dev/full"), told("DeviceFault", 6, "E20", "WriteDevice", "radixjoin: E20 WriteDevice")),
-    ]
-    for fault, wanted in cases[1:]:
-        yield from telling.differs("the fault", parts(fault) if isinstance(fault, radixjoin.Fault) else repr(fault), wanted)
-        yield from telling.differs("the fault that was packed", parts(pickle.loads(pickle.dumps(fault))), parts(fault))
-    yield from telling.differs("a bad number", [type(cases[0][0]).__name__, cases[0][0].status], ["LineFault", 2])
-    nowhere = telling.raised(join, ROWS, ROWS, using="id", output=folder / "none" / "out.csv")
-    yield from telling.differs("a folder that isn't there", (type(nowhere).__name__, nowhere.line), ("DeviceFault", "radixjoin: E20 WriteDevice"))
+    """Each fault with its class, line and places, also where it was packed."""
+    for kind, line, places, left, right, named in cases_of_status(folder):
+        fault = telling.raised(radixjoin.join, left, right, **named)
+        if not isinstance(fault, radixjoin.Fault):
+            yield f"{line}: {fault!r}"
+            continue
+        code, name = line.split()[:2] if line.startswith("E") else (None, None)
+        wanted = [kind, f"radixjoin: {line}", STATUSES[kind.__name__], code, name, *map(places.get, PLACES)]
+        for it in (fault, pickle.loads(pickle.dumps(fault))):
+            got = [type(it), it.line, it.status, it.code, it.name, *(getattr(it, place) for place in PLACES)]
+            yield from telling.differs(line, got, wanted)
+    yield from telling.differs("files", sorted(it.name for it in folder.iterdir()), ["bad.csv", "good.csv", "limited"])
+    number = telling.raised(radixjoin.join, ROWS, ROWS, using="id", bits1=11)
+    yield from telling.differs("a number that is too large", (type(number).__name__, number.code), ("LineFault", None))
     explained = radixjoin.faults.fault_of("radixjoin: E13 UnknownColumn\n  one\n  two\n", 4)
     yield from telling.differs("an explanation", (explained.line, explained.explanation), ("radixjoin: E13 UnknownColumn", "  one\n  two"))
-    yield from telling.differs("files", sorted(it.name for it in folder.iterdir()), ["bad.csv", "good.csv"])
+
+
+def cases_that_are_refused(folder):
+    """What isn't for the program to judge: the class and a word of each error, the two tables, and the other arguments."""
+    path = folder / "a.csv"
+    path.write_bytes(b"id\n1\n")
+    by_id = {"using": "id"}
+    yield TypeError, "'id'", [{"id": 1.5}], ROWS, by_id
+    yield TypeError, "'id'", [{"id": True}], ROWS, by_id
+    yield TypeError, "'id'", [{"id": 1}, {"id": "x"}], ROWS, by_id
+    yield ValueError, "'id'", [{"id": D("NaN")}], ROWS, by_id
+    yield ValueError, "'id'", [{"id": D("1e18")}], ROWS, by_id
+    yield ValueError, "row 2", [{"id": 1}, {"ID": 2}], ROWS, by_id
+    yield TypeError, "row 2", [{"id": 1}, (2,)], ROWS, by_id
+    yield ValueError, "columns", [(1,)], ROWS, by_id
+    yield ValueError, "left_types", path, ROWS, {**by_id, "strict": False}
+    yield ValueError, "'ID'", path, ROWS, {**by_id, "left_types": {"ID": "int"}, "strict": False}
+    yield ValueError, "'id'", path, ROWS, {**by_id, "left_types": {}, "strict": False}
+    yield ValueError, "'x'", path, [{"id": 1, "x": ""}], {**by_id, "left_types": "int", "strict": False}
+    yield ValueError, "clause", ROWS, ROWS, {}
+    yield ValueError, "clause", ROWS, ROWS, {"clause": "CROSS JOIN", **by_id}
+    yield ValueError, "how", ROWS, ROWS, {**by_id, "how": "anti"}
+    yield ValueError, "'id'", ROWS, ROWS, {"on": "L.id = R.id"}
+    yield NotImplementedError, "--no-such-option", ROWS, ROWS, {**by_id, "no_such_option": 1}
+    yield TypeError, "stats", ROWS, ROWS, {**by_id, "stats": True}
+    yield TypeError, "rb", io.StringIO("id\n1\n"), ROWS, {**by_id, **LOOSE, "left_types": "int"}
+    yield TypeError, "neither", 7, ROWS, by_id
+    yield FileNotFoundError, "nowhere", ROWS, ROWS, {**by_id, "program": "nowhere"}
+    yield ValueError, "null", [{"id": 1, "x": ""}], ROWS, {**by_id, "output": folder / "out.csv"}
+    if "strict" not in radixjoin.programs.options(os.environ["RADIXJOIN"]):
+        yield NotImplementedError, "--strict", path, ROWS, {**by_id, "left_types": "int"}
 
 
 def refused_arguments(folder):
-    """What isn't for the program to judge: each names what it is about."""
-    join = radixjoin.join
-    path = folder / "a.csv"
-    path.write_bytes(b"id\n1\n")
-    cases = [
-        (TypeError, "'id'", telling.raised(join, [{"id": 1.5}], ROWS, using="id")),
-        (TypeError, "'id'", telling.raised(join, [{"id": True}], ROWS, using="id")),
-        (TypeError, "'id'", telling.raised(join, [{"id": 1}, {"id": "x"}], ROWS, using="id")),
-        (ValueError, "'id'", telling.raised(join, [{"id": D("NaN")}], ROWS, using="id")),
-        (ValueError, "'id'", telling.raised(join, [{"id": D("1e18")}], ROWS, using="id")),
-        (ValueError, "row 2", telling.raised(join, [{"id": 1}, {"ID": 2}], ROWS, using="id")),
-        (TypeError, "row 2", telling.raised(join, [{"id": 1}, (2,)], ROWS, using="id")),
-        (ValueError, "columns", telling.raised(join, [(1,)], ROWS, using="id")),
-        (ValueError, "left_types", telling.raised(join, path, ROWS, using="id", strict=False)),
-        (ValueError, "'ID'", telling.raised(join, path, ROWS, using="id", left_types={"ID": "int"}, strict=False)),
-        (ValueError, "'name'", telling.raised(join, ROWS, path, using="id", left_types={"name": "text"}, right_types={"id": "int", "name": "text"}, strict=False)),
-        (ValueError, "clause", telling.raised(join, ROWS, ROWS)),
-        (ValueError, "clause", telling.raised(join, ROWS, ROWS, "CROSS JOIN", using="id")),
-        (ValueError, "how", telling.raised(join, ROWS, ROWS, using="id", how="anti")),
-        (ValueError, "'id'", telling.raised(join, ROWS, ROWS, on="L.id = R.id")),
-        (NotImplementedError, "--no-such-option", telling.raised(join, ROWS, ROWS, using="id", no_such_option=1)),
-        (TypeError, "stats", telling.raised(join, ROWS, ROWS, using="id", stats=True)),
-        (TypeError, "rb", telling.raised(join, io.StringIO("id\n1\n"), ROWS, using="id", left_types="int", strict=False)),
-        (TypeError, "neither", telling.raised(join, 7, ROWS, using="id")),
-        (FileNotFoundError, "nowhere", telling.raised(join, ROWS, ROWS, using="id", program="nowhere")),
-        (ValueError, "null", telling.raised(join, [{"id": 1, "x": ""}], ROWS, using="id", output=folder / "out.csv")),
-    ]
-    if "strict" not in radixjoin.programs.options(os.environ["RADIXJOIN"]):
-        cases.append((NotImplementedError, "--strict", telling.raised(join, path, ROWS, using="id", left_types="int")))
-    for kind, name, error in cases:
-        yield from [] if isinstance(error, kind) and name in str(error) else [f"{error!r}, and no {kind.__name__} that names {name}"]
+    for kind, word, left, right, named in cases_that_are_refused(folder):
+        error = telling.raised(radixjoin.join, left, right, **named)
+        yield from [] if isinstance(error, kind) and word in str(error) else [f"{error!r}, and no {kind.__name__} that names {word}"]
+    yield from telling.differs("files", sorted(it.name for it in folder.iterdir()), ["a.csv"])
 
 
 def dtypes_that_have_no_type(_):

@@ -9,7 +9,8 @@ from hypothesis import strategies as st
 import radixjoin
 
 EXAMPLES = 150
-TEXTS = st.one_of(st.sampled_from(["", "\0", '"', '""', ",", "\n", "\r\n", "\r", "\\N", "NULL", "null", "~", "-", "?", "None", "\ufeff", "a\0b"]), st.text(st.characters(blacklist_categories=("Cs",)), max_size=12))
+HOSTILE = ["", "\0", '"', '""', ",", "\n", "\r\n", "\r", "\\N", "NULL", "null", "~", "-", "?", "None", "\ufeff", "a\0b"]
+TEXTS = st.one_of(st.sampled_from(HOSTILE), st.text(st.characters(blacklist_categories=("Cs",)), max_size=12))
 INTEGERS = st.one_of(st.integers(-(2**63), 2**63 - 1), st.integers(-2, 2))
 HOW = settings(max_examples=EXAMPLES, deadline=None, derandomize=True, database=None, suppress_health_check=list(HealthCheck))
 
