@@ -71,9 +71,9 @@ def tasks_of_scripts(programs):
 
 def installed(tally):
     """`pip install` of the folder, without a network: the package that it installs is the one here."""
-    python = python_with("setuptools", "pip")
+    python = python_with("setuptools", "wheel", "pip")
     if python is None:
-        print("skipped: pip install ./python: pip or setuptools is not installed")
+        print("skipped: pip install ./python: pip, setuptools or wheel is not installed")
         return
     with harness.folder() as name:
         source, target = pathlib.Path(name, "python"), pathlib.Path(name, "target")
