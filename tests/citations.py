@@ -8,7 +8,7 @@ import harness
 PLACES = ("", "crates/", "crates/*/", "crates/*/edits/", "crates/*/must-fail/", "crates/*/proofs/", "docs/", "tests/", "tests/oracle/", "bench/", "tools/", "examples/")
 SUFFIXES = ("antt", "rt", "py", "toml", "md", "c", "rs", "sh", "edit", "txt", "tried", "fish", "bash", "1")
 # Pages whose code is what a user types, and no name of the repository's.
-FOR_USERS = ("docs/faults.md", "docs/recipes.md", "README.md", "CHANGELOG.md")
+FOR_USERS = ("docs/faults.md", "docs/recipes.md", "README.md", "CHANGELOG.md", "docs/python.md")
 # Words in code letters that stand for a text, a place or a thing outside the repository.
 OTHERS = {"NAME", "CRATE", "FOLDER", "PREFIX"}
 

@@ -28,6 +28,7 @@ PARTS = (
     "devices",
     "sizes",
     "cluster",
+    "python_package",
     "shards",
     "parts_further",
     "amounts",

@@ -3,8 +3,6 @@
 It also looks at what `shards` and `merges` tell of their own faults."""
 import contextlib
 import csv
-import importlib.machinery
-import importlib.util
 import io
 import pathlib
 import random
@@ -19,16 +17,8 @@ import harness
 NO_KEY = "shards: the clause has no key, so that its tables can't be divided"
 
 
-def load_script():
-    """The script as a module."""
-    sys.dont_write_bytecode = True
-    loader = importlib.machinery.SourceFileLoader("radixjoin_cluster", str(harness.ROOT / "cluster" / "radixjoin-cluster"))
-    module = importlib.util.module_from_spec(importlib.util.spec_from_loader("radixjoin_cluster", loader))
-    loader.exec_module(module)
-    return module
-
-
-SCRIPT = load_script()
+sys.path.append(str(harness.ROOT / "python"))
+from radixjoin import cluster as SCRIPT  # noqa: E402
 
 
 class OneByOne:
@@ -46,7 +36,7 @@ def joined(words, folder, ranges):
     status, line = 0, b""
     with tempfile.TemporaryDirectory(prefix="radixjoin-", dir=folder) as scratch:
         try:
-            SCRIPT.join(SCRIPT.Job(asked, scratch), OneByOne(), ranges)
+            SCRIPT.run(SCRIPT.Job(asked, scratch), OneByOne(), ranges)
         except SCRIPT.Told as told:
             status, line = told.status, told.line.encode() + b"\n"
     return harness.Ran(status, out.read_bytes() if out.exists() else b"", line)

@@ -1,0 +1,27 @@
+"""SQL-92's joined table of frames, rows and CSV files, by the proved program `radixjoin`.
+
+    import radixjoin
+    joined = radixjoin.join(people, cities, using="id", how="left")
+
+`join` takes DataFrames, rows, open files and paths, and gives what came in; a fault is a `Fault`, of which there is a class for
+each exit status of the program. `radixjoin.cluster` joins what is larger than memory, over a Dask cluster.
+"""
+from .faults import ClauseFault, DeviceFault, Fault, InputFault, LineFault, MemoryFault
+from .joining import Stats, join, stats
+from .programs import ProgramNotFound
+from .rows import Rows
+
+__all__ = [
+    "ClauseFault",
+    "DeviceFault",
+    "Fault",
+    "InputFault",
+    "LineFault",
+    "MemoryFault",
+    "ProgramNotFound",
+    "Rows",
+    "Stats",
+    "join",
+    "stats",
+]
+__version__ = "1.0.0"

@@ -1,0 +1,102 @@
+"""The clause of a join: made of arguments, and read as far as the columns of its result depend on it."""
+from __future__ import annotations
+
+import re
+from typing import List, Optional, Sequence, Tuple, Union
+
+from .columns import Column
+
+_HOW = {"inner": "", "left": "LEFT ", "right": "RIGHT ", "outer": "FULL ", "full": "FULL "}
+# What a clause begins with up to its names or condition: blanks, words, delimited names and signs.
+_TOKEN = re.compile(r'[ \t\n\r]*([A-Za-z][A-Za-z0-9_]*|"(?:[^"]|"")*"|.)', re.DOTALL)
+_MOST = 65_536
+
+
+def quoted(name: str) -> str:
+    """A name as a clause has it between double quotes, where it matches exactly."""
+    return '"' + name.replace('"', '""') + '"'
+
+
+def clause_of(clause: Optional[str], using: Union[str, Sequence[str], None], on: Optional[str], natural: bool, how: str) -> str:
+    """The text of the clause that the arguments of `join` ask for."""
+    ways = [clause is not None, using is not None, on is not None, natural, how == "cross"]
+    if sum(ways) != 1:
+        raise ValueError('one of clause=, using=, on=, natural=True and how="cross" has to be given, and no two of them')
+    if how != "cross" and how not in _HOW:
+        raise ValueError(f"how={how!r} is none of {', '.join(_HOW)}, cross")
+    if clause is not None:
+        if how != "inner":
+            raise ValueError("how= is said by the clause itself, as in clause='LEFT JOIN USING (id)'")
+        return clause
+    if how == "cross":
+        return "CROSS JOIN"
+    if natural:
+        return f"NATURAL {_HOW[how]}JOIN"
+    if on is not None:
+        return f"{_HOW[how]}JOIN ON {on}"
+    names = [using] if isinstance(using, str) else list(using or ())
+    if not names or not all(isinstance(name, str) for name in names):
+        raise ValueError("using= is a name, or a list of names")
+    return f"{_HOW[how]}JOIN USING ({', '.join(map(quoted, names))})"
+
+
+def given(clause: str) -> bytes:
+    """A clause as the program is given it. One that is too long, which a command line could lack the room for, is told as too
+    long in any case."""
+    text = clause.encode("utf-8", "surrogatepass")
+    return text if len(text) <= _MOST else b" " * (_MOST + 1)
+
+
+def _tokens(clause: str) -> List[str]:
+    return _TOKEN.findall(clause)
+
+
+def _join_names(clause: str) -> Union[None, bool, List[str]]:
+    """Of a clause that the grammar derives: True for NATURAL, the names of USING as they stand, None for the others."""
+    tokens = _tokens(clause)
+    words = [token.upper() for token in tokens]
+    if words[:1] == ["NATURAL"]:
+        return True
+    behind = words.index("JOIN") + 1
+    if words[behind : behind + 1] != ["USING"]:
+        return None
+    return [token for token in tokens[behind + 1 :] if token not in ("(", ",", ")")]
+
+
+def _lower(name: str) -> str:
+    """A name without regard to case, as the grammar has it: of ASCII alone."""
+    return re.sub("[A-Z]", lambda found: found[0].lower(), name)
+
+
+def _place(name: str, columns: Sequence[Column]) -> int:
+    """The place of the column that a name of USING means."""
+    if name.startswith('"'):
+        exact = name[1:-1].replace('""', '"')
+        return next(at for at, column in enumerate(columns) if column.name == exact)
+    return next(at for at, column in enumerate(columns) if _lower(column.name or "") == _lower(name))
+
+
+def _partners(clause: str, left: Sequence[Column], right: Sequence[Column]) -> List[Tuple[int, int]]:
+    """The pairs of columns that stand once in the result, in the order of the left table."""
+    names = _join_names(clause)
+    if names is None:
+        return []
+    if names is True:
+        places = {_lower(column.name or ""): at for at, column in enumerate(right)}
+        return [(at, places[_lower(column.name or "")]) for at, column in enumerate(left) if _lower(column.name or "") in places]
+    return sorted((_place(name, left), _place(name, right)) for name in names)
+
+
+def needs_names(clause: str) -> bool:
+    """Whether the columns of the result depend on the names of the tables' columns."""
+    tokens = [token.upper() for token in _tokens(clause)[:5]]
+    return "NATURAL" in tokens or "USING" in tokens
+
+
+def result_columns(clause: str, left: Sequence[Column], right: Sequence[Column]) -> List[Column]:
+    """The columns of the result of a clause that the program accepted: those of USING and NATURAL once, then the other left
+    ones, then the other right ones."""
+    pairs = _partners(clause, left, right)
+    lefts, rights = {i for i, _ in pairs}, {j for _, j in pairs}
+    once = [left[i].coalesced(right[j]) for i, j in pairs]
+    return once + [it for i, it in enumerate(left) if i not in lefts] + [it for j, it in enumerate(right) if j not in rights]

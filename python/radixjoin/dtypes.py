@@ -1,0 +1,119 @@
+"""The dtypes of frames' columns, and those of results. pandas is imported where a frame is there."""
+from __future__ import annotations
+
+from typing import TYPE_CHECKING, Any, List, Optional
+
+if TYPE_CHECKING:
+    from .columns import Column
+
+# What a column that came from no frame gets in one, by its kind.
+_OTHERS = {"int": "Int64", "text": "string", "num": "object"}
+_CONVERT = {
+    "f": "Int64 where it holds whole numbers, else to decimal.Decimal (as by frame[column].map(decimal.Decimal))",
+    "b": "Int64, or to texts by astype('string')",
+    "M": "texts, as by frame[column].dt.strftime('%Y-%m-%d').astype('string')",
+    "m": "Int64 (as whole seconds), or to texts by astype('string')",
+    "O": "Int64, texts (str) or decimal.Decimal, one of them in all cells",
+}
+
+
+def kind_of_series(where: str, series: Any) -> str:
+    """The kind of a column's cells, by its dtype; of objects, by all of them, `null` where there is none but nulls. What has no
+    type here is a TypeError."""
+    import pandas
+
+    dtype = series.dtype
+    if isinstance(dtype, pandas.CategoricalDtype):
+        if pandas.api.types.infer_dtype(dtype.categories, skipna=True) in ("string", "empty"):
+            return "text"
+        raise TypeError(f"{where} is a category of {dtype.categories.dtype}: convert it to {_CONVERT['O']}")
+    if pandas.api.types.is_integer_dtype(dtype):
+        return "int"
+    if isinstance(dtype, pandas.StringDtype):
+        return "text"
+    if dtype == object:
+        inferred = pandas.api.types.infer_dtype(series, skipna=True)
+        kind = {"string": "text", "decimal": "num", "empty": "null"}.get(inferred)
+        if kind is not None:
+            return kind
+        raise TypeError(f"{where} has objects of type {inferred}: convert it to {_CONVERT['O']}")
+    raise TypeError(f"{where} is {dtype}: convert it to {_CONVERT.get(getattr(dtype, 'kind', 'O'), _CONVERT['O'])}")
+
+
+def common(left: "Column", right: "Column") -> Optional[Any]:
+    """The dtype of the column in which two of one kind stand once: one that holds the cells of both. A column that came from no
+    frame may have any cells."""
+    import pandas
+
+    dtypes = [it.dtype for it in (left, right)]
+    if dtypes[0] is None and dtypes[1] is None:
+        return None
+    if all(it is not None for it in dtypes) and dtypes[0] == dtypes[1]:
+        return dtypes[0]
+    if left.kind == "int":
+        return _common_integers(*(pandas.Int64Dtype() if it is None else it for it in dtypes))
+    strings = [it for it in dtypes if isinstance(it, pandas.StringDtype)]
+    return strings[0] if strings else object
+
+
+def _common_integers(left: Any, right: Any) -> Any:
+    """The narrower of two dtypes that holds the other's numbers, or one of 64 bits; with nulls where one of them has them."""
+    import numpy
+    import pandas
+
+    plain = [numpy.dtype(getattr(it, "numpy_dtype", it)) for it in (left, right)]
+    both = numpy.result_type(*plain)
+    name = both.name if both.kind in "iu" else "int64"
+    is_nullable = any(not isinstance(it, numpy.dtype) for it in (left, right))
+    return pandas.api.types.pandas_dtype(nullable(name) if is_nullable else name)
+
+
+def nullable(name: str) -> str:
+    """The dtype with nulls of a plain dtype of integers: `Int64` of `int64`, `UInt8` of `uint8`."""
+    return name.replace("uint", "UInt") if name.startswith("u") else name.replace("int", "Int")
+
+
+class Builder:
+    """Gathers the cells of one column of a result, and makes the column."""
+
+    def __init__(self, column: "Column") -> None:
+        import pandas
+
+        self.kind = column.kind
+        self.dtype = pandas.api.types.pandas_dtype(column.dtype if column.dtype is not None else _OTHERS[column.kind])
+        self.parts: List[Any] = []
+        self.masks: List[Any] = []
+
+    def add(self, cells: List[Any]) -> None:
+        """Adds cells, of which a null is None."""
+        import numpy
+
+        has_nulls = None in cells
+        mask = numpy.fromiter((cell is None for cell in cells), dtype=bool, count=len(cells)) if has_nulls else numpy.zeros(len(cells), dtype=bool)
+        if self.kind == "int":
+            self.parts.append(numpy.array([0 if cell is None else cell for cell in cells] if has_nulls else cells, dtype=numpy.int64))
+        else:
+            self.parts.append(numpy.array(cells, dtype=object))
+        self.masks.append(mask)
+
+    def made(self) -> Any:
+        """The column, as an array of its dtype. One of plain integers gets one that has nulls where there are any."""
+        import numpy
+        import pandas
+
+        values = numpy.concatenate(self.parts) if self.parts else numpy.array([], dtype=numpy.int64 if self.kind == "int" else object)
+        mask = numpy.concatenate(self.masks) if self.masks else numpy.array([], dtype=bool)
+        self.parts, self.masks = [], []
+        if self.kind != "int":
+            values[mask] = pandas.NA
+            made = values if self.dtype == object else pandas.array(values, dtype=self.dtype)
+        elif isinstance(self.dtype, numpy.dtype) and not mask.any():
+            made = values.astype(self.dtype)
+        else:
+            dtype = nullable(self.dtype.name) if isinstance(self.dtype, numpy.dtype) else self.dtype
+            made = pandas.array(pandas.arrays.IntegerArray(values, mask), dtype=dtype)
+        # (a narrower dtype would change a number, and a category lose a text, without a word)
+        is_whole = int(pandas.isna(made).sum()) == int(mask.sum())
+        if not is_whole or (self.kind == "int" and not numpy.array_equal(numpy.asarray(made[~mask]).astype(numpy.int64), values[~mask])):
+            raise RuntimeError(f"{self.dtype} doesn't hold all cells of a column")
+        return made

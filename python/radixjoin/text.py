@@ -1,0 +1,154 @@
+"""CSV text: written for the program by RFC 4180's grammar, and what the program wrote read back, exactly.
+
+Python's own `csv` isn't used for either: it refuses NUL before Python 3.11, and what the program writes needs no more than this.
+"""
+from __future__ import annotations
+
+import csv
+import io
+import re
+from typing import BinaryIO, Iterable, Iterator, List, Sequence
+
+# Stands for a null in a text that is to be written, until the null text is known: a lone surrogate, which no text has in UTF-8.
+NULL = "\udfff"
+_NULL = NULL.encode("utf-8", "surrogatepass")
+_SPECIAL = re.compile('[,"\r\n]')
+_SURROGATE = re.compile("[\ud800-\udfff]")
+_QUOTED = re.compile('"((?:[^"]+|"")*)"')
+_BLOCK = 1 << 22
+_HEADER = 1 << 20
+
+
+def _quoted(text: str) -> str:
+    return '"' + text.replace('"', '""') + '"'
+
+
+def _is_unicode(text: str) -> bool:
+    if text.isascii():
+        return True
+    try:
+        text.encode()
+    except UnicodeEncodeError:
+        return False
+    return True
+
+
+def fields_of(cells: List[str]) -> List[str]:
+    """The fields of texts, quoted where they have to be. A text with a lone surrogate, which has no form in UTF-8, gets one that
+    isn't UTF-8 either, so that the program tells it."""
+    whole = "".join(cells)
+    if not _is_unicode(whole):
+        cells = [_SURROGATE.sub("\ud800", cell) for cell in cells]
+    if _SPECIAL.search(whole):
+        cells = [_quoted(cell) if _SPECIAL.search(cell) else cell for cell in cells]
+    return cells
+
+
+def header(names: Sequence[str]) -> bytes:
+    """A header. Each name is quoted: so one that begins with a byte order mark keeps it."""
+    return encoded([",".join(_quoted(_SURROGATE.sub("\ud800", name)) for name in names)])
+
+
+def records(columns: Sequence[Sequence[str]]) -> List[str]:
+    """The records of some rows, whose fields stand column by column."""
+    if len(columns) == 1:
+        return [field or '""' for field in columns[0]]
+    return list(map(",".join, zip(*columns)))
+
+
+def encoded(lines: List[str]) -> bytes:
+    """Records as bytes, each ended by a line feed. A null is still none in UTF-8."""
+    return ("\n".join(lines) + "\n").encode("utf-8", "surrogatepass") if lines else b""
+
+
+def with_nulls(text: bytes, null: str, is_alone: bool) -> bytes:
+    """Encoded records with the null text in the place of nulls. In a table of one column an empty field has to be quoted."""
+    return text.replace(_NULL, b'""' if is_alone and not null else null.encode("utf-8", "surrogatepass"))
+
+
+def header_in(text: bytes) -> List[str]:
+    """The names of a file's first record, of its first bytes; none where they can't be read."""
+    try:
+        lines = io.StringIO(text[:_HEADER].decode("utf-8-sig", "surrogateescape"), newline="")
+        return next((record for record in csv.reader(lines) if record), [])
+    except (csv.Error, UnicodeDecodeError):
+        return []
+
+
+def _cut(block: bytes) -> int:
+    """Behind the last line feed of a block that ends a record: one with an even number of quotes before it. 0 if there is none."""
+    quotes, upto = block.count(b'"'), len(block)
+    while True:
+        at = block.rfind(b"\n", 0, upto)
+        if at < 0:
+            return 0
+        quotes -= block.count(b'"', at, upto)
+        if quotes % 2 == 0:
+            return at + 1
+        upto = at
+
+
+def blocks(stream: BinaryIO) -> Iterator[str]:
+    """What a stream gives to its end, in blocks of whole records."""
+    rest = b""
+    while True:
+        read = stream.read(max(_BLOCK, len(rest)))
+        if not read:
+            break
+        block = rest + read if rest else read
+        cut = _cut(block)
+        rest = block[cut:]
+        if cut:
+            yield block[:cut].decode()
+    if rest:
+        yield rest.decode()
+
+
+def _fields_in(record: str) -> List[str]:
+    """The fields of a record."""
+    found, at = [], 0
+    while True:
+        inside = _QUOTED.match(record, at)
+        if inside:
+            found.append(inside[1].replace('""', '"'))
+            at = inside.end()
+        else:
+            comma = record.find(",", at)
+            end = comma if comma >= 0 else len(record)
+            found.append(record[at:end])
+            at = end
+        if at >= len(record):
+            return found
+        at += 1
+
+
+def _whole(lines: Iterable[str]) -> Iterator[str]:
+    """Records, of lines: one that ends inside quotes goes on with the next."""
+    begun: List[str] = []
+    quotes = 0
+    for line in lines:
+        quotes += line.count('"')
+        begun.append(line)
+        if quotes % 2 == 0:
+            yield begun[0] if len(begun) == 1 else "\n".join(begun)
+            begun, quotes = [], 0
+
+
+def fields_in(block: str) -> List[str]:
+    """The fields of a block of whole records, one after another."""
+    block = block[:-1] if block.endswith("\n") else block
+    if '"' not in block:
+        return block.replace("\n", ",").split(",")
+    found: List[str] = []
+    for record in _whole(block.split("\n")):
+        found += _fields_in(record) if '"' in record else record.split(",")
+    return found
+
+
+def split_header(block: str) -> "tuple[List[str], str]":
+    """The names of a first block's header, and what follows it."""
+    end = 0
+    while True:
+        end = block.index("\n", end) + 1
+        if block.count('"', 0, end) % 2 == 0:
+            return _fields_in(block[: end - 1]), block[end:]

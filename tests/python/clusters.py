@@ -1,0 +1,68 @@
+"""`radixjoin.cluster.join` over a Dask client, and `python -m radixjoin.cluster`: the bytes that `radixjoin` writes, or its fault.
+
+usage: clusters.py FOLDER      the folder of the programs"""
+import logging
+import os
+import pathlib
+import subprocess
+import sys
+import tempfile
+
+import telling
+from distributed import Client, LocalCluster
+
+import radixjoin
+from radixjoin import cluster
+
+LEFT = "id,name\n" + "".join(f"{number % 97},n{number}\n" for number in range(3_000))
+RIGHT = "id,city\n" + "".join(f"{number % 89},c{number}\n" for number in range(500))
+TYPES = {"left_types": "int,text", "right_types": ["int", str]}
+CLAUSE = "FULL JOIN USING (id)"
+
+
+def joins(client, programs, folder):
+    """A join as the program does it, each fault as its exception, and nothing left behind."""
+    left, right, out = folder / "left.csv", folder / "right.csv", folder / "out.csv"
+    left.write_text(LEFT)
+    right.write_text(RIGHT)
+    alone = radixjoin.join(left, right, CLAUSE, output=folder / "alone.csv", strict=False, program=programs / "radixjoin", **TYPES)
+    options = {"output": out, "programs": programs, **TYPES}
+    gave = cluster.join(client, left, right, CLAUSE, parts=3, ranges=2, workers=2, **options)
+    yield from telling.differs("the path", gave, out)
+    yield from telling.differs("the bytes", out.read_bytes() == alone.read_bytes(), True)
+    out.unlink()
+    for clause, code in (("JOIN USING (id", "E11"), ("JOIN USING (nmae)", "E13"), ("CROSS JOIN", None)):
+        error = telling.raised(cluster.join, client, left, right, clause, **options)
+        yield from [] if isinstance(error, radixjoin.ClauseFault) and error.code == code else [f"{clause}: {error!r}"]
+    left.write_text(LEFT + "x,y\n")
+    error = telling.raised(cluster.join, client, left, right, CLAUSE, ranges=2, **options)
+    yield from telling.differs("a fault's place", repr(error), repr(radixjoin.InputFault("radixjoin: E6 BadInteger left row 3001 column 1", 3)))
+    for named in ({"parts": 0}, {"no_such_option": 1}, {"ranges": 0}):
+        error = telling.raised(cluster.join, client, left, right, CLAUSE, **named, **options)
+        yield from [] if isinstance(error, (TypeError, ValueError)) and next(iter(named)) in str(error) else [f"{named}: {error!r}"]
+    yield from telling.differs("files", sorted(os.listdir(folder)), ["alone.csv", "left.csv", "right.csv"])
+
+
+def command(programs, folder):
+    """The module as a command."""
+    (folder / "left.csv").write_text("id\n2\n1\n")
+    (folder / "right.csv").write_text("id\n1\n")
+    tables = ["--left", "left.csv", "--left-types", "int", "--right", "right.csv", "--right-types", "int"]
+    words = ["--programs", programs, *tables, "--join", "LEFT JOIN ON L.id = R.id", "--out", "out.csv"]
+    ran = subprocess.run([sys.executable, "-m", "radixjoin.cluster", *words], cwd=folder, capture_output=True, check=False)
+    yield from telling.differs("how it ends", (ran.returncode, ran.stdout, ran.stderr), (0, b"", b""))
+    yield from telling.differs("the bytes", (folder / "out.csv").read_bytes(), b"id,id\n1,1\n2,\n")
+
+
+def main(programs):
+    for name in ("asyncio", "tornado", "distributed"):
+        logging.getLogger(name).setLevel(logging.CRITICAL)
+    with tempfile.TemporaryDirectory(prefix="radixjoin-test-") as name:
+        with LocalCluster(2, threads_per_worker=1, memory_limit=0, dashboard_address=None, silence_logs=50) as local, Client(local) as client:
+            telling.attempt("radixjoin.cluster.join", joins, client, programs, pathlib.Path(name))
+    with tempfile.TemporaryDirectory(prefix="radixjoin-test-") as name:
+        telling.attempt("python -m radixjoin.cluster", command, programs, pathlib.Path(name))
+
+
+if __name__ == "__main__":
+    main(pathlib.Path(sys.argv[1]))

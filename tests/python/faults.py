@@ -1,0 +1,258 @@
+"""Faults of each status as exceptions, refused arguments, and runs that are broken off: no process, open file or file is left."""
+import contextlib
+import decimal
+import gc
+import io
+import os
+import pathlib
+import pickle
+import signal
+import subprocess
+import sys
+import tempfile
+import threading
+import time
+
+import telling
+
+import radixjoin
+
+try:
+    import pandas
+except ImportError:
+    pandas = None
+
+D = decimal.Decimal
+SECONDS = 30
+ROWS = [{"id": 1, "name": "ann"}, {"id": 2, "name": None}]
+LOOSE = {"strict": False, "null": "~"}
+PLACES = ("side", "row", "column", "byte")
+
+
+def limited(folder):
+    """The program, in a folder, where it may take no more than 20 MiB of address space. Its options are asked before."""
+    program = folder / "limited"
+    program.write_text(f'#!/bin/sh\n[ "$1" = --help ] || ulimit -v 20480\nexec "{os.environ["RADIXJOIN"]}" "$@"\n')
+    program.chmod(0o755)
+    return program
+
+
+def cases_of_status(folder):
+    """For each fault its class, its line, the places that it tells, the two tables, and the other arguments."""
+    bad, good, none = folder / "bad.csv", folder / "good.csv", folder / "none.csv"
+    bad.write_bytes(b"id,name\n1,ann\nx,bob\n")
+    good.write_bytes(b"id,name\n1,ann\n")
+    by_id, cross = {"using": "id"}, {"how": "cross"}
+    of_left, of_right = {**by_id, **LOOSE, "left_types": "int,text"}, {**by_id, **LOOSE, "right_types": "int,text"}
+    many = [(number, "x" * 100) for number in range(200_000)]
+    left, right = {"side": "left"}, {"side": "right"}
+    line, table, clause = radixjoin.LineFault, radixjoin.InputFault, radixjoin.ClauseFault
+    memory, device = radixjoin.MemoryFault, radixjoin.DeviceFault
+    yield line, "bad type list left", left, bad, ROWS, {**of_left, "left_types": "int,texts"}
+    yield table, "E6 BadInteger left row 2 column 1", {**left, "row": 2, "column": 1}, bad, ROWS, of_left
+    yield table, "E4 TypeCount left", left, good, ROWS, {**of_left, "left_types": "int"}
+    yield table, "E6 BadInteger right row 1 column 1", {**right, "row": 1, "column": 1}, ROWS, [(2**63,)], {**by_id, "right_columns": ["id"]}
+    yield table, "E5 RaggedRow right row 2", {**right, "row": 2}, ROWS, [(1, 2), (1,)], {**by_id, "right_columns": ["id", "m"]}
+    yield table, "E5 RaggedRow right row 2", {**right, "row": 2}, ROWS, [(1,), ()], {**by_id, "right_columns": ["id"]}
+    yield table, "E5 RaggedRow right row 1", {**right, "row": 1}, ROWS, [("", "x", 1)], {**cross, "right_columns": ["a", "b"]}
+    yield table, "E7 BadText right row 1 column 1", {**right, "row": 1, "column": 1}, ROWS, [("a\ud800",)], {**cross, "right_columns": ["a"]}
+    yield table, "E10 BadNull", {}, ROWS, ROWS, {**by_id, "null": "a b"}
+    yield clause, "E11 Syntax byte 14", {"byte": 14}, ROWS, ROWS, {"on": "L.id == R.id"}
+    yield clause, "E13 UnknownColumn", {}, ROWS, ROWS, {"using": "nmae"}
+    yield clause, "E15 TypeMismatch", {}, ROWS, ROWS, {"on": "L.id = R.name"}
+    yield clause, "E16 RepeatedUsing", {}, ROWS, ROWS, {"using": ["id", "id"]}
+    yield clause, "E17 ClauseTooLong", {}, ROWS, ROWS, {"on": f"L.id IN ({'1, ' * 100_000}1)"}
+    yield memory, "E18 Memory", {}, many, many, {**by_id, "columns": ["id", "x"], "program": limited(folder)}
+    yield device, "E19 ReadDevice right", right, ROWS, none, of_right
+    yield device, "E19 ReadDevice left", left, folder, ROWS, of_left
+    yield device, "E20 WriteDevice", {}, ROWS, ROWS, {**by_id, "output": "/dev/full"}
+    yield device, "E20 WriteDevice", {}, ROWS, ROWS, {**by_id, "output": folder / "none" / "out.csv"}
+
+
+STATUSES = {"LineFault": 2, "InputFault": 3, "ClauseFault": 4, "MemoryFault": 5, "DeviceFault": 6}
+
+
+def faults_of_each_status(folder):
+    """Each fault with its class, line and places, also where it was packed."""
+    for kind, line, places, left, right, named in cases_of_status(folder):
+        fault = telling.raised(radixjoin.join, left, right, **named)
+        if not isinstance(fault, radixjoin.Fault):
+            yield f"{line}: {fault!r}"
+            continue
+        code, name = line.split()[:2] if line.startswith("E") else (None, None)
+        wanted = [kind, f"radixjoin: {line}", STATUSES[kind.__name__], code, name, *map(places.get, PLACES)]
+        for it in (fault, pickle.loads(pickle.dumps(fault))):
+            got = [type(it), it.line, it.status, it.code, it.name, *(getattr(it, place) for place in PLACES)]
+            yield from telling.differs(line, got, wanted)
+    yield from telling.differs("files", sorted(it.name for it in folder.iterdir()), ["bad.csv", "good.csv", "limited"])
+    number = telling.raised(radixjoin.join, ROWS, ROWS, using="id", bits1=11)
+    yield from telling.differs("a number that is too large", (type(number).__name__, number.code), ("LineFault", None))
+    explained = radixjoin.faults.fault_of("radixjoin: E13 UnknownColumn\n  one\n  two\n", 4)
+    yield from telling.differs("an explanation", (explained.line, explained.explanation), ("radixjoin: E13 UnknownColumn", "  one\n  two"))
+
+
+def cases_that_are_refused(folder):
+    """What isn't for the program to judge: the class and a word of each error, the two tables, and the other arguments."""
+    path = folder / "a.csv"
+    path.write_bytes(b"id\n1\n")
+    by_id = {"using": "id"}
+    yield TypeError, "'id'", [{"id": 1.5}], ROWS, by_id
+    yield TypeError, "'id'", [{"id": True}], ROWS, by_id
+    yield TypeError, "'id'", [{"id": 1}, {"id": "x"}], ROWS, by_id
+    yield ValueError, "'id'", [{"id": D("NaN")}], ROWS, by_id
+    yield ValueError, "'id'", [{"id": D("1e18")}], ROWS, by_id
+    yield ValueError, "row 2", [{"id": 1}, {"ID": 2}], ROWS, by_id
+    yield TypeError, "row 2", [{"id": 1}, (2,)], ROWS, by_id
+    yield ValueError, "columns", [(1,)], ROWS, by_id
+    yield ValueError, "left_types", path, ROWS, {**by_id, "strict": False}
+    yield ValueError, "'ID'", path, ROWS, {**by_id, "left_types": {"ID": "int"}, "strict": False}
+    yield ValueError, "'id'", path, ROWS, {**by_id, "left_types": {}, "strict": False}
+    yield ValueError, "'x'", path, [{"id": 1, "x": ""}], {**by_id, "left_types": "int", "strict": False}
+    yield ValueError, "clause", ROWS, ROWS, {}
+    yield ValueError, "clause", ROWS, ROWS, {"clause": "CROSS JOIN", **by_id}
+    yield ValueError, "how", ROWS, ROWS, {**by_id, "how": "anti"}
+    yield ValueError, "'id'", ROWS, ROWS, {"on": "L.id = R.id"}
+    yield NotImplementedError, "--no-such-option", ROWS, ROWS, {**by_id, "no_such_option": 1}
+    yield TypeError, "stats", ROWS, ROWS, {**by_id, "stats": True}
+    yield TypeError, "rb", io.StringIO("id\n1\n"), ROWS, {**by_id, **LOOSE, "left_types": "int"}
+    yield TypeError, "neither", 7, ROWS, by_id
+    yield FileNotFoundError, "nowhere", ROWS, ROWS, {**by_id, "program": "nowhere"}
+    yield ValueError, "null", [{"id": 1, "x": ""}], ROWS, {**by_id, "output": folder / "out.csv"}
+    if "strict" not in radixjoin.programs.options(os.environ["RADIXJOIN"]):
+        yield NotImplementedError, "--strict", path, ROWS, {**by_id, "left_types": "int"}
+
+
+def refused_arguments(folder):
+    for kind, word, left, right, named in cases_that_are_refused(folder):
+        error = telling.raised(radixjoin.join, left, right, **named)
+        yield from [] if isinstance(error, kind) and word in str(error) else [f"{error!r}, and no {kind.__name__} that names {word}"]
+    yield from telling.differs("files", sorted(it.name for it in folder.iterdir()), ["a.csv"])
+
+
+def dtypes_that_have_no_type(_):
+    """Columns of frames: each error names the column, and says what to convert it to."""
+    columns = {
+        "floats": pandas.Series([1.5]),
+        "truths": pandas.Series([True]),
+        "dates": pandas.Series(pandas.to_datetime(["2026-01-01"])),
+        "spans": pandas.Series(pandas.to_timedelta(["1s"])),
+        "mixed": pandas.Series([1, "x"], dtype="object"),
+        "bytes": pandas.Series([b"x"], dtype="object"),
+        "categories": pandas.Series([1.5], dtype="category"),
+        "large": pandas.Series([2**63], dtype="uint64"),
+        "digits": pandas.Series([D("1e20")], dtype="object"),
+        "infinite": pandas.Series([D("inf")], dtype="object"),
+        7: pandas.Series([1]),
+    }
+    for name, column in columns.items():
+        error = telling.raised(radixjoin.join, pandas.DataFrame({"id": [1] * len(column), name: column}), ROWS, using="id")
+        kind = ValueError if name in ("large", "digits", "infinite") else TypeError
+        yield from [] if isinstance(error, kind) and repr(name) in str(error) and ": " in str(error) else [f"{name}: {error!r}"]
+
+
+def children():
+    """The numbers of this process's children."""
+    with open(f"/proc/self/task/{threading.get_native_id()}/children") as file:
+        return file.read().split()
+
+
+def broken_off(folder):
+    """Rows that aren't read to their end, and tables that fail: the program ends, and nothing stays."""
+    gc.collect()
+    before = sorted(os.listdir(folder)), len(os.listdir("/proc/self/fd"))
+    for end in ("close", "with", "del", "raise"):
+        left = ((number, "x" * 50) for number in range(100_000))
+        rows = radixjoin.join(left, ROWS, how="cross", left_columns=["number", "text"])
+        next(rows)
+        yield from [] if len(children()) == 1 else [f"{end}: no program runs while rows are left"]
+        if end == "close":
+            rows.close()
+        elif end == "with":
+            with rows:
+                next(rows)
+        elif end == "raise":
+            with contextlib.suppress(ValueError), rows:
+                raise ValueError
+        del rows
+        gc.collect()
+        yield from [f"{end}: the program {number} still runs" for number in children()]
+
+    class Failing(io.RawIOBase):
+        def read(self, size=-1):
+            raise KeyError("of the caller's own")
+
+    def failing():
+        yield {"id": 1}
+        raise KeyError("of the caller's own")
+
+    for table in (Failing(), failing()):
+        error = telling.raised(radixjoin.join, table, ROWS, how="cross", left_types="int", strict=False, null="~", output=folder / "out.csv")
+        yield from telling.differs("what the caller's table raises", repr(error), repr(KeyError("of the caller's own")))
+    yield from telling.differs("what is left", (sorted(os.listdir(folder)), len(os.listdir("/proc/self/fd"))), before)
+
+
+INTERRUPTED = """
+import itertools, sys, radixjoin
+def rows(most):
+    for number in itertools.islice(itertools.count(), most):
+        if number == 15_000:
+            print("begun", flush=True)
+        yield (number,)
+most = 20_000 if sys.argv[1] == "joining" else None
+try:
+    radixjoin.join(rows(most), ((it,) for it in range(20_000)), on="a < b AND b < a", left_columns=["a"], right_columns=["b"], output="out.csv")
+except KeyboardInterrupt:
+    print("interrupted", flush=True)
+"""
+
+
+def programs_of(number):
+    """The numbers of the processes that a process started."""
+    return [it for path in pathlib.Path(f"/proc/{number}/task").glob("*/children") for it in path.read_text().split()]
+
+
+def interrupted(folder):
+    """Ctrl-C while rows are read, and while the program joins."""
+    before = sorted(os.listdir(folder))
+    for kind, waits in (("reading", False), ("joining", True)):
+        child = subprocess.Popen([sys.executable, "-c", INTERRUPTED, kind], cwd=folder, stdout=subprocess.PIPE, stderr=subprocess.PIPE)
+        child.stdout.readline()
+        until = time.monotonic() + SECONDS
+        while waits and not programs_of(child.pid) and time.monotonic() < until:
+            time.sleep(0.01)
+        numbers = programs_of(child.pid)
+        child.send_signal(signal.SIGINT)
+        stdout, stderr = child.communicate(timeout=SECONDS)
+        yield from telling.differs(f"{kind}: what is told", (stdout, stderr, child.returncode), (b"interrupted\n", b"", 0))
+        yield from [f"{kind}: no program was running"] if waits and not numbers else []
+        yield from [f"{kind}: the program {number} still runs" for number in numbers if pathlib.Path("/proc", number).exists()]
+        yield from telling.differs(f"{kind}: files left", sorted(os.listdir(folder)), before)
+
+
+def outputs(folder):
+    """A file of the result: whole, or what was there before."""
+    path = folder / "out.csv"
+    link = folder / "link.csv"
+    link.symlink_to(path)
+    path.write_text("before")
+    telling.raised(radixjoin.join, ROWS, ROWS, using="none", output=link)
+    yield from telling.differs("after a fault", (path.read_text(), link.is_symlink()), ("before", True))
+    gave = radixjoin.join(ROWS, iter([(1,), (1,)]), using="id", output=link, right_columns=["id"])
+    yield from telling.differs("the path", gave, link)
+    yield from telling.differs("the result", (path.read_text(), link.is_symlink()), ("id,name\n1,ann\n1,ann\n", True))
+    yield from telling.differs("the result's mode", path.stat().st_mode & 0o777, 0o666 & ~os.umask(os.umask(0o022)) & 0o777)
+    yield from telling.differs("files", sorted(os.listdir(folder)), ["link.csv", "out.csv"])
+    told = radixjoin.stats(ROWS, ROWS, using="id", how="left", bits1=0, piece=10)
+    yield from telling.differs("statistics", told, radixjoin.Stats(((2, 2),), 2, 0, 0, 1))
+    yield from telling.differs("all rows", told.rows, 2)
+
+
+def main():
+    tests = [faults_of_each_status, refused_arguments, outputs, broken_off, interrupted]
+    for test in tests + ([dtypes_that_have_no_type] if pandas is not None else []):
+        with tempfile.TemporaryDirectory(prefix="radixjoin-test-") as name:
+            telling.attempt(test.__name__.replace("_", " "), test, pathlib.Path(name))
+
+
+if __name__ == "__main__":
+    main()

@@ -1,0 +1,49 @@
+"""Large frames: what this process takes beside the frames and the result, in terms of the CSV text of both and of the result."""
+import random
+import resource
+
+import pandas
+import telling
+
+import radixjoin
+
+ROWS = 400_000
+MOST = 3
+
+
+def resident():
+    """The bytes that this process has in memory now."""
+    with open("/proc/self/statm") as file:
+        return int(file.read().split()[1]) * resource.getpagesize()
+
+
+def peak():
+    """The most that it ever had since it was asked to forget."""
+    with open("/proc/self/status") as file:
+        return next(int(line.split()[1]) * 1024 for line in file if line.startswith("VmHWM"))
+
+
+def frames():
+    pick = random.Random(7)
+    left = pandas.DataFrame({"id": range(ROWS), "key": [pick.randrange(ROWS) for _ in range(ROWS)], "text": [f"text {number}" for number in range(ROWS)]})
+    right = pandas.DataFrame({"key": range(ROWS), "name": [f"name of {number}" for number in range(ROWS)]})
+    return left, right
+
+
+def large():
+    left, right = frames()
+    size = sum(len(frame.to_csv(index=False)) for frame in (left, right))
+    with open("/proc/self/clear_refs", "w") as file:
+        file.write("5")
+    before = resident()
+    joined = radixjoin.join(left, right, using="key")
+    most = peak() - before
+    size += len(joined.to_csv(index=False))
+    result = int(joined.memory_usage(deep=True).sum())
+    yield from telling.differs("rows", len(joined), ROWS)
+    if most - result > MOST * size:
+        yield f"{most / 1e6:.0f} MB beside the frames, {result / 1e6:.0f} of them for the result, for {size / 1e6:.0f} MB of text"
+
+
+if __name__ == "__main__":
+    telling.attempt("memory for large frames", large)
