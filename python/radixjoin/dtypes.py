@@ -43,11 +43,11 @@ def kind_of_series(where: str, series: Any) -> str:
 def common(left: "Column", right: "Column") -> Optional[Any]:
     """The dtype of the column in which two of one kind stand once: one that holds the cells of both. A column that came from no
     frame may have any cells."""
-    import pandas
-
     dtypes = [it.dtype for it in (left, right)]
     if dtypes[0] is None and dtypes[1] is None:
         return None
+    import pandas
+
     if all(it is not None for it in dtypes) and dtypes[0] == dtypes[1]:
         return dtypes[0]
     if left.kind == "int":
