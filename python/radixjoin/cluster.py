@@ -339,7 +339,7 @@ def client_of(asked: argparse.Namespace) -> Iterator[Client]:
         with Client(asked.scheduler) as client:
             yield client
         return
-    with LocalCluster(asked.processes, threads_per_worker=1, memory_limit=0, dashboard_address=None, silence_logs=50) as cluster, Client(cluster) as client:
+    with LocalCluster(asked.processes, threads_per_worker=1, memory_limit=0, dashboard_address=":0", silence_logs=50) as cluster, Client(cluster) as client:
         yield client
 
 

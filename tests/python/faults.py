@@ -211,22 +211,37 @@ def programs_of(number):
     return [it for path in pathlib.Path(f"/proc/{number}/task").glob("*/children") for it in path.read_text().split()]
 
 
-def interrupted(folder):
-    """Ctrl-C while rows are read, and while the program joins."""
+def interrupted_at(kind, waits, folder):
+    """What differs where Ctrl-C comes while rows are read, or while the program joins."""
     before = sorted(os.listdir(folder))
-    for kind, waits in (("reading", False), ("joining", True)):
-        child = subprocess.Popen([sys.executable, "-c", INTERRUPTED, kind], cwd=folder, stdout=subprocess.PIPE, stderr=subprocess.PIPE)
+    with subprocess.Popen([sys.executable, "-c", INTERRUPTED, kind], cwd=folder, stdout=subprocess.PIPE, stderr=subprocess.PIPE) as child:
         child.stdout.readline()
         until = time.monotonic() + SECONDS
         while waits and not programs_of(child.pid) and time.monotonic() < until:
             time.sleep(0.01)
         numbers = programs_of(child.pid)
         child.send_signal(signal.SIGINT)
-        stdout, stderr = child.communicate(timeout=SECONDS)
-        yield from telling.differs(f"{kind}: what is told", (stdout, stderr, child.returncode), (b"interrupted\n", b"", 0))
-        yield from [f"{kind}: no program was running"] if waits and not numbers else []
-        yield from [f"{kind}: the program {number} still runs" for number in numbers if pathlib.Path("/proc", number).exists()]
-        yield from telling.differs(f"{kind}: files left", sorted(os.listdir(folder)), before)
+        try:
+            stdout, stderr = child.communicate(timeout=SECONDS)
+        except subprocess.TimeoutExpired:
+            child.kill()
+            return [f"{kind}: it goes on after {SECONDS} seconds"]
+    found = list(telling.differs(f"{kind}: what is told", (stdout, stderr, child.returncode), (b"interrupted\n", b"", 0)))
+    found += [f"{kind}: no program was running"] if waits and not numbers else []
+    found += [f"{kind}: the program {number} still runs" for number in numbers if pathlib.Path("/proc", number).exists()]
+    return found + list(telling.differs(f"{kind}: files left", sorted(os.listdir(folder)), before))
+
+
+def interrupted(folder):
+    """Ctrl-C, tried up to three times: Python itself drops one that comes while it gives back an object."""
+    for kind, waits in (("reading", False), ("joining", True)):
+        for at in range(3):
+            place = folder / f"{kind}{at}"
+            place.mkdir()
+            found = interrupted_at(kind, waits, place)
+            if not found:
+                break
+        yield from found
 
 
 def outputs(folder):
