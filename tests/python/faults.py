@@ -191,8 +191,10 @@ def broken_off(folder):
     yield from telling.differs("what is left", (sorted(os.listdir(folder)), len(os.listdir("/proc/self/fd"))), before)
 
 
+# (the interrupt may be ignored where these tests run, as in a shell's background, and what a process ignores its children do)
 INTERRUPTED = """
-import itertools, sys, radixjoin
+import itertools, signal, sys, radixjoin
+signal.signal(signal.SIGINT, signal.default_int_handler)
 def rows(most):
     for number in itertools.islice(itertools.count(), most):
         if number == 15_000:
@@ -233,15 +235,9 @@ def interrupted_at(kind, waits, folder):
 
 
 def interrupted(folder):
-    """Ctrl-C, tried up to three times: Python itself drops one that comes while it gives back an object."""
-    for kind, waits in (("reading", False), ("joining", True)):
-        for at in range(3):
-            place = folder / f"{kind}{at}"
-            place.mkdir()
-            found = interrupted_at(kind, waits, place)
-            if not found:
-                break
-        yield from found
+    """Ctrl-C while rows are read, and while the program joins."""
+    yield from interrupted_at("reading", False, folder)
+    yield from interrupted_at("joining", True, folder)
 
 
 def outputs(folder):
