@@ -1,7 +1,7 @@
 # Completion of radixjoin for bash: options that were not given yet, files, and the words of --hash and --strict.
 _radixjoin() {
-    local options="--left --right --left-types --right-types --join --null --strict --stats --workers --bits1 --bits2 --hash
-        --piece --block --capacity --lanes --retries --help --version"
+    local options="--left --right --left-types --right-types --join --null --left-null --right-null --out-null --strict --stats --workers
+        --bits1 --bits2 --hash --piece --block --capacity --lanes --retries --help --version"
     local word=${COMP_WORDS[COMP_CWORD]} before=${COMP_WORDS[COMP_CWORD - 1]}
     # `--left=a` is three words here: --left, = and a.
     if [[ $word == = ]]; then
@@ -13,9 +13,13 @@ _radixjoin() {
     if [[ $before == --strict && $word == -* ]]; then
         before=
     fi
+    # `--suggest-types` is the first word, or none.
+    if ((COMP_CWORD == 1)); then
+        options+=" --suggest-types"
+    fi
     COMPREPLY=()
     case $before in
-        --left | --right)
+        --left | --right | --suggest-types)
             compopt -o filenames 2>/dev/null
             mapfile -t COMPREPLY < <(compgen -f -- "$word")
             ;;
@@ -25,11 +29,18 @@ _radixjoin() {
         --strict)
             mapfile -t COMPREPLY < <(compgen -W "on full" -- "$word")
             ;;
-        --left-types | --right-types | --join | --null | --workers | --bits1 | --bits2 | --piece | --block | --capacity | --lanes | --retries) ;;
+        --left-types | --right-types)
+            if [[ $word == @* ]]; then
+                compopt -o filenames 2>/dev/null
+                mapfile -t COMPREPLY < <(compgen -P @ -f -- "${word#@}")
+            fi
+            ;;
+        --join | --null | --left-null | --right-null | --out-null | --workers | --bits1 | --bits2 | --piece | --block | --capacity | --lanes | --retries) ;;
         *)
             local option left=
             for option in $options; do
-                [[ " ${COMP_WORDS[*]:1:COMP_CWORD-1} " == *" $option "* ]] || left+=" $option"
+                # The null texts of a side may be given again.
+                [[ $option != --left-null && $option != --right-null && " ${COMP_WORDS[*]:1:COMP_CWORD-1} " == *" $option "* ]] || left+=" $option"
             done
             mapfile -t COMPREPLY < <(compgen -W "$left" -- "$word")
             ;;

@@ -1,12 +1,17 @@
-# Completion of shards for bash: options that were not given yet, files, and the words of --side.
+# Completion of shards for bash: options that were not given yet, files, and the words of --side and --strict.
 _shards() {
-    local options="--side --left --right --left-types --right-types --join --null --parts --from --to --out --cuts --help --version"
+    local options="--side --left --right --left-types --right-types --join --null --left-null --right-null --strict --parts --from
+        --to --out --cuts --help --version"
     local word=${COMP_WORDS[COMP_CWORD]} before=${COMP_WORDS[COMP_CWORD - 1]}
     # `--left=a` is three words here: --left, = and a.
     if [[ $word == = ]]; then
         word=
     elif [[ $before == = ]]; then
         before=${COMP_WORDS[COMP_CWORD - 2]}
+    fi
+    # `--strict` may stand without a word of its own.
+    if [[ $before == --strict && $word == -* ]]; then
+        before=
     fi
     COMPREPLY=()
     case $before in
@@ -21,11 +26,15 @@ _shards() {
         --side)
             mapfile -t COMPREPLY < <(compgen -W "left right" -- "$word")
             ;;
-        --left-types | --right-types | --join | --null | --parts | --from | --to | --cuts) ;;
+        --strict)
+            mapfile -t COMPREPLY < <(compgen -W "on full" -- "$word")
+            ;;
+        --left-types | --right-types | --join | --null | --left-null | --right-null | --parts | --from | --to | --cuts) ;;
         *)
             local option left=
             for option in $options; do
-                [[ " ${COMP_WORDS[*]:1:COMP_CWORD-1} " == *" $option "* ]] || left+=" $option"
+                # The null texts of a side may be given again.
+                [[ $option != --left-null && $option != --right-null && " ${COMP_WORDS[*]:1:COMP_CWORD-1} " == *" $option "* ]] || left+=" $option"
             done
             mapfile -t COMPREPLY < <(compgen -W "$left" -- "$word")
             ;;

@@ -1,12 +1,15 @@
-# Completion of shards for fish: options, files, and the words of --side.
+# Completion of shards for fish: options, files, and the words of --side and --strict.
 complete -c shards -f
 complete -c shards -l side -x -a 'left right' -d 'Table that is divided'
 complete -c shards -l left -r -F -d 'File of the left table'
 complete -c shards -l right -r -F -d 'File of the right table'
-complete -c shards -l left-types -x -d 'Types of the left columns, as int,num(9,2),text'
-complete -c shards -l right-types -x -d 'Types of the right columns, as int,num(9,2),text'
+complete -c shards -l left-types -x -d 'Types of the left columns, as int,num(9,2),text or id=int,*=text'
+complete -c shards -l right-types -x -d 'Types of the right columns, as int,num(9,2),text or id=int,*=text'
 complete -c shards -l join -x -d 'Clause of the join'
 complete -c shards -l null -x -d 'Text that stands for null'
+complete -c shards -l left-null -x -d 'Text that stands for null in the left file'
+complete -c shards -l right-null -x -d 'Text that stands for null in the right file'
+complete -c shards -l strict -x -a 'on full' -d 'Refuse files that are not of RFC 4180'
 complete -c shards -l parts -x -d 'How many parts there are, 1 to 1024'
 complete -c shards -l from -x -d 'First byte to divide'
 complete -c shards -l to -x -d 'Byte to divide up to'

@@ -1,4 +1,5 @@
-"""Checks that what the documents cite exists: links and their anchors, paths, the names of calls, definitions and tests, and crates."""
+"""Checks that what the documents cite exists: links and their anchors, paths and lines, the names of calls, definitions and tests and the
+files that they are said to stand in, options and crates; and that numbers which several places tell are the same."""
 import re
 import subprocess
 
@@ -11,6 +12,39 @@ SUFFIXES = ("antt", "rt", "py", "toml", "md", "c", "rs", "sh", "edit", "txt", "t
 FOR_USERS = ("docs/faults.md", "docs/recipes.md", "README.md", "CHANGELOG.md", "docs/python.md")
 # Words in code letters that stand for a text, a place or a thing outside the repository.
 OTHERS = {"NAME", "CRATE", "FOLDER", "PREFIX"}
+# Options in the documents that are none of this repository: those of `rt`, and those that stand for any.
+OTHER_OPTIONS = {"limit", "name", "only", "test", "minutes"}
+# A number as documents write it.
+NUMBER = r"2\^\d+(?: - 1)?|\d[\d,]*"
+# The constant that each limit of docs/specification.md stands in.
+CONSTANTS = {
+    "rows of a table": ("rj_csv_io/src/read_rows.rt", r"MAX_ROWS: u64 = (\w+);"),
+    "columns of a table": ("rj_columns/src/builder.rt", r"MAX_COLUMNS: usize = (\w+);"),
+    "a header name": ("rj_columns/src/names.rt", r"MAX_NAME: usize = (\w+);"),
+    "a null text": ("rj_csv_io/src/null_text.rt", r"MAX_NULL: usize = (\w+);"),
+    "null texts of a side": ("rj_command/src/join/nulls.rt", r"MOST_NULLS: usize = (\w+);"),
+    "a clause": ("rj_condition/src/parsing.rt", r"LONGEST: usize = (\w+);"),
+    "nesting": ("rj_condition/src/nesting.rt", r"MOST: usize = (\w+);"),
+    "senders of a ledger": ("arrivals/src/main.rt", r"How many senders it has, 1 to (\w+)"),
+    "rows of a block": ("rj_command/src/join/options.rt", r"hands on at once, 1 to (\w+)"),
+    "partitions of an exchange": ("rj_exchange/src/boxes/open.rt", r"partitions ≤ (\w+)"),
+    "lanes": ("rj_exchange/src/boxes/open.rt", r"lanes ≤ (\w+)"),
+    "parcels of a queue": ("rj_exchange/src/boxes/open.rt", r"capacity ≤ (\w+)"),
+    "workers, outboxes, stripes": ("rj_exchange/src/boxes/open.rt", r"outboxes ≤ (\w+)"),
+    "seats": ("rj_exchange/src/halt/calls.rt", r"seats ≤ (\w+)"),
+    "tickets": ("rj_workers/src/sharing.rt", r"MOST_DRAWN: u64 = 1 << (\w+);"),
+}
+# The limits that pages for users tell, and what follows the number there.
+TOLD = {
+    "rows of a table": "rows",
+    "columns of a table": "columns|names",
+    "a header name": "bytes",
+    "a null text": "bytes|printable",
+    "a clause": "bytes",
+    "nesting": "deep|parentheses",
+}
+# What is said of memory, wherever it is said.
+MEMORY = r"about\s+(\w+)\s+times\s+the\s+size\s+of\s+(?:the|its)\s+two\s+(?:files|parts)"
 
 
 def tracked():
@@ -40,6 +74,7 @@ def link_faults(page, text):
 
 def is_path(token):
     """Whether a text in code letters is a path of the repository."""
+    token = re.sub(r":\d+$", "", token)
     if not re.fullmatch(r"[\w.*\-/]+", token) or token.startswith("/"):
         return False
     return token.rpartition(".")[2] in SUFFIXES if "." in token else "/" in token
@@ -52,12 +87,15 @@ def path_faults(page, text, files):
         for token in filter(is_path, re.findall(r"`([^`\n]+)`", line)):
             if token.split("/")[-1].split(".")[0] in OTHERS or any(word in OTHERS for word in token.split("/")):
                 continue
+            token, _, at = token.partition(":")
             wanted = [place + token for place in (*PLACES, *before, f"{page.rpartition('/')[0]}/")]
             before.append(token.rpartition("/")[0] + "/")
             before.append("crates/" + before[-1])
             before.append(re.sub(r"/\w+/$", "/", before[0]))
             if not any(is_there(name.rstrip("/"), files) for name in wanted):
                 yield f"there is no {token}"
+            elif at and not any(name in files and int(at) <= len((harness.ROOT / name).read_text().splitlines()) for name in wanted):
+                yield f"{token} has no line {at}"
 
 
 def is_there(wanted, files):
@@ -121,10 +159,115 @@ def crate_faults(text):
     yield from (f"crates.txt has {name}, which isn't told" for name in sorted(set(listed) - told))
 
 
+def place_faults(text):
+    """Of `name`, `name` in `FILE`: the names that stand nowhere in the file. A file is in `crates/`, or one of the crate named last."""
+    crates, crate = harness.ROOT / "crates", ""
+    for found in re.finditer(r"((?:`\w+`(?:, with |, | and )?)+) in `([\w/]+\.(?:antt|rt))`|`(rj_\w+)", text):
+        names, file, named = found.groups()
+        crate = named or (file.split("/")[0] if (crates / file).exists() else crate)
+        if names:
+            path = crates / file if (crates / file).exists() else crates / crate / file
+            known = set(re.findall(r"\w+", path.read_text())) if path.exists() else set()
+            wanted = [name for name in re.findall(r"`(\w+)`", names) if not name.startswith("rj_")]
+            yield from (f"{name} doesn't stand in {path.relative_to(harness.ROOT)}" for name in wanted if name not in known)
+
+
+def known_options(files):
+    """The options of the programs, the tests and the tools."""
+    options = set(OTHER_OPTIONS)
+    for name in files:
+        text = (harness.ROOT / name).read_text(errors="replace") if not name.startswith(("docs/", "man/")) else ""
+        if re.fullmatch(r"crates/\w+/src/(?:.*/)?(?:main|line|options)\.rt", name):
+            options |= set(re.findall(r'"([a-z][a-z0-9-]*)"', text)) | {"help", "version"}
+        elif name.endswith(".py") or name == "test" or name.startswith(("tools/", "cluster/", "bench/")):
+            options |= set(re.findall(r"--([a-z][a-z0-9-]*)", text))
+    return options
+
+
+def option_faults(text, options):
+    """The options of a page that no program has."""
+    for token in re.findall(r"`([^`\n]+)`", text):
+        yield from (f"no program has --{name}" for name in re.findall(r"(?<!\S)--([a-z][a-z0-9-]*)", token) if name not in options)
+
+
+def number_of(text):
+    """The value of a number such as `65,536`, `65_536` or `2^31 - 1`."""
+    power = re.fullmatch(r"2\^(\d+)( - 1)?", text)
+    return 2 ** int(power[1]) - (1 if power[2] else 0) if power else int(re.sub(r"[,_]", "", text))
+
+
+def limit_of(thing):
+    """The limit of a thing that the sources have, or none."""
+    file, pattern = CONSTANTS[thing]
+    found = re.search(pattern, (harness.ROOT / "crates" / file).read_text())
+    return number_of(f"2^{found[1]}" if "<<" in pattern else found[1]) if found else None
+
+
+def limit_faults(text):
+    """Where the table of limits differs from the constants in the sources."""
+    rows = dict(re.findall(r"^\| ([^|]+) \| ([^|]*\d[^|]*) \|$", text.partition("\n## Limits\n")[2].partition("\n## ")[0], re.MULTILINE))
+    yield from (f"no constant is known of the limit of {thing}" for thing in sorted(set(rows) - set(CONSTANTS)))
+    for thing, (file, _) in CONSTANTS.items():
+        told = re.findall(NUMBER, rows.get(thing, ""))
+        if not told or number_of(told[-1]) != limit_of(thing):
+            yield f"{thing}: {rows.get(thing, 'nothing')} is told, and {file} has {limit_of(thing)}"
+
+
+def untold_limits(page):
+    """The limits that a page for users doesn't tell, or not as the sources have them."""
+    text = (harness.ROOT / page).read_text()
+    for thing, words in TOLD.items():
+        told = [number_of(number) for number in re.findall(rf"({NUMBER})\s+(?:{words})\b", text)]
+        if limit_of(thing) not in told:
+            yield f"{thing}: {limit_of(thing)} isn't told"
+
+
+def library_faults(text):
+    """Where the libraries that a page tells to be trusted differ from those that crates.txt names beside the repository's own crates."""
+    listed = listed_crates()
+    wanted = set().union(*listed.values()) - set(listed)
+    told = set(re.findall(r"`(\w+)`", re.search(r"statements of the kit's crates \(([^)]*)\)", text)[1]))
+    yield from (f"{name} isn't told" for name in sorted(wanted - told))
+    yield from (f"crates.txt has no {name}" for name in sorted(told - wanted))
+
+
+def number_faults(text):
+    """The numbers of decisions that stand twice, or not in order in their section."""
+    for section in text.split("\n## ")[1:]:
+        numbers = [int(number) for number in re.findall(r"^(\d+)\. ", section, re.MULTILINE)]
+        yield from (f"{late} stands behind {early}" for early, late in zip(numbers, numbers[1:]) if late < early)
+    numbers = re.findall(r"^(\d+)\. ", text, re.MULTILINE)
+    yield from (f"{number} stands twice" for number in sorted(set(numbers), key=int) if numbers.count(number) > 1)
+
+
+def agreement_faults(what, pattern, pages):
+    """Where pages tell different things of one thing, or nothing."""
+    told = {page: set(re.findall(pattern, (harness.ROOT / page).read_text())) for page in pages}
+    yield from (f"{page} tells nothing of {what}" for page, found in told.items() if not found)
+    if len(set().union(*told.values())) > 1:
+        yield f"{what}: {', '.join(f'{page} tells {sorted(found)}' for page, found in told.items())}"
+
+
+def check_agreement(tally):
+    """What several places tell of one thing."""
+    docs = {name: (harness.ROOT / "docs" / f"{name}.md").read_text() for name in ("specification", "architecture", "changing", "proved", "DECISIONS")}
+    tally.check("docs/specification.md: definitions", list(definition_faults(docs["specification"])))
+    tally.check("docs/specification.md: limits", list(limit_faults(docs["specification"])))
+    tally.check("docs/architecture.md: crates", list(crate_faults(docs["architecture"])))
+    tally.check("docs/changing.md: files of names", list(place_faults(docs["changing"])))
+    tally.check("docs/proved.md: libraries", list(library_faults(docs["proved"])))
+    tally.check("docs/DECISIONS.md: numbers", list(number_faults(docs["DECISIONS"])))
+    tally.check("the kit", list(agreement_faults("the kit", r"rattle-kit-\w+ logic \w+", ("README.md", "docs/proved.md"))))
+    pages = ("README.md", "docs/faults.md", "docs/cluster.md", "man/radixjoin.1")
+    tally.check("memory", list(agreement_faults("memory", MEMORY, pages)))
+    for page in ("README.md", "docs/faults.md", "man/radixjoin.1"):
+        tally.check(f"{page}: limits", list(untold_limits(page)))
+
+
 def run_all(tally):
-    """The links, paths and names of every document."""
+    """The links, paths, names and options of every document, and what several of them tell."""
     files = tracked()
-    words = known_words(files)
+    words, options = known_words(files), known_options(files)
     for page in sorted(name for name in files if name.endswith(".md")):
         text = (harness.ROOT / page).read_text()
         prose = re.sub(r"^ {4}.*$", "", text, flags=re.MULTILINE)
@@ -133,5 +276,7 @@ def run_all(tally):
             tally.check(f"{page}: paths", list(path_faults(page, prose, files)))
         if page not in FOR_USERS:
             tally.check(f"{page}: names", list(name_faults(prose, words)))
-    tally.check("docs/specification.md: definitions", list(definition_faults((harness.ROOT / "docs" / "specification.md").read_text())))
-    tally.check("docs/architecture.md: crates", list(crate_faults((harness.ROOT / "docs" / "architecture.md").read_text())))
+        tally.check(f"{page}: options", list(option_faults(prose, options)))
+        crates = set(re.findall(r"\brj_\w+", text)) - set(listed_crates())
+        tally.check(f"{page}: crates", [f"there is no crate {name}" for name in sorted(crates)])
+    check_agreement(tally)

@@ -9,6 +9,8 @@ import harness
 
 PROGRAMS = ("radixjoin", "arrivals", "shards", "merges")
 SECONDS = 20
+# What stands in the place of options, as the first word, and has a help of its own.
+MODES = {"suggest-types"}
 
 
 class Option:
@@ -33,7 +35,7 @@ def options_of(program):
 
 def difference(names, options):
     """How the names of a place differ from the options of help."""
-    lacking, unknown = sorted(set(options) - set(names)), sorted(set(names) - set(options))
+    lacking, unknown = sorted(set(options) - set(names)), sorted(set(names) - set(options) - MODES)
     return [f"lacks --{name}" for name in lacking] + [f"has --{name}, which help hasn't" for name in unknown]
 
 
@@ -88,7 +90,7 @@ def zsh_faults(program, options, folder):
     rules = rules_of_zsh(program, folder)
     found = {}
     for rule in rules:
-        parts = re.fullmatch(r"(?:\(.*?\))?--([\w-]+)(=?)\[.*?\](.*)", rule)
+        parts = re.fullmatch(r"(?:\(.*?\))?\*?--([\w-]+)(=?)\[.*?\](.*)", rule)
         if parts:
             found[parts[1]] = (parts[2], parts[3])
     faults = difference(found, options)
@@ -135,8 +137,14 @@ def bash_details(folder):
     """What bash completes in places of its own: after `=`, an option that was given, and a value that isn't completed."""
     yield "after --left=", ["left.csv"], completed_by_bash("radixjoin", ["--left", "=", "le"], folder)
     yield "right after --left=", ["left.csv"], completed_by_bash("radixjoin", ["--left", "="], folder)
-    yield "an option that was given", ["--left-types"], completed_by_bash("radixjoin", ["--left", "left.csv", "--lef"], folder)
+    yield "an option that was given", ["--left-types", "--left-null"], completed_by_bash("radixjoin", ["--left", "left.csv", "--lef"], folder)
+    yield "one that may be given again", ["--left-null"], completed_by_bash("radixjoin", ["--left-null", "a", "--left-n"], folder)
     yield "a clause", [""], completed_by_bash("radixjoin", ["--join", ""], folder)
+    yield "a list of types", [""], completed_by_bash("radixjoin", ["--left-types", ""], folder)
+    yield "a file with a list of types", ["@left.csv"], completed_by_bash("radixjoin", ["--left-types", "@le"], folder)
+    yield "suggested types, first", ["--suggest-types"], completed_by_bash("radixjoin", ["--su"], folder)
+    yield "suggested types, later", [""], completed_by_bash("radixjoin", ["--stats", "--su"], folder)
+    yield "of which types are suggested", ["left.csv"], completed_by_bash("radixjoin", ["--suggest-types", "le"], folder)
 
 
 def check_bash_details(tally):
@@ -165,14 +173,24 @@ def row_faults(text, options):
         yield from (f"--{name}: the row doesn't tell {word}" for word in known if not re.search(rf"\b{word}\b", row.replace(",", "")))
 
 
+def section_faults(text, program, options):
+    """The limits and defaults of help that the specification's section of a program lacks."""
+    found = [part for part in text.split("\n## ") if re.match(rf"The programs? .*`{program}`", part.split("\n")[0])]
+    for name, option in options.items():
+        numbers = [number for number in option.numbers if not re.search(rf"\b{number}\b", "".join(found).replace(",", ""))]
+        yield from (f"--{name}: the section doesn't tell {number}" for number in numbers)
+
+
 def document_faults(options):
-    """Which options README's table of options and the specification lack."""
-    readme = (harness.ROOT / "README.md").read_text().split("## Options")[1].split("## ")[0]
+    """Which options README's tables of options and the specification lack."""
+    readme = (harness.ROOT / "README.md").read_text()
     specification = (harness.ROOT / "docs" / "specification.md").read_text()
     joins = options["radixjoin"]
     table = [name for line in readme.splitlines() if line.startswith("| `--") for name in re.findall(r"--([\w-]+)", line.split("|")[1])]
     yield "README.md, options", difference(table, set(joins) - {"help", "version"}) + list(row_faults(readme, joins))
     yield "docs/specification.md, options", list(row_faults(specification, joins))
+    for program in PROGRAMS[1:]:
+        yield f"docs/specification.md, {program}", list(section_faults(specification, program, options[program]))
     for name in sorted({name for program in PROGRAMS for name in options[program]}):
         yield f"docs/specification.md, --{name}", [] if re.search(rf"--{name}\b(?!-)", specification) else ["it isn't told"]
 

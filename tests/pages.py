@@ -77,17 +77,22 @@ def script_of(commands):
     return "\n".join(lines) + "\n"
 
 
+def printed_by(commands, folder, environment):
+    """Runs commands in a folder, and gives the lines that each prints; none for those that the shell doesn't come to."""
+    ran = subprocess.run(["bash"], cwd=folder, input=script_of(commands).encode(), capture_output=True, env=environment, timeout=SECONDS)
+    printed = re.split(rf"\n{MARK}\d+\n", ran.stdout.decode(errors="replace"))
+    texts = [printed[at].removesuffix("\n") if at < len(printed) else "" for at in range(len(commands))]
+    return [text.split("\n") if text else [] for text in texts]
+
+
 def faults_of(section, folder, environment):
     """Runs the commands of a section, and says which doesn't print what the page has."""
-    ran = subprocess.run(["bash"], cwd=folder, input=script_of(section.commands).encode(), capture_output=True, env=environment, timeout=SECONDS)
-    text = ran.stdout.decode(errors="replace")
-    printed = re.split(rf"\n{MARK}\d+\n", text)
-    faults = []
-    for at, (command, wanted) in enumerate(section.commands):
-        got = printed[at].removesuffix("\n").split("\n") if at < len(printed) and printed[at] else []
-        if not is_printed(wanted, got):
-            faults.append(f"$ {command}: {harness.shorten(got)}, and not {harness.shorten(wanted)}")
-    return faults
+    pairs = zip(section.commands, printed_by(section.commands, folder, environment))
+    return [
+        f"$ {command}: {harness.shorten(got)}, and not {harness.shorten(wanted)}"
+        for (command, wanted), got in pairs
+        if not is_printed(wanted, got)
+    ]
 
 
 def server_commands():
@@ -122,13 +127,10 @@ def server(folder):
         subprocess.run([f"{commands}/pg_ctl", "-D", data / "data", "-w", "-m", "immediate", "stop"], **how)
 
 
-def check_section(section, tally):
-    """Runs a section's sessions in a new folder, or tells that they are skipped."""
-    name = f"{section.page}, {section.title}"
-    missing = lacking(section.needs)
-    if missing:
-        print(f"skipped: {name}: not installed: {', '.join(missing)}")
-        return
+@contextlib.contextmanager
+def place_for(section):
+    """A new folder for a section's commands while the block runs, with the examples and the built programs, and the environment that
+    they run in; a server of PostgreSQL too, where the section needs it."""
     with harness.folder() as place, contextlib.ExitStack() as stack:
         folder = pathlib.Path(place)
         shutil.copytree(harness.ROOT / "examples", folder / "work" / "examples")
@@ -139,7 +141,23 @@ def check_section(section, tally):
         environment = {**os.environ, "PATH": f"{folder / 'bin'}:{os.environ['PATH']}", "LC_ALL": "C.UTF-8"}
         if "psql" in section.needs:
             environment |= stack.enter_context(server(folder))
-        tally.check(name, faults_of(section, folder / "work", environment))
+        yield folder / "work", environment
+
+
+def is_skipped(section, name):
+    """Whether a tool that a section needs isn't installed, which is told."""
+    missing = lacking(section.needs)
+    if missing:
+        print(f"skipped: {name}: not installed: {', '.join(missing)}")
+    return bool(missing)
+
+
+def check_section(section, tally):
+    """Runs a section's sessions in a new folder, or tells that they are skipped."""
+    name = f"{section.page}, {section.title}"
+    if not is_skipped(section, name):
+        with place_for(section) as (folder, environment):
+            tally.check(name, faults_of(section, folder, environment))
 
 
 def check_clauses(tally):

@@ -19,6 +19,7 @@ import harness
 
 # The longest first, so that none is left alone at the end.
 PARTS = (
+    "beyond_4_gib",
     "refused_allocations",
     "refused_further",
     "full_queues",
@@ -29,18 +30,22 @@ PARTS = (
     "sizes",
     "cluster",
     "python_package",
+    "shards_strict",
     "shards",
     "parts_further",
     "amounts",
     "parts",
     "strict",
+    "type_lists",
     "threads",
     "retried",
     "installation",
+    "recipes",
     "pages",
     "options",
     "citations",
     "ends",
+    "streams",
     "comparisons",
 )
 TABLES = ("examples.toml", "arrivals.toml", "ends.toml")

@@ -181,6 +181,9 @@ LINES = (
     ({"parts": "1025"}, 2, b"1025 is not in 1..=1024"),
     ({"side": "both"}, 2, b"possible values: left, right"),
     ({"cuts": "0", "out": None}, 2, b"0 is not in 1..=100000"),
+    ({"strict": "yes"}, 2, b"possible values: on, full"),
+    ({"strict": "off"}, 2, b"possible values: on, full"),
+    ({"left": "none.csv", "null": "no null"}, 6, b"radixjoin: E19 ReadDevice left\n"),
 )
 
 
@@ -235,16 +238,17 @@ def run_in_bounds(tally):
     """Divides a file of some megabytes with an address space that is smaller than the file."""
     with harness.folder() as name, contextlib.suppress(FileNotFoundError):
         folder = pathlib.Path(name)
-        words = division(folder, parts="16")
+        lines = [division(folder, parts="16"), division(folder, parts="16", strict="full")]
         with open(folder / "left.csv", "w", newline="") as file:
             file.write("k,a\n")
             for at in range(300_000):
                 file.write(f"{at * 7919 % 1_000_003},{'x' * 1_000}\n")
         limit = ["sh", "-c", 'ulimit -v 262144 && exec "$@"', "sh"]
-        ran = subprocess.run([*limit, harness.program("shards"), *words], cwd=folder, capture_output=True, timeout=harness.SECONDS, check=False)
-        faults = harness.differences(harness.Ran(ran.returncode, ran.stdout, ran.stderr), b"rows 300000 header 15\n")
-        total = sum(it.stat().st_size for it in (folder / "parts").glob("*"))
-        tally.check("shards: 300 MB in 256 MiB of memory", faults + ([] if total > 300_000_000 else [f"{total} bytes"]))
+        for words in lines:
+            ran = subprocess.run([*limit, harness.program("shards"), *words], cwd=folder, capture_output=True, timeout=harness.SECONDS, check=False)
+            faults = harness.differences(harness.Ran(ran.returncode, ran.stdout, ran.stderr), b"rows 300000 header 15\n")
+            total = sum(it.stat().st_size for it in (folder / "parts").glob("*"))
+            tally.check(f"shards: 300 MB in 256 MiB of memory, {words[-1]}", faults + ([] if total > 300_000_000 else [f"{total} bytes"]))
 
 
 def run_all(tally):

@@ -220,7 +220,7 @@ def check_cells(tally, folder, text):
     words = ["--left", "file.csv", "--left-types", "text,text", "--right", "one.csv", "--right-types", "int", "--join", "CROSS JOIN"]
     ran = harness.run([harness.program("radixjoin"), *words, "--strict", "--null=-"], folder)
     try:
-        table = strict.read(text, [reading.Text(), reading.Text()], b"-", "left", False)
+        table = strict.read(text, [reading.Text(), reading.Text()], [b"-"], "left", False)
     except faults.Fault as fault:
         tally.check(f"{text}", harness.differences(ran, b"", f"radixjoin: {fault}\n".encode(), 3))
         return

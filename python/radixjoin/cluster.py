@@ -50,7 +50,7 @@ class Told(Exception):
 
     def is_of(self, side: str) -> bool:
         """Whether it is a fault of a side's file."""
-        return re.search(rf"\b{side}\b", self.line) is not None
+        return re.match(rf"radixjoin: \w+ \w+ {side}\b", self.line) is not None
 
 
 def read_line(words: Sequence[str]) -> argparse.Namespace:
@@ -59,9 +59,10 @@ def read_line(words: Sequence[str]) -> argparse.Namespace:
     for side in SIDES:
         line.add_argument(f"--{side}", required=True, metavar="FILE", help=f"CSV file of the {side} table, which every process can read")
     for side in SIDES:
-        line.add_argument(f"--{side}-types", required=True, metavar="TYPES", help=f"types of the {side} columns, as int,num(9,2),text")
+        line.add_argument(f"--{side}-types", required=True, metavar="TYPES", help=f"types of the {side} columns, as 'int,num(9,2),text'")
     line.add_argument("--join", required=True, metavar="CLAUSE", help="how to join, as 'LEFT JOIN USING (id)'; it needs a key")
     line.add_argument("--null", metavar="TEXT", help="text of a field that is null, read and written [default: an empty field]")
+    line.add_argument("--strict", nargs="?", const="on", choices=("on", "full"), help="refuse files that aren't of RFC 4180's grammar; full: also those whose last line has no end")
     line.add_argument("--out", required=True, metavar="FILE", help="file of the joined table; it is there when the whole table is")
     line.add_argument("--parts", type=int, default=16, metavar="N", help="shards that the tables are divided into, 1 to 1024 [default: 16]")
     line.add_argument("--ranges", type=int, metavar="N", help="ranges of a file that are divided side by side [default: one a process]")
@@ -104,9 +105,10 @@ class Job:
         self.files = {side: str(Path(getattr(asked, side)).resolve()) for side in SIDES}
         self.types = {side: getattr(asked, f"{side}_types") for side in SIDES}
         self.clause = asked.join
-        self.null = ["--null", asked.null] if asked.null is not None else []
+        self.null = [f"--null={asked.null}"] if asked.null is not None else []
+        self.strict = [f"--strict={asked.strict}"] if asked.strict else []
         self.parts = asked.parts
-        self.one_join = [word for option in OF_ONE_JOIN for word in (f"--{option}", getattr(asked, option)) if getattr(asked, option) is not None]
+        self.one_join = [f"--{option}={getattr(asked, option)}" for option in OF_ONE_JOIN if getattr(asked, option) is not None]
         self.memory = asked.memory and asked.memory << 20
         self.scratch = scratch
         self.out = str(Path(asked.out).resolve())
@@ -123,8 +125,8 @@ class Job:
 
     def division(self, side: str) -> List[str]:
         """The words for `shards` that don't depend on the range."""
-        tables = [word for it in SIDES for word in (f"--{it}", self.files[it], f"--{it}-types", self.types[it])]
-        return ["--side", side, *tables, "--join", self.clause, *self.null, "--parts", str(self.parts)]
+        tables = [word for it in SIDES for word in (f"--{it}={self.files[it]}", f"--{it}-types={self.types[it]}")]
+        return [f"--side={side}", *tables, f"--join={self.clause}", *self.null, *self.strict, f"--parts={self.parts}"]
 
     def place(self, name: str) -> str:
         """The path of something that is made in the scratch folder."""
@@ -208,11 +210,11 @@ def join_shard(job: Job, part: int, ranges: Dict[str, int], headers: Dict[str, i
     if os.path.exists(path):
         return
     with made(path) as new, tempfile.TemporaryDirectory(dir=job.scratch) as tables:
-        words = ["--join", job.clause, *job.null, *job.one_join]
+        words = [f"--join={job.clause}", *job.null, *job.one_join]
         for side in SIDES:
             table = os.path.join(tables, side)
             gather(job, side, part, ranges[side], headers[side], table)
-            words += [f"--{side}", table, f"--{side}-types", f"{job.types[side]},int"]
+            words += [f"--{side}={table}", f"--{side}-types={job.types[side]},int"]
         with open(new, "wb") as output:
             job.run("radixjoin", words, output)
 
@@ -361,6 +363,7 @@ def join(
     right_types: Types,
     output: Union[str, os.PathLike[str]],
     null: Optional[str] = None,
+    strict: Union[bool, str] = False,
     parts: int = 16,
     ranges: Optional[int] = None,
     scratch: Union[str, os.PathLike[str], None] = None,
@@ -372,8 +375,8 @@ def join(
     """Joins two files by the processes of a Dask client, and gives the path of the result, `output`. All processes have to see the
     files, the programs and the scratch folder under the same names.
 
-    The arguments are the options of the command line `radixjoin-cluster` (docs/cluster.md): `parts` that the tables are divided
-    into (1 to 1,024), `ranges` of a file that are divided side by side, `memory` in MiB for each program; `workers` and other options
+    The arguments are the options of the command line `radixjoin-cluster` (docs/cluster.md): `strict`, True or "full", has files
+    refused that aren't of RFC 4180's grammar; `parts` that the tables are divided into (1 to 1,024), `ranges` of a file that are divided side by side, `memory` in MiB for each program; `workers` and other options
     of the join of each shard go to `radixjoin`. Types are a list, or a text as `"int,text"`.
 
     Raises:
@@ -385,7 +388,9 @@ def join(
     each = {name: None if of_one_join.get(name) is None else str(of_one_join[name]) for name in OF_ONE_JOIN}
     types = {"left_types": _types(left_types), "right_types": _types(right_types)}
     where = {"left": left, "right": right, "out": output, "scratch": scratch, "programs": programs}
-    asked = argparse.Namespace(join=clause, null=null, parts=parts, processes=1, ranges=ranges, memory=memory, progress=progress, **where, **types, **each)
+    if strict not in (True, False, "full"):
+        raise ValueError(f"strict={strict!r} is none of True, False and 'full'")
+    asked = argparse.Namespace(join=clause, null=null, strict="on" if strict is True else strict or None, parts=parts, processes=1, ranges=ranges, memory=memory, progress=progress, **where, **types, **each)
     for name, least, most in beyond(asked):
         raise ValueError(f"{name}= is from {least} to {most}")
     try:

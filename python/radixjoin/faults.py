@@ -22,11 +22,13 @@ class Fault(Exception):
         told = re.match(r"\w+: (E\d+) (\w+)", line)
         self.code: Optional[str] = told[1] if told else None
         self.name: Optional[str] = told[2] if told else None
-        side = re.search(r"\b(left|right)\b", line)
+        # (a name of a list of types stands between double quotes, and may have any words)
+        place = line.partition('"')[0]
+        side = re.search(r"\b(left|right)\b", place)
         self.side: Optional[str] = side[1] if side else None
-        self.row = _number(line, "row")
-        self.column = _number(line, "column")
-        self.byte = _number(line, "byte")
+        self.row = _number(place, "row")
+        self.column = _number(place, "column")
+        self.byte = _number(place, "byte")
 
     def __str__(self) -> str:
         return f"{self.line}\n{self.explanation}" if self.explanation else self.line

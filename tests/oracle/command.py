@@ -1,14 +1,17 @@
 """The words of both command lines: "The order" and "Faults and statuses" of docs/specification.md.
 
-Options are long ones, used at most once; `--name value` and `--name=value` mean the same, and a value that begins
+Options are long ones, used at most once but for those of a side's null texts; `--name value` and `--name=value` mean the same, and a value that begins
 with `-` is given by `=` (but `-` alone is a value)."""
 import re
 
 from .faults import BadLine, Fault, Help
 from . import joining, ledger, reading
 
-# What an option takes: any text that has to be given, any text, a number of a range, or nothing.
-TEXT, NEEDED_TEXT, FLAG = "text", "needed text", "flag"
+# What an option takes: any text that has to be given, any text, any text at each use, a number of a range, or nothing.
+TEXT, NEEDED_TEXT, TEXTS, FLAG = "text", "needed text", "texts", "flag"
+
+# How many null texts a side has at most.
+MOST_NULLS = 4
 
 
 class Number:
@@ -40,6 +43,9 @@ OPTIONS_OF = {
         "right-types": NEEDED_TEXT,
         "join": NEEDED_TEXT,
         "null": TEXT,
+        "left-null": TEXTS,
+        "right-null": TEXTS,
+        "out-null": TEXT,
         "strict": WordOrNone(("on", "full"), None),
         "bits1": Number(0, 10, 4),
         "bits2": Number(0, 10, 0),
@@ -68,6 +74,9 @@ def number(value, of):
 
 def put(found, options, name, value):
     """Takes one use of an option."""
+    if options[name] == TEXTS:
+        found.setdefault(name, []).append(value)
+        return
     if name in found:
         raise BadLine
     if isinstance(options[name], Word) and value not in options[name].words:
@@ -140,13 +149,27 @@ class Request:
         self.left = found["left"]
         self.right = found["right"]
         self.clause = found["join"].encode()
-        self.null = found.get("null", "").encode()
+        null = found.get("null", "")
+        self.nulls = {side: self.nulls_of(found, side, null, bad) for side in ("left", "right")}
+        self.out_null = found.get("out-null", null).encode()
         self.strict = found.get("strict")
         self.bits1 = found.get("bits1", options["bits1"].default)
         self.hash = found.get("hash", options["hash"].default)
         self.piece = found.get("piece", options["piece"].default)
         self.tells_pieces = "piece" in found
         self.stats = "stats" in found
+
+    @staticmethod
+    def nulls_of(found, side, null, bad):
+        """The null texts of a side's file."""
+        texts = found.get(f"{side}-null", [null])
+        if len(texts) > MOST_NULLS:
+            raise bad(f"more than four null texts {side}")
+        return [text.encode() for text in texts]
+
+    def all_nulls(self):
+        """Each text that stands for null, of both files and of the result."""
+        return [*self.nulls["left"], *self.nulls["right"], self.out_null]
 
 
 class Ended:
@@ -166,7 +189,7 @@ def ended(program, words, files, stdin=b""):
             script = ledger.Script(found["partition"], found["senders"], found["block"], "gaps" in found)
             text, is_readable = script.replay(stdin)
             return Ended(0 if is_readable else 3, text)
-        return joined(Request(found), files)
+        return joined(Request(found), {**files, "-": stdin})
     except Help:
         return Ended(0, None)
     except BadLine as fault:
@@ -176,7 +199,9 @@ def ended(program, words, files, stdin=b""):
 
 
 def joined(request, files):
-    """How a run of radixjoin has to end."""
+    """How a run of radixjoin has to end. The file `-` is standard input."""
+    if request.left == request.right == "-":
+        raise BadLine("radixjoin: only one of --left and --right can be standard input")
     for side in ("left", "right"):
         if getattr(request, side) not in files:
             raise Fault(19, "ReadDevice", side)

@@ -158,20 +158,18 @@ def check_header(header, types, side):
         raise Fault(4, "TypeCount", side)
 
 
-def read(content, types, null, side):
-    """The table of a file's bytes, by its column types and the null text; or its first fault."""
-    if not is_lawful_null(null):
-        raise Fault(10, "BadNull")
+def read(content, types, nulls, side):
+    """The table of a file's bytes, by its column types and its null texts; or its first fault."""
     found = records(content[3:] if content.startswith(b"\xef\xbb\xbf") else content)
     if not found:
         raise Fault(1, "NoHeader", side)
     header, *rest = found
     check_header(header, types, side)
-    rows = [read_row(record, types, null, side, row) for row, record in enumerate(rest, 1)]
+    rows = [read_row(record, types, nulls, side, row) for row, record in enumerate(rest, 1)]
     return Table(header, types, rows)
 
 
-def read_row(record, types, null, side, row):
+def read_row(record, types, nulls, side, row):
     """The cells of the record that is row `row`, counted from 1."""
     if row > MOST_ROWS:
         raise Fault(8, "TooManyRows", side)
@@ -180,7 +178,7 @@ def read_row(record, types, null, side, row):
     cells = []
     for column, (cell, of) in enumerate(zip(record, types), 1):
         try:
-            cells.append(None if cell == null else of.read(cell))
+            cells.append(None if cell in nulls else of.read(cell))
         except ValueError:
             raise of.fault(side, row, column) from None
     return cells

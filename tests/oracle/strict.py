@@ -77,17 +77,15 @@ def records(text, full):
         at, row = behind, row + 1
 
 
-def read(content, types, null, side, full):
+def read(content, types, nulls, side, full):
     """The table of a file's bytes read strictly, or its first fault."""
-    if not reading.is_lawful_null(null):
-        raise Fault(10, "BadNull")
     found = records(content[3:] if content.startswith(b"\xef\xbb\xbf") else content, full)
     try:
         header = next(found, None)
         if header is None:
             raise Fault(1, "NoHeader", side)
         reading.check_header(header, types, side)
-        rows = [reading.read_row(record, types, null, side, row) for row, record in enumerate(found, 1)]
+        rows = [reading.read_row(record, types, nulls, side, row) for row, record in enumerate(found, 1)]
     except Broken as broken:
         raise broken.told(side) from None
     return reading.Table(header, types, rows)

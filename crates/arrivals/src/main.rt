@@ -3,8 +3,9 @@
 #![tactic(auto)]
 
 use clap::{Arg, ArgAction, Command, Error, value_parser};
-use rj_command::{Fault, Told, VERSION, arrivals, read_words, tell, texts_of};
 use rj_csv_io::{CountedReader, CountedWriter, ReadRefused, read_all};
+use rj_fault::{Fault, Told, VERSION, read_words, tell, texts_of};
+use rj_script::arrivals;
 use std::alloc::{AllocError, Global};
 use std::env::Env;
 use std::io;

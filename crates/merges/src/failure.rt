@@ -1,7 +1,7 @@
 //! Why nothing, or not all, was merged.
 
 use clap::Error;
-use rj_command::Told;
+use rj_fault::Told;
 use rj_merge::{MergeRefused, MergeTextsRefused, Place};
 use std::alloc::{AllocError, Global};
 use std::fmt;

@@ -6,8 +6,8 @@ mod failure;
 
 use crate::failure::Failure;
 use clap::{Arg, ArgAction, Command};
-use rj_command::{VERSION, read_words, tell, texts_of};
 use rj_csv_io::{CountedWriter, is_lawful_null};
+use rj_fault::{VERSION, read_words, tell, texts_of};
 use rj_merge::{Patient, merge_texts};
 use std::alloc::{AllocError, Global};
 use std::env::Env;

@@ -2,7 +2,7 @@
 
 use crate::failure::Failure;
 use crate::read_and_merge;
-use rj_command::Told;
+use rj_fault::Told;
 use rj_merge::{MergeRefused, MergeTextsRefused, Place};
 use std::alloc::Global;
 use std::test::Fail;

@@ -1,49 +1,46 @@
-//! The program `radixjoin`: joins two tables read from CSV files, and writes the joined table as CSV on standard output.
-//! Statistics and faults go to standard error.
+//! The program `radixjoin`: joins two tables read from CSV files, and writes the joined table as CSV on standard output; or prints
+//! the types that the cells of a file suggest. Statistics and faults go to standard error.
 #![tactic(auto)]
 
-use rj_command::{Fault, Open, Side, read_line, read_words, run_owned, tell, texts_of};
-use rj_csv_io::{CountedReader, CountedWriter, ReadRefused, read_all};
+mod inputs;
+mod lists;
+mod suggesting;
+
+use crate::inputs::{is_standard_input, read_table, refuse_output};
+use crate::lists::read_lists;
+use crate::suggesting::suggest;
+use rj_command::{Line, Open, read_line, run_owned};
+use rj_csv_io::CountedWriter;
+use rj_fault::{Fault, Side, read_words, tell, texts_of};
 use std::env::Env;
-use std::fs::{self, Files, OpenFile};
+use std::fs::Files;
 use std::io;
 use std::process::ExitCode;
 use std::sync::Wait;
 use std::thread::Threads;
 use std::time::Clock;
 
-// The bytes of a file, to its end.
-fn read_file<R: Files + AllocGlobal>(rt: &R, name: &str, side: Side) -> Result<Vec<u8>, Fault> {
-    let mut reader = match fs::open(rt, name) {
-        Ok(file) => {
-            let likely_size = match file.metadata() {
-                Ok(metadata) => metadata.len(),
-                Err(_) => 0,
-            };
-            CountedReader::with_likely_size(file, likely_size)
-        }
-        Err(error) if error.kind() == io::ErrorKind::OutOfMemory => return Err(Fault::Memory),
-        Err(_) => return Err(Fault::ReadDevice(side)),
-    };
-    match read_all(rt.alloc(), &mut reader) {
-        Ok(bytes) => Ok(bytes),
-        Err(ReadRefused::Memory) => Err(Fault::Memory),
-        Err(_) => Err(Fault::ReadDevice(side)),
+// Refuses two tables that can't be read, before anything of them is.
+fn refuse_inputs<R: Files>(rt: &R, line: &Line<'_>) -> Result<(), Fault> {
+    if is_standard_input(line.left) && is_standard_input(line.right) {
+        return Err(Fault::TwoStandardInputs);
     }
+    refuse_output(rt, line.left, Side::Left)?;
+    refuse_output(rt, line.right, Side::Right)
 }
 
-// Reads the command line and both files, left first, and writes the joined table.
-fn join<R: Env + Files + AllocGlobal + Print + Eprint + Threads + Wait + Clock + Sync>(
+// Reads the words of a join and both tables, left first, and writes the joined table.
+fn join<R: Files + Input + AllocGlobal + Print + Eprint + Threads + Wait + Clock + Sync>(
     rt: &R,
+    words: Vec<String>,
 ) -> Result<(), Fault> {
     let alloc = rt.alloc();
-    let Some(words) = read_words(rt)? else {
-        return Err(Fault::NotText);
-    };
+    let words = read_lists(rt, words)?;
     let texts = texts_of(alloc, words.as_slice())?;
     let line = read_line(alloc, texts.as_slice())?;
-    let left = read_file(rt, line.left, Side::Left)?;
-    let right = read_file(rt, line.right, Side::Right)?;
+    refuse_inputs(rt, &line)?;
+    let left = read_table(rt, line.left, Side::Left)?;
+    let right = read_table(rt, line.right, Side::Right)?;
     let mut writer = CountedWriter::new(io::writer(rt));
     let stats = run_owned(rt, alloc, left, right, &line.request, &Open, &mut writer)?;
     if line.stats {
@@ -52,8 +49,30 @@ fn join<R: Env + Files + AllocGlobal + Print + Eprint + Threads + Wait + Clock +
     Ok(())
 }
 
+// The words behind `--suggest-types`, where that is the first word.
+fn words_to_suggest(words: &[String]) -> Option<&[String]> {
+    match words {
+        [first, rest @ ..] if first.as_str() == "--suggest-types" => Some(rest),
+        _ => None,
+    }
+}
+
+// Reads the command line, and does what it asks for.
+fn run<R: Env + Files + Input + AllocGlobal + Print + Eprint + Threads + Wait + Clock + Sync>(
+    rt: &R,
+) -> Result<(), Fault> {
+    let Some(words) = read_words(rt)? else {
+        return Err(Fault::NotText);
+    };
+    if let Some(behind) = words_to_suggest(words.as_slice()) {
+        let texts = texts_of(rt.alloc(), behind)?;
+        return suggest(rt, texts.as_slice());
+    }
+    join(rt, words)
+}
+
 fn main(rt: HostRuntime) -> ExitCode {
-    match join(&rt) {
+    match run(&rt) {
         Ok(()) => ExitCode::SUCCESS,
         Err(fault) => ExitCode::from(tell(&rt, &fault)),
     }

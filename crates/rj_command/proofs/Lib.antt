@@ -3,11 +3,8 @@ mod LineFacts
 mod NumberFacts
 mod OperandFacts
 mod RunFacts
-mod TypeFacts
-pub mod NumeralFacts
-pub mod ReadingFacts
-pub mod ReportFacts
+mod ApartFacts
+mod NullFacts
 pub mod SideFacts
-pub mod SplitFacts
 pub mod StatisticsFacts
 pub mod LimitFacts

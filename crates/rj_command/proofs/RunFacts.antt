@@ -1,6 +1,12 @@
 -- What writing says of a whole run.
-use Rattle.std.proofs.Common.{◌≡◌, ◌∙◌, Bool, true, false, inl, inr, ap, refl, sym, true≢false, List, Option, ℕ}
-use Rattle.std.specs.Prelude.{◌≢◌, Result, Ok, Err, IfOk, IfErr}
+use Rattle.std.proofs.Common.{◌≡◌, ◌∙◌, ◌∷◌, [], Bool, true, false, cond, inl, inr, ap, refl, sym, true≢false, List, Option, Some, None, ℕ}
+use Rattle.std.specs.Prelude.{◌≢◌, if◌then◌else◌, option_map, Result, Ok, Err, IfOk, IfErr}
+use Rattle.std.proofs.lemmas.Bool.{cases_Bool}
+use Rattle.csv.specs.Reading.{default_config, records, strip_bom}
+use Rattle.rj_columns.specs.Names.{begun}
+use Rattle.rj_csv_io.specs.Tables.{records_read}
+use Rattle.rj_strict.specs.Grammar.{records_of}
+use Rattle.rj_types.specs.Columns.{name_fault, types_under}
 use Rattle.std.proofs.lemmas.Result.{IfOk-weaker, IfErr-weaker}
 use Rattle.rj_columns.specs.Tables.{TableValue}
 use Rattle.rj_condition.specs.declared.refused.ParseRefused.{ParseRefused}
@@ -10,13 +16,13 @@ use Rattle.rj_condition.specs.declared.refused.BindRefused.TheVariants as bind
 use Rattle.rj_csv_io.specs.declared.refused.ReadRefused.{ReadRefused}
 use Rattle.rj_csv_io.specs.declared.refused.ReadRefused.TheVariants as read
 use Rattle.rj_command.specs.Operands.{AreOperands, IsFirstFault, IsJoinFault, bind_fault, in_clause, in_left, in_right, parse_fault, unbound, unread}
-use Rattle.rj_command.specs.Sides.{IsStrictFault, IsTableFaultBy, fault_below, of_records, of_text, read_fault, strict_fault}
-use Rattle.rj_command.specs.Faults.{IsOfWriting}
-use Rattle.rj_command.specs.Runs.{IsRunFault, WritesJoined, WritesTables, hash_value, joined_text}
-use Rattle.rj_command.specs.declared.fault.Fault.{Fault}
-use Rattle.rj_command.specs.declared.fault.Fault.TheVariants as fault
-use Rattle.rj_command.specs.declared.fault.Side.{Side}
-use Rattle.rj_command.specs.declared.fault.Side.TheVariants as side
+use Rattle.rj_command.specs.Sides.{IsStrictFault, IsTableFaultBy, fault_below, has_lawful_nulls, header_records, is_no_header, nulls_of, of_records, of_text, records_in_lines, side_records, stands, strict_fault, told, told_first, types_of}
+use Rattle.rj_fault.specs.Faults.{read_fault}
+use Rattle.rj_command.specs.Runs.{HasNullFault, IsNullFault, IsRunFault, IsUnwritten, WritesJoined, WritesTables, hash_value, joined_text}
+use Rattle.rj_fault.specs.declared.fault.Fault.{Fault}
+use Rattle.rj_fault.specs.declared.fault.Fault.TheVariants as fault
+use Rattle.rj_fault.specs.declared.fault.Side.{Side}
+use Rattle.rj_fault.specs.declared.fault.Side.TheVariants as side
 use Rattle.rj_command.specs.declared.join.operands.Operands.{Operands}
 use Rattle.rj_command.specs.declared.join.request.Request.{Request}
 use Rattle.rj_command.specs.declared.join.request.Strictness.{Strictness}
@@ -30,17 +36,19 @@ pub joined_of_operands : (left right : List ℕ) (q : Request) (o : Operands) (b
     → AreOperands left right q o.left o.right o.join
     → IfOk result (WritesTables (hash_value q.hash) q o before after) → IfOk result (WritesJoined left right q before after)
 joined_of_operands left right q o before after result operands =
-    let text = joined_text q.null.now o.join o.left o.right in
-    IfOk-weaker result _ _ (λ stats h. (text, record { l = o.left; r = o.right; join = o.join; operands = operands; counts = h.0; shown = refl }, h.1))
+    let text = joined_text q.out_null.now o.join o.left o.right in
+    IfOk-weaker result _ _ (λ stats h. (text, record { l = o.left; r = o.right; join = o.join; operands = operands; counts = h.0; told_apart = h.1; shown = refl }, h.2))
 
 -- a fault of writing is one of a run
-pub no_other : (left right : List ℕ) (q : Request) (result : Result Stats Fault) → IfErr result IsOfWriting → IfErr result (IsRunFault left right q)
-no_other left right q result = IfErr-weaker result _ _ (λ f h m d. elim h [ inl e ↦ absurd (m e) | inr e ↦ absurd (d e) ])
-
--- what holds after want of memory holds after each fault but that of the device
-pub after_memory : (P : Type 0) (result : Result Stats Fault) → IfErr result IsOfWriting → (result ≡ Err fault.Memory → P) → IfErr result (λ f. f ≢ fault.WriteDevice → P)
-after_memory P (Ok x) h k = tt
-after_memory P (Err f) h k = λ d. elim h [ inl e ↦ k (ap Err e) | inr e ↦ absurd (d e) ]
+pub no_other : (left right : List ℕ) (q : Request) (o : Operands) (result : Result Stats Fault) → AreOperands left right q o.left o.right o.join
+    → IfErr result (IsUnwritten q o) → IfErr result (IsRunFault left right q)
+no_other left right q o result operands = IfErr-weaker result _ _ (λ f h m d. elim h [
+  | inl e ↦ absurd (m e)
+  | inr other ↦ elim other [
+    | inl e ↦ absurd (d e)
+    | inr told ↦ inr (record { l = o.left; r = o.right; join = o.join; operands = operands; told = told })
+  ]
+])
 
 abbrev is_device : Fault → Bool
 is_device fault.WriteDevice = true
@@ -68,27 +76,45 @@ strict_apart s (strict.BareReturn row column) = refl
 strict_apart s (strict.EmptyLine row) = refl
 strict_apart s (strict.CutShort row) = refl
 
-below_apart : (s : Side) (f : StrictFault) (r : Result TableValue ReadRefused) → is_device (fault_below s f r) ≡ false
-below_apart s f (Ok t) = strict_apart s f
-below_apart s f (Err read.NoHeader) = strict_apart s f
-below_apart s f (Err (read.BadName column)) = refl
-below_apart s f (Err (read.RepeatedName column)) = refl
-below_apart s f (Err read.TypeCount) = refl
-below_apart s f (Err (read.RaggedRow row)) = refl
-below_apart s f (Err (read.BadInteger row column)) = refl
-below_apart s f (Err (read.BadText row column)) = refl
-below_apart s f (Err read.TooManyRows) = refl
-below_apart s f (Err read.TooManyColumns) = refl
-below_apart s f (Err read.BadNull) = refl
-below_apart s f (Err read.ReadDevice) = refl
-below_apart s f (Err read.Memory) = refl
+told_apart : (s : Side) (r : Result TableValue ReadRefused) (f : Fault) → told s r ≡ Err f → is_device f ≡ false
+told_apart s (Ok t) f e = let g : ◌≡◌ {A = Result TableValue Fault} (Ok t) (Err f) = e in cc
+told_apart s (Err x) f e =
+    let g : ◌≡◌ {A = Result TableValue Fault} (Err (read_fault s x)) (Err f) = e in
+    let same : f ≡ read_fault s x = cc in
+    ap is_device same ∙ read_apart s x
+
+named_apart : (s : Side) (stands : Bool) (o : Option (List ℕ)) (r : Result TableValue ReadRefused) (f : Fault)
+    → told_first (if stands then option_map (fault.TypeName s) o else None) (told s r) ≡ Err f → is_device f ≡ false
+named_apart s true None r f e = told_apart s r f e
+named_apart s true (Some name) r f e = let g : ◌≡◌ {A = Result TableValue Fault} (Err (fault.TypeName s name)) (Err f) = e in let same : f ≡ fault.TypeName s name = cc in ap is_device same
+named_apart s false o r f e = told_apart s r f e
+
+header_apart : (q : Request) (s : Side) (rs : List (List (List ℕ))) (f : Fault) → header_records q s rs ≡ Err f → is_device f ≡ false
+header_apart q s [] f e = told_apart s (records_read [] [] (nulls_of q s)) f e
+header_apart q s (header ∷ rest) f e =
+    named_apart s (stands (begun header (types_under (types_of q s) header))) (name_fault (types_of q s) header)
+    (records_read (header ∷ rest) (types_under (types_of q s) header) (nulls_of q s)) f e
+
+records_apart : (q : Request) (s : Side) (rs : List (List (List ℕ))) (f : Fault) → side_records q s rs ≡ Err f → is_device f ≡ false
+records_apart q s rs f e = go (has_lawful_nulls q) e
+  where
+    go : (b : Bool) → (if b then header_records q s rs else Err fault.BadNull) ≡ Err f → is_device f ≡ false
+    go true e = header_apart q s rs f e
+    go false e = let g : ◌≡◌ {A = Result TableValue Fault} (Err fault.BadNull) (Err f) = e in let same : f ≡ fault.BadNull = cc in ap is_device same
+
+below_apart : (s : Side) (f : StrictFault) (r : Result TableValue Fault) → ((g : Fault) → r ≡ Err g → is_device g ≡ false) → is_device (fault_below s f r) ≡ false
+below_apart s f (Ok t) apart = strict_apart s f
+below_apart s f (Err g) apart = elim (cases_Bool (is_no_header g)) [
+  | inl h ↦ ap (λ (b : Bool). is_device (cond b (strict_fault s f) g)) h ∙ strict_apart s f
+  | inr h ↦ ap (λ (b : Bool). is_device (cond b (strict_fault s f) g)) h ∙ apart g refl
+]
 
 text_apart : (full : Bool) (q : Request) (s : Side) (bytes : List ℕ) (f : Fault) → IsStrictFault full q s bytes f → is_device f ≡ false
-text_apart full q s bytes _ (of_records file e derives told) = read_apart s e
-text_apart full q s bytes _ (of_text f lines has above) = below_apart s f _
+text_apart full q s bytes _ (of_records file f derives told) = records_apart q s (records_of file) f told
+text_apart full q s bytes _ (of_text f lines has above) = below_apart s f _ (records_apart q s (records_in_lines lines))
 
 table_apart : (x : Strictness) (q : Request) (s : Side) (bytes : List ℕ) (f : Fault) → IsTableFaultBy x q s bytes f → is_device f ≡ false
-table_apart strictness.Off q s bytes f told = ap is_device told.2 ∙ read_apart s told.0
+table_apart strictness.Off q s bytes f told = records_apart q s (records default_config (strip_bom bytes)) f told
 table_apart strictness.On q s bytes f told = text_apart false q s bytes f told
 table_apart strictness.Full q s bytes f told = text_apart true q s bytes f told
 

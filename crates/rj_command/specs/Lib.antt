@@ -1,10 +1,7 @@
-pub mod Faults
+pub use Rattle.rj_fault.specs.Faults
 pub mod Line
 pub mod Operands
 pub mod Options
 pub mod Runs
 pub mod Sides
-pub mod Types
-pub mod Report
-pub mod Script
 pub mod Statistics

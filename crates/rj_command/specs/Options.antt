@@ -4,7 +4,7 @@ use Rattle.std.specs.Borrow.{Bor}
 use Rattle.clap.specs.Words.{App, Rule, Text, AddsArg, app_of, args_of, groups_of, new_app, new_rule, rule_of, with_rule}
 use Rattle.clap.specs.Built.{AddsInTurn}
 use Rattle.clap.specs.Simple.{on_top}
-use Rattle.clap.specs.declared.builder.ArgAction.TheVariants.{Set, SetTrue}
+use Rattle.clap.specs.declared.builder.ArgAction.TheVariants.{Append, Set, SetTrue}
 use Rattle.clap.specs.declared.builder.arg.Arg.{Arg}
 use Rattle.clap.specs.declared.builder.command.Command.{Command}
 use Rattle.clap.specs.declared.builder.command.Command.TheViews.{out-Command}
@@ -24,10 +24,11 @@ word_or_none name words other =
       parser = Some (parser.Names words);
     }
 
--- a long option with one value, with one or none, or with none
+-- a long option with one value, with one at each use, with one or none, or with none
 abbrev pub rule_for : Text → Takes → Rule
 rule_for name takes.Required = record (new_rule name) { long = Some name; action = Some Set; required = true }
 rule_for name takes.Text = record (new_rule name) { long = Some name; action = Some Set }
+rule_for name takes.Texts = record (new_rule name) { long = Some name; action = Some Append }
 rule_for name (takes.Number least most) =
     record (new_rule name) { long = Some name; action = Some Set; parser = Some (parser.Signed (pos least) (pos most)) }
 rule_for name (takes.Word words) =
@@ -54,6 +55,9 @@ option_rules h =
     ∷ rule_for (codes "right-types") takes.Required
     ∷ rule_for (codes "join") takes.Required
     ∷ rule_for (codes "null") takes.Text
+    ∷ rule_for (codes "left-null") takes.Texts
+    ∷ rule_for (codes "right-null") takes.Texts
+    ∷ rule_for (codes "out-null") takes.Text
     ∷ word_or_none (codes "strict") h.levels (codes "on")
     ∷ rule_for (codes "bits1") (takes.Number 0 10)
     ∷ rule_for (codes "bits2") (takes.Number 0 10)

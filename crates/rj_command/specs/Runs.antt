@@ -1,11 +1,11 @@
 -- What a run writes and counts (SQL-92, 7.5).
-use Rattle.std.specs.Prelude.{◌≡◌, ◌≢◌, List, Option, ℕ, ◌^◌, length, map}
+use Rattle.std.specs.Prelude.{◌≡◌, ◌≢◌, ◌⊎◌, true, List, Option, ℕ, ◌^◌, length, map}
 use Rattle.std.specs.List.{range_with_len}
 use Rattle.std.specs.Io.KnownBytes.{Appends}
 use Rattle.rj_columns.specs.Tables.{TableValue}
+use Rattle.rj_csv_io.specs.Ambiguous.{AreApart, AreClear, IsFirstAmbiguous}
 use Rattle.rj_csv_io.specs.Shown.{table_text}
-use Rattle.rj_csv_io.specs.declared.write.WriteRefused.{WriteRefused}
-use Rattle.rj_csv_io.specs.declared.write.WriteRefused.TheVariants as write
+use Rattle.rj_csv_io.specs.Typed.{is_null_field}
 use Rattle.rj_condition.specs.declared.bound.BoundJoin.{BoundJoin}
 use Rattle.rj_condition.specs.Splits.{keys_of}
 use Rattle.rj_columns.specs.Contents.{Content}
@@ -15,17 +15,39 @@ use Rattle.rj_engine.specs.Partitioned.{sizes_of}
 use Rattle.rj_engine.specs.Pools.{pieces_of_sizes}
 use Rattle.rj_engine.specs.Results.{joined_of}
 use Rattle.rj_command.specs.Operands.{AreOperands, IsFirstFault}
-use Rattle.rj_command.specs.declared.fault.Fault.{Fault}
-use Rattle.rj_command.specs.declared.fault.Fault.TheVariants as fault
+use Rattle.rj_fault.specs.declared.fault.Fault.{Fault}
+use Rattle.rj_fault.specs.declared.fault.Fault.TheVariants as fault
 use Rattle.rj_command.specs.declared.join.operands.Operands.{Operands}
 use Rattle.rj_command.specs.declared.join.request.Hash.{Hash}
 use Rattle.rj_command.specs.declared.join.request.Hash.TheVariants as hash
 use Rattle.rj_command.specs.declared.join.request.Request.{Request}
+use Rattle.rj_command.specs.declared.join.request.Strictness.{Strictness}
+use Rattle.rj_command.specs.declared.join.request.Strictness.TheVariants as strictness
+use Rattle.rj_fault.specs.declared.fault.Side.TheVariants as side
+use Rattle.rj_command.specs.Sides.{nulls_of}
 use Rattle.rj_command.specs.declared.join.stats.Stats.{Stats}
 
 -- the text of the joined table of two tables by a bound join
 abbrev pub joined_text : List ℕ → BoundJoin → TableValue → TableValue → List ℕ
 joined_text null join l r = table_text null (header_of join l r) (view_of join l r).cells
+
+-- read strictly, rows have no cell that isn't null and is written as null is
+abbrev pub IsToldApart : Strictness → List ℕ → List (List Content) → Type 0
+IsToldApart strictness.Off null rows = Unit {0}
+IsToldApart strictness.On null rows = AreClear null rows
+IsToldApart strictness.Full null rows = AreClear null rows
+
+-- read strictly, this fault tells the first such cell that they have
+abbrev pub IsNullFault : Strictness → List ℕ → List (List Content) → Fault → Type 0
+IsNullFault strictness.Off null rows f = ⊥
+IsNullFault strictness.On null rows f = (row column : ℕ) × (f ≡ fault.AmbiguousNull row column) × IsFirstAmbiguous null rows row column
+IsNullFault strictness.Full null rows f = (row column : ℕ) × (f ≡ fault.AmbiguousNull row column) × IsFirstAmbiguous null rows row column
+
+-- where the text that is written for null is a null text of a table, no cell of the table is that text
+abbrev pub AreReadApart : Request → Operands → Type 0
+AreReadApart q o =
+    (is_null_field (nulls_of q side.Left) q.out_null.now ≡ true → AreApart q.out_null.now o.left.rows)
+    × (is_null_field (nulls_of q side.Right) q.out_null.now ≡ true → AreApart q.out_null.now o.right.rows)
 
 -- the hash of a key
 abbrev pub hash_value : Hash → List Content → ℕ
@@ -48,7 +70,16 @@ pub record IsCounted (value : List Content → ℕ) (q : Request) (l r : TableVa
 -- the text of the operands' joined table was written behind what the writer had been told, and this is counted of it
 abbrev pub WritesTables : (List Content → ℕ) → Request → Operands → Option (List ℕ) → Option (List ℕ) → Stats → Type 0
 WritesTables value q o before after stats =
-    IsCounted value q o.left o.right o.join stats × Appends before after (joined_text q.null.now o.join o.left o.right)
+    IsCounted value q o.left o.right o.join stats × IsToldApart q.strict q.out_null.now (view_of o.join o.left o.right).cells
+    × Appends before after (joined_text q.out_null.now o.join o.left o.right)
+
+-- the joined table of the operands has a cell that can't be told from null, and this fault tells the first one
+abbrev pub HasNullFault : Request → Operands → Fault → Type 0
+HasNullFault q o f = IsNullFault q.strict q.out_null.now (view_of o.join o.left o.right).cells f
+
+-- why operands' joined table isn't written: that, want of memory, or that the writer failed
+abbrev pub IsUnwritten : Request → Operands → Fault → Type 0
+IsUnwritten q o f = (f ≡ fault.Memory) ⊎ ((f ≡ fault.WriteDevice) ⊎ HasNullFault q o f)
 
 -- the text of the joined table of what the bytes denote, and what is counted of it
 pub record IsJoined (left right : List ℕ) (q : Request) (stats : Stats) (text : List ℕ) : Type 0 where
@@ -57,21 +88,25 @@ pub record IsJoined (left right : List ℕ) (q : Request) (stats : Stats) (text 
   pub join : BoundJoin
   pub operands : AreOperands left right q l r join
   pub counts : IsCounted (hash_value q.hash) q l r join stats
-  pub shown : text ≡ joined_text q.null.now join l r
+  pub told_apart : IsToldApart q.strict q.out_null.now (view_of join l r).cells
+  pub shown : text ≡ joined_text q.out_null.now join l r
 
 -- the text of the joined table of what the bytes denote was written behind what the writer had been told
 abbrev pub WritesJoined : List ℕ → List ℕ → Request → Option (List ℕ) → Option (List ℕ) → Stats → Type 0
 WritesJoined left right q before after stats = (text : List ℕ) × IsJoined left right q stats text × Appends before after text
 
--- the fault of a run: but for want of memory and a failed writer, it is the first one of the operands
+-- the bytes denote two tables, whose joined table has a cell that can't be told from null
+pub record IsFirstNullFault (left right : List ℕ) (q : Request) (f : Fault) : Type 0 where
+  pub l : TableValue
+  pub r : TableValue
+  pub join : BoundJoin
+  pub operands : AreOperands left right q l r join
+  pub told : IsNullFault q.strict q.out_null.now (view_of join l r).cells f
+
+-- the fault of a run: but for want of memory and a failed writer, it is the first one of the operands, or of their joined table
 abbrev pub IsRunFault : List ℕ → List ℕ → Request → Fault → Type 0
-IsRunFault left right q f = f ≢ fault.Memory → f ≢ fault.WriteDevice → IsFirstFault left right q f
+IsRunFault left right q f = f ≢ fault.Memory → f ≢ fault.WriteDevice → IsFirstFault left right q f ⊎ IsFirstNullFault left right q f
 
 -- the bytes denote two tables, and the clause a join of them
 abbrev pub HasOperands : List ℕ → List ℕ → Request → Type 0
 HasOperands left right q = (l r : TableValue) × (join : BoundJoin) × AreOperands left right q l r join
-
--- the fault of rows that can't be written
-abbrev pub write_fault : WriteRefused → Fault
-write_fault write.Memory = fault.Memory
-write_fault write.WriteDevice = fault.WriteDevice

@@ -1,8 +1,12 @@
 -- What the bytes of a table's file denote, or their first fault.
-use Rattle.std.specs.Prelude.{◌≡◌, ◌≢◌, Bool, true, false, List, ℕ, Result, Ok, Err, None}
-use Rattle.rj_columns.specs.declared.cell.ColumnType.{ColumnType}
+use Rattle.std.specs.Prelude.{◌≡◌, ◌≢◌, ◌&&◌, if◌then◌else◌, Bool, true, false, List, [], ◌∷◌, ℕ, Result, Ok, Err, Option, Some, None, option_map}
+use Rattle.csv.specs.Reading.{default_config, records, strip_bom}
+use Rattle.rj_columns.specs.Names.{begun}
 use Rattle.rj_columns.specs.Tables.{TableValue}
-use Rattle.rj_csv_io.specs.Tables.{read_of, records_read}
+use Rattle.rj_columns.specs.declared.refused.BuildRefused.{BuildRefused}
+use Rattle.rj_columns.specs.declared.refused.BuildRefused.TheVariants as build
+use Rattle.rj_csv_io.specs.Tables.{are_null_texts, is_null_text, records_read}
+use Rattle.rj_csv_io.specs.Typed.{null_texts}
 use Rattle.rj_csv_io.specs.declared.refused.ReadRefused.{ReadRefused}
 use Rattle.rj_csv_io.specs.declared.refused.ReadRefused.TheVariants as read
 use Rattle.rj_strict.specs.Faults.{AreAbove, HasFault, row_at}
@@ -11,28 +15,16 @@ use Rattle.rj_strict.specs.Reading.{body_of}
 use Rattle.rj_strict.specs.declared.fault.StrictFault.{StrictFault}
 use Rattle.rj_strict.specs.declared.fault.StrictFault.TheVariants as strict
 use Rattle.rj_strict.specs.declared.header.Header.TheVariants.{First}
-use Rattle.rj_command.specs.declared.fault.Fault.{Fault}
-use Rattle.rj_command.specs.declared.fault.Fault.TheVariants as fault
-use Rattle.rj_command.specs.declared.fault.Side.{Side}
-use Rattle.rj_command.specs.declared.fault.Side.TheVariants as side
+use Rattle.rj_types.specs.Columns.{name_fault, types_under}
+use Rattle.rj_types.specs.declared.entry.TypeEntry.{TypeEntry}
+use Rattle.rj_fault.specs.Faults.{read_fault}
+use Rattle.rj_fault.specs.declared.fault.Fault.{Fault}
+use Rattle.rj_fault.specs.declared.fault.Fault.TheVariants as fault
+use Rattle.rj_fault.specs.declared.fault.Side.{Side}
+use Rattle.rj_fault.specs.declared.fault.Side.TheVariants as side
 use Rattle.rj_command.specs.declared.join.request.Request.{Request}
 use Rattle.rj_command.specs.declared.join.request.Strictness.{Strictness}
 use Rattle.rj_command.specs.declared.join.request.Strictness.TheVariants as strictness
-
--- the fault of a table that can't be read
-abbrev pub read_fault : Side → ReadRefused → Fault
-read_fault s read.NoHeader = fault.NoHeader s
-read_fault s (read.BadName column) = fault.BadName s column
-read_fault s (read.RepeatedName column) = fault.RepeatedName s column
-read_fault s read.TypeCount = fault.TypeCount s
-read_fault s (read.RaggedRow row) = fault.RaggedRow s row
-read_fault s (read.BadInteger row column) = fault.BadInteger s row column
-read_fault s (read.BadText row column) = fault.BadText s row column
-read_fault s read.TooManyRows = fault.TooManyRows s
-read_fault s read.TooManyColumns = fault.TooManyColumns s
-read_fault s read.BadNull = fault.BadNull
-read_fault s read.ReadDevice = fault.ReadDevice s
-read_fault s read.Memory = fault.Memory
 
 -- the fault of a text that is not of RFC 4180's grammar
 abbrev pub strict_fault : Side → StrictFault → Fault
@@ -43,34 +35,74 @@ strict_fault s (strict.BareReturn row column) = fault.BareReturn s row column
 strict_fault s (strict.EmptyLine row) = fault.EmptyLine s row
 strict_fault s (strict.CutShort row) = fault.CutShort s row
 
--- the types of a table's columns
-abbrev pub types_of : Request → Side → List ColumnType
+-- what is known of the types of a table's columns
+abbrev pub types_of : Request → Side → List TypeEntry
 types_of q side.Left = q.left_types.items
 types_of q side.Right = q.right_types.items
 
--- what the bytes of a table's file denote
-abbrev pub side_read : Request → Side → List ℕ → Result TableValue ReadRefused
-side_read q s bytes = read_of bytes (types_of q s) q.null.now
+-- the texts that stand for null in a table
+abbrev pub nulls_of : Request → Side → List (List ℕ)
+nulls_of q side.Left = null_texts q.left_nulls.items
+nulls_of q side.Right = null_texts q.right_nulls.items
 
--- what these records denote as a table
-abbrev pub side_records : Request → Side → List (List (List ℕ)) → Result TableValue ReadRefused
-side_records q s records = records_read records (types_of q s) q.null.now
+-- each text that stands for null, in either table or in what is written, may do so
+abbrev pub has_lawful_nulls : Request → Bool
+has_lawful_nulls q = are_null_texts (nulls_of q side.Left) && are_null_texts (nulls_of q side.Right) && is_null_text q.out_null.now
+
+-- whether a header has no fault, or only another number of types
+abbrev pub stands : Result TableValue BuildRefused → Bool
+stands (Ok t) = true
+stands (Err build.TypeCount) = true
+stands (Err e) = false
+
+-- the first name in a type list that means no column of the header, or one that an earlier entry names; faults of the header itself come
+-- first, but for the count of types
+abbrev pub type_fault : List TypeEntry → Side → List (List ℕ) → Option Fault
+type_fault entries s header =
+    if stands (begun header (types_under entries header)) then option_map (fault.TypeName s) (name_fault entries header) else None
+
+-- what is denoted, or the fault of a side
+abbrev pub told : Side → Result TableValue ReadRefused → Result TableValue Fault
+told s (Ok t) = Ok t
+told s (Err e) = Err (read_fault s e)
+
+abbrev pub told_first : Option Fault → Result TableValue Fault → Result TableValue Fault
+told_first (Some f) r = Err f
+told_first None r = r
+
+-- what these records denote as a table, by the types that its header's columns have
+abbrev pub header_records : Request → Side → List (List (List ℕ)) → Result TableValue Fault
+header_records q s [] = told s (records_read [] [] (nulls_of q s))
+header_records q s (header ∷ rest) =
+    told_first (type_fault (types_of q s) s header)
+    (told s (records_read (header ∷ rest) (types_under (types_of q s) header) (nulls_of q s)))
+
+-- the same, but that a null text which isn't lawful comes first, wherever it belongs. Faults of rows come last.
+abbrev pub side_records : Request → Side → List (List (List ℕ)) → Result TableValue Fault
+side_records q s rs = if has_lawful_nulls q then header_records q s rs else Err fault.BadNull
+
+-- what the bytes of a table's file denote
+abbrev pub side_read : Request → Side → List ℕ → Result TableValue Fault
+side_read q s bytes = side_records q s (records default_config (strip_bom bytes))
 
 -- a reading of these records, or memory is refused
-abbrev pub IsReading : Request → Side → List (List (List ℕ)) → Result TableValue ReadRefused → Type 0
+abbrev pub IsReading : Request → Side → List (List (List ℕ)) → Result TableValue Fault → Type 0
 IsReading q s records (Ok t) = side_records q s records ≡ Ok t
-IsReading q s records (Err e) = e ≢ read.Memory → side_records q s records ≡ Err e
+IsReading q s records (Err f) = f ≢ fault.Memory → side_records q s records ≡ Err f
 
 -- the records that stand in lines
 abbrev pub records_in_lines : List Line → List (List (List ℕ))
 records_in_lines lines = records_of (record { lines = lines; rest = None })
 
+abbrev pub is_no_header : Fault → Bool
+is_no_header (fault.NoHeader s) = true
+is_no_header _ = false
+
 -- the fault of a text that is not of the grammar, by what the records above denote: the first fault of theirs, or its own, also
 -- where there is no header above
-abbrev pub fault_below : Side → StrictFault → Result TableValue ReadRefused → Fault
+abbrev pub fault_below : Side → StrictFault → Result TableValue Fault → Fault
 fault_below s f (Ok t) = strict_fault s f
-fault_below s f (Err read.NoHeader) = strict_fault s f
-fault_below s f (Err e) = read_fault s e
+fault_below s f (Err g) = if is_no_header g then strict_fault s f else g
 
 -- the table of the records of the one derivation of a text
 abbrev pub IsStrictTable : Bool → Request → Side → List ℕ → TableValue → Type 0
@@ -78,8 +110,8 @@ IsStrictTable full q s bytes t = (file : File) × Derives First full (body_of Fi
 
 -- a fault of those records, or of a text that has no derivation
 pub data IsStrictFault (full : Bool) (q : Request) (s : Side) (bytes : List ℕ) : Fault → Type 0 where
-  of_records : (file : File) (e : ReadRefused) → Derives First full (body_of First bytes) file → side_records q s (records_of file) ≡ Err e
-      → IsStrictFault full q s bytes (read_fault s e)
+  of_records : (file : File) (f : Fault) → Derives First full (body_of First bytes) file → side_records q s (records_of file) ≡ Err f
+      → IsStrictFault full q s bytes f
   of_text : (f : StrictFault) (lines : List Line) → HasFault First full (body_of First bytes) f → AreAbove First (body_of First bytes) (row_at f) lines
       → IsStrictFault full q s bytes (fault_below s f (side_records q s (records_in_lines lines)))
 
@@ -91,7 +123,7 @@ IsTableBy strictness.Full q s bytes t = IsStrictTable true q s bytes t
 
 -- the fault for which they denote none
 abbrev pub IsTableFaultBy : Strictness → Request → Side → List ℕ → Fault → Type 0
-IsTableFaultBy strictness.Off q s bytes f = (e : ReadRefused) × (side_read q s bytes ≡ Err e) × (f ≡ read_fault s e)
+IsTableFaultBy strictness.Off q s bytes f = side_read q s bytes ≡ Err f
 IsTableFaultBy strictness.On q s bytes f = IsStrictFault false q s bytes f
 IsTableFaultBy strictness.Full q s bytes f = IsStrictFault true q s bytes f
 

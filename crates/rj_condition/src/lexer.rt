@@ -141,9 +141,14 @@ fn plain_len(quote: u8, text: &[u8]) -> usize
     text.iter().take_while(|b| **b != quote).count()
 }
 
-// A text behind its first quote: what it quotes, and the text behind its last quote.
+/// A text behind its first quote: what it quotes, each quote in it written twice, and the text behind its last quote; or none
+/// where it isn't ended.
+///
+/// # Errors
+///
+/// It fails only where memory is refused.
 #[tactic(auto)]
-fn quoted(alloc: Global, quote: u8, text: &str) -> Result<Option<(Word, &str)>, AllocError>
+pub fn quoted(alloc: Global, quote: u8, text: &str) -> Result<Option<(Word, &str)>, AllocError>
     requires { quote < 128 }
     ensures { IfOk result (λ x. scanning.view x ≡ scanning.quoted quote text.now) }
 {

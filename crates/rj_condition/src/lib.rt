@@ -29,10 +29,11 @@ mod word;
 
 pub use binding::bind;
 pub use bound::BoundJoin;
+pub use lexer::quoted;
 pub use parsing::{one_clause, parse};
 pub use parts::{Remainder, Split};
 pub use refused::{BindRefused, ParseRefused};
 pub use splitting::split;
-pub use tree::{Clause, JoinKind};
+pub use tree::{Clause, JoinKind, Name};
 pub use truth::Truth;
 pub use word::Word;

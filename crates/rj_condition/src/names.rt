@@ -39,6 +39,34 @@ fn is_name_of(name: &Name, called: &str) -> bool
     }
 }
 
+// Whether two texts are the same, by their bytes.
+fn are_same_bytes(a: &[u8], b: &[u8]) -> bool
+    ensures { result ≡ bytes_eq a.now b.now }
+{
+    a == b
+}
+
+// Whether they are the same when ASCII case is ignored.
+fn are_same_bytes_ignoring_case(a: &[u8], b: &[u8]) -> bool
+    ensures { result ≡ str_eq_ignore_ascii_case a.now b.now }
+{
+    a.eq_ignore_ascii_case(b)
+}
+
+impl Name {
+    /// Whether the name means a column whose name is these bytes: a regular one ignores ASCII case, a delimited one is exact
+    /// (SQL-92, 5.4).
+    pub fn means(&self, called: &[u8]) -> bool
+        ensures { result ≡ matches self.now called.now }
+    {
+        if self.delimited {
+            are_same_bytes(self.text.as_str().as_bytes(), called)
+        } else {
+            are_same_bytes_ignoring_case(self.text.as_str().as_bytes(), called)
+        }
+    }
+}
+
 // The column of the table that the name means.
 pub(crate) fn column_named(table: &Table, name: &Name) -> Option<usize>
     ensures place { result ≡ position_from (matches name.now) 0 table.now.names }

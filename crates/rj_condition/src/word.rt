@@ -1,11 +1,13 @@
 //! Texts that contracts see as their bytes.
 
-ghost use Rattle.std.specs.Prelude.{◌≡◌, string_bytes, IfOk};
+ghost use Rattle.std.specs.Prelude.{◌≡◌, string_bytes, IfOk, Some};
 
 use std::alloc::{AllocError, Global};
+use std::fmt;
 use std::marker::Model;
 
 /// The text of a name or of a literal, without its quotes; contracts see its bytes of UTF-8.
+#[derive(Debug)]
 pub struct Word {
     text: String,
 }
@@ -23,6 +25,14 @@ impl Model for Word {
     ghost Value = { List ℕ };
 
     ghost view = { λ w. string_bytes w.text };
+}
+
+impl fmt::Display for Word {
+    ghost output = { λ word. Some word };
+
+    fn fmt<W: fmt::Write>(&self, f: &mut fmt::Formatter<W>) -> fmt::Result {
+        f.write_str(self.as_str())
+    }
 }
 
 impl Word {

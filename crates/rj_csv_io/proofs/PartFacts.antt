@@ -68,9 +68,9 @@ pub header-first : (text : List ℕ) (texts : List (List ℕ)) (header : List (L
 unfolding under_header records_in_all
 header-first text texts header rest e = rw e refl
 
-pub no-rows : (null : List ℕ) (types : List ColumnType) → read_rows null types [] [] ≡ Ok []
+pub no-rows : (nulls : List (List ℕ)) (types : List ColumnType) → read_rows nulls types [] [] ≡ Ok []
 unfolding read_rows
-no-rows null types = refl
+no-rows nulls types = refl
 
 pub begun-rows : (names : List (List ℕ)) (types : List ColumnType) (t : TableValue) → begun names types ≡ Ok t → t.rows ≡ []
 begun-rows names types t e = elim (cases_Bool (nat_lt 256 (length names))) [
@@ -95,12 +95,12 @@ head-at parts items i x e h =
     let at = get_or-drop i parts 0 x in
     sym (h ∙ (ap (λ l. slice_index_or l 0 x) e ∙ (rw none at at)))
 
-pub table-of-none : (null : List ℕ) (types : List ColumnType) (header : List (List ℕ)) (records : List (List (List ℕ))) (t u : TableValue)
+pub table-of-none : (nulls : List (List ℕ)) (types : List ColumnType) (header : List (List ℕ)) (records : List (List (List ℕ))) (t u : TableValue)
     → begun header types ≡ Ok t → t.rows ≡ [] → u ≡ t → records ≡ []
-    → (begun header types ≡ Ok record u { rows = [] }) × (read_rows null types [] records ≡ Ok u.rows)
-table-of-none null types header records t u b e same none =
+    → (begun header types ≡ Ok record u { rows = [] }) × (read_rows nulls types [] records ≡ Ok u.rows)
+table-of-none nulls types header records t u b e same none =
     let again : record t { rows = [] } ≡ t = ap (λ (r : List (List Content)). record t { rows = r }) (sym e) in
-    rw (same, none) (b ∙ ap Ok (sym again), rw e (no-rows null types))
+    rw (same, none) (b ∙ ap Ok (sym again), rw e (no-rows nulls types))
 
 not-memory : (n : ℕ) (e : ReadRefused) → moved n e ≢ refused.Memory → e ≢ refused.Memory
 not-memory n e ne q = ne (ap (moved n) q)
@@ -120,22 +120,22 @@ rows-more tables t =
     rw (← more) (length-append (rows_of_all tables) t.rows)
 
 -- the reading of no records
-pub none-read : (null : List ℕ) (types : List ColumnType) (header : List (List ℕ)) → AreTables null types header (under_header []) []
-none-read null types header = record { columns = All-nil _; rows = rw under-none (no-rows null types); few = omega arith }
+pub none-read : (nulls : List (List ℕ)) (types : List ColumnType) (header : List (List ℕ)) → AreTables nulls types header (under_header []) []
+none-read nulls types header = record { columns = All-nil _; rows = rw under-none (no-rows nulls types); few = omega arith }
 
-module _ (null : List ℕ) (types : List ColumnType) (header : List (List ℕ)) (texts : List (List ℕ)) (parts : List (Result TableValue ReadRefused))
-    (are : AreReadings null types header texts parts) (i : ℕ) (h : i < length texts) (tables : List TableValue)
-    (read : AreTables null types header (under_header (take i texts)) tables) where
+module _ (nulls : List (List ℕ)) (types : List ColumnType) (header : List (List ℕ)) (texts : List (List ℕ)) (parts : List (Result TableValue ReadRefused))
+    (are : AreReadings nulls types header texts parts) (i : ℕ) (h : i < length texts) (tables : List TableValue)
+    (read : AreTables nulls types header (under_header (take i texts)) tables) where
   -- one more part
   pub part-more : (t : TableValue) → slice_index_or parts i (Ok t) ≡ Ok t → length (rows_of_all tables) + length t.rows ≤ 2 ^ 31 - 1
-      → AreTables null types header (under_header (take (i + 1) texts)) (tables ++ t ∷ [])
+      → AreTables nulls types header (under_header (take (i + 1) texts)) (tables ++ t ∷ [])
   part-more t e fits =
       let is = rw e at (are i (Ok t) h) in
       let more : rows_of_all tables ++ t.rows ≡ rows_of_all (tables ++ t ∷ []) = flat_map_more (λ (t : TableValue). t.rows) [] tables t in
       let size = length-append (rows_of_all tables) t.rows in
       record {
         columns = All-push (λ (t : TableValue). begun header types ≡ Ok record t { rows = [] }) tables t read.columns is.0;
-        rows = rw (under-next texts i h, ← more) (part-rows null types (under_header (take i texts)) _ (rows_of_all tables) t.rows read.rows is.1 fits);
+        rows = rw (under-next texts i h, ← more) (part-rows nulls types (under_header (take i texts)) _ (rows_of_all tables) t.rows read.rows is.1 fits);
         few = rw (← more) (omega (arith, size, fits));
       }
 
@@ -144,37 +144,37 @@ module _ (null : List ℕ) (types : List ColumnType) (header : List (List ℕ)) 
 
   -- a part with too many rows
   pub part-past : (t : TableValue) → slice_index_or parts i (Ok t) ≡ Ok t → 2 ^ 31 - 1 < length (rows_of_all tables) + length t.rows
-      → read_rows null types [] (under_header texts) ≡ Err refused.TooManyRows
+      → read_rows nulls types [] (under_header texts) ≡ Err refused.TooManyRows
   part-past t e many =
       let is = rw e at (are i (Ok t) h) in
-      let so = part-many null types (under_header (take i texts)) _ (rows_of_all tables) t.rows read.rows is.1 read.few many in
-      rw rest-on (fault-first null types (under_header (take i texts) ++ row_records (i == 0) (slice_index_or texts i [])) _ refused.TooManyRows so)
+      let so = part-many nulls types (under_header (take i texts)) _ (rows_of_all tables) t.rows read.rows is.1 read.few many in
+      rw rest-on (fault-first nulls types (under_header (take i texts) ++ row_records (i == 0) (slice_index_or texts i [])) _ refused.TooManyRows so)
 
   -- a part with a fault
   pub part-bad : (x : ReadRefused) (t : TableValue) → slice_index_or parts i (Err x) ≡ Err x → begun header types ≡ Ok t → moved (length (rows_of_all tables)) x ≢ refused.Memory
-      → read_rows null types [] (under_header texts) ≡ Err (moved (length (rows_of_all tables)) x)
+      → read_rows nulls types [] (under_header texts) ≡ Err (moved (length (rows_of_all tables)) x)
   part-bad x t e b ne =
       let is = rw e at (are i (Err x) h) in
-      let so = part-fault null types (under_header (take i texts)) _ (rows_of_all tables) x read.rows (rows_fault null types header (row_records (i == 0) (slice_index_or texts i [])) t x b (is (not-memory _ x ne))) read.few in
-      rw rest-on (fault-first null types (under_header (take i texts) ++ row_records (i == 0) (slice_index_or texts i [])) _ _ so)
+      let so = part-fault nulls types (under_header (take i texts)) _ (rows_of_all tables) x read.rows (rows_fault nulls types header (row_records (i == 0) (slice_index_or texts i [])) t x b (is (not-memory _ x ne))) read.few in
+      rw rest-on (fault-first nulls types (under_header (take i texts) ++ row_records (i == 0) (slice_index_or texts i [])) _ _ so)
 
   -- and so the reading of all ends
   pub part-over : (t : TableValue) → slice_index_or parts i (Ok t) ≡ Ok t → 2 ^ 31 - 1 < length (rows_of_all tables) + length t.rows
-      → read_records null types (header ∷ under_header texts) ≡ Err refused.TooManyRows
+      → read_records nulls types (header ∷ under_header texts) ≡ Err refused.TooManyRows
   part-over t e many =
       let is = rw e at (are i (Ok t) h) in
-      read_fault null types header (under_header texts) record t { rows = [] } refused.TooManyRows is.0 (part-past t e many)
+      read_fault nulls types header (under_header texts) record t { rows = [] } refused.TooManyRows is.0 (part-past t e many)
 
   pub part-stops : (x : ReadRefused) → slice_index_or parts i (Err x) ≡ Err x → moved (length (rows_of_all tables)) x ≢ refused.Memory
-      → read_records null types (header ∷ under_header texts) ≡ Err (moved (length (rows_of_all tables)) x)
+      → read_records nulls types (header ∷ under_header texts) ≡ Err (moved (length (rows_of_all tables)) x)
   part-stops x e ne = go (begun header types) refl
     where
-      go : (r : Result TableValue BuildRefused) → begun header types ≡ r → read_records null types (header ∷ under_header texts) ≡ Err (moved (length (rows_of_all tables)) x)
-      go (Ok t) b = read_fault null types header (under_header texts) t (moved (length (rows_of_all tables)) x) b (part-bad x t e b ne)
+      go : (r : Result TableValue BuildRefused) → begun header types ≡ r → read_records nulls types (header ∷ under_header texts) ≡ Err (moved (length (rows_of_all tables)) x)
+      go (Ok t) b = read_fault nulls types header (under_header texts) t (moved (length (rows_of_all tables)) x) b (part-bad x t e b ne)
       go (Err f) b =
           let is = rw e at (are i (Err x) h) in
-          let own = header_fault null types header (row_records (i == 0) (slice_index_or texts i [])) f x b (is (not-memory _ x ne)) in
-          read_bad_header null types header (under_header texts) f b ∙ ap Err (sym (ap (moved (length (rows_of_all tables))) own ∙ moved-header (length (rows_of_all tables)) f))
+          let own = header_fault nulls types header (row_records (i == 0) (slice_index_or texts i [])) f x b (is (not-memory _ x ne)) in
+          read_bad_header nulls types header (under_header texts) f b ∙ ap Err (sym (ap (moved (length (rows_of_all tables))) own ∙ moved-header (length (rows_of_all tables)) f))
 
 -- the records of a text by its texts
 pub records-by : (texts : List (List ℕ)) (bytes : List ℕ) (header : List (List ℕ)) (rest : List (List (List ℕ))) → 0 < length texts

@@ -100,14 +100,14 @@ bad-at kind.Int row column = refl
 bad-at (kind.Num t) row column = refl
 bad-at kind.Text row column = refl
 
-module _ (null : List ℕ) where
-  cells-at : (types : List ColumnType) (fields : List (List ℕ)) (row : ℕ) (done : List Content) → CellsAt row (read_cells null row done types fields)
+module _ (nulls : List (List ℕ)) where
+  cells-at : (types : List ColumnType) (fields : List (List ℕ)) (row : ℕ) (done : List Content) → CellsAt row (read_cells nulls row done types fields)
   unfolding read_cells
   cells-at [] fields row done = tt
   cells-at (t ∷ types) [] row done = tt
-  cells-at (t ∷ types) (f ∷ fields) row done = go (read_cell null t f) refl (λ x. cells-at types fields row (done ++ x ∷ []))
+  cells-at (t ∷ types) (f ∷ fields) row done = go (read_cell nulls t f) refl (λ x. cells-at types fields row (done ++ x ∷ []))
     where
-      go : (o : Option Content) → read_cell null t f ≡ o → ((x : Content) → CellsAt row (read_cells null row (done ++ x ∷ []) types fields)) → CellsAt row (read_cells null row done (t ∷ types) (f ∷ fields))
+      go : (o : Option Content) → read_cell nulls t f ≡ o → ((x : Content) → CellsAt row (read_cells nulls row (done ++ x ∷ []) types fields)) → CellsAt row (read_cells nulls row done (t ∷ types) (f ∷ fields))
       go None e again = rw e (bad-at t row (length done + 1))
       go (Some x) e again = rw e (again x)
 
@@ -121,15 +121,15 @@ module _ (null : List ℕ) where
   bad-moved kind.Text n row column h = rw (le-leb (n + row) (2 ^ 31 - 1) h) refl
 
   cells-moved : (types : List ColumnType) (fields : List (List ℕ)) (n row : ℕ) (done : List Content) → n + row ≤ 2 ^ 31 - 1
-      → MovedCells n (read_cells null row done types fields) (read_cells null (n + row) done types fields)
+      → MovedCells n (read_cells nulls row done types fields) (read_cells nulls (n + row) done types fields)
   unfolding read_cells
   cells-moved [] fields n row done h = refl
   cells-moved (t ∷ types) [] n row done h = refl
-  cells-moved (t ∷ types) (f ∷ fields) n row done h = go (read_cell null t f) refl (λ x. cells-moved types fields n row (done ++ x ∷ []) h)
+  cells-moved (t ∷ types) (f ∷ fields) n row done h = go (read_cell nulls t f) refl (λ x. cells-moved types fields n row (done ++ x ∷ []) h)
     where
-      go : (o : Option Content) → read_cell null t f ≡ o
-          → ((x : Content) → MovedCells n (read_cells null row (done ++ x ∷ []) types fields) (read_cells null (n + row) (done ++ x ∷ []) types fields))
-          → MovedCells n (read_cells null row done (t ∷ types) (f ∷ fields)) (read_cells null (n + row) done (t ∷ types) (f ∷ fields))
+      go : (o : Option Content) → read_cell nulls t f ≡ o
+          → ((x : Content) → MovedCells n (read_cells nulls row (done ++ x ∷ []) types fields) (read_cells nulls (n + row) (done ++ x ∷ []) types fields))
+          → MovedCells n (read_cells nulls row done (t ∷ types) (f ∷ fields)) (read_cells nulls (n + row) done (t ∷ types) (f ∷ fields))
       go None e again = rw e (ap Err (bad-moved t n row (length done + 1) h))
       go (Some x) e again = rw e (again x)
 
@@ -143,24 +143,24 @@ module _ (null : List ℕ) where
     cells-after n (Ok cells) h = tt
     cells-after n (Err e) h = at-after n e h
 
-    row-after : (n : ℕ) (f : List (List ℕ)) → RowAfter n (read_row null types n f)
+    row-after : (n : ℕ) (f : List (List ℕ)) → RowAfter n (read_row nulls types n f)
     row-after n f = go (nat_le (2 ^ 31 - 1) n) (length f == length types)
       where
-        go : (a b : Bool) → RowAfter n (if a then Err refused.TooManyRows else if b then read_cells null (n + 1) [] types f else Err (refused.RaggedRow (n + 1)))
+        go : (a b : Bool) → RowAfter n (if a then Err refused.TooManyRows else if b then read_cells nulls (n + 1) [] types f else Err (refused.RaggedRow (n + 1)))
         go true b = tt
         go false true = cells-after n _ (cells-at types f (n + 1) [])
         go false false = omega arith
 
     -- a row below the limit
-    row-moved : (n k : ℕ) (f : List (List ℕ)) → n + k < 2 ^ 31 - 1 → MovedCells n (read_row null types k f) (read_row null types (n + k) f)
+    row-moved : (n k : ℕ) (f : List (List ℕ)) → n + k < 2 ^ 31 - 1 → MovedCells n (read_row nulls types k f) (read_row nulls types (n + k) f)
     row-moved n k f h =
         let a = lt-leb (2 ^ 31 - 1) k (omega (arith, h)) in
         let b = lt-leb (2 ^ 31 - 1) (n + k) h in
         let e : n + (k + 1) ≡ n + k + 1 = omega arith in
         rw (a, b) (go (length f == length types) (rw e at (cells-moved types f n (k + 1) [] (omega (arith, h)))))
       where
-        go : (x : Bool) → MovedCells n (read_cells null (k + 1) [] types f) (read_cells null (n + k + 1) [] types f)
-            → MovedCells n (if x then read_cells null (k + 1) [] types f else Err (refused.RaggedRow (k + 1))) (if x then read_cells null (n + k + 1) [] types f else Err (refused.RaggedRow (n + k + 1)))
+        go : (x : Bool) → MovedCells n (read_cells nulls (k + 1) [] types f) (read_cells nulls (n + k + 1) [] types f)
+            → MovedCells n (if x then read_cells nulls (k + 1) [] types f else Err (refused.RaggedRow (k + 1))) (if x then read_cells nulls (n + k + 1) [] types f else Err (refused.RaggedRow (n + k + 1)))
         go true same = same
         go false same =
             let e : n + (k + 1) ≡ n + k + 1 = omega arith in
@@ -178,14 +178,14 @@ module _ (null : List ℕ) where
     pub one-more : (acc : List (List Content)) (cells : List Content) → length (acc ++ cells ∷ []) ≡ length acc + 1
     one-more acc cells = let size = length-append acc (cells ∷ []) in omega (arith, size)
 
-    grows : (xs : List (List (List ℕ))) (acc : List (List Content)) → Grows (length acc) (read_rows null types acc xs)
+    grows : (xs : List (List (List ℕ))) (acc : List (List Content)) → Grows (length acc) (read_rows nulls types acc xs)
     unfolding read_rows
     grows [] acc = omega arith
-    grows (f ∷ xs) acc = go (read_row null types (length acc) f) (row-after (length acc) f) (λ cells. grows xs (acc ++ cells ∷ []))
+    grows (f ∷ xs) acc = go (read_row nulls types (length acc) f) (row-after (length acc) f) (λ cells. grows xs (acc ++ cells ∷ []))
       where
         go : (r : Result (List Content) ReadRefused) → RowAfter (length acc) r
-            → ((cells : List Content) → Grows (length (acc ++ cells ∷ [])) (read_rows null types (acc ++ cells ∷ []) xs))
-            → Grows (length acc) (reading_then r (λ cells. read_rows null types (acc ++ cells ∷ []) xs))
+            → ((cells : List Content) → Grows (length (acc ++ cells ∷ [])) (read_rows nulls types (acc ++ cells ∷ []) xs))
+            → Grows (length acc) (reading_then r (λ cells. read_rows nulls types (acc ++ cells ∷ []) xs))
         go (Ok cells) h again = let size = one-more acc cells in grows-less (length acc) (length (acc ++ cells ∷ [])) _ (omega (arith, size)) (again cells)
         go (Err e) h again = h
 
@@ -203,13 +203,13 @@ module _ (null : List ℕ) where
     adds-from k (Ok rows) h = h
     adds-from k (Err e) h = after-less k (k + 1) e (omega arith) h
 
-    adds : (f : List (List ℕ)) (xs : List (List (List ℕ))) (acc : List (List Content)) → Adds (length acc) (read_rows null types acc (f ∷ xs))
+    adds : (f : List (List ℕ)) (xs : List (List (List ℕ))) (acc : List (List Content)) → Adds (length acc) (read_rows nulls types acc (f ∷ xs))
     unfolding read_rows
-    adds f xs acc = go (read_row null types (length acc) f) (row-after (length acc) f) (λ cells. grows xs (acc ++ cells ∷ []))
+    adds f xs acc = go (read_row nulls types (length acc) f) (row-after (length acc) f) (λ cells. grows xs (acc ++ cells ∷ []))
       where
         go : (r : Result (List Content) ReadRefused) → RowAfter (length acc) r
-            → ((cells : List Content) → Grows (length (acc ++ cells ∷ [])) (read_rows null types (acc ++ cells ∷ []) xs))
-            → Adds (length acc) (reading_then r (λ cells. read_rows null types (acc ++ cells ∷ []) xs))
+            → ((cells : List Content) → Grows (length (acc ++ cells ∷ [])) (read_rows nulls types (acc ++ cells ∷ []) xs))
+            → Adds (length acc) (reading_then r (λ cells. read_rows nulls types (acc ++ cells ∷ []) xs))
         go (Ok cells) h again = adds-from (length acc) _ (rw (one-more acc cells) at (again cells))
         go (Err e) h again = h
 
@@ -217,12 +217,12 @@ module _ (null : List ℕ) where
     too-many done k (Ok rows) s l g e = ((λ few. absurd (omega (arith, l, g, few))), (λ many. e))
     too-many done k (Err x) s l g e = e ∙ ap Err (sym (past (length done) k x l g))
 
-    full : (f : List (List ℕ)) (xs : List (List (List ℕ))) (acc : List (List Content)) → 2 ^ 31 - 1 ≤ length acc → read_rows null types acc (f ∷ xs) ≡ Err refused.TooManyRows
+    full : (f : List (List ℕ)) (xs : List (List (List ℕ))) (acc : List (List Content)) → 2 ^ 31 - 1 ≤ length acc → read_rows nulls types acc (f ∷ xs) ≡ Err refused.TooManyRows
     unfolding read_rows
     full f xs acc h = rw (le-leb (2 ^ 31 - 1) (length acc) h) refl
 
     pub later : (xs : List (List (List ℕ))) (done acc : List (List Content)) → length done + length acc ≤ 2 ^ 31 - 1
-        → Later done (read_rows null types acc xs) (read_rows null types (done ++ acc) xs)
+        → Later done (read_rows nulls types acc xs) (read_rows nulls types (done ++ acc) xs)
     unfolding read_rows
     later [] done acc h = ((λ few. refl), (λ many. absurd (omega (arith, h, many))))
     later (f ∷ xs) done acc h =
@@ -230,54 +230,54 @@ module _ (null : List ℕ) where
         elim (dec_lt (length done + length acc) (2 ^ 31 - 1)) [
           | yes below ↦
               let moved = row-moved (length done) (length acc) f below in
-              go (read_row null types (length acc) f) (read_row null types (length (done ++ acc)) f) (rw size moved)
+              go (read_row nulls types (length acc) f) (read_row nulls types (length (done ++ acc)) f) (rw size moved)
               (λ cells. let one = one-more acc cells in rw (← append_assoc done acc (cells ∷ [])) at (later xs done (acc ++ cells ∷ []) (omega (arith, one, below))))
           | no above ↦ too-many done (length acc) _ _ (omega (arith, above)) (adds f xs acc) (full f xs (done ++ acc) (omega (arith, size, above)))
         ]
       where
         go : (r s : Result (List Content) ReadRefused) → MovedCells (length done) r s
-            → ((cells : List Content) → Later done (read_rows null types (acc ++ cells ∷ []) xs) (read_rows null types ((done ++ acc) ++ cells ∷ []) xs))
-            → Later done (reading_then r (λ cells. read_rows null types (acc ++ cells ∷ []) xs)) (reading_then s (λ cells. read_rows null types ((done ++ acc) ++ cells ∷ []) xs))
+            → ((cells : List Content) → Later done (read_rows nulls types (acc ++ cells ∷ []) xs) (read_rows nulls types ((done ++ acc) ++ cells ∷ []) xs))
+            → Later done (reading_then r (λ cells. read_rows nulls types (acc ++ cells ∷ []) xs)) (reading_then s (λ cells. read_rows nulls types ((done ++ acc) ++ cells ∷ []) xs))
         go (Ok cells) s m again = rw m (again cells)
         go (Err e) s m again = rw m refl
 
     -- the rows of records in two parts
-    pub in-parts : (xs ys : List (List (List ℕ))) (done : List (List Content)) → read_rows null types done (xs ++ ys) ≡ reading_then (read_rows null types done xs) (λ d. read_rows null types d ys)
+    pub in-parts : (xs ys : List (List (List ℕ))) (done : List (List Content)) → read_rows nulls types done (xs ++ ys) ≡ reading_then (read_rows nulls types done xs) (λ d. read_rows nulls types d ys)
     unfolding read_rows
     in-parts [] ys done = refl
-    in-parts (f ∷ xs) ys done = go (read_row null types (length done) f) (λ cells. in-parts xs ys (done ++ cells ∷ []))
+    in-parts (f ∷ xs) ys done = go (read_row nulls types (length done) f) (λ cells. in-parts xs ys (done ++ cells ∷ []))
       where
         go : (r : Result (List Content) ReadRefused)
-            → ((cells : List Content) → read_rows null types (done ++ cells ∷ []) (xs ++ ys) ≡ reading_then (read_rows null types (done ++ cells ∷ []) xs) (λ d. read_rows null types d ys))
-            → reading_then r (λ cells. read_rows null types (done ++ cells ∷ []) (xs ++ ys)) ≡ reading_then (reading_then r (λ cells. read_rows null types (done ++ cells ∷ []) xs)) (λ d. read_rows null types d ys)
+            → ((cells : List Content) → read_rows nulls types (done ++ cells ∷ []) (xs ++ ys) ≡ reading_then (read_rows nulls types (done ++ cells ∷ []) xs) (λ d. read_rows nulls types d ys))
+            → reading_then r (λ cells. read_rows nulls types (done ++ cells ∷ []) (xs ++ ys)) ≡ reading_then (reading_then r (λ cells. read_rows nulls types (done ++ cells ∷ []) xs)) (λ d. read_rows nulls types d ys)
         go (Ok cells) again = again cells
         go (Err e) again = refl
 
     -- a part that is read by itself, after parts that were read
-    pub part-rows : (xs ys : List (List (List ℕ))) (done rows : List (List Content)) → read_rows null types [] xs ≡ Ok done → read_rows null types [] ys ≡ Ok rows
-        → length done + length rows ≤ 2 ^ 31 - 1 → read_rows null types [] (xs ++ ys) ≡ Ok (done ++ rows)
+    pub part-rows : (xs ys : List (List (List ℕ))) (done rows : List (List Content)) → read_rows nulls types [] xs ≡ Ok done → read_rows nulls types [] ys ≡ Ok rows
+        → length done + length rows ≤ 2 ^ 31 - 1 → read_rows nulls types [] (xs ++ ys) ≡ Ok (done ++ rows)
     part-rows xs ys done rows ex ey few =
         let small : length done + length {A = List Content} [] ≤ 2 ^ 31 - 1 = omega (arith, few) in
         let l = later ys done [] small in
         let m = rw (append-nil done, ey) at l in
-        in-parts xs ys [] ∙ (ap (λ r. reading_then r (λ d. read_rows null types d ys)) ex ∙ m.0 few)
+        in-parts xs ys [] ∙ (ap (λ r. reading_then r (λ d. read_rows nulls types d ys)) ex ∙ m.0 few)
 
-    pub part-many : (xs ys : List (List (List ℕ))) (done rows : List (List Content)) → read_rows null types [] xs ≡ Ok done → read_rows null types [] ys ≡ Ok rows
-        → length done ≤ 2 ^ 31 - 1 → 2 ^ 31 - 1 < length done + length rows → read_rows null types [] (xs ++ ys) ≡ Err refused.TooManyRows
+    pub part-many : (xs ys : List (List (List ℕ))) (done rows : List (List Content)) → read_rows nulls types [] xs ≡ Ok done → read_rows nulls types [] ys ≡ Ok rows
+        → length done ≤ 2 ^ 31 - 1 → 2 ^ 31 - 1 < length done + length rows → read_rows nulls types [] (xs ++ ys) ≡ Err refused.TooManyRows
     part-many xs ys done rows ex ey few many =
         let small : length done + length {A = List Content} [] ≤ 2 ^ 31 - 1 = omega (arith, few) in
         let l = later ys done [] small in
         let m = rw (append-nil done, ey) at l in
-        in-parts xs ys [] ∙ (ap (λ r. reading_then r (λ d. read_rows null types d ys)) ex ∙ m.1 many)
+        in-parts xs ys [] ∙ (ap (λ r. reading_then r (λ d. read_rows nulls types d ys)) ex ∙ m.1 many)
 
-    pub part-fault : (xs ys : List (List (List ℕ))) (done : List (List Content)) (e : ReadRefused) → read_rows null types [] xs ≡ Ok done → read_rows null types [] ys ≡ Err e
-        → length done ≤ 2 ^ 31 - 1 → read_rows null types [] (xs ++ ys) ≡ Err (moved (length done) e)
+    pub part-fault : (xs ys : List (List (List ℕ))) (done : List (List Content)) (e : ReadRefused) → read_rows nulls types [] xs ≡ Ok done → read_rows nulls types [] ys ≡ Err e
+        → length done ≤ 2 ^ 31 - 1 → read_rows nulls types [] (xs ++ ys) ≡ Err (moved (length done) e)
     part-fault xs ys done e ex ey few =
         let small : length done + length {A = List Content} [] ≤ 2 ^ 31 - 1 = omega (arith, few) in
         let l = later ys done [] small in
         let m = rw (append-nil done, ey) at l in
-        in-parts xs ys [] ∙ (ap (λ r. reading_then r (λ d. read_rows null types d ys)) ex ∙ m)
+        in-parts xs ys [] ∙ (ap (λ r. reading_then r (λ d. read_rows nulls types d ys)) ex ∙ m)
 
     -- a fault stands before all that follows
-    pub fault-first : (xs ys : List (List (List ℕ))) (e : ReadRefused) → read_rows null types [] xs ≡ Err e → read_rows null types [] (xs ++ ys) ≡ Err e
-    fault-first xs ys e h = in-parts xs ys [] ∙ ap (λ r. reading_then r (λ d. read_rows null types d ys)) h
+    pub fault-first : (xs ys : List (List (List ℕ))) (e : ReadRefused) → read_rows nulls types [] xs ≡ Err e → read_rows nulls types [] (xs ++ ys) ≡ Err e
+    fault-first xs ys e h = in-parts xs ys [] ∙ ap (λ r. reading_then r (λ d. read_rows nulls types d ys)) h

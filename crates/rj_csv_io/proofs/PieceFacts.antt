@@ -1,15 +1,15 @@
 -- The last cut of a text, and the records of texts that follow each other.
-use Rattle.std.proofs.Common.{◌≡◌, ◌<◌, ◌≤◌, ◌+◌, ◌-◌, ℕ, zero, suc, List, [], ◌∷◌, ◌++◌, length, take, drop, get_or, true, false, Bool, refl, sym, ap, arith, inl, inr, ◌∙◌, subst, append_assoc}
+use Rattle.std.proofs.Common.{◌≡◌, ◌<◌, ◌≤◌, ◌+◌, ◌-◌, ℕ, List, ◌∷◌, ◌++◌, length, take, drop, get_or, true, false, Bool, refl, sym, ap, arith, inl, inr, ◌∙◌, append_assoc}
 use Rattle.std.specs.Prelude.{if◌then◌else◌, ◌==◌}
-use Rattle.std.proofs.lemmas.Bool.{cases_Bool, cases_lt, eq-eqb, eqb-true, false≢true}
+use Rattle.std.proofs.lemmas.Bool.{cases_lt, eq-eqb, eqb-true, false≢true}
 use Rattle.std.proofs.lemmas.List.{get_or-drop, get_or-take, take-append-drop, length-take, length-drop}
 use Rattle.csv.specs.declared.parser.State.TheVariants as st
 use Rattle.csv.specs.Reading.{default_config, records, strip_bom}
 use Rattle.rj_csv_io.specs.declared.place.Place.{Place}
 use Rattle.rj_csv_io.specs.declared.place.Place.TheVariants as place
-use Rattle.rj_csv_io.specs.Cuts.{state_after, is_open, is_separator, after_plain, after_run, place_after, is_open_place, has_bom, records_in}
+use Rattle.rj_csv_io.specs.Cuts.{state_after, is_open, is_separator, after_run, place_after, is_open_place, has_bom, records_in}
 use Rattle.rj_csv_io.specs.Parts.{row_records}
-use Rattle.rj_csv_io.specs.Pieces.{IsLineEnd, IsLastEnd, piece_records}
+use Rattle.rj_csv_io.specs.Pieces.{IsLastEnd, piece_records}
 use Rattle.rj_csv_io.proofs.CutFacts.{records-split, strip-plain}
 use Rattle.rj_csv_io.proofs.PlaceFacts.{line-ends, open-after, run-to}
 

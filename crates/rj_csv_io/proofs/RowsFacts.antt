@@ -1,7 +1,7 @@
 -- The rows of records, one more at a time.
 use Rattle.std.proofs.Common.{◌≡◌, ◌<◌, ◌≤◌, ◌+◌, ◌-◌, ◌^◌, ℕ, List, [], ◌∷◌, ◌++◌, length, true, false, Bool, Some, None, Ok, Err, refl, ap, sym, ◌∙◌, arith, drop, subst, zero, suc}
 use Rattle.std.specs.Prelude.{if◌then◌else◌, nat_lt, ℤ, pos, neg_ℤ, Option, option_map, slice_index_or, unsigned_abs}
-use Rattle.std.specs.Str.{bytes_eq, is_utf8}
+use Rattle.std.specs.Str.{is_utf8}
 use Rattle.std.specs.Str.Parse.{signed_digits_value, starts_with_minus, without_leading_sign}
 use Rattle.std.proofs.lemmas.Bool.{and_parts, le-leb, lt-leb, ltb-true, eq-eqb, ne_eqb}
 use Rattle.rj_decimal.specs.Read.{after_point, are_zeros, before_point, fits, is_numeric_text, is_unsigned_text, numeric_of, signed_size, size_at, units_in}
@@ -11,7 +11,7 @@ use Rattle.rj_columns.specs.Contents.{Content, nothing, whole, decimal, word, Fi
 use Rattle.rj_columns.specs.Tables.{FitsAt, BuilderValue}
 use Rattle.rj_csv_io.specs.declared.refused.ReadRefused.{ReadRefused}
 use Rattle.rj_csv_io.specs.declared.refused.ReadRefused.TheVariants as refused
-use Rattle.rj_csv_io.specs.Typed.{read_cell, typed_cell, read_cells, is_int_text}
+use Rattle.rj_csv_io.specs.Typed.{is_null_field, read_cell, typed_cell, read_cells, is_int_text}
 use Rattle.rj_csv_io.specs.Rows.{read_row, read_rows}
 
 -- a sign leaves the size
@@ -64,8 +64,8 @@ nothing-fits kind.Int = tt
 nothing-fits (kind.Num t) = tt
 nothing-fits kind.Text = tt
 
-pub cell-fits : (null : List ℕ) (k : ColumnType) (f : List ℕ) (x : Content) → read_cell null k f ≡ Some x → FitsType k x
-cell-fits null k f x e = go (bytes_eq f null) e
+pub cell-fits : (nulls : List (List ℕ)) (k : ColumnType) (f : List ℕ) (x : Content) → read_cell nulls k f ≡ Some x → FitsType k x
+cell-fits nulls k f x e = go (is_null_field nulls f) e
   where
     go : (b : Bool) → (if b then Some nothing else typed_cell k f) ≡ Some x → FitsType k x
     go true e = let q : nothing ≡ x = cc in let P : Content → Type 0 = FitsType k in subst P q (nothing-fits k)
@@ -78,29 +78,29 @@ FitsAt-from (t ∷ types) zero d k x h e f = let P : ColumnType → Type 0 = λ 
 FitsAt-from (t ∷ types) (suc i) d k x h e f = FitsAt-from types i d k x (omega arith) e f
 
 -- one more record
-pub rows-step : (null : List ℕ) (types : List ColumnType) (done : List (List Content)) (n : ℕ) (f : List (List ℕ)) (rest : List (List (List ℕ))) (cells : List Content)
-    → length done ≡ n → read_row null types n f ≡ Ok cells → read_rows null types done (f ∷ rest) ≡ read_rows null types (done ++ cells ∷ []) rest
+pub rows-step : (nulls : List (List ℕ)) (types : List ColumnType) (done : List (List Content)) (n : ℕ) (f : List (List ℕ)) (rest : List (List (List ℕ))) (cells : List Content)
+    → length done ≡ n → read_row nulls types n f ≡ Ok cells → read_rows nulls types done (f ∷ rest) ≡ read_rows nulls types (done ++ cells ∷ []) rest
 unfolding read_rows
-rows-step null types done n f rest cells size e = rw (size, e) refl
+rows-step nulls types done n f rest cells size e = rw (size, e) refl
 
-pub rows-fault : (null : List ℕ) (types : List ColumnType) (done : List (List Content)) (n : ℕ) (f : List (List ℕ)) (rest : List (List (List ℕ))) (x : ReadRefused)
-    → length done ≡ n → read_row null types n f ≡ Err x → read_rows null types done (f ∷ rest) ≡ Err x
+pub rows-fault : (nulls : List (List ℕ)) (types : List ColumnType) (done : List (List Content)) (n : ℕ) (f : List (List ℕ)) (rest : List (List (List ℕ))) (x : ReadRefused)
+    → length done ≡ n → read_row nulls types n f ≡ Err x → read_rows nulls types done (f ∷ rest) ≡ Err x
 unfolding read_rows
-rows-fault null types done n f rest x size e = rw (size, e) refl
+rows-fault nulls types done n f rest x size e = rw (size, e) refl
 
-pub rows-end : (null : List ℕ) (types : List ColumnType) (done : List (List Content)) → read_rows null types done [] ≡ Ok done
+pub rows-end : (nulls : List (List ℕ)) (types : List ColumnType) (done : List (List Content)) → read_rows nulls types done [] ≡ Ok done
 unfolding read_rows
-rows-end null types done = refl
+rows-end nulls types done = refl
 
 -- what the reading of a record tests in turn
-pub row-too_many : (null : List ℕ) (types : List ColumnType) (n : ℕ) (f : List (List ℕ)) → 2 ^ 31 - 1 ≤ n → read_row null types n f ≡ Err refused.TooManyRows
-row-too_many null types n f h = rw (le-leb (2 ^ 31 - 1) n h) refl
+pub row-too_many : (nulls : List (List ℕ)) (types : List ColumnType) (n : ℕ) (f : List (List ℕ)) → 2 ^ 31 - 1 ≤ n → read_row nulls types n f ≡ Err refused.TooManyRows
+row-too_many nulls types n f h = rw (le-leb (2 ^ 31 - 1) n h) refl
 
-pub row-ragged : (null : List ℕ) (types : List ColumnType) (n : ℕ) (f : List (List ℕ)) → n < 2 ^ 31 - 1 → (length f ≡ length types → ⊥) → read_row null types n f ≡ Err (refused.RaggedRow (n + 1))
-row-ragged null types n f h ne = rw (lt-leb (2 ^ 31 - 1) n h, ne_eqb (length f) (length types) ne) refl
+pub row-ragged : (nulls : List (List ℕ)) (types : List ColumnType) (n : ℕ) (f : List (List ℕ)) → n < 2 ^ 31 - 1 → (length f ≡ length types → ⊥) → read_row nulls types n f ≡ Err (refused.RaggedRow (n + 1))
+row-ragged nulls types n f h ne = rw (lt-leb (2 ^ 31 - 1) n h, ne_eqb (length f) (length types) ne) refl
 
-pub row-cells : (null : List ℕ) (types : List ColumnType) (n : ℕ) (f : List (List ℕ)) → n < 2 ^ 31 - 1 → length f ≡ length types → read_row null types n f ≡ read_cells null (n + 1) [] types f
-row-cells null types n f h same = rw (lt-leb (2 ^ 31 - 1) n h, eq-eqb (length f) (length types) same) refl
+pub row-cells : (nulls : List (List ℕ)) (types : List ColumnType) (n : ℕ) (f : List (List ℕ)) → n < 2 ^ 31 - 1 → length f ≡ length types → read_row nulls types n f ≡ read_cells nulls (n + 1) [] types f
+row-cells nulls types n f h same = rw (lt-leb (2 ^ 31 - 1) n h, eq-eqb (length f) (length types) same) refl
 
 -- the builder after one more cell, and after the end of a row
 pub grows-same : (start now next : BuilderValue) (row : List Content) → now ≡ record start { row = now.row } → next ≡ record now { row = row } → next ≡ record start { row = next.row }

@@ -10,3 +10,4 @@ pub mod Devices
 pub mod Cuts
 pub mod Parts
 pub mod Pieces
+pub mod Ambiguous

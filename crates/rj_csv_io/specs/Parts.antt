@@ -39,18 +39,18 @@ under_header [] = []
 under_header (text ∷ texts) = drop 1 (records_in text) ++ records_in_all texts
 
 -- what the reading of records under a header gives: the table, or the first fault of the header and the records; or memory is refused
-abbrev pub IsReading : List ℕ → List ColumnType → List (List ℕ) → List (List (List ℕ)) → Result TableValue ReadRefused → Type 0
-IsReading null types header records (Ok t) = (begun header types ≡ Ok record t { rows = [] }) × (read_rows null types [] records ≡ Ok t.rows)
-IsReading null types header records (Err e) = e ≢ refused.Memory → read_records null types (header ∷ records) ≡ Err e
+abbrev pub IsReading : List (List ℕ) → List ColumnType → List (List ℕ) → List (List (List ℕ)) → Result TableValue ReadRefused → Type 0
+IsReading nulls types header records (Ok t) = (begun header types ≡ Ok record t { rows = [] }) × (read_rows nulls types [] records ≡ Ok t.rows)
+IsReading nulls types header records (Err e) = e ≢ refused.Memory → read_records nulls types (header ∷ records) ≡ Err e
 
 -- each part is what the reading of its text gives
-abbrev pub AreReadings : List ℕ → List ColumnType → List (List ℕ) → List (List ℕ) → List (Result TableValue ReadRefused) → Type 0
-AreReadings null types header texts parts = (i : ℕ) (d : Result TableValue ReadRefused) → i < length texts
-    → IsReading null types header (row_records (i == 0) (slice_index_or texts i [])) (slice_index_or parts i d)
+abbrev pub AreReadings : List (List ℕ) → List ColumnType → List (List ℕ) → List (List ℕ) → List (Result TableValue ReadRefused) → Type 0
+AreReadings nulls types header texts parts = (i : ℕ) (d : Result TableValue ReadRefused) → i < length texts
+    → IsReading nulls types header (row_records (i == 0) (slice_index_or texts i [])) (slice_index_or parts i d)
 
 -- tables with the header's columns, whose rows put together are those that the records read as
-pub record AreTables (null : List ℕ) (types : List ColumnType) (header : List (List ℕ)) (records : List (List (List ℕ)))
+pub record AreTables (nulls : List (List ℕ)) (types : List ColumnType) (header : List (List ℕ)) (records : List (List (List ℕ)))
     (tables : List TableValue) : Type 0 where
   pub columns : All (λ (t : TableValue). begun header types ≡ Ok record t { rows = [] }) tables
-  pub rows : read_rows null types [] records ≡ Ok (rows_of_all tables)
+  pub rows : read_rows nulls types [] records ≡ Ok (rows_of_all tables)
   pub few : length (rows_of_all tables) ≤ 2 ^ 31 - 1

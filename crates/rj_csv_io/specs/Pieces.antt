@@ -1,5 +1,5 @@
 -- Texts that are read piece by piece: each ends where a record ends, and the first one has the header.
-use Rattle.std.specs.Prelude.{ℕ, ◌≡◌, ◌≤◌, ◌<◌, ◌-◌, ◌⊎◌, Bool, true, false, List, [], ◌∷◌, length, take, drop, slice_index_or, Ok}
+use Rattle.std.specs.Prelude.{ℕ, ◌≡◌, ◌≤◌, ◌<◌, ◌-◌, ◌⊎◌, Bool, true, false, List, [], ◌∷◌, take, drop, slice_index_or, Ok}
 use Rattle.csv.specs.Reading.{default_config, records}
 use Rattle.csv.specs.Records.{fields_of}
 use Rattle.csv.specs.declared.parser.State.TheVariants as st
@@ -31,8 +31,8 @@ piece_records true text = drop 1 (records default_config text)
 piece_records false text = records default_config text
 
 -- these are the rows of the records, however many there are
-abbrev pub AreRows : List ℕ → List ColumnType → List (List (List ℕ)) → List (List Content) → Type 0
-AreRows null types [] [] = Unit {0}
-AreRows null types [] (row ∷ rows) = ⊥
-AreRows null types (r ∷ records) [] = ⊥
-AreRows null types (r ∷ records) (row ∷ rows) = (read_row null types 0 r ≡ Ok row) × AreRows null types records rows
+abbrev pub AreRows : List (List ℕ) → List ColumnType → List (List (List ℕ)) → List (List Content) → Type 0
+AreRows nulls types [] [] = Unit {0}
+AreRows nulls types [] (row ∷ rows) = ⊥
+AreRows nulls types (r ∷ records) [] = ⊥
+AreRows nulls types (r ∷ records) (row ∷ rows) = (read_row nulls types 0 r ≡ Ok row) × AreRows nulls types records rows

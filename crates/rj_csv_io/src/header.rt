@@ -27,8 +27,11 @@ pub(crate) fn open_reader<'a>(alloc: Global, bytes: &'a [u8]) -> Reader<&'a [u8]
         .from_reader(alloc, bytes)
 }
 
-// The fields of a record, in order.
-fn fields_of_record<'r>(alloc: Global, fields: &'r ByteRecord) -> Result<Vec<&'r [u8]>, AllocError>
+/// The fields of a record, in order.
+pub(crate) fn fields_of_record<'r>(
+    alloc: Global,
+    fields: &'r ByteRecord,
+) -> Result<Vec<&'r [u8]>, AllocError>
     ensures { IfOk result (λ v. map (λ f. f.now) v.items ≡ fields_of fields.now) }
 {
     let mut all = Vec::new(alloc);

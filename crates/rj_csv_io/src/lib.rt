@@ -3,12 +3,14 @@
 //! What [`read_table`] answers is fixed by `read_of`, and what [`write_rows`] puts by `table_text`.
 #![tactic(auto)]
 
+mod ambiguous;
 mod block;
 mod cut;
 mod fields;
 mod filling;
 mod header;
 mod input;
+mod laws;
 mod null_text;
 mod output;
 mod part;
@@ -25,10 +27,13 @@ mod write;
 mod write_in_parts;
 mod write_more;
 
+pub use ambiguous::first_ambiguous;
 pub use cut::without_bom;
+pub use fields::is_null_field;
 pub use filling::read_up_to;
 pub use input::{CountedReader, Input, read_all};
-pub use null_text::is_lawful_null;
+pub use laws::{null_texts_read_as_null, told_apart};
+pub use null_text::{are_lawful_nulls, is_lawful_null};
 pub use output::{CountedWriter, Failed, Output};
 pub use pieces::Header;
 pub use read_parts::read_table_in_parts;

@@ -2,7 +2,8 @@
 
 ghost use Rattle.std.specs.Prelude.{◌≡◌};
 ghost use Rattle.std.specs.List.{list_all};
-ghost use Rattle.rj_csv_io.specs.Tables.{is_null_text, may_stand_in_null};
+ghost use Rattle.rj_csv_io.specs.Tables.{are_null_texts, is_null_text, may_stand_in_null};
+ghost use Rattle.rj_csv_io.specs.Typed.{null_texts};
 
 // The longest null text, in bytes.
 const MAX_NULL: usize = 16;
@@ -25,4 +26,18 @@ pub fn is_lawful_null(null: &str) -> bool
     ensures { result ≡ is_null_text null.now }
 {
     null.len() <= MAX_NULL && all_null_bytes(null.as_bytes())
+}
+
+// The same, text by text.
+fn all_lawful(nulls: &[&str]) -> bool
+    ensures { result ≡ list_all (λ n. is_null_text n.now) nulls.now }
+{
+    nulls.iter().all(|null| is_lawful_null(null))
+}
+
+/// Whether each of these texts may stand for null.
+pub fn are_lawful_nulls(nulls: &[&str]) -> bool
+    ensures { result ≡ are_null_texts (null_texts nulls.now) }
+{
+    all_lawful(nulls)
 }

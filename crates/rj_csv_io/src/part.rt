@@ -5,6 +5,7 @@ ghost use Rattle.csv.specs.Records.{fields_of};
 ghost use Rattle.rj_csv_io.specs.Cuts.{records_in};
 ghost use Rattle.rj_csv_io.specs.Remaining.{IsBetween, records_remaining};
 ghost use Rattle.rj_csv_io.specs.Parts.{IsReading, moved, row_records};
+ghost use Rattle.rj_csv_io.specs.Typed.{null_texts};
 
 use crate::header::{begin_table, likely_rows, open_reader};
 use crate::read_rows::{MAX_ROWS, rows_of_reader};
@@ -56,9 +57,9 @@ pub(crate) fn read_part(
     has_header: bool,
     header: &ByteRecord,
     types: &[ColumnType],
-    null: &[u8],
+    nulls: &[&str],
 ) -> Result<Table, ReadRefused>
-    ensures { IsReading null.now types.now (fields_of header.now) (row_records has_header text.now) result }
+    ensures { IsReading (null_texts nulls.now) types.now (fields_of header.now) (row_records has_header text.now) result }
 {
     let builder = match begin_table(alloc, header, types, likely_rows(text, types.len())) {
         Ok(builder) => builder,
@@ -70,7 +71,7 @@ pub(crate) fn read_part(
     let Some(reader) = reader else {
         return Ok(builder.finish());
     };
-    match rows_of_reader(alloc, reader, builder, null, types) {
+    match rows_of_reader(alloc, reader, builder, nulls, types) {
         Ok(table) => Ok(table),
         Err(e) => Err(e),
     }

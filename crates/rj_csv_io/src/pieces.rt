@@ -1,6 +1,6 @@
 //! Reading a table piece by piece: its header, and the rows of each piece.
 
-ghost use Rattle.std.specs.Prelude.{◌≡◌, ◌≢◌, ◌∷◌, [], List, ℕ, IfOk, IfErr, MatchOption, Ok, Err, Some};
+ghost use Rattle.std.specs.Prelude.{◌≡◌, ◌≢◌, ◌∷◌, [], List, ℕ, length, IfOk, IfErr, MatchOption, Ok, Err, Some, map};
 ghost use Rattle.csv.specs.Reading.{default_config, records};
 ghost use Rattle.rj_columns.specs.Names.{begun};
 ghost use Rattle.rj_columns.specs.declared.refused.BuildRefused.{BuildRefused};
@@ -8,9 +8,10 @@ ghost use Rattle.rj_csv_io.specs.Cuts.{records_in};
 ghost use Rattle.rj_csv_io.specs.Parts.{IsReading};
 ghost use Rattle.rj_csv_io.specs.Pieces.{names_in, piece_records};
 ghost use Rattle.rj_csv_io.specs.Tables.{of_begun};
+ghost use Rattle.rj_csv_io.specs.Typed.{null_texts};
 
 use crate::cut::starts_with_bom;
-use crate::header::begin_table;
+use crate::header::{begin_table, fields_of_record};
 use crate::part::{header_of, read_part};
 use crate::refused::ReadRefused;
 use csv::ByteRecord;
@@ -60,6 +61,24 @@ impl Header {
         Header::of_unmarked(alloc, text)
     }
 
+    /// The names in the header, from left to right.
+    ///
+    /// # Errors
+    ///
+    /// Refuses only for want of memory.
+    pub fn names<'h>(&'h self, alloc: Global) -> Result<Vec<&'h [u8]>, AllocError>
+        ensures { IfOk result (λ names. map (λ name. name.now) names.items ≡ names_in self.now) }
+    {
+        fields_of_record(alloc, &self.record)
+    }
+
+    /// How many columns it names.
+    pub fn columns(&self) -> usize
+        ensures { result ≡ length (names_in self.now) }
+    {
+        self.record.len()
+    }
+
     /// The table without rows whose columns have these names and types.
     ///
     /// # Errors
@@ -92,9 +111,9 @@ impl Header {
         text: &[u8],
         is_first: bool,
         types: &[ColumnType],
-        null: &[u8],
+        nulls: &[&str],
     ) -> Result<Table, ReadRefused>
-        ensures { IsReading null.now types.now (names_in self.now) (piece_records is_first text.now) result }
+        ensures { IsReading (null_texts nulls.now) types.now (names_in self.now) (piece_records is_first text.now) result }
     {
         if starts_with_bom(text) {
             let Ok(marked) = with_mark(alloc, text) else {
@@ -106,9 +125,9 @@ impl Header {
                 is_first,
                 &self.record,
                 types,
-                null,
+                nulls,
             );
         }
-        read_part(alloc, text, is_first, &self.record, types, null)
+        read_part(alloc, text, is_first, &self.record, types, nulls)
     }
 }

@@ -3,11 +3,12 @@
 ghost use Rattle.std.specs.Prelude.{◌≡◌, ◌≢◌, ◌<◌, length, map, IfOk, IfErr, OnOk, Ok, Err, IsTrue};
 ghost use Rattle.csv.specs.Records.{fields_of};
 ghost use Rattle.rj_csv_io.specs.Parts.{AreReadings, AreTables, IsReading, under_header};
-ghost use Rattle.rj_csv_io.specs.Tables.{is_null_text, read_of};
+ghost use Rattle.rj_csv_io.specs.Tables.{are_null_texts, read_of};
+ghost use Rattle.rj_csv_io.specs.Typed.{null_texts};
 
 use crate::cut::cut_text;
 use crate::header::begin_table;
-use crate::null_text::is_lawful_null;
+use crate::null_text::are_lawful_nulls;
 use crate::part::{header_of, moved_on, read_part};
 use crate::read_rows::MAX_ROWS;
 use crate::read_whole::read_table;
@@ -27,13 +28,13 @@ fn tables_of_parts(
     texts: &[&[u8]],
     header: &ByteRecord,
     types: &[ColumnType],
-    null: &[u8],
+    nulls: &[&str],
 ) -> Result<Vec<Table>, ReadRefused>
     requires count { length parts.items ≡ length texts.now }
-    requires parts { AreReadings null.now types.now (fields_of header.now) (map (λ t. t.now) texts.now) parts.items }
+    requires parts { AreReadings (null_texts nulls.now) types.now (fields_of header.now) (map (λ t. t.now) texts.now) parts.items }
     ensures count { IfOk result (λ v. length v.items ≡ length texts.now) }
-    ensures tables { IfOk result (λ v. AreTables null.now types.now (fields_of header.now) (under_header (map (λ t. t.now) texts.now)) v.items) }
-    ensures fault { IfErr result (λ e. IsReading null.now types.now (fields_of header.now) (under_header (map (λ t. t.now) texts.now)) (Err e)) }
+    ensures tables { IfOk result (λ v. AreTables (null_texts nulls.now) types.now (fields_of header.now) (under_header (map (λ t. t.now) texts.now)) v.items) }
+    ensures fault { IfErr result (λ e. IsReading (null_texts nulls.now) types.now (fields_of header.now) (under_header (map (λ t. t.now) texts.now)) (Err e)) }
 {
     let mut tables = Vec::new(alloc);
     let mut rows = 0u64;
@@ -63,23 +64,23 @@ fn read_texts<R: Threads + Sync>(
     texts: &[&[u8]],
     header: &ByteRecord,
     types: &[ColumnType],
-    null: &[u8],
+    nulls: &[&str],
     workers: usize,
 ) -> Result<Table, ReadRefused>
     requires some { 0 < length texts.now }
     requires workers { 0 < workers }
-    ensures { IsReading null.now types.now (fields_of header.now) (under_header (map (λ t. t.now) texts.now)) result }
+    ensures { IsReading (null_texts nulls.now) types.now (fields_of header.now) (under_header (map (λ t. t.now) texts.now)) result }
 {
     let read = thread::map_indices(
         rt,
         alloc,
         texts.len(),
-        &|i| read_part(alloc, texts[i], i == 0, header, types, null),
+        &|i| read_part(alloc, texts[i], i == 0, header, types, nulls),
     );
     let Ok(parts) = read else {
         return Err(ReadRefused::Memory);
     };
-    let tables = match tables_of_parts(alloc, parts, texts, header, types, null) {
+    let tables = match tables_of_parts(alloc, parts, texts, header, types, nulls) {
         Ok(tables) => tables,
         Err(e) => return Err(e),
     };
@@ -95,15 +96,15 @@ fn read_in_parts<R: Threads + Sync>(
     alloc: Global,
     bytes: &[u8],
     types: &[ColumnType],
-    null: &str,
+    nulls: &[&str],
     parts: usize,
 ) -> Result<Table, ReadRefused>
     requires { 0 < parts }
-    ensures table { IfOk result (λ t. read_of bytes.now types.now null.now ≡ Ok t) }
-    ensures fault { IfErr result (λ e. e ≢ ReadRefused.Memory → read_of bytes.now types.now null.now ≡ Err e) }
-    ensures lawful { OnOk result (IsTrue (is_null_text null.now)) }
+    ensures table { IfOk result (λ t. read_of bytes.now types.now (null_texts nulls.now) ≡ Ok t) }
+    ensures fault { IfErr result (λ e. e ≢ ReadRefused.Memory → read_of bytes.now types.now (null_texts nulls.now) ≡ Err e) }
+    ensures lawful { OnOk result (IsTrue (are_null_texts (null_texts nulls.now))) }
 {
-    if !is_lawful_null(null) {
+    if !are_lawful_nulls(nulls) {
         return Err(ReadRefused::BadNull);
     }
     let Ok(texts) = cut_text(alloc, bytes, parts) else {
@@ -111,18 +112,18 @@ fn read_in_parts<R: Threads + Sync>(
     };
     let texts = texts.as_slice();
     if texts.is_empty() {
-        return read_table(alloc, bytes, types, null);
+        return read_table(alloc, bytes, types, nulls);
     }
     let header = match header_of(alloc, texts[0]) {
         Ok(Some(header)) => header,
-        Ok(None) => return read_table(alloc, bytes, types, null),
+        Ok(None) => return read_table(alloc, bytes, types, nulls),
         Err(_) => return Err(ReadRefused::Memory),
     };
     match begin_table(alloc, &header, types, 0) {
         Ok(_) => {}
         Err(e) => return Err(e),
     }
-    match read_texts(rt, alloc, texts, &header, types, null.as_bytes(), parts) {
+    match read_texts(rt, alloc, texts, &header, types, nulls, parts) {
         Ok(table) => Ok(table),
         Err(e) => Err(e),
     }
@@ -134,20 +135,20 @@ pub(crate) fn read_in_parts_of<R: Threads + Sync>(
     alloc: Global,
     bytes: &[u8],
     types: &[ColumnType],
-    null: &str,
+    nulls: &[&str],
     parts: usize,
     least: usize,
 ) -> Result<Table, ReadRefused>
     requires { 0 < least }
-    ensures table { IfOk result (λ t. read_of bytes.now types.now null.now ≡ Ok t) }
-    ensures fault { IfErr result (λ e. e ≢ ReadRefused.Memory → read_of bytes.now types.now null.now ≡ Err e) }
-    ensures lawful { OnOk result (IsTrue (is_null_text null.now)) }
+    ensures table { IfOk result (λ t. read_of bytes.now types.now (null_texts nulls.now) ≡ Ok t) }
+    ensures fault { IfErr result (λ e. e ≢ ReadRefused.Memory → read_of bytes.now types.now (null_texts nulls.now) ≡ Err e) }
+    ensures lawful { OnOk result (IsTrue (are_null_texts (null_texts nulls.now))) }
 {
     let parts = parts.min(bytes.len() / least);
     if parts <= 1 {
-        return read_table(alloc, bytes, types, null);
+        return read_table(alloc, bytes, types, nulls);
     }
-    read_in_parts(rt, alloc, bytes, types, null, parts)
+    read_in_parts(rt, alloc, bytes, types, nulls, parts)
 }
 
 /// Reads a table as [`read_table`] does, in up to so many parts at a time, each by a thread. The calling thread reads one
@@ -163,12 +164,12 @@ pub fn read_table_in_parts<R: Threads + Sync>(
     alloc: Global,
     bytes: &[u8],
     types: &[ColumnType],
-    null: &str,
+    nulls: &[&str],
     parts: usize,
 ) -> Result<Table, ReadRefused>
-    ensures table { IfOk result (λ t. read_of bytes.now types.now null.now ≡ Ok t) }
-    ensures fault { IfErr result (λ e. e ≢ ReadRefused.Memory → read_of bytes.now types.now null.now ≡ Err e) }
-    ensures lawful { OnOk result (IsTrue (is_null_text null.now)) }
+    ensures table { IfOk result (λ t. read_of bytes.now types.now (null_texts nulls.now) ≡ Ok t) }
+    ensures fault { IfErr result (λ e. e ≢ ReadRefused.Memory → read_of bytes.now types.now (null_texts nulls.now) ≡ Err e) }
+    ensures lawful { OnOk result (IsTrue (are_null_texts (null_texts nulls.now))) }
 {
-    read_in_parts_of(rt, alloc, bytes, types, null, parts, LEAST_PART)
+    read_in_parts_of(rt, alloc, bytes, types, nulls, parts, LEAST_PART)
 }

@@ -22,7 +22,7 @@ pub enum ReadRefused {
     TooManyRows,
     /// The header has more than 256 names.
     TooManyColumns,
-    /// The null text is longer than 16 bytes, or has a byte that isn't printable ASCII, a digit, a comma, a
+    /// A null text is longer than 16 bytes, or has a byte that isn't printable ASCII, a digit, a comma, a
     /// double quote or a space.
     BadNull,
     /// The device that the bytes come from failed.

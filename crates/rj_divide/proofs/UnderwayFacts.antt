@@ -75,8 +75,8 @@ header-prefix true [] b = (drop 1 b, refl)
 header-prefix true (x ∷ a) b = (b, refl)
 header-prefix false a b = (b, refl)
 
-more-fault : (null : List ℕ) (types : List ColumnType) (n : ℕ) (xs ys : List (List (List ℕ))) (f : ReadRefused) → IsFirstFault null types n xs f → IsFirstFault null types n (xs ++ ys) f
-more-fault null types n xs ys f x = record {
+more-fault : (nulls : List (List ℕ)) (types : List ColumnType) (n : ℕ) (xs ys : List (List (List ℕ))) (f : ReadRefused) → IsFirstFault nulls types n xs f → IsFirstFault nulls types n (xs ++ ys) f
+more-fault nulls types n xs ys f x = record {
   good = x.good;
   rows = x.rows;
   bad = x.bad;
@@ -86,10 +86,10 @@ more-fault null types n xs ys f x = record {
   is = x.is;
 }
 
-module _ (null : List ℕ) (types : List ColumnType) (part : List Content → ℕ) (first : ℕ) (is_first : Bool) (text : List ℕ) (before : List (Option (List ℕ))) where
+module _ (nulls : List (List ℕ)) (types : List ColumnType) (part : List Content → ℕ) (first : ℕ) (is_first : Bool) (text : List ℕ) (before : List (Option (List ℕ))) where
   -- the start
   pub start : (rest : Rest) (tells : Option (List ℕ)) → tells ≡ Some text → rest.bytes.items ≡ [] → rest.rows ≡ 0 → rest.is_first ≡ is_first
-      → IsUnderway null types part first is_first text before tells rest before 0
+      → IsUnderway nulls types part first is_first text before tells rest before 0
   start rest tells told none zero same =
       let all : rest.bytes.items ++ text ≡ text = ap (λ l. l ++ text) none in
       record {
@@ -97,14 +97,14 @@ module _ (null : List ℕ) (types : List ColumnType) (part : List Content → �
         told = told;
         done = [];
         split = rw (all, same) refl;
-        divided = rw zero (divided-none null types part first before);
+        divided = rw zero (divided-none nulls types part first before);
         outputs = refl;
         shorter = let size = ap length all in omega (arith, size);
       }
 
   -- the end
-  pub finish : (rest : Rest) (tells : Option (List ℕ)) (now : List (Option (List ℕ))) (pieces : ℕ) → IsUnderway null types part first is_first text before tells rest now pieces
-      → rest.bytes.items ≡ [] → IsAtEnd tells → IsDivided null types part first (piece_records is_first text) before now rest.rows
+  pub finish : (rest : Rest) (tells : Option (List ℕ)) (now : List (Option (List ℕ))) (pieces : ℕ) → IsUnderway nulls types part first is_first text before tells rest now pieces
+      → rest.bytes.items ≡ [] → IsAtEnd tells → IsDivided nulls types part first (piece_records is_first text) before now rest.rows
   finish rest tells now pieces u none end =
       let left : u.left ≡ [] = rw u.told at end in
       let nothing : piece_records rest.is_first (rest.bytes.items ++ u.left) ≡ [] = rw (none, left) (piece-none rest.is_first) in
@@ -112,7 +112,7 @@ module _ (null : List ℕ) (types : List ColumnType) (part : List Content → �
       rw all u.divided
 
   module _ (rest : Rest) (bytes : List ℕ) (old tells : Option (List ℕ)) (now : List (Option (List ℕ))) (pieces end : ℕ) (last : Bool)
-      (u : IsUnderway null types part first is_first text before old rest now pieces)
+      (u : IsUnderway nulls types part first is_first text before old rest now pieces)
       (reads : (start : Option (List ℕ)) → Consumes start old rest.bytes.items → Consumes start tells bytes)
       (ends : last ≡ true → IsAtEnd tells)
       (cut : (more : List ℕ) → (last ≡ true → more ≡ []) → records default_config (bytes ++ more) ≡ records default_config (take end bytes) ++ records default_config (drop end bytes ++ more)) where
@@ -128,8 +128,8 @@ module _ (null : List ℕ) (types : List ColumnType) (part : List Content → �
     -- one piece more
     pub go-on : (next : Rest) (after : List (Option (List ℕ))) (n : ℕ) → length after ≡ length now → end ≤ length bytes → (last ≡ false → 0 < end)
         → ((more : List (List (List ℕ))) → behind_header rest.is_first (records default_config (take end bytes) ++ more) ≡ behind_header rest.is_first (records default_config (take end bytes)) ++ behind_header next.is_first more)
-        → next.bytes.items ≡ drop end bytes → next.rows ≡ rest.rows + n → IsDivided null types part (first + rest.rows) (piece_records rest.is_first (take end bytes)) now after n
-        → IsUnderway null types part first is_first text before tells next after (if last then pieces else pieces + 1)
+        → next.bytes.items ≡ drop end bytes → next.rows ≡ rest.rows + n → IsDivided nulls types part (first + rest.rows) (piece_records rest.is_first (take end bytes)) now after n
+        → IsUnderway nulls types part first is_first text before tells next after (if last then pieces else pieces + 1)
     go-on next after n many within some header left rows divided =
         let piece = piece_records rest.is_first (take end bytes) in
         let behind : piece_records next.is_first (drop end bytes ++ t.more) ≡ piece_records next.is_first (next.bytes.items ++ t.more) = ap (λ l. piece_records next.is_first (l ++ t.more)) (sym left) in
@@ -140,7 +140,7 @@ module _ (null : List ℕ) (types : List ColumnType) (part : List Content → �
           split = split-more
               ∙ (ap (λ l. u.done ++ l) (piece-split rest.is_first next.is_first bytes t.more end cut-more header ∙ ap (λ l. piece ++ l) behind)
               ∙ sym (append_assoc u.done piece (piece_records next.is_first (next.bytes.items ++ t.more))));
-          divided = rw rows (divided-more null types part first u.done piece before now after rest.rows n u.outputs u.divided divided);
+          divided = rw rows (divided-more nulls types part first u.done piece before now after rest.rows n u.outputs u.divided divided);
           outputs = many ∙ u.outputs;
           shorter =
               let a = ap length t.same in let b = length-append bytes t.more in let c = length-append (drop end bytes) t.more in let d = length-drop end bytes in
@@ -154,7 +154,7 @@ module _ (null : List ℕ) (types : List ColumnType) (part : List Content → �
         shorter-by false h low same = let z = h refl in omega (arith, low, same, z)
 
     -- a piece that is not divided
-    pub fault-in : (outputs : ℕ) (e : DivideRefused) → IsFaultBehind null types rest.rows outputs (piece_records rest.is_first (take end bytes)) e → IsDivisionFault null types is_first text outputs e
+    pub fault-in : (outputs : ℕ) (e : DivideRefused) → IsFaultBehind nulls types rest.rows outputs (piece_records rest.is_first (take end bytes)) e → IsDivisionFault nulls types is_first text outputs e
     fault-in outputs e h =
         let more = header-prefix rest.is_first (records default_config (take end bytes)) (records default_config (drop end bytes ++ t.more)) in
         let all : piece_records is_first text ≡ u.done ++ (piece_records rest.is_first (take end bytes) ++ more.0) =
@@ -162,22 +162,22 @@ module _ (null : List ℕ) (types : List ColumnType) (part : List Content → �
         go e more.0 all h
       where
         go : (x : DivideRefused) (tail : List (List (List ℕ))) → piece_records is_first text ≡ u.done ++ (piece_records rest.is_first (take end bytes) ++ tail)
-            → IsFaultBehind null types rest.rows outputs (piece_records rest.is_first (take end bytes)) x → IsDivisionFault null types is_first text outputs x
+            → IsFaultBehind nulls types rest.rows outputs (piece_records rest.is_first (take end bytes)) x → IsDivisionFault nulls types is_first text outputs x
         go (refused.Read f) tail all h =
             let piece = piece_records rest.is_first (take end bytes) in
-            rw all (first-behind null types u.done (piece ++ tail) u.divided.rows rest.rows f u.divided.read u.divided.many (more-fault null types rest.rows piece tail f h))
+            rw all (first-behind nulls types u.done (piece ++ tail) u.divided.rows rest.rows f u.divided.read u.divided.many (more-fault nulls types rest.rows piece tail f h))
         go refused.TooLong tail all h =
             let piece = piece_records rest.is_first (take end bytes) in
-            let a = ap length all in let b = length-append u.done (piece ++ tail) in let c = length-append piece tail in let d = rows-many null types u.done u.divided.rows u.divided.read in
+            let a = ap length all in let b = length-append u.done (piece ++ tail) in let c = length-append piece tail in let d = rows-many nulls types u.done u.divided.rows u.divided.read in
             inl (omega (arith, a, b, c, d, h, u.divided.many))
         go refused.ReadDevice tail all h = tt
         go (refused.WriteDevice p) tail all h = h
         go refused.Memory tail all h = tt
 
 -- the device that gives bytes failed, or memory was refused
-pub input-fault : (null : List ℕ) (types : List ColumnType) (is_first : Bool) (text : List ℕ) (outputs : ℕ) (e : DivideRefused) → IsInputFault e → IsDivisionFault null types is_first text outputs e
-input-fault null types is_first text outputs (refused.Read f) h = absurd h
-input-fault null types is_first text outputs refused.TooLong h = absurd h
-input-fault null types is_first text outputs refused.ReadDevice h = tt
-input-fault null types is_first text outputs (refused.WriteDevice p) h = absurd h
-input-fault null types is_first text outputs refused.Memory h = tt
+pub input-fault : (nulls : List (List ℕ)) (types : List ColumnType) (is_first : Bool) (text : List ℕ) (outputs : ℕ) (e : DivideRefused) → IsInputFault e → IsDivisionFault nulls types is_first text outputs e
+input-fault nulls types is_first text outputs (refused.Read f) h = absurd h
+input-fault nulls types is_first text outputs refused.TooLong h = absurd h
+input-fault nulls types is_first text outputs refused.ReadDevice h = tt
+input-fault nulls types is_first text outputs (refused.WriteDevice p) h = absurd h
+input-fault nulls types is_first text outputs refused.Memory h = tt

@@ -1,5 +1,5 @@
 -- Rows that are divided among the outputs of parts.
-use Rattle.std.specs.Prelude.{ℕ, ◌+◌, ◌≡◌, ◌<◌, List, map, length, slice_index_or, slice_set, Option, None, Result, Ok, Err}
+use Rattle.std.specs.Prelude.{ℕ, ◌+◌, ◌≡◌, ◌<◌, List, [], map, length, slice_index_or, slice_set, Option, None, Result, Ok, Err}
 use Rattle.std.specs.Io.KnownBytes.{Appends}
 use Rattle.rj_columns.specs.declared.cell.ColumnType.{ColumnType}
 use Rattle.rj_columns.specs.Contents.{Content}
@@ -18,13 +18,17 @@ abbrev pub AreAppended : List ℕ → (List Content → ℕ) → ℕ → List (L
 AreAppended null part first rows before after = (p : ℕ) → p < length before
     → Appends (slice_index_or before p None) (slice_index_or after p None) (part_text null part p first rows)
 
+-- the text that is written for null: the first of those that stand for it, or the empty one where there are none
+abbrev pub written_null : List (List ℕ) → List ℕ
+written_null nulls = slice_index_or nulls 0 []
+
 -- these records are rows, so many of them, and each part's output got the text of its rows
-pub record IsDivided (null : List ℕ) (types : List ColumnType) (part : List Content → ℕ) (first : ℕ) (records : List (List (List ℕ)))
+pub record IsDivided (nulls : List (List ℕ)) (types : List ColumnType) (part : List Content → ℕ) (first : ℕ) (records : List (List (List ℕ)))
     (before after : List (Option (List ℕ))) (count : ℕ) : Type 0 where
   pub rows : List (List Content)
-  pub read : AreRows null types records rows
+  pub read : AreRows nulls types records rows
   pub many : count ≡ length rows
-  pub parts : AreAppended null part first rows before after
+  pub parts : AreAppended (written_null nulls) part first rows before after
 
 -- the counts of the outputs' failures: one more for the output that failed, if one did
 abbrev pub counts_after : {T : Type 0} → Result T DivideRefused → List ℕ → List ℕ

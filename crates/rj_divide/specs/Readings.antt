@@ -12,27 +12,27 @@ use Rattle.rj_divide.specs.declared.refused.DivideRefused.{DivideRefused}
 use Rattle.rj_divide.specs.declared.refused.DivideRefused.TheVariants as refused
 
 -- what a record reads as where it is the row of this number, counted from 1
-abbrev pub numbered_row : List ℕ → List ColumnType → ℕ → List (List ℕ) → Result (List Content) ReadRefused
-numbered_row null types number fields =
-    if length fields == length types then read_cells null number [] types fields else Err (read.RaggedRow number)
+abbrev pub numbered_row : List (List ℕ) → List ColumnType → ℕ → List (List ℕ) → Result (List Content) ReadRefused
+numbered_row nulls types number fields =
+    if length fields == length types then read_cells nulls number [] types fields else Err (read.RaggedRow number)
 
 -- the fault of the first of these records that is no row, where so many rows stand before the records
-pub record IsFirstFault (null : List ℕ) (types : List ColumnType) (before : ℕ) (records : List (List (List ℕ))) (fault : ReadRefused) : Type 0 where
+pub record IsFirstFault (nulls : List (List ℕ)) (types : List ColumnType) (before : ℕ) (records : List (List (List ℕ))) (fault : ReadRefused) : Type 0 where
   pub good : List (List (List ℕ))
   pub rows : List (List Content)
   pub bad : List (List ℕ)
   pub rest : List (List (List ℕ))
   pub order : records ≡ good ++ bad ∷ rest
-  pub read : AreRows null types good rows
-  pub is : numbered_row null types (before + length good + 1) bad ≡ Err fault
+  pub read : AreRows nulls types good rows
+  pub is : numbered_row nulls types (before + length good + 1) bad ≡ Err fault
 
 -- why the records behind so many rows are not divided among so many outputs, where it is no device that gives bytes
-abbrev pub IsFaultBehind : List ℕ → List ColumnType → ℕ → ℕ → List (List (List ℕ)) → DivideRefused → Type 0
-IsFaultBehind null types before outputs records (refused.Read f) = IsFirstFault null types before records f
-IsFaultBehind null types before outputs records refused.TooLong = 2 ^ 31 ≤ before + length records
-IsFaultBehind null types before outputs records refused.ReadDevice = ⊥
-IsFaultBehind null types before outputs records (refused.WriteDevice p) = p < outputs
-IsFaultBehind null types before outputs records refused.Memory = Unit {0}
+abbrev pub IsFaultBehind : List (List ℕ) → List ColumnType → ℕ → ℕ → List (List (List ℕ)) → DivideRefused → Type 0
+IsFaultBehind nulls types before outputs records (refused.Read f) = IsFirstFault nulls types before records f
+IsFaultBehind nulls types before outputs records refused.TooLong = 2 ^ 31 ≤ before + length records
+IsFaultBehind nulls types before outputs records refused.ReadDevice = ⊥
+IsFaultBehind nulls types before outputs records (refused.WriteDevice p) = p < outputs
+IsFaultBehind nulls types before outputs records refused.Memory = Unit {0}
 
 -- the row that a fault tells
 abbrev pub row_told : ReadRefused → ℕ
@@ -90,12 +90,12 @@ reads_after (Err (refused.WriteDevice p)) count = count
 reads_after (Err refused.Memory) count = count
 
 -- why a text is not divided among so many outputs: a fault of a record or of a device, or its length
-abbrev pub IsDivisionFault : List ℕ → List ColumnType → Bool → List ℕ → ℕ → DivideRefused → Type 0
-IsDivisionFault null types is_first text outputs (refused.Read f) = IsFirstFault null types 0 (piece_records is_first text) f
-IsDivisionFault null types is_first text outputs refused.TooLong = (2 ^ 31 ≤ length (piece_records is_first text)) ⊎ (2 ^ 64 - 1 ≤ length text)
-IsDivisionFault null types is_first text outputs refused.ReadDevice = Unit {0}
-IsDivisionFault null types is_first text outputs (refused.WriteDevice p) = p < outputs
-IsDivisionFault null types is_first text outputs refused.Memory = Unit {0}
+abbrev pub IsDivisionFault : List (List ℕ) → List ColumnType → Bool → List ℕ → ℕ → DivideRefused → Type 0
+IsDivisionFault nulls types is_first text outputs (refused.Read f) = IsFirstFault nulls types 0 (piece_records is_first text) f
+IsDivisionFault nulls types is_first text outputs refused.TooLong = (2 ^ 31 ≤ length (piece_records is_first text)) ⊎ (2 ^ 64 - 1 ≤ length text)
+IsDivisionFault nulls types is_first text outputs refused.ReadDevice = Unit {0}
+IsDivisionFault nulls types is_first text outputs (refused.WriteDevice p) = p < outputs
+IsDivisionFault nulls types is_first text outputs refused.Memory = Unit {0}
 
 -- why nothing is divided under a header that makes no table with the types: what it is refused for, where the device that gives
 -- bytes doesn't fail first and memory isn't refused

@@ -18,12 +18,12 @@ SplitsAs is_first records ahead = (more : List (List (List ℕ))) → behind_hea
 
 -- a text whose first records are divided, in at least so many pieces: the others are those of the bytes that were read and of
 -- what the device tells
-pub record IsUnderway (null : List ℕ) (types : List ColumnType) (part : List Content → ℕ) (first : ℕ) (is_first : Bool) (text : List ℕ)
+pub record IsUnderway (nulls : List (List ℕ)) (types : List ColumnType) (part : List Content → ℕ) (first : ℕ) (is_first : Bool) (text : List ℕ)
     (before : List (Option (List ℕ))) (tells : Option (List ℕ)) (rest : Rest) (now : List (Option (List ℕ))) (pieces : ℕ) : Type 0 where
   pub left : List ℕ
   pub told : tells ≡ Some left
   pub done : List (List (List ℕ))
   pub split : piece_records is_first text ≡ done ++ piece_records rest.is_first (rest.bytes.items ++ left)
-  pub divided : IsDivided null types part first done before now rest.rows
+  pub divided : IsDivided nulls types part first done before now rest.rows
   pub outputs : length now ≡ length before
   pub shorter : pieces + length (rest.bytes.items ++ left) ≤ length text

@@ -4,6 +4,7 @@
 mod cuts;
 mod grouped;
 mod header;
+mod laws;
 mod next;
 mod piece;
 mod placed;
@@ -14,7 +15,9 @@ mod whole;
 
 pub use cuts::find_cuts;
 pub use header::write_headers;
-pub use piece::Division;
+pub use laws::divided_in_turn;
+pub use next::{Piece, next_piece};
+pub use piece::{Division, divide_piece};
 pub use refused::DivideRefused;
 pub use route::Route;
 pub use whole::divide;

@@ -12,11 +12,11 @@ use rj_csv_io::{Input, ReadRefused, last_cut, read_up_to};
 
 /// A piece of a text, at the start of the bytes that were read.
 #[derive(Clone, Copy)]
-pub(crate) struct Piece {
+pub struct Piece {
     /// Where it ends.
-    pub(crate) end: usize,
+    pub end: usize,
     /// Whether the text ends there too.
-    pub(crate) is_last: bool,
+    pub is_last: bool,
 }
 
 // Adds the next bytes of a device to some, until there are so many: whether it is at its end.
@@ -48,7 +48,7 @@ fn read_more<I: Input>(
 ///
 /// `ReadDevice` is answered where the device failed, `Memory` where a growth was refused; nothing is known then of how
 /// much was read.
-pub(crate) fn next_piece<I: Input>(
+pub fn next_piece<I: Input>(
     input: &mut I,
     bytes: &mut Vec<u8>,
     block: usize,

@@ -6,7 +6,8 @@ ghost use Rattle.rj_columns.specs.Names.{begun};
 ghost use Rattle.rj_columns.specs.Tables.{TableValue};
 ghost use Rattle.rj_csv_io.specs.Pieces.{names_in, piece_records};
 ghost use Rattle.rj_csv_io.specs.Tables.{is_null_text};
-ghost use Rattle.rj_divide.specs.Divisions.{IsDivided, counts_after};
+ghost use Rattle.rj_csv_io.specs.Typed.{null_texts};
+ghost use Rattle.rj_divide.specs.Divisions.{IsDivided, counts_after, written_null};
 ghost use Rattle.rj_divide.specs.Readings.{IsAfterReading, IsFaultBehind, IsHeaderRefusal, IsReadingFault, fault_behind, row_told};
 
 use crate::refused::DivideRefused;
@@ -23,8 +24,9 @@ pub struct Division<'a, R: Route> {
     pub header: &'a Header,
     /// The types of its columns.
     pub types: &'a [ColumnType],
-    /// The text that stands for null, which [`rj_csv_io::is_lawful_null`] allows.
-    pub null: &'a str,
+    /// The texts that stand for null. The first of them is written for null, and the empty text where there are none;
+    /// [`rj_csv_io::is_lawful_null`] has to allow it.
+    pub nulls: &'a [&'a str],
     /// What tells the part of a row.
     pub route: &'a R,
     /// The place of the first row, at most 2^62.
@@ -33,6 +35,16 @@ pub struct Division<'a, R: Route> {
 
 // How many rows a text may have.
 const MOST_ROWS: u64 = 1 << 61;
+
+// The text that is written for null.
+fn written_null<'a>(nulls: &[&'a str]) -> &'a str
+    ensures { result.now ≡ written_null (null_texts nulls.now) }
+{
+    if nulls.is_empty() {
+        return "";
+    }
+    nulls[0]
+}
 
 // A fault of a piece that has so many rows before it.
 fn behind(before: u64, fault: ReadRefused) -> DivideRefused
@@ -57,12 +69,15 @@ fn behind(before: u64, fault: ReadRefused) -> DivideRefused
 }
 
 /// Puts each row of a piece of a text, with its place, to the output of its part, and says how many rows it has. So many
-/// rows stand before it; the first piece begins with the header.
+/// rows stand before it; the first piece begins with the header. A piece begins and ends where a record does, and the text's
+/// own byte order mark is left out already.
 ///
 /// # Errors
 ///
-/// The first fault of the piece's records, its row counted from the text's first one; `WriteDevice` or `Memory`.
-pub(crate) fn divide_piece<O: Output, R: Route>(
+/// The reason why the header and the types make no table, as [`Header::table`] tells it; the outputs are unchanged then. Else
+/// the first fault of the piece's records, its row counted from the text's first one; `TooLong`; or `WriteDevice` where an
+/// output failed: the outputs may have got rows. `Memory` may come in place of each of these.
+pub fn divide_piece<O: Output, R: Route>(
     alloc: Global,
     division: &Division<'_, R>,
     text: &[u8],
@@ -73,15 +88,17 @@ pub(crate) fn divide_piece<O: Output, R: Route>(
     requires types { R.fits division.now.route.now division.now.types.now }
     requires outputs { length outputs.old ≡ R.count division.now.route.now }
     requires first { division.now.first ≤ 2 ^ 62 }
-    requires null { IsTrue (is_null_text division.now.null.now) }
+    requires null { IsTrue (is_null_text (written_null (null_texts division.now.nulls.now))) }
     requires failures { All (λ o. O.count o < 2 ^ 64 - 1) outputs.old }
-    ensures divided { IfOk result (λ n. IsDivided division.now.null.now division.now.types.now (R.part division.now.route.now) (division.now.first + before)
+    ensures divided { IfOk result (λ n. IsDivided (null_texts division.now.nulls.now) division.now.types.now
+        (R.part division.now.route.now) (division.now.first + before)
         (piece_records is_first text.now) (map O.told outputs.old) (map O.told outputs.new) n) }
     ensures read { IfErr result IsAfterReading }
     ensures few { IfOk result (λ n. before + n < 2 ^ 62) }
     ensures counts { map O.count outputs.new ≡ counts_after result (map O.count outputs.old) }
+    ensures writes { OnOk result (All (λ o. O.count o < 2 ^ 64 - 1) outputs.new) }
     ensures fault { IfErr result (λ e. (t : TableValue) → begun (names_in division.now.header.now) division.now.types.now ≡ Ok t
-        → IsFaultBehind division.now.null.now division.now.types.now before (length outputs.old) (piece_records is_first text.now) e) }
+        → IsFaultBehind (null_texts division.now.nulls.now) division.now.types.now before (length outputs.old) (piece_records is_first text.now) e) }
     ensures begins { OnOk result ((t : TableValue) × (begun (names_in division.now.header.now) division.now.types.now ≡ Ok t)) }
     ensures refusal { IfErr result (λ e. (b : BuildRefused) → begun (names_in division.now.header.now) division.now.types.now ≡ Err b
         → before ≡ 0 → IsHeaderRefusal b e) }
@@ -90,19 +107,17 @@ pub(crate) fn divide_piece<O: Output, R: Route>(
     if before > MOST_ROWS {
         return Err(DivideRefused::TooLong);
     }
-    let table = match division.header.read_piece(
-        alloc,
-        text,
-        is_first,
-        division.types,
-        division.null.as_bytes(),
-    ) {
+    let table = match division
+        .header
+        .read_piece(alloc, text, is_first, division.types, division.nulls)
+    {
         Ok(table) => table,
         Err(e) => return Err(behind(before, e)),
     };
     let rows = table.rows();
     let first = division.first + before;
-    match divide_table(alloc, &table, division.route, first, division.null, outputs) {
+    let null = written_null(division.nulls);
+    match divide_table(alloc, &table, division.route, first, null, outputs) {
         Ok(()) => Ok(rows),
         Err(e) => Err(e),
     }

@@ -8,7 +8,8 @@ ghost use Rattle.rj_columns.specs.Names.{begun};
 ghost use Rattle.rj_columns.specs.Tables.{TableValue};
 ghost use Rattle.rj_csv_io.specs.Pieces.{names_in, piece_records};
 ghost use Rattle.rj_csv_io.specs.Tables.{is_null_text};
-ghost use Rattle.rj_divide.specs.Divisions.{IsDivided, counts_after};
+ghost use Rattle.rj_csv_io.specs.Typed.{null_texts};
+ghost use Rattle.rj_divide.specs.Divisions.{IsDivided, counts_after, written_null};
 ghost use Rattle.rj_divide.specs.Readings.{IsAfterReading, IsDivisionFault, IsFaultBehind, IsHeaderRefusal, reads_after};
 ghost use Rattle.rj_divide.specs.Underway.{IsUnderway, SplitsAs};
 
@@ -58,18 +59,18 @@ fn divide_front<O: Output, R: Route>(
     requires types { R.fits division.now.route.now division.now.types.now }
     requires outputs { length outputs.old ≡ R.count division.now.route.now }
     requires first { division.now.first ≤ 2 ^ 62 }
-    requires null { IsTrue (is_null_text division.now.null.now) }
+    requires null { IsTrue (is_null_text (written_null (null_texts division.now.nulls.now))) }
     requires failures { All (λ o. O.count o < 2 ^ 64 - 1) outputs.old }
     requires end { end ≤ length rest.old.bytes.items }
     ensures bytes { OnOk result (rest.new.bytes.items ≡ drop end rest.old.bytes.items) }
-    ensures rows { OnOk result ((n : ℕ) × (rest.new.rows ≡ rest.old.rows + n) × IsDivided division.now.null.now division.now.types.now
+    ensures rows { OnOk result ((n : ℕ) × (rest.new.rows ≡ rest.old.rows + n) × IsDivided (null_texts division.now.nulls.now) division.now.types.now
         (R.part division.now.route.now) (division.now.first + rest.old.rows) (piece_records rest.old.is_first (take end rest.old.bytes.items))
         (map O.told outputs.old) (map O.told outputs.new) n) }
     ensures header { OnOk result (SplitsAs rest.old.is_first (records default_config (take end rest.old.bytes.items)) rest.new.is_first) }
     ensures counts { map O.count outputs.new ≡ counts_after result (map O.count outputs.old) }
     ensures read { IfErr result IsAfterReading }
     ensures fault { IfErr result (λ e. (t : TableValue) → begun (names_in division.now.header.now) division.now.types.now ≡ Ok t
-        → IsFaultBehind division.now.null.now division.now.types.now rest.old.rows (length outputs.old)
+        → IsFaultBehind (null_texts division.now.nulls.now) division.now.types.now rest.old.rows (length outputs.old)
         (piece_records rest.old.is_first (take end rest.old.bytes.items)) e) }
     ensures begins { OnOk result ((t : TableValue) × (begun (names_in division.now.header.now) division.now.types.now ≡ Ok t)) }
     ensures refusal { IfErr result (λ e. (b : BuildRefused) → begun (names_in division.now.header.now) division.now.types.now ≡ Err b
@@ -101,22 +102,22 @@ fn divide_next<I: Input, O: Output, R: Route>(
     requires types { R.fits division.now.route.now division.now.types.now }
     requires outputs { length outputs.old ≡ R.count division.now.route.now }
     requires first { division.now.first ≤ 2 ^ 62 }
-    requires null { IsTrue (is_null_text division.now.null.now) }
+    requires null { IsTrue (is_null_text (written_null (null_texts division.now.nulls.now))) }
     requires reads { I.count input.old < 2 ^ 64 - 1 }
     requires writes { All (λ o. O.count o < 2 ^ 64 - 1) outputs.old }
     ensures divided { IfOk result (λ last. (is_first : Bool) (all : List ℕ) (before : List (Option (List ℕ))) (n : ℕ)
-        → IsUnderway division.now.null.now division.now.types.now (R.part division.now.route.now) division.now.first is_first all before
+        → IsUnderway (null_texts division.now.nulls.now) division.now.types.now (R.part division.now.route.now) division.now.first is_first all before
         (I.tells input.old) rest.old (map O.told outputs.old) n
-        → IsUnderway division.now.null.now division.now.types.now (R.part division.now.route.now) division.now.first is_first all before
+        → IsUnderway (null_texts division.now.nulls.now) division.now.types.now (R.part division.now.route.now) division.now.first is_first all before
         (I.tells input.new) rest.new (map O.told outputs.new) (if last then n else n + 1)) }
     ensures end { result ≡ Ok true → (rest.new.bytes.items ≡ []) × IsAtEnd (I.tells input.new) }
     ensures reads { I.count input.new ≡ reads_after result (I.count input.old) }
     ensures writes { map O.count outputs.new ≡ counts_after result (map O.count outputs.old) }
     ensures fault { IfErr result (λ e. (t : TableValue) (is_first : Bool) (all : List ℕ) (before : List (Option (List ℕ))) (n : ℕ)
         → begun (names_in division.now.header.now) division.now.types.now ≡ Ok t
-        → IsUnderway division.now.null.now division.now.types.now (R.part division.now.route.now) division.now.first is_first all before
+        → IsUnderway (null_texts division.now.nulls.now) division.now.types.now (R.part division.now.route.now) division.now.first is_first all before
         (I.tells input.old) rest.old (map O.told outputs.old) n
-        → IsDivisionFault division.now.null.now division.now.types.now is_first all (length outputs.old) e) }
+        → IsDivisionFault (null_texts division.now.nulls.now) division.now.types.now is_first all (length outputs.old) e) }
     ensures begins { OnOk result ((t : TableValue) × (begun (names_in division.now.header.now) division.now.types.now ≡ Ok t)) }
     ensures refusal { IfErr result (λ e. (b : BuildRefused) → begun (names_in division.now.header.now) division.now.types.now ≡ Err b
         → rest.old.rows ≡ 0 → IsHeaderRefusal b e) }
@@ -155,11 +156,11 @@ pub fn divide<I: Input, O: Output, R: Route>(
     requires types { R.fits division.now.route.now division.now.types.now }
     requires outputs { length outputs.old ≡ R.count division.now.route.now }
     requires first { division.now.first ≤ 2 ^ 62 }
-    requires null { IsTrue (is_null_text division.now.null.now) }
+    requires null { IsTrue (is_null_text (written_null (null_texts division.now.nulls.now))) }
     requires reads { I.count input.old < 2 ^ 64 - 1 }
     requires writes { All (λ o. O.count o < 2 ^ 64 - 1) outputs.old }
     ensures divided { IfOk result (λ n. IfSome (I.tells input.old) (λ all.
-        IsDivided division.now.null.now division.now.types.now (R.part division.now.route.now) division.now.first
+        IsDivided (null_texts division.now.nulls.now) division.now.types.now (R.part division.now.route.now) division.now.first
         (piece_records is_first all) (map O.told outputs.old) (map O.told outputs.new) n)) }
     ensures end { OnOk result (IsAtEnd (I.tells input.new)) }
     ensures reads { I.count input.new ≡ reads_after result (I.count input.old) }
@@ -167,7 +168,7 @@ pub fn divide<I: Input, O: Output, R: Route>(
 
     // where the header and the types go together, as `Header::table` tells, an error comes for this alone
     ensures fault { IfErr result (λ e. (t : TableValue) → begun (names_in division.now.header.now) division.now.types.now ≡ Ok t
-        → IfSome (I.tells input.old) (λ all. IsDivisionFault division.now.null.now division.now.types.now is_first all (length outputs.old) e)) }
+        → IfSome (I.tells input.old) (λ all. IsDivisionFault (null_texts division.now.nulls.now) division.now.types.now is_first all (length outputs.old) e)) }
 
     // where they don't, nothing is divided, and it is told why they don't
     ensures begins { OnOk result ((t : TableValue) × (begun (names_in division.now.header.now) division.now.types.now ≡ Ok t)) }

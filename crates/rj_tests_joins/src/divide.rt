@@ -123,7 +123,7 @@ fn divided(
     let division = Division {
         header: &header,
         types: &TYPES,
-        null: "",
+        nulls: &[""],
         route: &ByNull,
         first: 100,
     };

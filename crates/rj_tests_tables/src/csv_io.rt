@@ -3,6 +3,7 @@
 ghost use Rattle.std.specs.Prelude.{[], ◌∷◌};
 ghost use Rattle.rj_columns.specs.Contents.{decimal};
 
+mod nulls;
 mod parts_read;
 mod parts_written;
 mod pieces;
@@ -35,7 +36,7 @@ fn fault_under(
     types: &[ColumnType],
     null: &str,
 ) -> Option<ReadRefused> {
-    match read_table(alloc, bytes, types, null) {
+    match read_table(alloc, bytes, types, &[null]) {
         Ok(_) => None,
         Err(e) => Some(e),
     }
@@ -62,7 +63,7 @@ fn is_written(
     null: &str,
     want: &[u8],
 ) -> bool {
-    match read_table(alloc, bytes, types, null) {
+    match read_table(alloc, bytes, types, &[null]) {
         Ok(table) => match text_of(alloc, &table, header, null) {
             Some(text) => text.as_slice() == want,
             None => false,
@@ -73,7 +74,7 @@ fn is_written(
 
 #[test]
 fn bom_crlf_quotes(rt: HostRuntime) -> Result<(), Fail> {
-    let table = read_table(rt.alloc(), MARKED, &[INT, TEXT], "")?;
+    let table = read_table(rt.alloc(), MARKED, &[INT, TEXT], &[""])?;
     assert!(rt; table.rows() == 2);
     assert!(rt; table.columns() == 2);
     assert!(rt; table.name(0) == "id");
@@ -90,7 +91,7 @@ fn bom_crlf_quotes(rt: HostRuntime) -> Result<(), Fail> {
 #[test]
 fn integer_forms(rt: HostRuntime) -> Result<(), Fail> {
     let left = b"id,a\n007,x\n+7,y\n-0,z\n-9223372036854775808,m\n";
-    let table = read_table(rt.alloc(), left, &[INT, TEXT], "")?;
+    let table = read_table(rt.alloc(), left, &[INT, TEXT], &[""])?;
     assert!(rt; table.rows() == 4);
     assert!(rt; table.columns() == 2);
     assert!(rt; table.cell(0, 0) == Cell::Int(7));
@@ -135,7 +136,7 @@ fn numeric_forms(rt: HostRuntime) -> Result<(), Fail> {
     let alloc = rt.alloc();
     let types = [num(3, 1)?, TEXT];
     let left = b"k,a\n+1.50,u\n-0.00,v\n99.9,w\n-99.9,x\n0002,y\n-0.5,z\n";
-    let table = read_table(alloc, left, &types, "")?;
+    let table = read_table(alloc, left, &types, &[""])?;
     assert!(rt; table.rows() == 6);
     assert!(rt; table.columns() == 2);
     let units = [15, 0, 999, -999, 20, -5];
@@ -215,7 +216,7 @@ fn null_text_in_numeric_columns(rt: HostRuntime) -> Result<(), Fail> {
     assert!(rt; is_written(alloc, named, &types, &["k", "a"], "NULL", want));
     let empty = b"k,a\n,x\n2.00,\n";
     assert!(rt; is_written(alloc, empty, &types, &["k", "a"], "", empty));
-    let read = read_table(alloc, empty, &types, "")?;
+    let read = read_table(alloc, empty, &types, &[""])?;
     assert!(rt; read.rows() == 2 && read.columns() == 2 && read.cell(0, 0) == Cell::Null);
     let told = fault_under(alloc, empty, &types, "NULL");
     assert!(rt; told == Some(ReadRefused::BadInteger(1, 1)));
@@ -320,7 +321,7 @@ fn null_text(rt: HostRuntime) -> Result<(), Fail> {
     let alloc = rt.alloc();
     let left = b"id,a\nNULL,x\n1,\n";
     assert!(rt; is_written(alloc, left, &[INT, TEXT], &["id", "a"], "NULL", left));
-    let right = read_table(alloc, b"id,b\n1,\"NULL\"\n", &[INT, TEXT], "NULL")?;
+    let right = read_table(alloc, b"id,b\n1,\"NULL\"\n", &[INT, TEXT], &["NULL"])?;
     assert!(rt; right.rows() == 1);
     assert!(rt; right.columns() == 2);
     assert!(rt; right.cell(0, 1) == Cell::Null);
@@ -358,7 +359,7 @@ fn columns_and_names(rt: HostRuntime) -> Result<(), Fail> {
     let alloc = rt.alloc();
     let types = vec![in alloc; INT; 257]?;
     let most = wide_header(alloc, 256)?;
-    let table = read_table(alloc, most.as_bytes(), &types.as_slice()[..256], "")?;
+    let table = read_table(alloc, most.as_bytes(), &types.as_slice()[..256], &[""])?;
     assert!(rt; table.columns() == 256);
     let past = wide_header(alloc, 257)?;
     let refused = fault(alloc, past.as_bytes(), types.as_slice());
@@ -383,7 +384,7 @@ fn is_beginning(alloc: Global, size: usize, want: Result<(u64, &str), ReadRefuse
     if size > MARKED.len() {
         return false;
     }
-    match read_table(alloc, &MARKED[..size], &[INT, TEXT], "") {
+    match read_table(alloc, &MARKED[..size], &[INT, TEXT], &[""]) {
         Ok(table) => match want {
             Ok((rows, text)) => table.rows() == rows && ends_with(&table, text),
             Err(_) => false,
@@ -475,7 +476,7 @@ impl Output for FailsOnce {
 
 #[test]
 fn failing_writer_sweep(rt: HostRuntime) -> Result<(), Fail> {
-    let table = read_table(rt.alloc(), b"a\n1\n", &[INT], "")?;
+    let table = read_table(rt.alloc(), b"a\n1\n", &[INT], &[""])?;
     assert!(rt; table.columns() == 1);
     for left in 0..10 {
         let mut device = FailsOnce { left, failures: 0 };
@@ -562,7 +563,7 @@ fn is_told(alloc: Global, table: &Table, left: u64) -> bool {
 
 #[test]
 fn tiring_writer_sweep(rt: HostRuntime) -> Result<(), Fail> {
-    let table = read_table(rt.alloc(), b"a\n1\n", &[INT], "")?;
+    let table = read_table(rt.alloc(), b"a\n1\n", &[INT], &[""])?;
     for left in 0..8 {
         assert!(rt; is_told(rt.alloc(), &table, left), "at {left}");
     }

@@ -1,1 +1,4 @@
 pub mod Lists
+pub mod Nulls
+pub mod BlockFacts
+pub mod RangeFacts

@@ -4,7 +4,7 @@ use crate::dividing::fault_of_division;
 use crate::failure::Failure;
 use crate::files::{file_size, open_range, read_head};
 use crate::line::Line;
-use rj_command::Fault;
+use rj_command::{Fault, Strictness};
 use rj_csv_io::{CountedWriter, Output};
 use rj_divide::find_cuts;
 use std::alloc::Global;
@@ -27,7 +27,7 @@ fn lines_of(alloc: Global, begin: u64, cuts: &[u64], end: u64) -> Result<String,
 }
 
 /// Prints at which bytes the file of the side can be cut into so many ranges of about one size, or fewer; a file below 64 KiB
-/// isn't cut. Nothing but the file's records is looked at: what is wrong with it is told when it is divided.
+/// isn't cut. Nothing but the file's records is looked at, as the library `csv` reads them: what is wrong with it is told when it is divided.
 ///
 /// # Errors
 ///
@@ -38,7 +38,7 @@ pub(crate) fn print_cuts<R: Files + AllocGlobal + Print>(
     ranges: u32,
 ) -> Result<(), Failure> {
     let file = line.operand(line.side).file;
-    let head = match read_head(rt, file, line.side) {
+    let head = match read_head(rt, file, line.side, Strictness::Off) {
         Ok(head) => head,
         Err(Fault::NoHeader(_)) => return Ok(()),
         Err(fault) => return Err(Failure::Told(fault)),

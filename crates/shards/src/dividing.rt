@@ -1,19 +1,23 @@
 //! Dividing a range of a file.
 
-ghost use Rattle.std.specs.Prelude.{◌≡◌, ◌<◌, ◌-◌, ◌^◌, All, IfOk, IsTrue, length, true};
+ghost use Rattle.std.specs.Prelude.{◌≡◌, ◌<◌, ◌≤◌, ◌-◌, ◌^◌, All, IfOk, IsTrue, length, true};
 ghost use Rattle.rj_condition.specs.Fits.{fits};
 ghost use Rattle.rj_condition.specs.Parts.{split_fits};
 ghost use Rattle.rj_csv_io.specs.Tables.{is_null_text};
+ghost use Rattle.rj_csv_io.specs.Typed.{null_texts};
+ghost use Rattle.rj_divide.specs.Divisions.{written_null};
 
+use crate::blocks::{BlockRefused, divide_strictly};
 use crate::failure::Failure;
 use crate::files::{Head, open_range, read_head};
 use crate::line::{Line, Operand};
 use crate::outputs::{Nowhere, OnePart, part_files};
 use rj_columns::{ColumnType, Table};
-use rj_command::{Fault, Side, bind_clause, fault_of_read};
+use rj_command::{Strictness, bind_clause, fault_of_text, types_of_header};
 use rj_condition::{BoundJoin, split};
-use rj_csv_io::{CountedWriter, Output, is_lawful_null};
+use rj_csv_io::{CountedWriter, Input, Output, are_lawful_nulls};
 use rj_divide::{DivideRefused, Division, Route, divide, write_headers};
+use rj_fault::{Fault, Side, fault_of_read};
 use rj_radix::Mixed;
 use rj_shards::{ShardRoute, Shards};
 use std::alloc::{AllocError, Global};
@@ -33,6 +37,7 @@ struct Range<'a> {
     line: &'a Line<'a>,
     head: &'a Head,
     types: &'a [ColumnType],
+    nulls: &'a [&'a str],
     from: u64,
     to: u64,
 }
@@ -59,7 +64,8 @@ fn empty_table(
     operand: &Operand<'_>,
     side: Side,
 ) -> Result<Table, Fault> {
-    match head.header.table(alloc, operand.types.as_slice()) {
+    let types = types_of_header(alloc, &head.header, operand.types.as_slice(), side)?;
+    match head.header.table(alloc, types.as_slice()) {
         Ok(table) => Ok(table),
         Err(refused) => Err(fault_of_read(side, refused)),
     }
@@ -124,7 +130,7 @@ fn plan<R: Files + AllocGlobal>(
 {
     let side = other_side(line.side);
     let operand = line.operand(side);
-    let head = read_head(rt, operand.file, side)?;
+    let head = read_head(rt, operand.file, side, line.strict)?;
     let other = empty_table(rt.alloc(), &head, operand, side)?;
     shards_of(rt.alloc(), line, own, &other)
 }
@@ -140,6 +146,46 @@ pub(crate) fn fault_of_division(side: Side, refused: DivideRefused) -> Fault {
     }
 }
 
+fn fault_of_block(side: Side, refused: BlockRefused) -> Fault {
+    match refused {
+        BlockRefused::Broken(fault) => fault_of_text(side, fault),
+        BlockRefused::Divided(refused) => fault_of_division(side, refused),
+    }
+}
+
+// Divides what a device tells, as strictly as is asked for.
+fn divide_input<I: Input, W: Route, O: Output>(
+    alloc: Global,
+    range: &Range<'_>,
+    input: &mut I,
+    division: &Division<'_, W>,
+    outputs: &mut [O],
+) -> Result<u64, Fault>
+    requires types { W.fits division.now.route.now division.now.types.now }
+    requires outputs { length outputs.old ≡ W.count division.now.route.now }
+    requires first { division.now.first ≤ 2 ^ 62 }
+    requires null { IsTrue (is_null_text (written_null (null_texts division.now.nulls.now))) }
+    requires reads { I.count input.old < 2 ^ 64 - 1 }
+    requires writes { All (λ o. O.count o < 2 ^ 64 - 1) outputs.old }
+{
+    let side = range.line.side;
+    let full = match range.line.strict {
+        Strictness::Off => {
+            let is_first = range.from == 0;
+            return match divide(alloc, input, division, is_first, BLOCK, outputs) {
+                Ok(rows) => Ok(rows),
+                Err(refused) => Err(fault_of_division(side, refused)),
+            };
+        }
+        Strictness::On => false,
+        Strictness::Full => true,
+    };
+    match divide_strictly(alloc, input, division, full, BLOCK, outputs) {
+        Ok(rows) => Ok(rows),
+        Err(refused) => Err(fault_of_block(side, refused)),
+    }
+}
+
 // Puts each row of a range to the output of its part, and says how many rows there are.
 fn divide_rows<R: Files + AllocGlobal, W: Route, O: Output>(
     rt: &R,
@@ -149,13 +195,12 @@ fn divide_rows<R: Files + AllocGlobal, W: Route, O: Output>(
 ) -> Result<u64, Failure>
     requires types { W.fits route.now range.now.types.now }
     requires outputs { length outputs.old ≡ W.count route.now }
-    requires null { IsTrue (is_null_text range.now.line.now.null.now) }
+    requires null { IsTrue (is_null_text (written_null (null_texts range.now.nulls.now))) }
     requires writes { All (λ o. O.count o < 2 ^ 64 - 1) outputs.old }
 {
     let side = range.line.side;
     let file = range.line.operand(side).file;
-    let is_first = range.from == 0;
-    let begin = if is_first {
+    let begin = if range.from == 0 {
         range.head.begin
     } else {
         range.from
@@ -164,14 +209,12 @@ fn divide_rows<R: Files + AllocGlobal, W: Route, O: Output>(
     let division = Division {
         header: &range.head.header,
         types: range.types,
-        null: range.line.null,
+        nulls: range.nulls,
         route,
         first: range.from.min(MOST),
     };
-    match divide(rt.alloc(), &mut input, &division, is_first, BLOCK, outputs) {
-        Ok(rows) => Ok(rows),
-        Err(refused) => Err(Failure::Told(fault_of_division(side, refused))),
-    }
+    let rows = divide_input(rt.alloc(), range, &mut input, &division, outputs)?;
+    Ok(rows)
 }
 
 // Prints how many rows a range has, and how many bytes the header of each part.
@@ -192,7 +235,7 @@ fn divide_among_files<R: Files + AllocGlobal + Print>(
     folder: &str,
 ) -> Result<(), Failure>
     requires keys { All (λ c. c < length range.now.types.now) plan.now.1.items }
-    requires null { IsTrue (is_null_text range.now.line.now.null.now) }
+    requires null { IsTrue (is_null_text (written_null (null_texts range.now.nulls.now))) }
 {
     let (shards, columns) = plan;
     let route = ShardRoute {
@@ -220,7 +263,7 @@ fn look_at_rows<R: Files + AllocGlobal + Print>(
     range: &Range<'_>,
     failure: Failure,
 ) -> Result<(), Failure>
-    requires null { IsTrue (is_null_text range.now.line.now.null.now) }
+    requires null { IsTrue (is_null_text (written_null (null_texts range.now.nulls.now))) }
 {
     let mut nowhere = [Nowhere];
     let rows = divide_rows(rt, range, &OnePart, nowhere.as_mut_slice())?;
@@ -228,12 +271,32 @@ fn look_at_rows<R: Files + AllocGlobal + Print>(
     Err(failure)
 }
 
+// What is told of a null text that isn't lawful: this, but where the file can't be read at all.
+fn unlawful_null(head: Result<Head, Fault>) -> Failure {
+    match head {
+        Err(Fault::ReadDevice(side)) => Failure::Told(Fault::ReadDevice(side)),
+        Err(Fault::Memory) => Failure::Told(Fault::Memory),
+        _ => Failure::Told(Fault::BadNull),
+    }
+}
+
+// Whether the null texts of a side are lawful, the one that is written among them, and so are those of the other.
+#[tactic(auto, using(crate::proofs::Nulls::written_lawful))]
+fn have_lawful_nulls(nulls: &[&str], others: &[&str]) -> bool
+    ensures { result ≡ true → is_null_text (written_null (null_texts nulls.now)) ≡ true }
+{
+    if !are_lawful_nulls(nulls) {
+        return false;
+    }
+    are_lawful_nulls(others)
+}
+
 /// Divides the bytes of a side's file from one place up to another, or to its end, among the files of a folder, and prints how
 /// many rows they have.
 ///
 /// # Errors
 ///
-/// The first fault of the side's file; then one of the other file's header, or of the clause, and the rows are counted all
+/// `BadNull`; the first fault of the side's file; then one of the other file's header, or of the clause, and the rows are counted all
 /// the same.
 pub(crate) fn divide_range<R: Files + AllocGlobal + Print>(
     rt: &R,
@@ -243,16 +306,19 @@ pub(crate) fn divide_range<R: Files + AllocGlobal + Print>(
     folder: &str,
 ) -> Result<(), Failure> {
     let own = line.operand(line.side);
-    let head = read_head(rt, own.file, line.side)?;
-    if !is_lawful_null(line.null) {
-        return Err(Failure::Told(Fault::BadNull));
+    let head = read_head(rt, own.file, line.side, line.strict);
+    let nulls = line.nulls(line.side);
+    if !have_lawful_nulls(nulls, line.nulls(other_side(line.side))) {
+        return Err(unlawful_null(head));
     }
+    let head = head?;
     let table = empty_table(rt.alloc(), &head, own, line.side)?;
     let types = types_of(rt.alloc(), &table)?;
     let range = Range {
         line,
         head: &head,
         types: types.as_slice(),
+        nulls,
         from,
         to: to.unwrap_or(MOST),
     };

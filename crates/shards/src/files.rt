@@ -3,7 +3,8 @@
 ghost use Rattle.std.specs.Prelude.{◌≡◌, IfOk};
 ghost use Rattle.rj_csv_io.specs.Devices.{read_failures_of};
 
-use rj_command::{Fault, Side, fault_of_read};
+use crate::first_line::head_of_lines;
+use rj_command::{Fault, Side, Strictness, fault_of_read};
 use rj_csv_io::{
     CountedReader, CountedWriter, Failed, Header, Output, last_cut, read_up_to, without_bom,
 };
@@ -14,12 +15,13 @@ use std::io::{ErrorKind, Read, Seek, SeekFrom, Take};
 /// The bytes that are read of a file for its header at first.
 const HEADER_BYTES: usize = 1 << 16;
 
-/// The header of a file, and where the text that it stands in begins.
+/// The header of a file, and where the file's first range begins.
 #[derive(Drop)]
 pub(crate) struct Head {
     /// The header.
     pub(crate) header: Header,
-    /// How many bytes stand before the text: those of its byte order mark.
+    /// Where the first range begins: behind the byte order mark, at the header; or, where the file is read strictly, at the line
+    /// below the header.
     pub(crate) begin: u64,
 }
 
@@ -86,15 +88,17 @@ fn head_of(alloc: Global, bytes: &[u8], is_whole: bool, side: Side) -> Result<Op
     }
 }
 
-/// Reads the header of a file.
+/// Reads the header of a file, as strictly as is asked for.
 ///
 /// # Errors
 ///
-/// `NoHeader` where it has no record, `ReadDevice`, or `Memory`.
+/// `NoHeader` where it has no record, `ReadDevice`, or `Memory`; where it is read strictly, the place in its first line where it
+/// stops being of RFC 4180's grammar.
 pub(crate) fn read_head<R: Files + AllocGlobal>(
     rt: &R,
     name: &str,
     side: Side,
+    strict: Strictness,
 ) -> Result<Head, Fault> {
     let mut input = CountedReader::new(open_file(rt, name, side)?);
     let mut bytes = Vec::new(rt.alloc());
@@ -104,7 +108,12 @@ pub(crate) fn read_head<R: Files + AllocGlobal>(
             Ok(is_whole) => is_whole,
             Err(refused) => return Err(fault_of_read(side, refused)),
         };
-        if let Some(head) = head_of(rt.alloc(), bytes.as_slice(), is_whole, side)? {
+        let found = match strict {
+            Strictness::Off => head_of(rt.alloc(), bytes.as_slice(), is_whole, side)?,
+            Strictness::On => head_of_lines(rt.alloc(), bytes.as_slice(), is_whole, side, false)?,
+            Strictness::Full => head_of_lines(rt.alloc(), bytes.as_slice(), is_whole, side, true)?,
+        };
+        if let Some(head) = found {
             return Ok(head);
         }
         size = size.saturating_mul(2);

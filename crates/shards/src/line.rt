@@ -3,8 +3,8 @@
 use crate::failure::Failure;
 use clap::error::ErrorKind;
 use clap::{Arg, ArgAction, ArgMatches, Command, Error, value_parser};
-use rj_columns::ColumnType;
-use rj_command::{Fault, Side, VERSION, read_types};
+use rj_command::{Strictness, TypeEntry, VERSION, read_nulls, read_types};
+use rj_fault::{Fault, Side};
 use std::alloc::{AllocError, Global};
 
 /// One of the two tables.
@@ -12,8 +12,8 @@ use std::alloc::{AllocError, Global};
 pub(crate) struct Operand<'a> {
     /// The name of its file.
     pub(crate) file: &'a str,
-    /// The types of its columns.
-    pub(crate) types: Vec<ColumnType>,
+    /// The types of its columns, by position or by name.
+    pub(crate) types: Vec<TypeEntry>,
 }
 
 /// What is to be done with the file of one side.
@@ -34,10 +34,14 @@ pub(crate) struct Line<'a> {
     pub(crate) left: Operand<'a>,
     /// The right table.
     pub(crate) right: Operand<'a>,
+    /// The texts that stand for null in the left table.
+    pub(crate) left_nulls: Vec<&'a str>,
+    /// The texts that stand for null in the right table.
+    pub(crate) right_nulls: Vec<&'a str>,
     /// The text of the join clause.
     pub(crate) clause: &'a str,
-    /// The text that stands for null.
-    pub(crate) null: &'a str,
+    /// Whether the texts of the files have to be of RFC 4180's grammar.
+    pub(crate) strict: Strictness,
     /// How many parts there are.
     pub(crate) parts: u32,
     /// What is to be done.
@@ -52,6 +56,14 @@ impl<'a> Line<'a> {
             Side::Right => &self.right,
         }
     }
+
+    /// The texts that stand for null in the table of a side. The first of them is written for null.
+    pub(crate) fn nulls(&self, side: Side) -> &[&'a str] {
+        match side {
+            Side::Left => self.left_nulls.as_slice(),
+            Side::Right => self.right_nulls.as_slice(),
+        }
+    }
 }
 
 // An option that takes a text.
@@ -61,6 +73,35 @@ fn text_option<'a>(alloc: Global, name: &'a str, is_required: bool, help: &'a st
         .action(ArgAction::Set)
         .required(is_required)
         .help(help)
+}
+
+// An option that takes a text at each use.
+fn texts_option<'a>(alloc: Global, name: &'a str, help: &'a str) -> Arg<'a> {
+    Arg::new(alloc, name)
+        .long(name)
+        .action(ArgAction::Append)
+        .help(help)
+}
+
+// How strictly the files are read, as `radixjoin` has it.
+fn strict_option<'a>(alloc: Global) -> Arg<'a> {
+    text_option(
+        alloc,
+        "strict",
+        false,
+        "Refuse files that aren't of RFC 4180's grammar; full: also those whose last line has no end",
+    )
+    .num_args(0..=1)
+    .default_missing_value("on")
+    .value_parser(["on", "full"].as_slice())
+}
+
+fn strictness_of(matches: &ArgMatches<'_>) -> Strictness {
+    match matches.get_str("strict") {
+        Some("full") => Strictness::Full,
+        Some(_) => Strictness::On,
+        None => Strictness::Off,
+    }
 }
 
 // The options that name the two tables and the join of them, as `radixjoin` has them.
@@ -82,13 +123,13 @@ fn with_tables<'a>(alloc: Global, command: Command<'a>) -> Result<Command<'a>, A
             alloc,
             "left-types",
             true,
-            "Types of the left columns, each int, num(p,s) or text, as int,num(9,2),text",
+            "Types of the left columns, each int, num(p,s) or text, as 'int,num(9,2),text' or, by name, 'id=int,*=text'",
         ))?
         .arg(text_option(
             alloc,
             "right-types",
             true,
-            "Types of the right columns, each int, num(p,s) or text, as int,num(9,2),text",
+            "Types of the right columns, each int, num(p,s) or text, as 'int,num(9,2),text' or, by name, 'id=int,*=text'",
         ))?
         .arg(text_option(
             alloc,
@@ -101,7 +142,18 @@ fn with_tables<'a>(alloc: Global, command: Command<'a>) -> Result<Command<'a>, A
             "null",
             false,
             "Text of a field that is null, read and written [default: an empty field]",
-        ))
+        ))?
+        .arg(texts_option(
+            alloc,
+            "left-null",
+            "Text of a left field that is null; up to four by giving it again, and the first is written [default: as --null]",
+        ))?
+        .arg(texts_option(
+            alloc,
+            "right-null",
+            "Text of a right field that is null; up to four by giving it again, and the first is written [default: as --null]",
+        ))?
+        .arg(strict_option(alloc))
 }
 
 // The options that say which rows go where.
@@ -187,7 +239,7 @@ fn task_of<'a>(matches: &ArgMatches<'a>) -> Option<Task<'a>> {
 /// # Errors
 ///
 /// A line that `clap` refuses, or that asks for help or the version; a bad type list, the left one before the right one;
-/// both or neither of `--out` and `--cuts`; or memory was refused.
+/// more than four null texts of a table, in the same order; both or neither of `--out` and `--cuts`; or memory was refused.
 pub(crate) fn read_line<'a>(alloc: Global, words: &'a [&'a str]) -> Result<Line<'a>, Failure> {
     let matches = match read_matches(alloc, words) {
         Ok(matches) => matches,
@@ -198,6 +250,15 @@ pub(crate) fn read_line<'a>(alloc: Global, words: &'a [&'a str]) -> Result<Line<
     };
     let left = operand_of(alloc, &matches, Side::Left, ("left", "left-types"))?;
     let right = operand_of(alloc, &matches, Side::Right, ("right", "right-types"))?;
+    let null = matches.get_str("null").unwrap_or("");
+    let left_nulls = match read_nulls(alloc, &matches, "left-null", null, Side::Left) {
+        Ok(nulls) => nulls,
+        Err(fault) => return Err(Failure::Told(fault)),
+    };
+    let right_nulls = match read_nulls(alloc, &matches, "right-null", null, Side::Right) {
+        Ok(nulls) => nulls,
+        Err(fault) => return Err(Failure::Told(fault)),
+    };
     let Some(task) = task_of(&matches) else {
         return Err(Failure::NoTask);
     };
@@ -209,8 +270,10 @@ pub(crate) fn read_line<'a>(alloc: Global, words: &'a [&'a str]) -> Result<Line<
         side,
         left,
         right,
+        left_nulls,
+        right_nulls,
         clause: matches.get_str("join").unwrap_or(""),
-        null: matches.get_str("null").unwrap_or(""),
+        strict: strictness_of(&matches),
         parts: matches.get_one("parts").unwrap_or(1),
         task,
     })

@@ -2,10 +2,12 @@
 //! by part, and says where a file can be cut. Faults go to standard error.
 #![tactic(auto)]
 
+mod blocks;
 mod cutting;
 mod dividing;
 mod failure;
 mod files;
+mod first_line;
 mod line;
 mod outputs;
 

@@ -4,13 +4,14 @@ ghost use Rattle.std.specs.Prelude.{◌≡◌, ◌⊎◌, ◌-◌, ◌^◌, IfOk
 ghost use Rattle.clap.specs.Words.{first_value, found_of, kind_of};
 ghost use Rattle.rj_command.specs.Line.{AreNumbersIn, AreSettings, IsHashName, IsHashOr, IsLineFault, IsLineOf, IsNumberIn, IsNumberOr, IsParseOf, IsStrictName, IsStrictness, is_true};
 
-use crate::fault::{Fault, Side};
+use crate::join::nulls::read_nulls;
 use crate::join::options::line_command;
 use crate::join::request::{Hash, Request, Strictness};
 use crate::join::types::read_types;
 use clap::error::ErrorKind;
 use clap::{ArgMatches, Error};
 use rj_engine::Settings;
+use rj_fault::{Fault, Side};
 use std::alloc::Global;
 
 /// What the words of the command line say.
@@ -127,7 +128,8 @@ fn is_given(matches: &ArgMatches<'_>, name: &str) -> bool
 /// # Errors
 ///
 /// A line that `clap` refuses, or that asks for help or the version, is `Fault::CommandLine`; a bad type list is told
-/// after that, the left one before the right one. `Fault::Memory` comes only where a growth was refused.
+/// after that, the left one before the right one, and then more than four null texts on the left, and on the right.
+/// `Fault::Memory` comes only where a growth was refused.
 pub fn read_line<'a>(alloc: Global, words: &'a [&'a str]) -> Result<Line<'a>, Fault>
     ensures line { IfOk result (IsLineOf (map (λ w. w.now) words.entry.now)) }
     ensures fault { IfErr result (IsLineFault (map (λ w. w.now) words.entry.now)) }
@@ -135,13 +137,24 @@ pub fn read_line<'a>(alloc: Global, words: &'a [&'a str]) -> Result<Line<'a>, Fa
     let matches = parse_words(alloc, words)?;
     let left_types = read_types(alloc, given(&matches, "left-types"), Side::Left)?;
     let right_types = read_types(alloc, given(&matches, "right-types"), Side::Right)?;
+    let null = matches.get_str("null").unwrap_or("");
+    let left_nulls = match read_nulls(alloc, &matches, "left-null", null, Side::Left) {
+        Ok(nulls) => nulls,
+        Err(fault) => return Err(fault),
+    };
+    let right_nulls = match read_nulls(alloc, &matches, "right-null", null, Side::Right) {
+        Ok(nulls) => nulls,
+        Err(fault) => return Err(fault),
+    };
     Ok(Line {
         left: given(&matches, "left"),
         right: given(&matches, "right"),
         request: Request {
             left_types,
             right_types,
-            null: matches.get_str("null").unwrap_or(""),
+            left_nulls,
+            right_nulls,
+            out_null: matches.get_str("out-null").unwrap_or(null),
             strict: strictness_of(&matches),
             clause: given(&matches, "join"),
             settings: settings_of(&matches),

@@ -4,14 +4,15 @@ ghost use Rattle.std.specs.Prelude.{◌≡◌, ◌≢◌, IfOk, IfErr, OnOk, IsT
 ghost use Rattle.rj_csv_io.specs.Tables.{is_null_text};
 ghost use Rattle.rj_condition.specs.Fits.{fits};
 ghost use Rattle.rj_command.specs.Operands.{AreOperands, IsFirstFault, IsJoinFault, IsJoinOf, bind_fault, parse_fault};
-ghost use Rattle.rj_command.specs.Sides.{IsTable, IsTableFault, read_fault};
+ghost use Rattle.rj_command.specs.Runs.{AreReadApart};
+ghost use Rattle.rj_command.specs.Sides.{IsTable, IsTableFault};
 
-use crate::fault::{Fault, Side};
 use crate::join::request::{Request, Strictness};
 use crate::join::strict::{read_strictly, read_text};
 use rj_columns::Table;
 use rj_condition::{BindRefused, BoundJoin, ParseRefused, bind, parse};
-use rj_csv_io::ReadRefused;
+use rj_csv_io::null_texts_read_as_null;
+use rj_fault::{Fault, Side};
 use std::alloc::Global;
 use std::convert::AsSlice;
 use std::thread::Threads;
@@ -47,26 +48,6 @@ fn fault_of_parse(refused: ParseRefused) -> Fault
     }
 }
 
-/// The fault that a table of this side can't be read for.
-pub fn fault_of_read(side: Side, refused: ReadRefused) -> Fault
-    ensures { result ≡ read_fault side refused }
-{
-    match refused {
-        ReadRefused::NoHeader => Fault::NoHeader(side),
-        ReadRefused::BadName(column) => Fault::BadName(side, column),
-        ReadRefused::RepeatedName(column) => Fault::RepeatedName(side, column),
-        ReadRefused::TypeCount => Fault::TypeCount(side),
-        ReadRefused::RaggedRow(row) => Fault::RaggedRow(side, row),
-        ReadRefused::BadInteger(row, column) => Fault::BadInteger(side, row, column),
-        ReadRefused::BadText(row, column) => Fault::BadText(side, row, column),
-        ReadRefused::TooManyRows => Fault::TooManyRows(side),
-        ReadRefused::TooManyColumns => Fault::TooManyColumns(side),
-        ReadRefused::BadNull => Fault::BadNull,
-        ReadRefused::ReadDevice => Fault::ReadDevice(side),
-        ReadRefused::Memory => Fault::Memory,
-    }
-}
-
 // The table of one side, read as strictly as is asked for. Bytes that it owns are given back before it returns.
 fn read_side<R: Threads + Sync, B: AsSlice<u8> + Drop>(
     rt: &R,
@@ -77,13 +58,10 @@ fn read_side<R: Threads + Sync, B: AsSlice<u8> + Drop>(
 ) -> Result<Table, Fault>
     ensures table { IfOk result (IsTable request.now side (B.items bytes)) }
     ensures fault { IfErr result (λ f. f ≢ Fault.Memory → IsTableFault request.now side (B.items bytes) f) }
-    ensures lawful { OnOk result (IsTrue (is_null_text request.now.null.now)) }
+    ensures lawful { OnOk result (IsTrue (is_null_text request.now.out_null.now)) }
 {
     match request.strict {
-        Strictness::Off => match read_text(rt, alloc, bytes.as_slice(), request, side) {
-            Ok(table) => Ok(table),
-            Err(refused) => Err(fault_of_read(side, refused)),
-        },
+        Strictness::Off => read_text(rt, alloc, bytes.as_slice(), request, side),
         Strictness::On => read_strictly(rt, alloc, bytes.as_slice(), request, side, false),
         Strictness::Full => read_strictly(rt, alloc, bytes.as_slice(), request, side, true),
     }
@@ -138,9 +116,11 @@ pub(crate) fn read_operands<R: Threads + Sync, B: AsSlice<u8> + Drop>(
 ) -> Result<Operands, Fault>
     ensures operands { IfOk result (λ o. AreOperands (B.items left) (B.items right) request.now o.left o.right o.join) }
     ensures fault { IfErr result (λ f. f ≢ Fault.Memory → IsFirstFault (B.items left) (B.items right) request.now f) }
-    ensures lawful { OnOk result (IsTrue (is_null_text request.now.null.now)) }
+    ensures lawful { OnOk result (IsTrue (is_null_text request.now.out_null.now)) }
+    ensures apart { IfOk result (AreReadApart request.now) }
     ensures bound { IfOk result (λ o. fits o.join o.left.types o.right.types ≡ true) }
 {
+    null_texts_read_as_null();
     let left = read_side(rt, alloc, left, request, Side::Left)?;
     let right = read_side(rt, alloc, right, request, Side::Right)?;
     bind_tables(alloc, request.clause, left, right)

@@ -4,8 +4,8 @@ ghost use Rattle.std.specs.Prelude.{◌≡◌, IfOk, map};
 ghost use Rattle.clap.specs.Words.{rule_of};
 ghost use Rattle.rj_command.specs.Options.{IsChain, IsLineCommand, rule_of_option};
 
-use crate::VERSION;
 use clap::{Arg, ArgAction, Command, value_parser};
+use rj_fault::VERSION;
 use std::alloc::{AllocError, Global};
 
 // What an option takes.
@@ -15,6 +15,8 @@ pub(crate) enum Takes {
     Required,
     // A text.
     Text,
+    // A text at each use.
+    Texts,
     // A number, from the first of these to the second.
     Number(u32, u32),
     // One of these words.
@@ -36,7 +38,7 @@ pub(crate) struct LineOption {
 // The bits of the hash that a pass partitions by.
 const BITS: Takes = Takes::Number(0, 10);
 
-const OPTIONS: [LineOption; 17] = [
+const OPTIONS: [LineOption; 20] = [
     LineOption {
         name: "left",
         takes: Takes::Required,
@@ -50,12 +52,12 @@ const OPTIONS: [LineOption; 17] = [
     LineOption {
         name: "left-types",
         takes: Takes::Required,
-        help: "Types of the left columns, each int, num(p,s) or text, as int,num(9,2),text",
+        help: "Types of the left columns, each int, num(p,s) or text, as 'int,num(9,2),text' or, by name, 'id=int,*=text'",
     },
     LineOption {
         name: "right-types",
         takes: Takes::Required,
-        help: "Types of the right columns, each int, num(p,s) or text, as int,num(9,2),text",
+        help: "Types of the right columns, each int, num(p,s) or text, as 'int,num(9,2),text' or, by name, 'id=int,*=text'",
     },
     LineOption {
         name: "join",
@@ -66,6 +68,21 @@ const OPTIONS: [LineOption; 17] = [
         name: "null",
         takes: Takes::Text,
         help: "Text of a field that is null, read and written [default: an empty field]",
+    },
+    LineOption {
+        name: "left-null",
+        takes: Takes::Texts,
+        help: "Text of a left field that is null; up to four by giving it again [default: as --null]",
+    },
+    LineOption {
+        name: "right-null",
+        takes: Takes::Texts,
+        help: "Text of a right field that is null; up to four by giving it again [default: as --null]",
+    },
+    LineOption {
+        name: "out-null",
+        takes: Takes::Text,
+        help: "Text that is written for null [default: as --null]",
     },
     LineOption {
         name: "strict",
@@ -135,6 +152,7 @@ fn argument<'a>(alloc: Global, option: &LineOption) -> Arg<'a>
     match option.takes {
         Takes::Required => argument.action(ArgAction::Set).required(true),
         Takes::Text => argument.action(ArgAction::Set),
+        Takes::Texts => argument.action(ArgAction::Append),
         Takes::Number(least, most) => {
             let numbers = value_parser!(u32).range(i64::from(least)..=i64::from(most));
             argument.action(ArgAction::Set).value_parser(numbers)

@@ -1,7 +1,7 @@
 //! What a join is asked to do.
 
-use rj_columns::ColumnType;
 use rj_engine::Settings;
+use rj_types::TypeEntry;
 
 /// The hash of a row's key, whose bits lead the row to its partition. No choice changes the rows of a join.
 #[derive(Clone, Copy)]
@@ -26,12 +26,16 @@ pub enum Strictness {
 /// What a join of two files is asked to do.
 #[derive(Drop)]
 pub struct Request<'a> {
-    /// The types of the left table's columns.
-    pub left_types: Vec<ColumnType>,
+    /// The types of the left table's columns, by position or by name.
+    pub left_types: Vec<TypeEntry>,
     /// The types of the right table's columns.
-    pub right_types: Vec<ColumnType>,
-    /// The text that stands for null, in both tables and in what is written.
-    pub null: &'a str,
+    pub right_types: Vec<TypeEntry>,
+    /// The texts that stand for null in the left table.
+    pub left_nulls: Vec<&'a str>,
+    /// The texts that stand for null in the right table.
+    pub right_nulls: Vec<&'a str>,
+    /// The text that is written for null.
+    pub out_null: &'a str,
     /// Whether their texts have to be of RFC 4180's grammar.
     pub strict: Strictness,
     /// The text of the join clause.

@@ -6,13 +6,15 @@ ghost use Rattle.rj_csv_io.specs.Tables.{is_null_text};
 ghost use Rattle.rj_strict.specs.Grammar.{Derives, File, records_of};
 ghost use Rattle.rj_strict.specs.Reading.{body_of};
 ghost use Rattle.rj_strict.specs.declared.header.Header.TheVariants.{Above, First};
-ghost use Rattle.rj_command.specs.Sides.{IsReading, IsStrictFault, IsStrictTable, fault_below, strict_fault, types_of};
+ghost use Rattle.rj_command.specs.Sides.{IsReading, IsStrictFault, IsStrictTable, fault_below, strict_fault};
+ghost use Rattle.rj_command.specs.Sides as sides;
 
-use crate::fault::{Fault, Side};
-use crate::join::operands::fault_of_read;
+use crate::join::nulls::{has_lawful_nulls, nulls_of};
 use crate::join::request::Request;
-use rj_columns::{ColumnType, Table};
-use rj_csv_io::{ReadRefused, read_table_in_parts, without_bom};
+use crate::join::types::types_of_text;
+use rj_columns::Table;
+use rj_csv_io::{read_table_in_parts, without_bom};
+use rj_fault::{Fault, Side, fault_of_read};
 use rj_strict::{
     Header, StrictFault, above_fault, check, derived_with_header, one_derivation,
     quote_empty_lines, reads_all_records, reads_quoted_records,
@@ -20,8 +22,8 @@ use rj_strict::{
 use std::alloc::Global;
 use std::thread::Threads;
 
-// The fault of a text that isn't of the grammar.
-fn fault_of_text(side: Side, fault: StrictFault) -> Fault
+/// The fault of a side's file whose text isn't of the grammar.
+pub fn fault_of_text(side: Side, fault: StrictFault) -> Fault
     ensures { result ≡ strict_fault side fault }
 {
     match fault {
@@ -34,22 +36,28 @@ fn fault_of_text(side: Side, fault: StrictFault) -> Fault
     }
 }
 
-// The fault of a text that isn't of the grammar, by the reading of the records above.
-fn first_fault(side: Side, fault: StrictFault, above: Result<Table, ReadRefused>) -> Fault
-    ensures { result ≡ fault_below side fault above }
+fn is_no_header(fault: &Fault) -> bool
+    ensures { result ≡ sides.is_no_header fault.now }
 {
-    match above {
-        Ok(_) | Err(ReadRefused::NoHeader) => fault_of_text(side, fault),
-        Err(refused) => fault_of_read(side, refused),
+    match fault {
+        Fault::NoHeader(_) => true,
+        _ => false,
     }
 }
 
-fn types_of<'a>(request: &'a Request<'_>, side: Side) -> &'a [ColumnType]
-    ensures { result.now ≡ types_of request.now side }
+// The fault of a text that isn't of the grammar, by the reading of the records above.
+fn first_fault(side: Side, fault: StrictFault, above: Result<Table, Fault>) -> Fault
+    ensures { result ≡ fault_below side fault above }
 {
-    match side {
-        Side::Left => request.left_types.as_slice(),
-        Side::Right => request.right_types.as_slice(),
+    match above {
+        Ok(_) => fault_of_text(side, fault),
+        Err(found) => {
+            if is_no_header(&found) {
+                fault_of_text(side, fault)
+            } else {
+                found
+            }
+        }
     }
 }
 
@@ -60,19 +68,20 @@ pub(crate) fn read_text<R: Threads + Sync>(
     text: &[u8],
     request: &Request<'_>,
     side: Side,
-) -> Result<Table, ReadRefused>
+) -> Result<Table, Fault>
     ensures reading { IsReading request.now side (records default_config (strip_bom text.now)) result }
-    ensures lawful { OnOk result (IsTrue (is_null_text request.now.null.now)) }
+    ensures lawful { OnOk result (IsTrue (is_null_text request.now.out_null.now)) }
 {
+    if !has_lawful_nulls(request) {
+        return Err(Fault::BadNull);
+    }
+    let types = types_of_text(alloc, text, request, side)?;
     let parts = request.settings.workers as usize;
-    read_table_in_parts(
-        rt,
-        alloc,
-        text,
-        types_of(request, side),
-        request.null,
-        parts,
-    )
+    let nulls = nulls_of(request, side);
+    match read_table_in_parts(rt, alloc, text, types.as_slice(), nulls, parts) {
+        Ok(table) => Ok(table),
+        Err(refused) => Err(fault_of_read(side, refused)),
+    }
 }
 
 // The table of all records of a text that is derived, in each of whose empty lines `""` is written first.
@@ -82,14 +91,14 @@ fn read_quoted<R: Threads + Sync>(
     text: &[u8],
     request: &Request<'_>,
     side: Side,
-) -> Result<Table, ReadRefused>
+) -> Result<Table, Fault>
     requires { (full : Bool) × (file : File) × Derives First full (body_of First text.now) file }
     ensures reading { (full : Bool) (file : File) → Derives First full (body_of First text.now) file → IsReading request.now side (records_of file) result }
-    ensures lawful { OnOk result (IsTrue (is_null_text request.now.null.now)) }
+    ensures lawful { OnOk result (IsTrue (is_null_text request.now.out_null.now)) }
 {
     reads_quoted_records();
     let Ok(quoted) = quote_empty_lines(alloc, text) else {
-        return Err(ReadRefused::Memory);
+        return Err(Fault::Memory);
     };
     read_text(rt, alloc, quoted.as_slice(), request, side)
 }
@@ -108,7 +117,7 @@ fn read_lines<R: Threads + Sync>(
     text: &[u8],
     request: &Request<'_>,
     side: Side,
-) -> Result<Table, ReadRefused>
+) -> Result<Table, Fault>
     requires { (file : File) × Derives First true (body_of First text.now) file }
     ensures { (file : File) → Derives First true (body_of First text.now) file → IsReading request.now side (records_of file) result }
 {
@@ -138,21 +147,15 @@ pub fn read_strictly<R: Threads + Sync>(
 ) -> Result<Table, Fault>
     ensures table { IfOk result (IsStrictTable full request.now side text.now) }
     ensures fault { IfErr result (λ f. f ≢ Fault.Memory → IsStrictFault full request.now side text.now f) }
-    ensures lawful { OnOk result (IsTrue (is_null_text request.now.null.now)) }
+    ensures lawful { OnOk result (IsTrue (is_null_text request.now.out_null.now)) }
 {
     reads_all_records();
     derived_with_header();
     if has_full_lines(text, full) {
-        return match read_text(rt, alloc, text, request, side) {
-            Ok(table) => Ok(table),
-            Err(refused) => Err(fault_of_read(side, refused)),
-        };
+        return read_text(rt, alloc, text, request, side);
     }
     match check(text, Header::First, full) {
-        Ok(()) => match read_quoted(rt, alloc, text, request, side) {
-            Ok(table) => Ok(table),
-            Err(refused) => Err(fault_of_read(side, refused)),
-        },
+        Ok(()) => read_quoted(rt, alloc, text, request, side),
         Err(fault) => {
             let above = above_fault(text, Header::First, fault);
             Err(first_fault(side, fault, read_lines(rt, alloc, above, request, side)))

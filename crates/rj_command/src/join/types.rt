@@ -1,140 +1,126 @@
-//! Type lists.
+//! Type lists, and the types that they give the columns of a text.
 
-ghost use Rattle.std.specs.Prelude.{◌≡◌, ◌≢◌, ◌<◌, ◌≤◌, ◌-◌, ◌+◌, ◌*◌, ◌++◌, ◌∷◌, [], ℕ, IfOk, IfErr, IfSome, IfNone, List, SomeIff, Some, None};
-ghost use Rattle.std.specs.Fmt.{decimal};
-ghost use Rattle.rj_decimal.specs.declared.numeric.NumericType.{NumericType};
-ghost use Rattle.rj_command.specs.Types.{IsTypeList, begin_word, end_word, word_pieces, begun_pieces, AreOf};
+ghost use Rattle.std.specs.Prelude.{◌≡◌, ◌≢◌, IfOk, IfErr, IsTrue, List, None, Err, OnOk, Some};
+ghost use Rattle.rj_columns.specs.Names.{begun};
+ghost use Rattle.rj_columns.specs.declared.refused.BuildRefused.{BuildRefused};
+ghost use Rattle.rj_csv_io.specs.Pieces.{names_in};
+ghost use Rattle.rj_csv_io.specs.Tables.{of_begun, read_of};
+ghost use Rattle.rj_types.specs.Columns as columns;
+ghost use Rattle.rj_types.specs.Lists.{IsTypeList};
+ghost use Rattle.rj_command.specs.Sides.{has_lawful_nulls, nulls_of, side_read, stands, told, type_fault, types_of};
 
-use crate::fault::{Fault, Side};
-use rj_columns::{ColumnType, NumericType};
-use std::alloc::Global;
+use crate::join::request::Request;
+use rj_columns::ColumnType;
+use rj_condition::Word;
+use rj_csv_io::{Header, ReadRefused, without_bom};
+use rj_fault::{Fault, Side};
+use rj_types::{TypeEntry, name_fault, read_list, types_under};
+use std::alloc::{AllocError, Global};
 
-// The value of a digit.
-fn digit(byte: u8) -> Option<u8>
-    ensures { SomeIff result ((48 ≤ byte) × (byte ≤ 57)) (byte - 48) }
-{
-    if byte.is_ascii_digit() {
-        Some(byte - b'0')
-    } else {
-        None
-    }
-}
-
-// The number that two digits write of which the first is no zero.
-fn two_digits(tens: u8, ones: u8) -> Option<u8>
-    ensures { SomeIff result ((49 ≤ tens) × (tens ≤ 57) × (48 ≤ ones) × (ones ≤ 57)) ((tens - 48) * 10 + (ones - 48)) }
-{
-    if tens != b'0' && tens.is_ascii_digit() && ones.is_ascii_digit() {
-        Some((tens - b'0') * 10 + (ones - b'0'))
-    } else {
-        None
-    }
-}
-
-// The number that one or two digits without a leading zero write.
-fn small_number(digits: &[u8]) -> Option<u8>
-    ensures found { IfSome result (λ n. digits.now ≡ decimal n) }
-    ensures missing { IfNone result ((n : ℕ) → n < 100 → digits.now ≢ decimal n) }
-{
-    match digits {
-        [ones] => digit(*ones),
-        [tens, ones] => two_digits(*tens, *ones),
-        _ => None,
-    }
-}
-
-// The precision of a numeric type, from what stands before the comma of its word.
-fn precision_of(piece: &[u8]) -> Option<u8>
-    ensures found { IfSome result (λ p. piece.now ≡ begin_word p) }
-    ensures missing { IfNone result ((p : ℕ) → p < 100 → piece.now ≢ begin_word p) }
-{
-    match piece {
-        [b'n', b'u', b'm', b'(', digits @ ..] => small_number(digits),
-        _ => None,
-    }
-}
-
-// The scale of a numeric type, from what stands behind the comma of its word.
-fn scale_of(piece: &[u8]) -> Option<u8>
-    ensures found { IfSome result (λ s. piece.now ≡ end_word s) }
-    ensures missing { IfNone result ((s : ℕ) → s < 100 → piece.now ≢ end_word s) }
-{
-    match piece {
-        [digits @ .., b')'] => small_number(digits),
-        _ => None,
-    }
-}
-
-// What a type's word ends with, or a numeric type's begins with, between two commas.
-enum Piece {
-    Last(ColumnType),
-    First(u8),
-}
-
-// What a piece is where no word is begun.
-fn first_piece(piece: &str) -> Option<Piece>
-    ensures found { IfSome result (λ x. AreOf x (piece.now ∷ [])) }
-    ensures types { IfNone result ((t : ColumnType) → piece.now ∷ [] ≢ word_pieces t) }
-    ensures begun { IfNone result ((n : NumericType) → piece.now ∷ [] ≢ begun_pieces (Some n.precision)) }
-{
-    match piece {
-        "int" => Some(Piece::Last(ColumnType::Int)),
-        "text" => Some(Piece::Last(ColumnType::Text)),
-        _ => {
-            let precision = precision_of(piece.as_bytes())?;
-            Some(Piece::First(precision))
-        }
-    }
-}
-
-// What a piece is behind the precision of a numeric type.
-fn last_piece(precision: u8, piece: &str) -> Option<Piece>
-    ensures found { IfSome result (λ x. AreOf x (begin_word precision ∷ piece.now ∷ [])) }
-    ensures types { IfNone result ((t : ColumnType) → begin_word precision ∷ piece.now ∷ [] ≢ word_pieces t) }
-{
-    let scale = scale_of(piece.as_bytes())?;
-    let numeric = NumericType::new(precision, scale)?;
-    Some(Piece::Last(ColumnType::Num(numeric)))
-}
-
-// What a piece is where this much of a word is begun.
-fn next_piece(begun: Option<u8>, piece: &str) -> Option<Piece>
-    ensures found { IfSome result (λ x. AreOf x (begun_pieces begun ++ piece.now ∷ [])) }
-    ensures types { IfNone result ((t : ColumnType) → begun_pieces begun ++ piece.now ∷ [] ≢ word_pieces t) }
-    ensures begun { IfNone result ((n : NumericType) → begun_pieces begun ++ piece.now ∷ [] ≢ begun_pieces (Some n.precision)) }
-{
-    match begun {
-        None => first_piece(piece),
-        Some(precision) => last_piece(precision, piece),
-    }
-}
-
-/// The types of a list such as `int,num(4,1)`, which is that of this side.
+/// The entries of a type list such as `int,num(4,1)` or `id=int,*=text`, which is that of this side.
 ///
 /// # Errors
 ///
 /// `BadTypeList` where the text is no such list. `Memory` comes only where a growth was refused.
-pub fn read_types(alloc: Global, text: &str, side: Side) -> Result<Vec<ColumnType>, Fault>
+pub fn read_types(alloc: Global, text: &str, side: Side) -> Result<Vec<TypeEntry>, Fault>
     ensures types { IfOk result (λ v. IsTypeList text.now v.items) }
     ensures fault { IfErr result (λ e. e ≢ Fault.Memory →
-        (e ≡ Fault.BadTypeList side) × ((types : List ColumnType) → IsTypeList text.now types → ⊥)) }
+        (e ≡ Fault.BadTypeList side) × ((types : List TypeEntry) → IsTypeList text.now types → ⊥)) }
 {
-    let mut types = Vec::new(alloc);
-    let mut begun = None;
-    for piece in text.split(',') {
-        match next_piece(begun, piece) {
-            Some(Piece::First(precision)) => begun = Some(precision),
-            Some(Piece::Last(kind)) => {
-                begun = None;
-                if types.push(kind).is_err() {
-                    return Err(Fault::Memory);
-                }
-            }
-            None => return Err(Fault::BadTypeList(side)),
-        }
+    match read_list(alloc, text) {
+        Ok(Some(entries)) => Ok(entries),
+        Ok(None) => Err(Fault::BadTypeList(side)),
+        Err(_) => Err(Fault::Memory),
     }
-    match begun {
-        None => Ok(types),
-        Some(_) => Err(Fault::BadTypeList(side)),
+}
+
+// Whether a header that is refused for this has no fault but the count of its types.
+fn stands_refused(refused: ReadRefused) -> Result<bool, AllocError>
+    ensures stands { IfOk result (λ b. (f : BuildRefused) → refused ≡ of_begun f → b ≡ stands (Err f)) }
+    ensures memory { OnOk result (refused ≢ ReadRefused.Memory) }
+{
+    match refused {
+        ReadRefused::TypeCount => Ok(true),
+        ReadRefused::Memory => Err(AllocError),
+        _ => Ok(false),
+    }
+}
+
+// Whether a header has no fault, or only another number of types.
+fn header_stands(alloc: Global, header: &Header, types: &[ColumnType]) -> Result<bool, AllocError>
+    ensures { IfOk result (λ b. b ≡ stands (begun (names_in header.now) types.now)) }
+{
+    match header.table(alloc, types) {
+        Ok(_) => Ok(true),
+        Err(refused) => stands_refused(refused),
+    }
+}
+
+// The fault of a name in a type list.
+fn fault_of_name(alloc: Global, name: &Word, side: Side) -> Fault
+    ensures { result ≢ Fault.Memory → result ≡ Fault.TypeName side name.now }
+{
+    match Word::new(alloc, name.as_str()) {
+        Ok(copy) => Fault::TypeName(side, copy),
+        Err(_) => Fault::Memory,
+    }
+}
+
+/// The types that a list gives the columns of a side's header.
+///
+/// # Errors
+///
+/// `TypeName` with the first name in the list that means no column of the header, or one that an entry before it names, where
+/// the header has no fault of its own but perhaps the count of its types. `Memory` comes only where a growth was refused.
+pub fn types_of_header(
+    alloc: Global,
+    header: &Header,
+    types: &[TypeEntry],
+    side: Side,
+) -> Result<Vec<ColumnType>, Fault>
+    ensures types { IfOk result (λ v. v.items ≡ columns.types_under types.now (names_in header.now)) }
+    ensures named { OnOk result (type_fault types.now side (names_in header.now) ≡ None) }
+    ensures fault { IfErr result (λ f. f ≢ Fault.Memory → type_fault types.now side (names_in header.now) ≡ Some f) }
+{
+    let Ok(names) = header.names(alloc) else {
+        return Err(Fault::Memory);
+    };
+    let Ok(kinds) = types_under(alloc, types, names.as_slice()) else {
+        return Err(Fault::Memory);
+    };
+    let Some(name) = name_fault(types, names.as_slice()) else {
+        return Ok(kinds);
+    };
+    match header_stands(alloc, header, kinds.as_slice()) {
+        Ok(true) => Err(fault_of_name(alloc, name, side)),
+        Ok(false) => Ok(kinds),
+        Err(_) => Err(Fault::Memory),
+    }
+}
+
+fn types_of<'a>(request: &'a Request<'_>, side: Side) -> &'a [TypeEntry]
+    ensures { result.now ≡ types_of request.now side }
+{
+    match side {
+        Side::Left => request.left_types.as_slice(),
+        Side::Right => request.right_types.as_slice(),
+    }
+}
+
+// The types of the columns of a side's text, under its header, where each null text is lawful.
+pub(crate) fn types_of_text(
+    alloc: Global,
+    text: &[u8],
+    request: &Request<'_>,
+    side: Side,
+) -> Result<Vec<ColumnType>, Fault>
+    requires { IsTrue (has_lawful_nulls request.now) }
+    ensures types { IfOk result (λ v. side_read request.now side text.now ≡ told side (read_of text.now v.items (nulls_of request.now side))) }
+    ensures fault { IfErr result (λ f. f ≢ Fault.Memory → side_read request.now side text.now ≡ Err f) }
+{
+    match Header::of(alloc, without_bom(text)) {
+        Ok(Some(header)) => types_of_header(alloc, &header, types_of(request, side), side),
+        Ok(None) => Ok(Vec::new(alloc)),
+        Err(_) => Err(Fault::Memory),
     }
 }

@@ -31,8 +31,8 @@ fn reads_alike<R: Threads + Sync>(
     types: &[ColumnType],
     parts: usize,
 ) -> bool {
-    let whole = told(alloc, read_table(alloc, text, types, ""));
-    let read = read_table_in_parts(rt, alloc, text, types, "", parts);
+    let whole = told(alloc, read_table(alloc, text, types, &[""]));
+    let read = read_table_in_parts(rt, alloc, text, types, &[""], parts);
     match (whole, told(alloc, read)) {
         (Ok(one), Ok(other)) => one.as_slice() == other.as_slice(),
         (Err(one), Err(other)) => one == other,
@@ -277,7 +277,7 @@ fn fault<R: Threads + Sync>(
     text: &[u8],
     parts: usize,
 ) -> Option<ReadRefused> {
-    match read_table_in_parts(rt, alloc, text, &TYPES, "", parts) {
+    match read_table_in_parts(rt, alloc, text, &TYPES, &[""], parts) {
         Ok(_) => None,
         Err(e) => Some(e),
     }
@@ -406,14 +406,14 @@ fn parts_of_many_rows(rt: HostRuntime) -> Result<(), Fail> {
     for _row in 0..100000 {
         text.extend_from_slice(b"12,abc\n")?;
     }
-    let table = read_table_in_parts(&rt, alloc, &text, &TYPES, "", 4)?;
+    let table = read_table_in_parts(&rt, alloc, &text, &TYPES, &[""], 4)?;
     assert!(rt; table.rows() == 100000);
     text.extend_from_slice(b"x,abc\n")?;
-    match read_table_in_parts(&rt, alloc, &text, &TYPES, "", 4) {
+    match read_table_in_parts(&rt, alloc, &text, &TYPES, &[""], 4) {
         Ok(_) => assert!(rt; false),
         Err(e) => assert!(rt; e == ReadRefused::BadInteger(100001, 1)),
     }
-    match read_table_in_parts(&rt, alloc, &text, &TYPES, "7", 4) {
+    match read_table_in_parts(&rt, alloc, &text, &TYPES, &["7"], 4) {
         Ok(_) => assert!(rt; false),
         Err(e) => assert!(rt; e == ReadRefused::BadNull),
     }

@@ -53,7 +53,7 @@ fn as_many_parts_as_asked_for(rt: HostRuntime) -> Result<(), Fail> {
     let alloc = rt.alloc();
     for rows in [0usize, 1, 2, 9, 4_096, 8_191, 8_192, 12_289, 28_672, 30_011] {
         let file = file_of(alloc, rows)?;
-        let table = read_table(alloc, file.as_slice(), &[INT, TEXT], "")?;
+        let table = read_table(alloc, file.as_slice(), &[INT, TEXT], &[""])?;
         for parts in 0..9 {
             assert!(rt;
                 is_written_in_parts(&rt, alloc, &table, parts, file.as_slice()),
@@ -90,7 +90,7 @@ fn failing_writer_of_parts_sweep(rt: HostRuntime) -> Result<(), Fail> {
     let alloc = rt.alloc();
     for parts in 1..8usize {
         let file = file_of(alloc, parts * 4_097)?;
-        let table = read_table(alloc, file.as_slice(), &[INT, TEXT], "")?;
+        let table = read_table(alloc, file.as_slice(), &[INT, TEXT], &[""])?;
         for left in 0..10 {
             assert!(rt;
                 is_told_in_parts(&rt, alloc, &table, parts, left),
@@ -110,7 +110,7 @@ fn calls_of<R: Threads + Sync>(
     parts: usize,
 ) -> Result<u64, Fail> {
     let file = file_of(alloc, rows)?;
-    let table = read_table(alloc, file.as_slice(), &[INT, TEXT], "")?;
+    let table = read_table(alloc, file.as_slice(), &[INT, TEXT], &[""])?;
     if table.columns() != 2 {
         return Ok(0);
     }
@@ -150,7 +150,7 @@ fn long_file(alloc: Global, rows: u32) -> Result<Vec<u8>, AllocError> {
 fn many_rows(rt: HostRuntime) -> Result<(), Fail> {
     let alloc = rt.alloc();
     let file = long_file(alloc, 20_000)?;
-    let table = read_table(alloc, file.as_slice(), &[INT, TEXT], "")?;
+    let table = read_table(alloc, file.as_slice(), &[INT, TEXT], &[""])?;
     assert!(rt; table.columns() == 2);
     for parts in 0..6 {
         let mut output = CountedWriter::new(Vec::new(alloc));

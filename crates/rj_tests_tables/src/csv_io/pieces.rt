@@ -35,7 +35,7 @@ fn reads_as(
     let Some(header) = Header::of(alloc, start)? else {
         return Ok(false);
     };
-    let Ok(table) = header.read_piece(alloc, text, is_first, &TYPES, b"") else {
+    let Ok(table) = header.read_piece(alloc, text, is_first, &TYPES, &[""]) else {
         return Ok(false);
     };
     match text_of(alloc, &table, &["k", "v"], "") {
@@ -74,7 +74,7 @@ fn mark_of_a_later_piece(rt: HostRuntime) -> Result<(), Fail> {
 #[test]
 fn rows_behind_others(rt: HostRuntime) -> Result<(), Fail> {
     let alloc = rt.alloc();
-    let table = read_table(alloc, b"k,v\n7,x\n8,\"y,z\"\n", &TYPES, "")?;
+    let table = read_table(alloc, b"k,v\n7,x\n8,\"y,z\"\n", &TYPES, &[""])?;
     let mut output = CountedWriter::new(Vec::new(alloc));
     if is_lawful_null("") {
         assert!(rt; write_more_rows(alloc, &mut output, &table, "").is_ok());

@@ -1,4 +1,4 @@
-use Rattle.std.proofs.Common.{List, ℕ, Bor, map, sym, ◌∙◌, ◌∷◌, [], refl, arith, length}
+use Rattle.std.proofs.Common.{List, ℕ, Bor, map, sym, ◌∙◌, ◌∷◌, [], refl, arith}
 use Rattle.std.proofs.lemmas.List.{length-append, map-append}
 use Rattle.rj_csv_io.proofs.CutFacts.{strip-plain, all-more, text-step, all-none, all-one}
 use Rattle.rj_csv_io.proofs.cut.cut_text.Goals as goal

@@ -1,5 +1,4 @@
-use Rattle.std.proofs.Common.{◌≡◌, ◌∙◌, Err, Ok, ap, refl, arith}
-use Rattle.rj_csv_io.specs.declared.refused.ReadRefused.TheVariants as refused
+use Rattle.std.proofs.Common.{◌∙◌, refl}
 use Rattle.rj_csv_io.proofs.filling.read_up_to.Goals as goal
 
 pub loop-input-init : goal.loop-input-init

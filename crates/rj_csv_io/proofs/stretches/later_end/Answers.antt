@@ -1,4 +1,4 @@
-use Rattle.std.proofs.Common.{◌≡◌, ◌∙◌, sym, ap}
+use Rattle.std.proofs.Common.{◌∙◌, sym, ap}
 use Rattle.rj_csv_io.specs.Cuts.{is_open_place}
 use Rattle.rj_csv_io.proofs.PieceFacts.{none-open, none-closed, last-closed}
 use Rattle.rj_csv_io.proofs.stretches.later_end.Goals as goal

@@ -1,4 +1,4 @@
-use Rattle.std.proofs.Common.{◌≡◌, ◌<◌, ◌≤◌, ◌+◌, ◌-◌, length, arith, ap}
+use Rattle.std.proofs.Common.{◌-◌, length, arith, ap}
 use Rattle.std.proofs.lemmas.List.{length-drop}
 use Rattle.rj_csv_io.proofs.PlaceFacts.{no-quote, rest-drop}
 use Rattle.rj_csv_io.proofs.stretches.stretch_end.Goals as goal

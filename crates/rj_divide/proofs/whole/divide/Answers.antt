@@ -2,6 +2,7 @@ use Rattle.std.proofs.Common.{◌≡◌, ◌∙◌, Ok, ap, inr, refl, subst, ar
 use Rattle.rj_divide.specs.Readings.{IsDivisionFault}
 use Rattle.rj_divide.proofs.PutFacts.{all-may-fail}
 use Rattle.rj_divide.proofs.UnderwayFacts.{finish, if-some, start}
+use Rattle.rj_csv_io.specs.Typed.{null_texts}
 use Rattle.rj_divide.proofs.whole.divide.Goals as goal
 
 pub loop-turn-init : goal.loop-turn-init
@@ -9,7 +10,7 @@ loop-turn-init g c =
     let d = c.args.division.now in
     record {
       underway = λ all e.
-          start d.null.now d.types.now (g.R.Route.part d.route.now) d.first c.args.is_first all (map g.O.Output.told c.args.outputs.now)
+          start (null_texts d.nulls.now) d.types.now (g.R.Route.part d.route.now) d.first c.args.is_first all (map g.O.Output.told c.args.outputs.now)
           (record { bytes = c.new.result; rows = 0; is_first = c.args.is_first }) (g.I.Input.tells c.args.input.now) e c.new.ensures.items refl refl;
       reads = refl;
       writes = refl;
@@ -24,7 +25,7 @@ returns-in-Ok-true-clause-divided g c =
     let d = c.args.division.now in
     let end = c.in-Ok-true.ensures.end (ap Ok c.in-Ok-true.field-0-test) in
     if-some (g.I.Input.tells c.args.input.now) _ (λ all e.
-    finish d.null.now d.types.now (g.R.Route.part d.route.now) d.first c.args.is_first all (map g.O.Output.told c.args.outputs.now)
+    finish (null_texts d.nulls.now) d.types.now (g.R.Route.part d.route.now) d.first c.args.is_first all (map g.O.Output.told c.args.outputs.now)
     c.divide_next.new.rest (g.I.Input.tells c.divide_next.new.input) (map g.O.Output.told c.divide_next.new.outputs) _
     (c.in-Ok-true.ensures.divided c.args.is_first all (map g.O.Output.told c.args.outputs.now) c.loop-turn._turn (c.loop-turn.invariant.underway all e)) end.0 end.1)
 
@@ -33,7 +34,7 @@ returns-in-Err-clause-fault g c = λ t b.
     let d = c.args.division.now in
     let same : length c.loop-turn.outputs ≡ length c.args.outputs.now = omega (arith, c.loop-turn.auto.outputs) in
     if-some (g.I.Input.tells c.args.input.now) _ (λ all e.
-    subst (λ k. IsDivisionFault d.null.now d.types.now c.args.is_first all k c.in-Err.e) same
+    subst (λ k. IsDivisionFault (null_texts d.nulls.now) d.types.now c.args.is_first all k c.in-Err.e) same
     (c.in-Err.ensures.fault t c.args.is_first all (map g.O.Output.told c.args.outputs.now) c.loop-turn._turn b (c.loop-turn.invariant.underway all e)))
 
 pub loop-turn-preserved : goal.loop-turn-preserved

@@ -3,6 +3,7 @@ use Rattle.std.proofs.lemmas.List.{length-map}
 use Rattle.rj_divide.proofs.DivisionFacts.{piece-reads}
 use Rattle.rj_divide.proofs.ReadingFacts.{refusal-input}
 use Rattle.rj_divide.proofs.UnderwayFacts.{fault-in, go-on}
+use Rattle.rj_csv_io.specs.Typed.{null_texts}
 use Rattle.rj_divide.proofs.whole.divide_next.Goals as goal
 
 pub returns-in-Ok-divide_front-clause-divided : goal.returns-in-Ok-divide_front-clause-divided
@@ -11,7 +12,7 @@ returns-in-Ok-divide_front-clause-divided g c = λ is_first all before n u.
     let many : length (map g.O.Output.told c.divide_front.new.outputs) ≡ length (map g.O.Output.told c.args.outputs.now) =
     omega (arith, length-map c.divide_front.new.outputs g.O.Output.told, length-map c.args.outputs.now g.O.Output.told, c.divide_front.auto.outputs) in
     let within : p.end ≤ length c.next_piece.new.bytes.items = search rules in
-    go-on d.null.now d.types.now (g.R.Route.part d.route.now) d.first is_first all before c.args.rest.now c.next_piece.new.bytes.items
+    go-on (null_texts d.nulls.now) d.types.now (g.R.Route.part d.route.now) d.first is_first all before c.args.rest.now c.next_piece.new.bytes.items
     (g.I.Input.tells c.args.input.now) (g.I.Input.tells c.next_piece.new.input) (map g.O.Output.told c.args.outputs.now) n p.end p.is_last u
     c.in-Ok.ensures.bytes (λ e. (c.in-Ok.ensures.last e).1) c.in-Ok.ensures.records
     c.divide_front.new.rest (map g.O.Output.told c.divide_front.new.outputs) rows.0 many within c.in-Ok.ensures.some
@@ -23,7 +24,7 @@ returns-in-Err-divide_front-clause-reads g c = piece-reads ℕ c.in-Err-divide_f
 pub returns-in-Err-divide_front-clause-fault : goal.returns-in-Err-divide_front-clause-fault
 returns-in-Err-divide_front-clause-fault g c = λ t is_first all before n b u.
     let d = c.args.division.now in let p = c.in-Ok.piece in
-    fault-in d.null.now d.types.now (g.R.Route.part d.route.now) d.first is_first all before c.args.rest.now c.next_piece.new.bytes.items
+    fault-in (null_texts d.nulls.now) d.types.now (g.R.Route.part d.route.now) d.first is_first all before c.args.rest.now c.next_piece.new.bytes.items
     (g.I.Input.tells c.args.input.now) (g.I.Input.tells c.next_piece.new.input) (map g.O.Output.told c.args.outputs.now) n p.end p.is_last u
     c.in-Ok.ensures.bytes (λ e. (c.in-Ok.ensures.last e).1) c.in-Ok.ensures.records
     (length c.args.outputs.now) c.in-Err-divide_front.e (c.in-Err-divide_front.ensures.fault t b)

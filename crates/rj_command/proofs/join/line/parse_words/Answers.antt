@@ -1,9 +1,9 @@
-use Rattle.std.proofs.Common.{◌≡◌, ◌∙◌, ap, refl, sym, subst, inl, inr, true, lit<, List, Bor, map}
-use Rattle.clap.specs.Words.{App, IsAmong, Text, fault_of, first_of, found_of, kind_of, is_simple, is_simple_and_free, matches_of}
+use Rattle.std.proofs.Common.{◌≡◌, ◌∙◌, ap, refl, sym, subst, inl, inr, true, lit<, List, [], Option, unwrap_or, Bor, map}
+use Rattle.clap.specs.Words.{App, IsAmong, Text, all_of, fault_of, first_of, found_of, kind_of, is_simple, is_simple_and_free, matches_of}
 use Rattle.clap.proofs.OnLiterals.{clap_on_literals}
-use Rattle.clap.proofs.WalkLemmas.{first_value-rows}
+use Rattle.clap.proofs.WalkLemmas.{first_value-rows, raw_values-rows}
 use Rattle.rj_command.specs.Line.{IsLineFault}
-use Rattle.rj_command.specs.declared.fault.Fault.TheVariants as fault
+use Rattle.rj_fault.specs.declared.fault.Fault.TheVariants as fault
 use Rattle.rj_command.specs.Options.{OptionWords, line_app, option_rules}
 use Rattle.rj_command.proofs.ChainFacts.{wanted_given}
 use Rattle.rj_command.proofs.NumberFacts.{hash_given, number_given, strict_given}
@@ -31,23 +31,24 @@ returns-in-Ok-try_get_matches_from-clause-ok c =
       option_words = h;
       accepted = ap (λ (a : App). fault_of a words) (sym command.app) ∙ got.kinds (ap is_simple_and_free command.app ∙ free h);
       values = λ name. first_value-rows (found_of m) name ∙ ap (first_of name) rows;
+      texts = λ name. ap (λ (o : Option (List Text)). unwrap_or o []) (raw_values-rows (found_of m) name ∙ ap (all_of name) rows);
       left = given 0 (lit< tt) refl got.parsed;
       right = given 1 (lit< tt) refl got.parsed;
       left_types = given 2 (lit< tt) refl got.parsed;
       right_types = given 3 (lit< tt) refl got.parsed;
       join = given 4 (lit< tt) refl got.parsed;
       numbers = record {
-        bits1 = number 7 0 10 (lit< tt) refl got.parsed;
-        bits2 = number 8 0 10 (lit< tt) refl got.parsed;
-        workers = number 10 1 64 (lit< tt) refl got.parsed;
-        block = number 11 1 65536 (lit< tt) refl got.parsed;
-        capacity = number 12 1 4096 (lit< tt) refl got.parsed;
-        lanes = number 13 1 4 (lit< tt) refl got.parsed;
-        retries = number 14 0 3 (lit< tt) refl got.parsed;
-        piece = number 15 1 1048576 (lit< tt) refl got.parsed;
+        bits1 = number 10 0 10 (lit< tt) refl got.parsed;
+        bits2 = number 11 0 10 (lit< tt) refl got.parsed;
+        workers = number 13 1 64 (lit< tt) refl got.parsed;
+        block = number 14 1 65536 (lit< tt) refl got.parsed;
+        capacity = number 15 1 4096 (lit< tt) refl got.parsed;
+        lanes = number 16 1 4 (lit< tt) refl got.parsed;
+        retries = number 17 0 3 (lit< tt) refl got.parsed;
+        piece = number 18 1 1048576 (lit< tt) refl got.parsed;
       };
-      hash = hash_given command.start c.in-Ok.command (option_rules h) m command.bare command.chain refl refl 9 (lit< tt) h refl refl got.parsed;
-      strict = strict_given command.start c.in-Ok.command (option_rules h) m command.bare command.chain refl refl 6 (lit< tt) h refl refl got.parsed;
+      hash = hash_given command.start c.in-Ok.command (option_rules h) m command.bare command.chain refl refl 12 (lit< tt) h refl refl got.parsed;
+      strict = strict_given command.start c.in-Ok.command (option_rules h) m command.bare command.chain refl refl 9 (lit< tt) h refl refl got.parsed;
     }
 
 pub returns-in-Err-clause-fault : goal.returns-in-Err-clause-fault

@@ -1,17 +1,18 @@
-use Rattle.std.proofs.Common.{◌≡◌, ◌∙◌, ap, refl, subst, sym, [], Option, Some, None, unwrap_or, codes, is_some, option_map, map, rules, Bor}
+use Rattle.std.proofs.Common.{◌≡◌, ◌∙◌, ap, ap₂, length, refl, subst, sym, [], Option, Some, None, unwrap_or, codes, is_some, option_map, map, rules, Bor}
+use Rattle.std.proofs.lemmas.List.{length-map}
 use Rattle.clap.specs.Words.{Text, first_value, found_of}
 use Rattle.rj_engine.specs.declared.settings.Settings.{Settings}
-use Rattle.rj_command.specs.Line.{AreSettings, IsHashOr, IsNumberOr, IsStrictness, is_true}
+use Rattle.rj_command.specs.Line.{AreSettings, IsHashOr, IsNumberOr, IsStrictness, is_true, nulls_or, texts_found}
 use Rattle.rj_command.specs.declared.join.request.Hash.TheVariants as hash
-use Rattle.rj_command.proofs.LineFacts.{left_list_fault, right_list_fault}
+use Rattle.rj_command.proofs.LineFacts.{few_given, left_list_fault, left_nulls_fault, right_list_fault, right_nulls_fault}
 use Rattle.rj_command.proofs.join.line.read_line.Goals as goal
 
--- the value of an option, or the empty text
-value-or : (v : Option Text) (o : Option (Bor Text)) (u d : Bor Text) → option_map (λ s. s.now) o ≡ v → u ≡ unwrap_or o d → d.now ≡ [] → u.now ≡ unwrap_or v []
-value-or v o u d is got empty = ap (λ (s : Bor Text). s.now) got ∙ (shown o ∙ ap (λ x. unwrap_or x []) is)
+-- the value of an option, or its default
+value-or : (v : Option Text) (o : Option (Bor Text)) (u d : Bor Text) (n : Text) → option_map (λ s. s.now) o ≡ v → u ≡ unwrap_or o d → d.now ≡ n → u.now ≡ unwrap_or v n
+value-or v o u d n is got default = ap (λ (s : Bor Text). s.now) got ∙ (shown o ∙ ap (λ x. unwrap_or x n) is)
   where
-    shown : (o : Option (Bor Text)) → (unwrap_or o d).now ≡ unwrap_or (option_map (λ s. s.now) o) []
-    shown None = empty
+    shown : (o : Option (Bor Text)) → (unwrap_or o d).now ≡ unwrap_or (option_map (λ s. s.now) o) n
+    shown None = default
     shown (Some x) = refl
 
 -- an option has a value where its text is found
@@ -35,6 +36,7 @@ same-settings found word s same are = record {
 pub returns-clause-line : goal.returns-clause-line
 returns-clause-line c =
     let parse = c.in_ok-matches.ensures.ok in
+    let null = value-or _ c.get_str.result c.unwrap_or-null.result _ [] (c.get_str.ensures ∙ parse.values (codes "null")) c.unwrap_or-null.ensures refl in
     record {
       option_words = parse.option_words;
       accepted = parse.accepted;
@@ -43,13 +45,38 @@ returns-clause-line c =
       left_types = (c.given.result.now, sym (parse.values (codes "left-types")) ∙ c.given.ensures, c.in_ok-left_types.ensures.types);
       right_types = (c.given-2.result.now, sym (parse.values (codes "right-types")) ∙ c.given-2.ensures, c.in_ok-right_types.ensures.types);
       join = sym (parse.values (codes "join")) ∙ c.given-5.ensures;
-      null = value-or _ c.get_str.result c.unwrap_or.result _ (c.get_str.ensures ∙ parse.values (codes "null")) c.unwrap_or.ensures refl;
+      left_nulls = c.in-Ok.ensures.texts ∙ ap₂ nulls_or (parse.texts (codes "left-null")) null;
+      right_nulls = c.in-Ok-read_nulls.ensures.texts ∙ ap₂ nulls_or (parse.texts (codes "right-null")) null;
+      few_nulls = (c.in-Ok.ensures.few, c.in-Ok-read_nulls.ensures.few);
+      out_null = value-or _ c.get_str-2.result c.unwrap_or.result c.unwrap_or-null.result _ (c.get_str-2.ensures ∙ parse.values (codes "out-null")) c.unwrap_or.ensures null;
       strict = subst (λ (o : Option Text). IsStrictness o c.strictness_of.result) (parse.values (codes "strict")) c.strictness_of.ensures;
       settings = same-settings (first_value (found_of c.in_ok-matches.matches)) _ c.settings_of.result parse.values c.settings_of.ensures;
       hash = subst (λ (o : Option Text). IsHashOr hash.Plain o c.hash_of.result) (parse.values (codes "hash")) c.hash_of.ensures;
-      tells_pieces = c.is_some.ensures ∙ same-given _ c.get_str-2.result (c.get_str-2.ensures ∙ parse.values (codes "piece"));
+      tells_pieces = c.is_some.ensures ∙ same-given _ c.get_str-3.result (c.get_str-3.ensures ∙ parse.values (codes "piece"));
       stats = c.is_given.ensures ∙ ap is_true (parse.values (codes "stats"));
     }
+
+pub returns-in-Err-clause-fault : goal.returns-in-Err-clause-fault
+returns-in-Err-clause-fault c =
+    let parse = c.in_ok-matches.ensures.ok in
+    let left = sym (parse.values (codes "left-types")) ∙ c.given.ensures in
+    let right = sym (parse.values (codes "right-types")) ∙ c.given-2.ensures in
+    left_nulls_fault (map (λ (w : Bor Text). w.now) c.args.words.now) parse.option_words c.in_ok-left_types.left_types.items c.in_ok-right_types.right_types.items
+    (texts_found (found_of c.in_ok-matches.matches) (codes "left-null")) c.in-Err.fault parse.accepted (c.given.result.now, left, c.in_ok-left_types.ensures.types)
+    (c.given-2.result.now, right, c.in_ok-right_types.ensures.types) (parse.texts (codes "left-null")) c.in-Err.ensures.fault
+
+pub returns-in-Err-read_nulls-clause-fault : goal.returns-in-Err-read_nulls-clause-fault
+returns-in-Err-read_nulls-clause-fault c =
+    let parse = c.in_ok-matches.ensures.ok in
+    let left = sym (parse.values (codes "left-types")) ∙ c.given.ensures in
+    let right = sym (parse.values (codes "right-types")) ∙ c.given-2.ensures in
+    let own = texts_found (found_of c.in_ok-matches.matches) (codes "left-null") in
+    let count : length c.in-Ok.nulls.items ≡ length (nulls_or own c.unwrap_or-null.result.now) =
+    sym (length-map c.in-Ok.nulls.items (λ (n : Bor Text). n.now)) ∙ ap length c.in-Ok.ensures.texts in
+    right_nulls_fault (map (λ (w : Bor Text). w.now) c.args.words.now) parse.option_words c.in_ok-left_types.left_types.items c.in_ok-right_types.right_types.items own
+    (texts_found (found_of c.in_ok-matches.matches) (codes "right-null")) c.in-Err-read_nulls.fault parse.accepted (c.given.result.now, left, c.in_ok-left_types.ensures.types)
+    (c.given-2.result.now, right, c.in_ok-right_types.ensures.types) (parse.texts (codes "left-null")) (few_given own c.unwrap_or-null.result.now _ count c.in-Ok.ensures.few)
+    (parse.texts (codes "right-null")) c.in-Err-read_nulls.ensures.fault
 
 pub returns-in_err-left_types-clause-fault : goal.returns-in_err-left_types-clause-fault
 returns-in_err-left_types-clause-fault c =

@@ -1,5 +1,9 @@
-use Rattle.std.proofs.Common.{rules}
-use Rattle.std.proofs.lemmas.Result.{IfErr-weaker}
+use Rattle.std.proofs.Common.{rules, subst, sym}
+use Rattle.std.proofs.lemmas.Result.{IfErr-weaker, IfOk-weaker}
+use Rattle.rj_columns.specs.Tables.{TableValue}
+use Rattle.rj_csv_io.specs.Ambiguous.{AreApart}
+use Rattle.rj_fault.specs.declared.fault.Side.TheVariants as side
+use Rattle.rj_command.proofs.ApartFacts.{table-apart}
 use Rattle.rj_command.proofs.OperandFacts.{clause_fault, right_fault}
 use Rattle.rj_command.proofs.join.operands.read_operands.Goals as goal
 
@@ -17,3 +21,18 @@ returns-clause-fault g c =
     IfErr-weaker c.bind_tables.result _ _
     (λ f told. clause_fault (g.B.AsSlice.items c.args.left) (g.B.AsSlice.items c.args.right) c.args.request.now left.left right.right f left.ensures.table right.ensures.table told)
     c.bind_tables.ensures.fault
+
+pub returns-clause-apart : goal.returns-clause-apart
+returns-clause-apart g c =
+    let left = c.in_ok-left in
+    let right = c.in_ok-right in
+    let law = c.null_texts_read_as_null.ensures in
+    let q = c.args.request.now in
+    let null = q.out_null.now in
+    let Apart : TableValue → Type 0 = λ t. AreApart null t.rows in
+    IfOk-weaker c.bind_tables.result _ _
+    (λ o are. (
+      λ among. subst Apart (sym are.0) (table-apart law q side.Left (g.B.AsSlice.items c.args.left) null left.left among left.ensures.table),
+      λ among. subst Apart (sym are.1) (table-apart law q side.Right (g.B.AsSlice.items c.args.right) null right.right among right.ensures.table),
+    ))
+    c.bind_tables.ensures.tables

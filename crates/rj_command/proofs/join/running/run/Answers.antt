@@ -1,15 +1,11 @@
-use Rattle.std.proofs.Common.{◌≡◌}
-use Rattle.rj_command.proofs.RunFacts.{after_memory, joined_of_operands, no_other}
+use Rattle.rj_command.proofs.RunFacts.{joined_of_operands, no_other}
 use Rattle.rj_command.proofs.join.running.run.Goals as goal
 
 pub returns-clause-joined : goal.returns-clause-joined
 returns-clause-joined g c = joined_of_operands _ _ _ c.in_ok-operands.operands _ _ c.write_by_hash.result c.in_ok-operands.ensures.operands c.write_by_hash.ensures.ok
 
 pub returns-clause-fault : goal.returns-clause-fault
-returns-clause-fault g c = no_other c.args.left.now c.args.right.now c.args.request.now c.write_by_hash.result c.write_by_hash.ensures.fault
-
-pub returns-clause-unchanged : goal.returns-clause-unchanged
-returns-clause-unchanged g c = after_memory (c.write_by_hash.new.writer ≡ c.args.writer.now) c.write_by_hash.result c.write_by_hash.ensures.fault c.write_by_hash.ensures.unchanged
+returns-clause-fault g c = no_other c.args.left.now c.args.right.now c.args.request.now c.in_ok-operands.operands c.write_by_hash.result c.in_ok-operands.ensures.operands c.write_by_hash.ensures.fault
 
 pub returns-clause-failed : goal.returns-clause-failed
 returns-clause-failed g c = λ failed.

@@ -9,7 +9,19 @@ use Rattle.rj_engine.specs.Partitioned.{rows_of_partition}
 use Rattle.rj_engine.specs.Pools.{pieces_of_sizes}
 use Rattle.std.proofs.lemmas.List.{length-map}
 use Rattle.rj_engine.specs.Cells.{ViewValue, columns_of, header_of, name_of}
+use Rattle.std.proofs.lemmas.Bool.{and_parts}
+use Rattle.rj_csv_io.specs.Ambiguous.{AreApart}
+use Rattle.rj_command.specs.Runs.{IsToldApart}
+use Rattle.rj_command.proofs.ApartFacts.{view-apart}
 use Rattle.rj_command.proofs.join.running.write_joined.Goals as goal
+
+pub tell_apart-requires-clause-apart : goal.tell_apart-requires-clause-apart
+tell_apart-requires-clause-apart g c = λ both.
+    let l = c.args.operands.now.left in
+    let r = c.args.operands.now.right in
+    let null = c.args.request.now.out_null.now in
+    let sides = and_parts _ _ both in
+    subst (λ (v : ViewValue). AreApart null v.cells) (sym c.in_ok-view.ensures) (view-apart null l r (c.requires.apart.0 sides.0) (c.requires.apart.1 sides.1) c.args.operands.now.join)
 
 pub write_rows_in_parts-requires-clause-header : goal.write_rows_in_parts-requires-clause-header
 write_rows_in_parts-requires-clause-header g c κs within =
@@ -26,7 +38,7 @@ returns-clause-ok g c =
     let l = c.args.operands.now.left in
     let r = c.args.operands.now.right in
     let join = c.args.operands.now.join in
-    let null = c.args.request.now.null.now in
+    let null = c.args.request.now.out_null.now in
     let value = g.H.KeyHash.value c.args.hash.now in
     let bits = c.args.request.now.settings.bits1 in
     let joined = c.in_ok-joined.ensures in
@@ -51,5 +63,6 @@ returns-clause-ok g c =
             ∙ (ap (λ (o : Outcome). o.pieces) forgot ∙ (joined.pieces ∙ ap₂ (pieces_of_sizes c.args.request.now.settings.piece) (sym left_sizes) (sym right_sizes)));
         tells_pieces = refl;
       },
+      subst (λ (v : ViewValue). IsToldApart c.args.request.now.strict null v.cells) c.in_ok-view.ensures c.in_ok-tell_apart.ensures.clear,
       subst Writes text c.in_ok-write_rows_in_parts.ensures.ok,
     )

@@ -1,0 +1,117 @@
+-- A joined table has no text that its tables lack, and a table no text that is read as null.
+use Rattle.std.proofs.Common.{◌≡◌, ◌≢◌, ◌<◌, ◌≤◌, ◌∙◌, ℕ, zero, suc, List, [], ◌∷◌, length, map, Bool, true, false, Option, Some, None, Result, Ok, Err, refl, sym, ap, inl, inr, arith, true≢false}
+use Rattle.std.specs.Prelude.{if◌then◌else◌, slice_index_or, ◌==◌}
+use Rattle.std.proofs.lemmas.Bool.{cases_Bool, cases_lt}
+use Rattle.std.proofs.lemmas.List.{get_or-map, get_or_past, length-map}
+use Rattle.csv.specs.Reading.{default_config, records, strip_bom}
+use Rattle.rj_decimal.specs.Numbers.{finer}
+use Rattle.rj_columns.specs.declared.cell.ColumnType.{ColumnType}
+use Rattle.rj_columns.specs.Contents.{Content, nothing, whole, decimal, word}
+use Rattle.rj_columns.specs.Scales.{coalesced, in_scale}
+use Rattle.rj_columns.specs.Tables.{TableValue, cell_in}
+use Rattle.rj_condition.specs.declared.bound.BoundJoin.{BoundJoin}
+use Rattle.rj_csv_io.specs.Ambiguous.{AreApart}
+use Rattle.rj_csv_io.specs.Tables.{records_read}
+use Rattle.rj_csv_io.specs.Typed.{is_null_field}
+use Rattle.rj_csv_io.specs.declared.refused.ReadRefused.{ReadRefused}
+use Rattle.rj_types.specs.Columns.{types_under}
+use Rattle.rj_engine.specs.Cells.{coalesced_scale, columns_of, joined_cell, joined_cells, left_cell, right_cell, view_of}
+use Rattle.rj_engine.specs.Results.{result_of}
+use Rattle.rj_engine.specs.declared.joined.JoinedRow.{JoinedRow}
+use Rattle.rj_engine.specs.declared.joined.JoinedRow.TheVariants.{Both, LeftOnly, RightOnly}
+use Rattle.rj_engine.specs.declared.origin.Origin.{Origin}
+use Rattle.rj_engine.specs.declared.origin.Origin.TheVariants.{Coalesced, Left, Right}
+use Rattle.rj_strict.specs.Grammar.{records_of}
+use Rattle.rj_command.specs.Sides.{IsTable, IsTableBy, has_lawful_nulls, header_records, nulls_of, side_records, told, told_first, type_fault, types_of}
+use Rattle.rj_fault.specs.Faults.{read_fault}
+use Rattle.rj_fault.specs.declared.fault.Fault.{Fault}
+use Rattle.rj_fault.specs.declared.fault.Fault.TheVariants as fault
+use Rattle.rj_fault.specs.declared.fault.Side.{Side}
+use Rattle.rj_command.specs.declared.join.request.Request.{Request}
+use Rattle.rj_command.specs.declared.join.request.Strictness.{Strictness}
+use Rattle.rj_command.specs.declared.join.request.Strictness.TheVariants as strictness
+
+scaled-apart : (null : List ℕ) (s : ℕ) (x : Content) → x ≢ word null → in_scale s x ≢ word null
+scaled-apart null s nothing h = λ is. cc
+scaled-apart null s (whole n) h = go (s == 0)
+  where
+    go : (b : Bool) → (if b then whole n else decimal (finer n s) s) ≢ word null
+    go true = λ is. cc
+    go false = λ is. cc
+scaled-apart null s (decimal units own) h = λ is. cc
+scaled-apart null s (word t) h = h
+
+first-apart : (null : List ℕ) (x y : Content) → x ≢ word null → y ≢ word null → coalesced x y ≢ word null
+first-apart null nothing y h k = k
+first-apart null (whole n) y h k = h
+first-apart null (decimal units scale) y h k = h
+first-apart null (word t) y h k = h
+
+module _ (null : List ℕ) (l r : TableValue) (left : AreApart null l.rows) (right : AreApart null r.rows) where
+  left-apart : (row : JoinedRow) (col : ℕ) → left_cell l row col ≢ word null
+  left-apart (Both i j) col = left i col
+  left-apart (LeftOnly i) col = left i col
+  left-apart (RightOnly j) col = λ is. cc
+
+  right-apart : (row : JoinedRow) (col : ℕ) → right_cell r row col ≢ word null
+  right-apart (Both i j) col = right j col
+  right-apart (LeftOnly i) col = λ is. cc
+  right-apart (RightOnly j) col = right j col
+
+  cell-apart : (row : JoinedRow) (o : Origin) → joined_cell l r row o ≢ word null
+  cell-apart row (Coalesced a b) = scaled-apart null (coalesced_scale l r a b) (coalesced (left_cell l row a) (right_cell r row b))
+      (first-apart null (left_cell l row a) (right_cell r row b) (left-apart row a) (right-apart row b))
+  cell-apart row (Left a) = left-apart row a
+  cell-apart row (Right b) = right-apart row b
+
+  row-apart : (origins : List Origin) (row : JoinedRow) (col : ℕ) → slice_index_or (joined_cells l r origins row) col nothing ≢ word null
+  row-apart [] row col = λ is. cc
+  row-apart (o ∷ origins) row zero = cell-apart row o
+  row-apart (o ∷ origins) row (suc col) = row-apart origins row col
+
+  rows-apart : (origins : List Origin) (members : List JoinedRow) → AreApart null (map (joined_cells l r origins) members)
+  rows-apart origins [] row col = λ is. cc
+  rows-apart origins (m ∷ members) zero col = row-apart origins m col
+  rows-apart origins (m ∷ members) (suc row) col = rows-apart origins members row col
+
+  -- a joined table has no text that its tables lack
+  pub view-apart : (join : BoundJoin) → AreApart null (view_of join l r).cells
+  view-apart join = rows-apart (columns_of join r) (result_of join l r)
+
+-- what the reading of records says where the null text is one of the side's
+module _ (law : (records : List (List (List ℕ))) (types : List ColumnType) (nulls : List (List ℕ)) (null : List ℕ) (t : TableValue)
+    → is_null_field nulls null ≡ true → records_read records types nulls ≡ Ok t → AreApart null t.rows) where
+  told-apart : (q : Request) (s : Side) (found : List (List (List ℕ))) (kinds : List ColumnType) (null : List ℕ) (t : TableValue) → is_null_field (nulls_of q s) null ≡ true
+      → told s (records_read found kinds (nulls_of q s)) ≡ Ok t → AreApart null t.rows
+  told-apart q s found kinds null t among e = go (records_read found kinds (nulls_of q s)) refl e
+    where
+      go : (r : Result TableValue ReadRefused) → records_read found kinds (nulls_of q s) ≡ r → told s r ≡ Ok t → AreApart null t.rows
+      go (Ok u) is e =
+          let g : ◌≡◌ {A = Result TableValue Fault} (Ok u) (Ok t) = e in
+          let same : u ≡ t = cc in
+          law found kinds (nulls_of q s) null t among (is ∙ ap Ok same)
+      go (Err x) is e = let g : ◌≡◌ {A = Result TableValue Fault} (Err (read_fault s x)) (Ok t) = e in absurd (cc)
+
+  header-apart : (q : Request) (s : Side) (found : List (List (List ℕ))) (null : List ℕ) (t : TableValue) → is_null_field (nulls_of q s) null ≡ true
+      → header_records q s found ≡ Ok t → AreApart null t.rows
+  header-apart q s [] null t among e = told-apart q s [] [] null t among e
+  header-apart q s (header ∷ rest) null t among e = go (type_fault (types_of q s) s header) e
+    where
+      go : (o : Option Fault) → told_first o (told s (records_read (header ∷ rest) (types_under (types_of q s) header) (nulls_of q s))) ≡ Ok t → AreApart null t.rows
+      go None e = told-apart q s (header ∷ rest) (types_under (types_of q s) header) null t among e
+      go (Some f) e = let g : ◌≡◌ {A = Result TableValue Fault} (Err f) (Ok t) = e in absurd (cc)
+
+  side-apart : (q : Request) (s : Side) (found : List (List (List ℕ))) (null : List ℕ) (t : TableValue) → is_null_field (nulls_of q s) null ≡ true → side_records q s found ≡ Ok t → AreApart null t.rows
+  side-apart q s found null t among e = elim (cases_Bool (has_lawful_nulls q)) [
+    | inl lawful ↦ let read : header_records q s found ≡ Ok t = rw lawful at e in header-apart q s found null t among read
+    | inr unlawful ↦ let no : ◌≡◌ {A = Result TableValue Fault} (Err fault.BadNull) (Ok t) = rw unlawful at e in absurd (cc)
+  ]
+
+  by-apart : (x : Strictness) (q : Request) (s : Side) (bytes null : List ℕ) (t : TableValue) → is_null_field (nulls_of q s) null ≡ true → IsTableBy x q s bytes t → AreApart null t.rows
+  by-apart strictness.Off q s bytes null t among is = side-apart q s (records default_config (strip_bom bytes)) null t among is
+  by-apart strictness.On q s bytes null t among is = side-apart q s (records_of is.0) null t among is.2
+  by-apart strictness.Full q s bytes null t among is = side-apart q s (records_of is.0) null t among is.2
+
+  -- a table that was read has no text that is one of its null texts
+  pub table-apart : (q : Request) (s : Side) (bytes null : List ℕ) (t : TableValue) → is_null_field (nulls_of q s) null ≡ true → IsTable q s bytes t → AreApart null t.rows
+  table-apart q s bytes null t among is = by-apart q.strict q s bytes null t among is

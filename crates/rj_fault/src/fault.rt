@@ -1,0 +1,221 @@
+//! Why a run gave no output.
+
+ghost use Rattle.std.specs.Prelude.{◌≡◌, Some};
+ghost use Rattle.rj_fault.specs.Faults.{side_text, status_of};
+
+use crate::told::Told;
+use rj_condition::Word;
+use rj_csv_io::WriteRefused;
+use std::alloc::AllocError;
+use std::fmt;
+use thiserror::Error;
+
+/// Which of the two tables.
+#[derive(Clone, Copy, Debug, PartialEq, Eq)]
+pub enum Side {
+    Left,
+    Right,
+}
+
+impl fmt::Display for Side {
+    ghost output = { λ side. Some (side_text side) };
+
+    fn fmt<W: fmt::Write>(&self, f: &mut fmt::Formatter<W>) -> fmt::Result {
+        match self {
+            Side::Left => f.write_str("left"),
+            Side::Right => f.write_str("right"),
+        }
+    }
+}
+
+/// Why a run gave no output. Its text is the line that the program prints, without its line end. Rows and columns count from 1, the
+/// first row being the record after the header, which has row 0; bytes of a clause count from 0.
+#[derive(Debug, Drop, Error)]
+pub enum Fault {
+    /// `clap` refused the words of the command line, or they ask for help or for the version. The text is that of `clap`.
+    #[error("{0}")]
+    CommandLine(clap::Error),
+    /// A word of the command line isn't text.
+    #[error("radixjoin: an argument is not text")]
+    NotText,
+    /// A type list has another form than `int,num(9,2),text` or `id=int,*=text`.
+    #[error("radixjoin: bad type list {0}")]
+    BadTypeList(Side),
+    /// More than four texts are to stand for null in a table.
+    #[error("radixjoin: more than four null texts {0}")]
+    TooManyNulls(Side),
+    /// A file has no record at all.
+    #[error("radixjoin: E1 NoHeader {0}")]
+    NoHeader(Side),
+    /// A header name has no byte, more than 128 bytes, or isn't UTF-8.
+    #[error("radixjoin: E2 BadName {0} column {1}")]
+    BadName(Side, u64),
+    /// A header name stands twice, where ASCII case is ignored; the column is the later one.
+    #[error("radixjoin: E3 RepeatedName {0} column {1}")]
+    RepeatedName(Side, u64),
+    /// The types and the header differ in number.
+    #[error("radixjoin: E4 TypeCount {0}")]
+    TypeCount(Side),
+    /// A row has another length than the header.
+    #[error("radixjoin: E5 RaggedRow {0} row {1}")]
+    RaggedRow(Side, u64),
+    /// A cell of an int column isn't an integer of 64 bits.
+    #[error("radixjoin: E6 BadInteger {0} row {1} column {2}")]
+    BadInteger(Side, u64, u64),
+    /// A cell of a text column isn't UTF-8.
+    #[error("radixjoin: E7 BadText {0} row {1} column {2}")]
+    BadText(Side, u64, u64),
+    /// A table has more than 2^31 - 1 rows.
+    #[error("radixjoin: E8 TooManyRows {0}")]
+    TooManyRows(Side),
+    /// A table has more than 256 columns.
+    #[error("radixjoin: E9 TooManyColumns {0}")]
+    TooManyColumns(Side),
+    /// A null text isn't lawful.
+    #[error("radixjoin: E10 BadNull")]
+    BadNull,
+    /// The clause can't be read past this byte.
+    #[error("radixjoin: E11 Syntax byte {0}")]
+    Syntax(u64),
+    /// The clause nests more than 64 levels.
+    #[error("radixjoin: E12 TooDeep")]
+    TooDeep,
+    /// A name or qualifier of the clause is no column's.
+    #[error("radixjoin: E13 UnknownColumn")]
+    UnknownColumn,
+    /// An unqualified name of the clause is a column of both tables.
+    #[error("radixjoin: E14 AmbiguousColumn")]
+    AmbiguousColumn,
+    /// The clause compares a number with a text.
+    #[error("radixjoin: E15 TypeMismatch")]
+    TypeMismatch,
+    /// A column stands twice in USING.
+    #[error("radixjoin: E16 RepeatedUsing")]
+    RepeatedUsing,
+    /// The clause has more than 65,536 bytes.
+    #[error("radixjoin: E17 ClauseTooLong")]
+    ClauseTooLong,
+    /// A growth was refused.
+    #[error("radixjoin: E18 Memory")]
+    Memory,
+    /// A file can't be opened or read.
+    #[error("radixjoin: E19 ReadDevice {0}")]
+    ReadDevice(Side),
+    /// The writer failed.
+    #[error("radixjoin: E20 WriteDevice")]
+    WriteDevice,
+    /// A quoted field isn't closed at the file's end. This and the faults below are told where files are read strictly.
+    #[error("radixjoin: E21 OpenQuote {0} row {1} column {2}")]
+    OpenQuote(Side, u64, u64),
+    /// A byte other than a comma, a double quote, CR and LF stands behind a closing quote.
+    #[error("radixjoin: E22 AfterQuote {0} row {1} column {2}")]
+    AfterQuote(Side, u64, u64),
+    /// A double quote stands in a field that doesn't begin with one.
+    #[error("radixjoin: E23 BareQuote {0} row {1} column {2}")]
+    BareQuote(Side, u64, u64),
+    /// No LF follows a CR outside quotes.
+    #[error("radixjoin: E24 BareReturn {0} row {1} column {2}")]
+    BareReturn(Side, u64, u64),
+    /// A line is empty though the header has more than one name.
+    #[error("radixjoin: E25 EmptyLine {0} row {1}")]
+    EmptyLine(Side, u64),
+    /// The last record has no line end.
+    #[error("radixjoin: E26 CutShort {0} row {1}")]
+    CutShort(Side, u64),
+    /// A name in a type list means no column of the header, or one that an entry before it names.
+    #[error("radixjoin: E27 TypeName {0} \"{1}\"")]
+    TypeName(Side, Word),
+    /// A cell of the result isn't null, and its text is the one that is written for null; its row and column are those of the
+    /// result, counted from 1.
+    #[error("radixjoin: E28 AmbiguousNull row {0} column {1}")]
+    AmbiguousNull(u64, u64),
+    /// Both tables are to be read from standard input.
+    #[error("radixjoin: only one of --left and --right can be standard input")]
+    TwoStandardInputs,
+    /// A file to be read is the one that is written.
+    #[error("radixjoin: E29 OutputIsInput {0}")]
+    OutputIsInput(Side),
+}
+
+impl From<AllocError> for Fault {
+    ghost use Rattle.rj_fault.specs.declared.fault.Fault.TheVariants.{Memory};
+
+    ghost from_gives = { λ _ f. f ≡ Memory };
+
+    fn from(_error: AllocError) -> Fault {
+        Fault::Memory
+    }
+}
+
+impl From<WriteRefused> for Fault {
+    ghost use Rattle.rj_fault.specs.Faults.{write_fault};
+
+    ghost from_gives = { λ e f. f ≡ write_fault e };
+
+    fn from(refused: WriteRefused) -> Fault {
+        match refused {
+            WriteRefused::Memory => Fault::Memory,
+            WriteRefused::WriteDevice => Fault::WriteDevice,
+        }
+    }
+}
+
+impl Told for Fault {
+    fn status(&self) -> u8 {
+        Fault::status(self)
+    }
+
+    fn by_clap(&self) -> Option<&clap::Error> {
+        match self {
+            Fault::CommandLine(error) => Some(error),
+            _ => None,
+        }
+    }
+
+    fn failed_write() -> Fault {
+        Fault::WriteDevice
+    }
+}
+
+impl Fault {
+    /// The exit status of a program that ends by this fault: 0 for help and the version, 2 for the command line, 3 for input, 4 for the clause, 5 for
+    /// memory, 6 for a device. It takes no memory.
+    pub fn status(&self) -> u8
+        ensures { result ≡ status_of self.now }
+    {
+        match self {
+            Fault::CommandLine(error) => { if error.use_stderr() { 2 } else { 0 } }
+            Fault::NotText
+            | Fault::BadTypeList(_)
+            | Fault::TooManyNulls(_)
+            | Fault::TwoStandardInputs => 2,
+            Fault::NoHeader(_)
+            | Fault::BadName(_, _)
+            | Fault::RepeatedName(_, _)
+            | Fault::TypeCount(_)
+            | Fault::RaggedRow(_, _)
+            | Fault::BadInteger(_, _, _)
+            | Fault::BadText(_, _, _)
+            | Fault::TooManyRows(_)
+            | Fault::TooManyColumns(_)
+            | Fault::BadNull
+            | Fault::OpenQuote(_, _, _)
+            | Fault::AfterQuote(_, _, _)
+            | Fault::BareQuote(_, _, _)
+            | Fault::BareReturn(_, _, _)
+            | Fault::EmptyLine(_, _)
+            | Fault::CutShort(_, _)
+            | Fault::TypeName(_, _)
+            | Fault::AmbiguousNull(_, _) => 3,
+            Fault::Syntax(_)
+            | Fault::TooDeep
+            | Fault::UnknownColumn
+            | Fault::AmbiguousColumn
+            | Fault::TypeMismatch
+            | Fault::RepeatedUsing
+            | Fault::ClauseTooLong => 4,
+            Fault::Memory => 5,
+            Fault::ReadDevice(_) | Fault::WriteDevice | Fault::OutputIsInput(_) => 6,
+        }
+    }
+}

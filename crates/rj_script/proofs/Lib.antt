@@ -1,0 +1,4 @@
+pub mod NumeralFacts
+pub mod ReadingFacts
+pub mod ReportFacts
+pub mod SplitFacts

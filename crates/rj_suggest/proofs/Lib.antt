@@ -1,0 +1,2 @@
+pub mod RetypedFacts
+pub mod SuggestFacts

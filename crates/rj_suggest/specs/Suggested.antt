@@ -1,0 +1,148 @@
+-- The types that the cells of a file suggest, and the text of their list.
+use Rattle.std.specs.Prelude.{codes, ℕ, ◌≡◌, ◌==◌, ◌<◌, ◌≤◌, ◌+◌, ◌&&◌, ◌||◌, ◌⊎◌, Bool, true, false, not, nat_le, max, if◌then◌else◌, List, [], ◌∷◌, ◌++◌, length, map, Option, Some, None, IfSome, Result, Ok, Err}
+use Rattle.std.specs.Option.{IsSomeAnd}
+use Rattle.std.specs.List.{list_all, slice_get}
+use Rattle.std.specs.Char.{is_ascii_alphabetic}
+use Rattle.std.specs.Str.Parse.{without_leading_sign}
+use Rattle.csv.specs.Reading.{default_config, records, strip_bom}
+use Rattle.rj_decimal.specs.Read.{after_point, before_point, is_unsigned_text}
+use Rattle.rj_columns.specs.declared.cell.ColumnType.{ColumnType}
+use Rattle.rj_columns.specs.declared.cell.ColumnType.TheVariants as kind
+use Rattle.rj_columns.specs.Contents.{Content, nothing, whole, decimal, word}
+use Rattle.rj_columns.specs.Tables.{TableValue, cell_of}
+use Rattle.rj_condition.specs.Tokens.{begins, in_quotes, is_name_byte}
+use Rattle.rj_csv_io.specs.Tables.{read_of}
+use Rattle.rj_csv_io.specs.Typed.{is_int_text}
+use Rattle.rj_csv_io.specs.declared.refused.ReadRefused.{ReadRefused}
+use Rattle.rj_fault.specs.Faults.{read_fault}
+use Rattle.rj_types.specs.Words.{begin_word, end_word}
+use Rattle.rj_fault.specs.declared.fault.Fault.{Fault}
+use Rattle.rj_fault.specs.declared.fault.Side.TheVariants as side
+use Rattle.rj_suggest.specs.declared.number.Form.{Form}
+use Rattle.rj_suggest.specs.declared.number.Form.TheVariants as form
+use Rattle.rj_suggest.specs.declared.number.Part.{Part}
+use Rattle.rj_suggest.specs.declared.number.Part.TheVariants as part
+
+-- the type `text` for each column that a file's first record names
+abbrev pub texts_for : List (List (List ℕ)) → List ColumnType
+texts_for [] = []
+texts_for (header ∷ rest) = map (λ _. kind.Text) header
+
+-- what a file's bytes denote where each column is of texts
+abbrev pub read_as_texts : List ℕ → List (List ℕ) → Result TableValue ReadRefused
+read_as_texts bytes nulls = read_of bytes (texts_for (records default_config (strip_bom bytes))) nulls
+
+-- no zero stands before another digit
+abbrev pub has_no_leading_zero : List ℕ → Bool
+has_no_leading_zero digits = nat_le (length digits) 1 || not (begins (λ b. b == 48) digits)
+
+-- what is written before the point, and after it, without a sign
+abbrev pub digits_of : Part → List ℕ → List ℕ
+digits_of part.Before text = before_point (without_leading_sign text)
+digits_of part.After text = after_point (without_leading_sign text)
+
+-- a whole number of 64 bits, or a number with as many digits as it may have; no zero stands before its other digits
+abbrev pub is_of : Form → List ℕ → Bool
+is_of form.Int text = is_int_text text && has_no_leading_zero (digits_of part.Before text)
+is_of form.Number text = is_unsigned_text (without_leading_sign text) && has_no_leading_zero (digits_of part.Before text)
+
+-- the text in a cell
+abbrev pub text_in : Content → Option (List ℕ)
+text_in nothing = None
+text_in (whole n) = None
+text_in (decimal units scale) = None
+text_in (word s) = Some s
+
+-- each text in the first rows of a column, so many, is such a one; and one of them is
+abbrev pub EachAbove : TableValue → ℕ → ℕ → (List ℕ → Type 0) → Type 0
+EachAbove t col rows P = (row : ℕ) → row < rows → IfSome (text_in (cell_of t row col)) P
+
+abbrev pub SomeAbove : TableValue → ℕ → ℕ → (List ℕ → Type 0) → Type 0
+SomeAbove t col rows P = (row : ℕ) × (row < rows) × IsSomeAnd (text_in (cell_of t row col)) P
+
+-- the same of the whole column
+abbrev pub EachText : TableValue → ℕ → (List ℕ → Type 0) → Type 0
+EachText t col P = EachAbove t col (length t.rows) P
+
+abbrev pub SomeText : TableValue → ℕ → (List ℕ → Type 0) → Type 0
+SomeText t col P = SomeAbove t col (length t.rows) P
+
+-- the most digits that a text in the first rows of a column has in this part, and no fewer than `least`
+pub record IsMostAbove (t : TableValue) (col rows : ℕ) (p : Part) (least most : ℕ) : Type 0 where
+  pub enough : least ≤ most
+  pub bound : EachAbove t col rows (λ s. length (digits_of p s) ≤ most)
+  pub met : (most ≡ least) ⊎ SomeAbove t col rows (λ s. length (digits_of p s) ≡ most)
+
+abbrev pub IsMost : TableValue → ℕ → Part → ℕ → ℕ → Type 0
+IsMost t col p least most = IsMostAbove t col (length t.rows) p least most
+
+-- the most digits, with those of a text, if there is one
+abbrev pub most_with : Part → ℕ → Option (List ℕ) → ℕ
+most_with p most None = most
+most_with p most (Some s) = max most (length (digits_of p s))
+
+-- the numeric type with so many digits before and after the point, or `text` where these are more than 18
+abbrev pub IsNumericOrText : ℕ → ℕ → ColumnType → Type 0
+IsNumericOrText before after kind.Int = ⊥
+IsNumericOrText before after (kind.Num n) = (n.precision ≡ before + after) × (n.scale ≡ after)
+IsNumericOrText before after kind.Text = 18 < before + after
+
+-- that type by the most digits that a text of a column has before the point, at least one, and after it
+pub record IsByDigits (t : TableValue) (col : ℕ) (kind : ColumnType) : Type 0 where
+  pub before : ℕ
+  pub after : ℕ
+  pub most_before : IsMost t col part.Before 1 before
+  pub most_after : IsMost t col part.After 0 after
+  pub type : IsNumericOrText before after kind
+
+-- the type that the cells of a column of texts suggest: `int` where each text is a whole number; else the type with the digits seen
+-- where each is a number; else `text`, and so where there is no text
+abbrev pub IsSuggested : TableValue → ℕ → ColumnType → Type 0
+IsSuggested t col kind.Int = SomeText t col (λ _. Unit {0}) × EachText t col (λ s. is_of form.Int s ≡ true)
+IsSuggested t col (kind.Num n) =
+    SomeText t col (λ s. is_of form.Int s ≡ false) × EachText t col (λ s. is_of form.Number s ≡ true) × IsByDigits t col (kind.Num n)
+IsSuggested t col kind.Text =
+    EachText t col (λ _. ⊥)
+    ⊎ (SomeText t col (λ s. is_of form.Int s ≡ false) × (SomeText t col (λ s. is_of form.Number s ≡ false) ⊎ IsByDigits t col kind.Text))
+
+-- one type for each column, in order, which its cells suggest
+pub record AreSuggested (t : TableValue) (kinds : List ColumnType) : Type 0 where
+  pub count : length kinds ≡ length t.types
+  pub each : (col : ℕ) (kind : ColumnType) → slice_get kinds col ≡ Some kind → IsSuggested t col kind
+
+-- a name as it is where it is an identifier, and else between double quotes, each one in it doubled
+abbrev pub is_identifier : List ℕ → Bool
+is_identifier [] = false
+is_identifier (b ∷ bs) = is_ascii_alphabetic b && list_all is_name_byte bs
+
+abbrev pub name_text : List ℕ → List ℕ
+name_text name = if is_identifier name then name else in_quotes 34 name
+
+-- the word of a type
+abbrev pub type_word : ColumnType → List ℕ
+type_word kind.Int = codes "int"
+type_word (kind.Num t) = begin_word t.precision ++ (codes "," ++ end_word t.scale)
+type_word kind.Text = codes "text"
+
+-- the line of a column
+abbrev pub column_line : List ℕ → ColumnType → List ℕ
+column_line name kind = name_text name ++ 61 ∷ (type_word kind ++ 10 ∷ [])
+
+-- a line for each column
+abbrev pub column_lines : List (List ℕ) → List ColumnType → List ℕ
+column_lines [] kinds = []
+column_lines (name ∷ names) [] = []
+column_lines (name ∷ names) (kind ∷ kinds) = column_line name kind ++ column_lines names kinds
+
+-- the lines of the types that are suggested for the columns of a file, which reads as texts, and reads with these types too
+pub record IsSuggestedList (bytes : List ℕ) (nulls : List (List ℕ)) (text : List ℕ) : Type 0 where
+  pub table : TableValue
+  pub kinds : List ColumnType
+  pub read : read_as_texts bytes nulls ≡ Ok table
+  pub suggested : AreSuggested table kinds
+  pub typed : (typed_table : TableValue) × (read_of bytes kinds nulls ≡ Ok typed_table)
+  pub lines : text ≡ column_lines table.names kinds
+
+-- the fault of a file that doesn't read as texts
+abbrev pub IsSuggestFault : List ℕ → List (List ℕ) → Fault → Type 0
+IsSuggestFault bytes nulls f = (e : ReadRefused) × (read_as_texts bytes nulls ≡ Err e) × (f ≡ read_fault side.Left e)

@@ -1,0 +1,120 @@
+//! The types that the cells of columns suggest.
+
+ghost use Rattle.std.specs.Prelude.{◌≡◌, ◌<◌, ◌≤◌, ◌+◌, ◌^◌, length, true, false, option_map, IfOk};
+ghost use Rattle.rj_columns.specs.Tables.{cell_of};
+ghost use Rattle.rj_suggest.specs.Suggested.{AreSuggested, EachText, IsMost, IsNumericOrText, IsSuggested, SomeText, is_of, most_with, text_in};
+
+use crate::number::{Form, Part, count_digits, is_of};
+use rj_columns::{Cell, ColumnType, NumericType, Table};
+use std::alloc::{AllocError, Global};
+
+// The most digits of a numeric type.
+const MOST_DIGITS: usize = 18;
+
+// The text in a cell.
+fn text_at(table: &Table, row: u64, col: usize) -> Option<&str>
+    requires row { row < length table.now.rows }
+    requires col { col < length table.now.types }
+    ensures { option_map (λ s. s.now) result ≡ text_in (cell_of table.now row col) }
+{
+    match table.cell(row, col) {
+        Cell::Text(text) => Some(text),
+        _ => None,
+    }
+}
+
+// Whether a column has a text.
+fn has_text(table: &Table, col: usize) -> bool
+    requires { col < length table.now.types }
+    ensures some { result ≡ true → SomeText table.now col (λ _. Unit {0}) }
+    ensures none { result ≡ false → EachText table.now col (λ _. ⊥) }
+{
+    for row in 0..table.rows() {
+        if text_at(table, row, col).is_some() {
+            return true;
+        }
+    }
+    false
+}
+
+// Whether each text of a column is of this form.
+fn are_of(form: Form, table: &Table, col: usize) -> bool
+    requires { col < length table.now.types }
+    ensures each { result ≡ true → EachText table.now col (λ s. is_of form s ≡ true) }
+    ensures other { result ≡ false → SomeText table.now col (λ s. is_of form s ≡ false) }
+{
+    for row in 0..table.rows() {
+        if let Some(text) = text_at(table, row, col) {
+            if !is_of(form, text) {
+                return false;
+            }
+        }
+    }
+    true
+}
+
+// The most digits so far, with those of a text, if there is one.
+fn most_with(part: Part, most: usize, text: Option<&str>) -> usize
+    ensures { result ≡ most_with part most (option_map (λ s. s.now) text.entry) }
+{
+    match text {
+        Some(text) => most.max(count_digits(part, text)),
+        None => most,
+    }
+}
+
+// The most digits that a text of a column has in this part, and no fewer than the least.
+fn most_digits(part: Part, table: &Table, col: usize, least: usize) -> usize
+    requires { col < length table.now.types }
+    ensures { IsMost table.now col part least result }
+{
+    let mut most = least;
+    for row in 0..table.rows() {
+        most = most_with(part, most, text_at(table, row, col));
+    }
+    most
+}
+
+// The numeric type with these digits before and after the point, or that of texts where they are too many.
+fn numeric_or_text(before: usize, after: usize) -> ColumnType
+    requires { 1 ≤ before }
+    ensures { IsNumericOrText before after result }
+{
+    if before > MOST_DIGITS || after > MOST_DIGITS - before {
+        return ColumnType::Text;
+    }
+    ColumnType::Num(NumericType {
+        precision: (before + after) as u8,
+        scale: after as u8,
+    })
+}
+
+// The type that the cells of a column suggest.
+fn kind_of(table: &Table, col: usize) -> ColumnType
+    requires { col < length table.now.types }
+    ensures { IsSuggested table.now col result }
+{
+    if !has_text(table, col) {
+        return ColumnType::Text;
+    }
+    if are_of(Form::Int, table, col) {
+        return ColumnType::Int;
+    }
+    if !are_of(Form::Number, table, col) {
+        return ColumnType::Text;
+    }
+    let before = most_digits(Part::Before, table, col, 1);
+    let after = most_digits(Part::After, table, col, 0);
+    numeric_or_text(before, after)
+}
+
+// The types that the cells of the columns of a table suggest, in order.
+pub(crate) fn kinds_of(alloc: Global, table: &Table) -> Result<Vec<ColumnType>, AllocError>
+    ensures { IfOk result (λ kinds. AreSuggested table.now kinds.items) }
+{
+    let mut kinds = Vec::new(alloc);
+    for col in 0..table.columns() {
+        kinds.push(kind_of(table, col))?;
+    }
+    Ok(kinds)
+}

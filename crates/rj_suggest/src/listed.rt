@@ -1,0 +1,72 @@
+//! Lists that stand in a file, a line for each entry.
+
+ghost use Rattle.std.specs.Prelude.{◌≡◌, ◌≢◌, ◌++◌, IfOk, IfErr, OnOk, string_bytes, false};
+ghost use Rattle.std.specs.Option.{option_to_list};
+ghost use Rattle.std.specs.Str.{is_utf8};
+ghost use Rattle.rj_suggest.specs.Listed.{in_list, list_in, quoted_behind};
+
+use rj_fault::{Fault, Side};
+use std::alloc::{AllocError, Global};
+
+// What a byte stands for in the list, by whether double quotes are open before it, and by what follows it.
+fn in_list(quoted: bool, byte: u8, rest: &[u8]) -> Option<u8>
+    ensures { result ≡ in_list quoted byte rest.now }
+{
+    if quoted {
+        return Some(byte);
+    }
+    match (byte, rest) {
+        (b'\n', []) => None,
+        (b'\n', _) => Some(b','),
+        (b'\r', [b'\n', ..]) => None,
+        _ => Some(byte),
+    }
+}
+
+// Whether double quotes are open behind a byte.
+fn quoted_behind(quoted: bool, byte: u8) -> bool
+    ensures { result ≡ quoted_behind quoted byte }
+{
+    if byte == b'"' { !quoted } else { quoted }
+}
+
+// Adds a byte, if there is one.
+fn push_some(list: &mut Vec<u8>, byte: Option<u8>) -> Result<(), AllocError>
+    ensures { OnOk result (list.new.items ≡ list.old.items ++ option_to_list byte) }
+{
+    match byte {
+        Some(byte) => Ok(list.push(byte)?),
+        None => Ok(()),
+    }
+}
+
+// The bytes of the list that a file's bytes write.
+fn list_in(alloc: Global, bytes: &[u8]) -> Result<Vec<u8>, AllocError>
+    ensures { IfOk result (λ list. list.items ≡ list_in bytes.now) }
+{
+    let mut list = Vec::new(alloc);
+    let mut quoted = false;
+    for i in 0..bytes.len() {
+        let byte = bytes[i];
+        push_some(&mut list, in_list(quoted, byte, &bytes[i + 1..]))?;
+        quoted = quoted_behind(quoted, byte);
+    }
+    Ok(list)
+}
+
+/// The list that the bytes of a file write, with a comma for each line end, LF or CR LF. The line end of the last line stands for
+/// nothing, and one between double quotes stays as it is.
+///
+/// # Errors
+///
+/// `BadTypeList` of the side where the list isn't UTF-8. `Memory` comes only where a growth was refused.
+pub fn read_list(alloc: Global, bytes: &[u8], side: Side) -> Result<String, Fault>
+    ensures list { IfOk result (λ list. string_bytes list ≡ list_in bytes.now) }
+    ensures fault { IfErr result (λ f. f ≢ Fault.Memory → (f ≡ Fault.BadTypeList side) × (is_utf8 (list_in bytes.now) ≡ false)) }
+{
+    let list = list_in(alloc, bytes)?;
+    match String::from_utf8(list) {
+        Ok(list) => Ok(list),
+        Err(_) => Err(Fault::BadTypeList(side)),
+    }
+}

@@ -1,0 +1,126 @@
+//! The forms of numbers that a cell may have.
+
+ghost use Rattle.std.specs.Prelude.{◌≡◌, ◌≤◌, ◌+◌, length, take, drop, nat_lt};
+ghost use Rattle.std.specs.Str.{all_ascii_digits};
+ghost use Rattle.std.specs.Str.Parse.{without_leading_sign};
+ghost use Rattle.rj_decimal.specs.Read.{after_point, are_digits, before_point, has_point, is_unsigned_text};
+ghost use Rattle.rj_csv_io.specs.Typed.{is_int_text};
+ghost use Rattle.rj_suggest.specs.Suggested.{digits_of, has_no_leading_zero, is_of};
+
+// A form of numbers.
+#[derive(Clone, Copy)]
+pub(crate) enum Form {
+    // A whole number of 64 bits.
+    Int,
+    // A number with any digits before and after its point.
+    Number,
+}
+
+// A part of a number.
+#[derive(Clone, Copy)]
+pub(crate) enum Part {
+    // The digits before the point.
+    Before,
+    // Those after it.
+    After,
+}
+
+// A text without its sign.
+fn without_sign(text: &[u8]) -> &[u8]
+    ensures { result.now ≡ without_leading_sign text.now }
+{
+    if !text.is_empty() && (text[0] == b'-' || text[0] == b'+') {
+        &text[1..]
+    } else {
+        text
+    }
+}
+
+// The place of the first point, or the text's length where there is none.
+fn point_of(text: &[u8]) -> usize
+    ensures inside { result ≤ length text.now }
+    ensures before { before_point text.now ≡ take result text.now }
+    ensures after { after_point text.now ≡ drop (result + 1) text.now }
+    ensures point { has_point text.now ≡ nat_lt result (length text.now) }
+{
+    for i in 0..text.len() {
+        if text[i] == b'.' {
+            return i;
+        }
+    }
+    text.len()
+}
+
+// Whether a text is digits alone, one or more.
+fn are_digits(text: &[u8]) -> bool
+    ensures { result ≡ are_digits text.now }
+{
+    for i in 0..text.len() {
+        if !text[i].is_ascii_digit() {
+            return false;
+        }
+    }
+    !text.is_empty()
+}
+
+// Whether a text is digits, and perhaps a point and digits.
+fn is_unsigned(text: &[u8]) -> bool
+    ensures { result ≡ is_unsigned_text text.now }
+{
+    let point = point_of(text);
+    if point == text.len() {
+        return are_digits(text);
+    }
+    are_digits(&text[..point]) && are_digits(&text[point + 1..])
+}
+
+// Whether a text is an optional sign and digits, of a number of 64 bits.
+fn is_int(text: &str) -> bool
+    ensures { result ≡ is_int_text text.now }
+{
+    match text.parse::<i64>() {
+        Ok(_) => true,
+        Err(_) => false,
+    }
+}
+
+// Whether no zero stands before another digit.
+fn has_no_leading_zero(digits: &[u8]) -> bool
+    ensures { result ≡ has_no_leading_zero digits.now }
+{
+    digits.len() <= 1 || digits[0] != b'0'
+}
+
+// The digits of a part of a number, as a text has them.
+fn digits_of(part: Part, text: &[u8]) -> &[u8]
+    ensures { result.now ≡ digits_of part text.now }
+{
+    let text = without_sign(text);
+    let point = point_of(text);
+    match part {
+        Part::Before => &text[..point],
+        Part::After => if point < text.len() {
+            &text[point + 1..]
+        } else {
+            &text[point..]
+        },
+    }
+}
+
+// How many digits that part has.
+pub(crate) fn count_digits(part: Part, text: &str) -> usize
+    ensures { result ≡ length (digits_of part text.now) }
+{
+    digits_of(part, text.as_bytes()).len()
+}
+
+// Whether a text is a number of this form, with no zero before its other digits.
+pub(crate) fn is_of(form: Form, text: &str) -> bool
+    ensures { result ≡ is_of form text.now }
+{
+    let is_number = match form {
+        Form::Int => is_int(text),
+        Form::Number => is_unsigned(without_sign(text.as_bytes())),
+    };
+    is_number && has_no_leading_zero(digits_of(Part::Before, text.as_bytes()))
+}

@@ -1,0 +1,4 @@
+mod EntryFacts
+mod LabelFacts
+mod NumberFacts
+mod WordFacts

@@ -1,0 +1,5 @@
+pub mod Columns
+pub mod Labels
+pub mod Lists
+pub mod Scanning
+pub mod Words

@@ -1,0 +1,40 @@
+-- Type lists: `int,num(9,2),text` by position, `id=int,"the price"=num(9,2),*=text` by name.
+use Rattle.std.specs.Prelude.{◌≡◌, ◌==◌, ◌&&◌, ◌||◌, nat_le, length, ℕ, Bool, true, false, Option, None, Some, List, [], ◌∷◌, ◌++◌}
+use Rattle.std.specs.List.{count_by}
+use Rattle.rj_types.specs.declared.entry.Label.{Label}
+use Rattle.rj_types.specs.declared.entry.Label.TheVariants.{Place, Rest}
+use Rattle.rj_types.specs.declared.entry.TypeEntry.{TypeEntry}
+use Rattle.rj_types.specs.Labels.{IsLabelText}
+use Rattle.rj_types.specs.Words.{IsTypeWord, before}
+
+-- an entry: perhaps a label, and a type
+abbrev pub IsEntry : TypeEntry → List ℕ → Type 0
+IsEntry e text = (label word : List ℕ) × IsLabelText e.label label × IsTypeWord e.kind word × (text ≡ label ++ word)
+
+-- a list begins with this entry, and so much of it is left
+abbrev pub BeginsEntry : TypeEntry → List ℕ → Option (List ℕ) → Type 0
+BeginsEntry e text rest = (first : List ℕ) × IsEntry e first × (text ≡ before first rest)
+
+-- the entries, separated by commas, of what is left of a list; nothing is left behind the last one
+abbrev pub AreEntries : List TypeEntry → Option (List ℕ) → Type 0
+AreEntries [] None = Unit {0}
+AreEntries [] (Some text) = ⊥
+AreEntries (e ∷ es) None = ⊥
+AreEntries (e ∷ es) (Some text) = (rest : Option (List ℕ)) × BeginsEntry e text rest × AreEntries es rest
+
+abbrev pub is_place : Label → Bool
+is_place Place = true
+is_place _ = false
+
+abbrev pub is_rest : Label → Bool
+is_rest Rest = true
+is_rest _ = false
+
+-- no label at all, or one at each type and `*` at one at most
+abbrev pub are_alike : List TypeEntry → Bool
+are_alike entries = count_by (λ e. is_place e.label) entries == length entries
+    || (count_by (λ e. is_place e.label) entries == 0 && nat_le (count_by (λ e. is_rest e.label) entries) 1)
+
+-- one or more entries, all by position or all by name
+abbrev pub IsTypeList : List ℕ → List TypeEntry → Type 0
+IsTypeList text entries = AreEntries entries (Some text) × (are_alike entries ≡ true)

@@ -1,0 +1,121 @@
+//! The label at the front of a list.
+
+ghost use Rattle.std.specs.Prelude.{◌≡◌, ◌<◌, IfOk, None};
+ghost use Rattle.std.specs.List.{list_all, prefix_len};
+ghost use Rattle.rj_condition.specs.Scanning.{quoted, view};
+ghost use Rattle.rj_condition.specs.Tokens.{is_name_byte};
+ghost use Rattle.rj_types.specs.Labels as labels;
+ghost use Rattle.rj_types.specs.Scanning as scanning;
+ghost use Rattle.rj_types.specs.Words.{text_of};
+
+use crate::entry::Label;
+use rj_condition::{Name, Word, quoted};
+use std::alloc::{AllocError, Global};
+
+// What stands behind the sign that the text begins with.
+fn behind(sign: u8, text: &str) -> Option<&str>
+    requires { sign < 128 }
+    ensures { text_of result ≡ scanning.behind sign text.now }
+{
+    text.strip_prefix(sign as char)
+}
+
+fn name_byte(byte: u8) -> bool
+    ensures { result ≡ is_name_byte byte }
+{
+    byte.is_ascii_alphanumeric() || byte == b'_'
+}
+
+// How many bytes of a name the text begins with.
+fn word_len(text: &[u8]) -> usize
+    ensures { result ≡ prefix_len is_name_byte text.now }
+{
+    text.iter().take_while(|b| name_byte(**b)).count()
+}
+
+fn are_name_bytes(word: &[u8]) -> bool
+    ensures { result ≡ list_all is_name_byte word.now }
+{
+    word.iter().all(|b| name_byte(*b))
+}
+
+fn is_regular(word: &[u8]) -> bool
+    ensures { result ≡ labels.is_regular word.now }
+{
+    match word {
+        [] => false,
+        [first, ..] => !first.is_ascii_digit() && are_name_bytes(word),
+    }
+}
+
+// The delimited name and the `=` in front of a text whose first quote is left out.
+fn delimited_at<'t>(alloc: Global, text: &'t str) -> Result<Option<(Label, &'t str)>, AllocError>
+    ensures { IfOk result (λ o. view o ≡ scanning.delimited_at (quoted 34 text.now)) }
+{
+    let Some((name, after)) = quoted(alloc, b'"', text)? else {
+        return Ok(None);
+    };
+    if name.as_str().is_empty() {
+        return Ok(None);
+    }
+    match behind(b'=', after) {
+        Some(rest) => Ok(Some((
+            Label::Name(Name {
+                text: name,
+                delimited: true,
+            }),
+            rest,
+        ))),
+        None => Ok(None),
+    }
+}
+
+// The regular name and the `=` in front of a text.
+fn regular_at<'t>(alloc: Global, text: &'t str) -> Result<Option<(Label, &'t str)>, AllocError>
+    ensures { IfOk result (λ o. view o ≡ scanning.label_by None None text.now) }
+{
+    let (front, after) = text.split_at(word_len(text.as_bytes()));
+    if !is_regular(front.as_bytes()) {
+        return Ok(None);
+    }
+    match behind(b'=', after) {
+        Some(rest) => Ok(Some((
+            Label::Name(Name {
+                text: Word::new(alloc, front)?,
+                delimited: false,
+            }),
+            rest,
+        ))),
+        None => Ok(None),
+    }
+}
+
+// The `=` behind a `*`.
+fn rest_at(text: &str) -> Option<(Label, &str)>
+    ensures { view result ≡ scanning.labelled Label.Rest (scanning.behind 61 text.now) }
+{
+    match behind(b'=', text) {
+        Some(rest) => Some((Label::Rest, rest)),
+        None => None,
+    }
+}
+
+fn label_in<'t>(alloc: Global, text: &'t str) -> Result<Option<(Label, &'t str)>, AllocError>
+    ensures { IfOk result (λ o. view o ≡ scanning.label_in text.now) }
+{
+    match (behind(b'"', text), behind(b'*', text)) {
+        (Some(quoting), _) => delimited_at(alloc, quoting),
+        (None, Some(rest)) => Ok(rest_at(rest)),
+        (None, None) => regular_at(alloc, text),
+    }
+}
+
+/// The label that the text begins with, or that of a place where it begins with none; and what stands behind it.
+pub(crate) fn label_at<'t>(alloc: Global, text: &'t str) -> Result<(Label, &'t str), AllocError>
+    ensures { IfOk result (λ p. (p.0, p.1.now) ≡ scanning.or_place (scanning.label_in text.now) text.now) }
+{
+    match label_in(alloc, text)? {
+        Some(found) => Ok(found),
+        None => Ok((Label::Place, text)),
+    }
+}

@@ -1,0 +1,13 @@
+//! Type lists: types by position or by name, read from their text, and what they give the columns of a header.
+#![tactic(auto)]
+
+mod columns;
+mod entry;
+mod label;
+mod list;
+mod number;
+mod word;
+
+pub use columns::{name_fault, types_under};
+pub use entry::{Label, TypeEntry};
+pub use list::read_list;

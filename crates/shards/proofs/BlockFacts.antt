@@ -1,0 +1,58 @@
+-- Blocks that are derived, and what stands in them.
+use Rattle.std.proofs.Common.{◌≡◌, ◌∙◌, ◌≤◌, ◌+◌, ℕ, suc, List, [], ◌∷◌, Bool, true, refl, sym, ap, arith, length, map}
+use Rattle.std.specs.Prelude.{◌||◌, ◌&&◌, not, None}
+use Rattle.std.specs.List.{list_all}
+use Rattle.std.proofs.lemmas.Bool.{le-leb}
+use Rattle.std.proofs.lemmas.List.{append-nil, length-map}
+use Rattle.csv.specs.Reading.{strip_bom}
+use Rattle.rj_columns.specs.declared.cell.ColumnType.{ColumnType}
+use Rattle.rj_columns.specs.Contents.{Content}
+use Rattle.rj_csv_io.specs.Pieces.{AreRows}
+use Rattle.rj_strict.specs.Faults.{AreAbove}
+use Rattle.rj_strict.specs.Grammar.{Derives, File, LF, Line, is_blank, is_record, lines_text, non-escaped, values_of}
+use Rattle.rj_strict.specs.declared.header.Header.TheVariants.{Above, First}
+use Rattle.shards.specs.Blocks.{records_in}
+
+-- the line of one name that is put above a text
+abbrev pub name_line : Line
+name_line = record { fields = record { before = []; last = non-escaped (120 ∷ []) }; ended = LF }
+
+abbrev pub name_file : File
+name_file = record { lines = name_line ∷ []; rest = None }
+
+pub name-derived : Derives First true (120 ∷ 10 ∷ []) name_file
+name-derived = record { spelled = refl; lines = refl; rest = refl }
+
+-- it begins with no byte order mark
+pub unmarked : (text : List ℕ) → strip_bom (120 ∷ 10 ∷ text) ≡ 120 ∷ 10 ∷ text
+unfolding strip_bom
+unmarked [] = refl
+unmarked (c ∷ rest) = refl
+
+-- under no name empty lines are records as they are under one
+pub under-one : (names : ℕ) (full : Bool) (text : List ℕ) (file : File) → names ≤ 1 → Derives (Above names) full text file → Derives (Above 1) full text file
+under-one names full text file low d = record {
+  spelled = d.spelled;
+  lines = ap (λ (b : Bool). list_all (λ (l : Line). is_record l.fields && (b || not (is_blank l.fields))) file.lines) (sym (le-leb names 1 low)) ∙ d.lines;
+  rest = d.rest;
+}
+
+-- the lines above a fault are derived
+pub above-derived : (names : ℕ) (text above : List ℕ) (row : ℕ) (lines : List Line) → AreAbove (Above names) text row lines → above ≡ lines_text lines
+    → Derives (Above names) true above (record { lines = lines; rest = None })
+above-derived names text above row lines are is = record { spelled = is ∙ sym (append-nil (lines_text lines)); lines = are.are_lines; rest = refl }
+
+rows-many : (nulls : List (List ℕ)) (types : List ColumnType) (xs : List (List (List ℕ))) (rows : List (List Content)) → AreRows nulls types xs rows → length xs ≡ length rows
+rows-many nulls types [] [] a = refl
+rows-many nulls types [] (r ∷ rows) a = absurd a
+rows-many nulls types (x ∷ xs) [] a = absurd a
+rows-many nulls types (x ∷ xs) (r ∷ rows) a = ap suc (rows-many nulls types xs rows a.1)
+
+-- the row of a fault is the one below the rows above it
+pub row-below : (nulls : List (List ℕ)) (types : List ColumnType) (names : ℕ) (text : List ℕ) (row : ℕ) (lines : List Line) (rows : List (List Content)) (n : ℕ) → AreAbove (Above names) text row lines
+    → AreRows nulls types (records_in lines) rows → n ≡ length rows → row ≡ 1 + n
+row-below nulls types names text row lines rows n are read many =
+    let a = rows-many nulls types (records_in lines) rows read in
+    let b = ap length (append-nil (map (λ (l : Line). values_of l.fields) lines)) in
+    let c = length-map lines (λ (l : Line). values_of l.fields) in
+    omega (arith, are.at_row, a, b, c, many)

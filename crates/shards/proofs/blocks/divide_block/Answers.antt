@@ -1,0 +1,42 @@
+use Rattle.std.proofs.Common.{arith, length, true}
+use Rattle.std.specs.Prelude.{None}
+use Rattle.rj_strict.specs.Faults.{row_at}
+use Rattle.rj_strict.specs.Grammar.{File}
+use Rattle.rj_csv_io.specs.Typed.{null_texts}
+use Rattle.shards.specs.Blocks.{above, in_all}
+use Rattle.shards.proofs.BlockFacts.{above-derived, row-below}
+use Rattle.shards.proofs.blocks.divide_block.Goals as goal
+
+pub divide_derived-requires-in-Err-clause-derived : goal.divide_derived-requires-in-Err-clause-derived
+divide_derived-requires-in-Err-clause-derived g c =
+    let found = c.above_fault-above.ensures in let d = c.args.division.now in
+    (true, record { lines = found.0; rest = None }, above-derived (length d.types.now) c.args.text.now c.above_fault-above.result.now (row_at c.in-Err.fault) found.0 found.1 found.2)
+
+pub behind-requires : goal.behind-requires
+behind-requires g c =
+    let found = c.above_fault-above.ensures in let d = c.args.division.now in
+    let file : File = record { lines = found.0; rest = None } in
+    let derived = above-derived (length d.types.now) c.args.text.now c.above_fault-above.result.now (row_at c.in-Err.fault) found.0 found.1 found.2 in
+    let rows = c.in-Ok-divide_derived-2.ensures.divided true file derived in
+    let row = row-below (null_texts d.nulls.now) d.types.now (length d.types.now) c.args.text.now (row_at c.in-Err.fault) found.0 rows.rows _ found.1 rows.read rows.many in
+    omega (arith, row, c.in-Ok-divide_derived-2.ensures.few)
+
+pub returns-in-Err-divide_derived-clause-fault : goal.returns-in-Err-divide_derived-clause-fault
+returns-in-Err-divide_derived-clause-fault g c = λ t begins.
+    let d = c.in-Ok.ensures.derived in
+    (_, in_all d.0 d.1, c.in-Err-divide_derived.ensures.fault t c.args.full d.0 begins d.1)
+
+pub returns-in-Ok-divide_derived-2-clause-fault : goal.returns-in-Ok-divide_derived-2-clause-fault
+returns-in-Ok-divide_derived-2-clause-fault g c = λ t begins.
+    let found = c.above_fault-above.ensures in let d = c.args.division.now in
+    let file : File = record { lines = found.0; rest = None } in
+    let derived = above-derived (length d.types.now) c.args.text.now c.above_fault-above.result.now (row_at c.in-Err.fault) found.0 found.1 found.2 in
+    let rows = c.in-Ok-divide_derived-2.ensures.divided true file derived in
+    record { at = c.in-Err.fault; has = c.in-Err.ensures.fault; lines = found.0; above = found.1; rows = rows.rows; read = rows.read; is = c.behind.ensures }
+
+pub returns-in-Err-divide_derived-2-clause-fault : goal.returns-in-Err-divide_derived-2-clause-fault
+returns-in-Err-divide_derived-2-clause-fault g c = λ t begins.
+    let found = c.above_fault-above.ensures in let d = c.args.division.now in
+    let file : File = record { lines = found.0; rest = None } in
+    let derived = above-derived (length d.types.now) c.args.text.now c.above_fault-above.result.now (row_at c.in-Err.fault) found.0 found.1 found.2 in
+    (_, above c.in-Err.fault found.0 c.in-Err.ensures.fault found.1, c.in-Err-divide_derived-2.ensures.fault t true file begins derived)

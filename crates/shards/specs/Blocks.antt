@@ -1,0 +1,73 @@
+-- Blocks of a file whose text has to be of RFC 4180's grammar: each stands under the header and begins where a record does.
+use Rattle.std.specs.Prelude.{ℕ, ◌+◌, ◌≡◌, ◌++◌, Bool, true, List, Option, Some, None, Result, Ok, Err, length}
+use Rattle.rj_columns.specs.declared.cell.ColumnType.{ColumnType}
+use Rattle.rj_columns.specs.Contents.{Content}
+use Rattle.rj_csv_io.specs.Pieces.{AreRows}
+use Rattle.rj_divide.specs.Divisions.{IsDivided, counts_after}
+use Rattle.rj_divide.specs.Readings.{IsFaultBehind}
+use Rattle.rj_strict.specs.Faults.{AreAbove, HasFault, row_at}
+use Rattle.rj_strict.specs.Grammar.{Derives, File, Line, records_of}
+use Rattle.rj_strict.specs.declared.header.Header.TheVariants.{Above}
+use Rattle.rj_strict.specs.declared.fault.StrictFault.{StrictFault}
+use Rattle.rj_strict.specs.declared.fault.StrictFault.TheVariants as fault
+use Rattle.shards.specs.declared.blocks.BlockRefused.{BlockRefused}
+use Rattle.shards.specs.declared.blocks.BlockRefused.TheVariants as refused
+
+-- the same fault where so many rows stand before
+abbrev pub strict_behind : ℕ → StrictFault → StrictFault
+strict_behind before (fault.OpenQuote row column) = fault.OpenQuote (before + row) column
+strict_behind before (fault.AfterQuote row column) = fault.AfterQuote (before + row) column
+strict_behind before (fault.BareQuote row column) = fault.BareQuote (before + row) column
+strict_behind before (fault.BareReturn row column) = fault.BareReturn (before + row) column
+strict_behind before (fault.EmptyLine row) = fault.EmptyLine (before + row)
+strict_behind before (fault.CutShort row) = fault.CutShort (before + row)
+
+-- the records that stand in lines
+abbrev pub records_in : List Line → List (List (List ℕ))
+records_in lines = records_of (record { lines = lines; rest = None })
+
+-- the records of a block's derivation, or those above the place where it stops being derived
+pub data StandIn (names : ℕ) (full : Bool) (text : List ℕ) : List (List (List ℕ)) → Type 0 where
+  in_all : (file : File) → Derives (Above names) full text file → StandIn names full text (records_of file)
+  above : (f : StrictFault) (lines : List Line) → HasFault (Above names) full text f → AreAbove (Above names) text (row_at f) lines
+      → StandIn names full text (records_in lines)
+
+-- the place where a block stops being derived, below records that are all rows
+pub record IsBrokenAt (nulls : List (List ℕ)) (types : List ColumnType) (full : Bool) (text : List ℕ) (before : ℕ) (told : StrictFault) : Type 0 where
+  pub at : StrictFault
+  pub has : HasFault (Above (length types)) full text at
+  pub lines : List Line
+  pub above : AreAbove (Above (length types)) text (row_at at) lines
+  pub rows : List (List Content)
+  pub read : AreRows nulls types (records_in lines) rows
+  pub is : told ≡ strict_behind before at
+
+-- why a block behind so many rows is not divided among so many outputs
+abbrev pub IsBlockFault : List (List ℕ) → List ColumnType → Bool → List ℕ → ℕ → ℕ → BlockRefused → Type 0
+IsBlockFault nulls types full text before outputs (refused.Broken f) = IsBrokenAt nulls types full text before f
+IsBlockFault nulls types full text before outputs (refused.Divided e) =
+    (records : List (List (List ℕ))) × StandIn (length types) full text records × IsFaultBehind nulls types before outputs records e
+
+-- the counts of the outputs' failures: one more for the output that failed, if one did
+abbrev pub block_counts : {T : Type 0} → Result T BlockRefused → List ℕ → List ℕ
+block_counts (Ok x) counts = counts
+block_counts (Err (refused.Broken f)) counts = counts
+block_counts (Err (refused.Divided e)) counts = counts_after {T = ℕ} (Err e) counts
+
+-- a range of which so many rows are divided: those of its first bytes, which are lines below the header's names; the others are
+-- those of the bytes that were read and of what the device tells
+pub record IsReadTo (nulls : List (List ℕ)) (types : List ColumnType) (part : List Content → ℕ) (first : ℕ) (text : List ℕ)
+    (before : List (Option (List ℕ))) (tells : Option (List ℕ)) (bytes : List ℕ) (now : List (Option (List ℕ))) (rows : ℕ) : Type 0 where
+  pub left : List ℕ
+  pub told : tells ≡ Some left
+  pub taken : List ℕ
+  pub order : text ≡ taken ++ (bytes ++ left)
+  pub file : File
+  pub derived : Derives (Above (length types)) true taken file
+  pub divided : IsDivided nulls types part first (records_of file) before now rows
+  pub outputs : length now ≡ length before
+
+-- a range whose rows are divided, so many: the records of its one derivation below the header's names
+abbrev pub IsRangeDivided : List (List ℕ) → List ColumnType → (List Content → ℕ) → ℕ → Bool → List ℕ → List (Option (List ℕ)) → List (Option (List ℕ)) → ℕ → Type 0
+IsRangeDivided nulls types part first full text before after rows =
+    (file : File) × Derives (Above (length types)) full text file × IsDivided nulls types part first (records_of file) before after rows

@@ -1,0 +1,254 @@
+//! Dividing a range of a file whose text has to be of RFC 4180's grammar: each block is checked, and then divided.
+
+ghost use Rattle.std.specs.Prelude.{◌≡◌, ◌<◌, ◌≤◌, ◌+◌, ◌-◌, ◌^◌, ℕ, Bool, true, false, List, Option, Ok, All, IfErr, IfOk, IfSome, IsTrue, OnOk, drop, length, map, vec_len};
+ghost use Rattle.csv.specs.Reading.{strip_bom};
+ghost use Rattle.rj_columns.specs.Names.{begun};
+ghost use Rattle.rj_columns.specs.Tables.{TableValue};
+ghost use Rattle.rj_csv_io.specs.Pieces.{names_in, piece_records};
+ghost use Rattle.rj_csv_io.specs.Tables.{is_null_text};
+ghost use Rattle.rj_csv_io.specs.Typed.{null_texts};
+ghost use Rattle.rj_divide.specs.Divisions.{IsDivided, counts_after, written_null};
+ghost use Rattle.rj_divide.specs.Readings.{IsFaultBehind};
+ghost use Rattle.rj_strict.specs.Faults.{row_at};
+ghost use Rattle.rj_strict.specs.Grammar.{Derives, File, records_of};
+ghost use Rattle.rj_strict.specs.declared.header.Header.TheVariants.{Above};
+ghost use Rattle.shards.specs.Blocks.{IsBlockFault, IsRangeDivided, IsReadTo, block_counts, strict_behind};
+
+use rj_csv_io::{Input, Output, without_bom};
+use rj_divide::{DivideRefused, Division, Route, divide_piece, divided_in_turn, next_piece};
+use rj_strict::{
+    Header, StrictFault, above_fault, check, joined_texts, quote_empty_lines, reads_all_records,
+    reads_quoted_records,
+};
+use std::alloc::{AllocError, Global};
+
+/// Why a block, or a range, wasn't divided. Outputs may have got some of its rows then.
+#[derive(Clone, Copy, Debug, PartialEq, Eq)]
+pub(crate) enum BlockRefused {
+    /// The place where the text stops being of the grammar, its row counted from the range's first one. The rows above have
+    /// no fault.
+    Broken(StrictFault),
+    /// The first fault of the rows, or of those above the place where the text stops being of the grammar; a failure of a
+    /// device; or want of memory.
+    Divided(DivideRefused),
+}
+
+// A fault of a block that has so many rows before it.
+fn behind(before: u64, fault: StrictFault) -> StrictFault
+    requires { before + row_at fault < 2 ^ 64 }
+    ensures { result ≡ strict_behind before fault }
+{
+    match fault {
+        StrictFault::OpenQuote(row, column) => StrictFault::OpenQuote(before + row, column),
+        StrictFault::AfterQuote(row, column) => StrictFault::AfterQuote(before + row, column),
+        StrictFault::BareQuote(row, column) => StrictFault::BareQuote(before + row, column),
+        StrictFault::BareReturn(row, column) => StrictFault::BareReturn(before + row, column),
+        StrictFault::EmptyLine(row) => StrictFault::EmptyLine(before + row),
+        StrictFault::CutShort(row) => StrictFault::CutShort(before + row),
+    }
+}
+
+// A text that stands under one name, with a name above it and `""` in each of its empty lines.
+fn quote_below_name(alloc: Global, text: &[u8]) -> Result<Vec<u8>, AllocError>
+    requires { (names : ℕ) × (full : Bool) × (file : File) × (names ≤ 1) × Derives (Above names) full text.now file }
+    ensures { IfOk result (λ v. (names : ℕ) (full : Bool) (file : File) → names ≤ 1 → Derives (Above names) full text.now file
+        → piece_records true (strip_bom v.items) ≡ records_of file) }
+{
+    joined_texts();
+    reads_quoted_records();
+    let mut named = Vec::new(alloc);
+    named.extend_from_slice(b"x\n")?;
+    named.extend_from_slice(text)?;
+    quote_empty_lines(alloc, named.as_slice())
+}
+
+// Divides the rows of a text that is derived under the header.
+fn divide_derived<W: Route, O: Output>(
+    alloc: Global,
+    division: &Division<'_, W>,
+    text: &[u8],
+    before: u64,
+    outputs: &mut [O],
+) -> Result<u64, DivideRefused>
+    requires types { W.fits division.now.route.now division.now.types.now }
+    requires outputs { length outputs.old ≡ W.count division.now.route.now }
+    requires first { division.now.first ≤ 2 ^ 62 }
+    requires null { IsTrue (is_null_text (written_null (null_texts division.now.nulls.now))) }
+    requires failures { All (λ o. O.count o < 2 ^ 64 - 1) outputs.old }
+    requires derived { (full : Bool) × (file : File) × Derives (Above (length division.now.types.now)) full text.now file }
+    ensures divided { IfOk result (λ n. (full : Bool) (file : File) → Derives (Above (length division.now.types.now)) full text.now file
+        → IsDivided (null_texts division.now.nulls.now) division.now.types.now (W.part division.now.route.now) (division.now.first + before) (records_of file)
+        (map O.told outputs.old) (map O.told outputs.new) n) }
+    ensures fault { IfErr result (λ e. (t : TableValue) (full : Bool) (file : File) → begun (names_in division.now.header.now) division.now.types.now ≡ Ok t
+        → Derives (Above (length division.now.types.now)) full text.now file
+        → IsFaultBehind (null_texts division.now.nulls.now) division.now.types.now before (length outputs.old) (records_of file) e) }
+    ensures few { IfOk result (λ n. before + n < 2 ^ 62) }
+    ensures counts { map O.count outputs.new ≡ counts_after result (map O.count outputs.old) }
+    ensures writes { OnOk result (All (λ o. O.count o < 2 ^ 64 - 1) outputs.new) }
+{
+    reads_all_records();
+    if division.types.len() > 1 {
+        return divide_piece(alloc, division, text, false, before, outputs);
+    }
+    let Ok(quoted) = quote_below_name(alloc, text) else {
+        return Err(DivideRefused::Memory);
+    };
+    divide_piece(
+        alloc,
+        division,
+        without_bom(quoted.as_slice()),
+        true,
+        before,
+        outputs,
+    )
+}
+
+/// Checks that a block of a text is of RFC 4180's grammar, and puts each of its rows, with its place, to the output of its part:
+/// the records of the block's one derivation. The block begins where a record does, below the header, and so many rows stand
+/// before it. Where it is full its last record has its line's end. It says how many rows there are.
+///
+/// # Errors
+///
+/// The first fault of the block: of its rows, or the place where it stops being of the grammar, below rows without a fault.
+/// `WriteDevice` where an output failed, and `Memory`. The outputs may have got rows then.
+pub(crate) fn divide_block<W: Route, O: Output>(
+    alloc: Global,
+    division: &Division<'_, W>,
+    text: &[u8],
+    full: bool,
+    before: u64,
+    outputs: &mut [O],
+) -> Result<u64, BlockRefused>
+    requires types { W.fits division.now.route.now division.now.types.now }
+    requires outputs { length outputs.old ≡ W.count division.now.route.now }
+    requires first { division.now.first ≤ 2 ^ 62 }
+    requires null { IsTrue (is_null_text (written_null (null_texts division.now.nulls.now))) }
+    requires failures { All (λ o. O.count o < 2 ^ 64 - 1) outputs.old }
+    ensures divided { IfOk result (λ n. (file : File) × Derives (Above (length division.now.types.now)) full text.now file
+        × IsDivided (null_texts division.now.nulls.now) division.now.types.now (W.part division.now.route.now) (division.now.first + before) (records_of file)
+        (map O.told outputs.old) (map O.told outputs.new) n) }
+    ensures fault { IfErr result (λ e. (t : TableValue) → begun (names_in division.now.header.now) division.now.types.now ≡ Ok t
+        → IsBlockFault (null_texts division.now.nulls.now) division.now.types.now full text.now before (length outputs.old) e) }
+    ensures few { IfOk result (λ n. before + n < 2 ^ 62) }
+    ensures counts { map O.count outputs.new ≡ block_counts result (map O.count outputs.old) }
+    ensures writes { OnOk result (All (λ o. O.count o < 2 ^ 64 - 1) outputs.new) }
+{
+    let header = Header::Above(division.types.len() as u64);
+    match check(text, header, full) {
+        Ok(()) => match divide_derived(alloc, division, text, before, outputs) {
+            Ok(rows) => Ok(rows),
+            Err(refused) => Err(BlockRefused::Divided(refused)),
+        },
+        Err(fault) => {
+            let above = above_fault(text, header, fault);
+            match divide_derived(alloc, division, above, before, outputs) {
+                Ok(_) => Err(BlockRefused::Broken(behind(before, fault))),
+                Err(refused) => Err(BlockRefused::Divided(refused)),
+            }
+        }
+    }
+}
+
+// What is left of a range that is divided.
+#[derive(Drop)]
+struct Rest {
+    // The bytes that were read and aren't divided yet.
+    bytes: Vec<u8>,
+    // How many rows were divided.
+    rows: u64,
+}
+
+// Takes the first bytes away.
+fn drop_front(bytes: &mut Vec<u8>, end: usize)
+    requires { end ≤ vec_len bytes.old }
+    ensures { bytes.new.items ≡ drop end bytes.old.items }
+{
+    bytes.drain(..end);
+}
+
+// Divides the next block of a range: whether it was the last one.
+fn divide_next<I: Input, W: Route, O: Output>(
+    alloc: Global,
+    input: &mut I,
+    division: &Division<'_, W>,
+    full: bool,
+    block: usize,
+    rest: &mut Rest,
+    outputs: &mut [O],
+) -> Result<bool, BlockRefused>
+    requires types { W.fits division.now.route.now division.now.types.now }
+    requires outputs { length outputs.old ≡ W.count division.now.route.now }
+    requires first { division.now.first ≤ 2 ^ 62 }
+    requires null { IsTrue (is_null_text (written_null (null_texts division.now.nulls.now))) }
+    requires reads { I.count input.old < 2 ^ 64 - 1 }
+    requires writes { All (λ o. O.count o < 2 ^ 64 - 1) outputs.old }
+    ensures more { result ≡ Ok false → (text : List ℕ) (before : List (Option (List ℕ)))
+        → IsReadTo (null_texts division.now.nulls.now) division.now.types.now (W.part division.now.route.now) division.now.first text before
+        (I.tells input.old) rest.old.bytes.items (map O.told outputs.old) rest.old.rows
+        → IsReadTo (null_texts division.now.nulls.now) division.now.types.now (W.part division.now.route.now) division.now.first text before
+        (I.tells input.new) rest.new.bytes.items (map O.told outputs.new) rest.new.rows }
+    ensures last { result ≡ Ok true → (text : List ℕ) (before : List (Option (List ℕ)))
+        → IsReadTo (null_texts division.now.nulls.now) division.now.types.now (W.part division.now.route.now) division.now.first text before
+        (I.tells input.old) rest.old.bytes.items (map O.told outputs.old) rest.old.rows
+        → IsRangeDivided (null_texts division.now.nulls.now) division.now.types.now (W.part division.now.route.now) division.now.first full text before
+        (map O.told outputs.new) rest.new.rows }
+    ensures reads { OnOk result (I.count input.new ≡ I.count input.old) }
+    ensures writes { OnOk result (All (λ o. O.count o < 2 ^ 64 - 1) outputs.new) }
+{
+    joined_texts();
+    divided_in_turn();
+    let piece = match next_piece(input, &mut rest.bytes, block) {
+        Ok(piece) => piece,
+        Err(refused) => return Err(BlockRefused::Divided(refused)),
+    };
+    // (a block that isn't the last one ends behind a line's end)
+    let whole = full | !piece.is_last;
+    let text = &rest.bytes[..piece.end];
+    let rows = match divide_block(alloc, division, text, whole, rest.rows, outputs) {
+        Ok(rows) => rows,
+        Err(refused) => return Err(refused),
+    };
+    rest.rows += rows;
+    drop_front(&mut rest.bytes, piece.end);
+    Ok(piece.is_last)
+}
+
+/// Divides a range of a file, its header left out, whose text has to be of RFC 4180's grammar, block by block, as
+/// [`divide_block`] says of each. Where it is full its last record has its line's end. It says how many rows there are.
+///
+/// # Errors
+///
+/// The first fault of the range, its row counted from the range's first one; `TooLong`, or a failure of a device; or `Memory`.
+/// The outputs may have got rows then.
+pub(crate) fn divide_strictly<I: Input, W: Route, O: Output>(
+    alloc: Global,
+    input: &mut I,
+    division: &Division<'_, W>,
+    full: bool,
+    block: usize,
+    outputs: &mut [O],
+) -> Result<u64, BlockRefused>
+    requires types { W.fits division.now.route.now division.now.types.now }
+    requires outputs { length outputs.old ≡ W.count division.now.route.now }
+    requires first { division.now.first ≤ 2 ^ 62 }
+    requires null { IsTrue (is_null_text (written_null (null_texts division.now.nulls.now))) }
+    requires reads { I.count input.old < 2 ^ 64 - 1 }
+    requires writes { All (λ o. O.count o < 2 ^ 64 - 1) outputs.old }
+    ensures { IfOk result (λ n. IfSome (I.tells input.old) (λ text.
+        IsRangeDivided (null_texts division.now.nulls.now) division.now.types.now (W.part division.now.route.now) division.now.first full text
+        (map O.told outputs.old) (map O.told outputs.new) n)) }
+{
+    divided_in_turn();
+    let mut rest = Rest {
+        bytes: Vec::new(alloc),
+        rows: 0,
+    };
+    for _turn in 0..u64::MAX {
+        match divide_next(alloc, input, division, full, block, &mut rest, outputs) {
+            Ok(true) => return Ok(rest.rows),
+            Ok(false) => {}
+            Err(refused) => return Err(refused),
+        }
+    }
+    Err(BlockRefused::Divided(DivideRefused::TooLong))
+}
