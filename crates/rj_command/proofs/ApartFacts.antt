@@ -27,9 +27,9 @@ use Rattle.rj_fault.specs.Faults.{read_fault}
 use Rattle.rj_fault.specs.declared.fault.Fault.{Fault}
 use Rattle.rj_fault.specs.declared.fault.Fault.TheVariants as fault
 use Rattle.rj_fault.specs.declared.fault.Side.{Side}
-use Rattle.rj_command.specs.declared.join.request.Request.{Request}
-use Rattle.rj_command.specs.declared.join.request.Strictness.{Strictness}
-use Rattle.rj_command.specs.declared.join.request.Strictness.TheVariants as strictness
+use Rattle.rj_line.specs.declared.request.Request.{Request}
+use Rattle.rj_line.specs.declared.request.Strictness.{Strictness}
+use Rattle.rj_line.specs.declared.request.Strictness.TheVariants as strictness
 
 scaled-apart : (null : List ℕ) (s : ℕ) (x : Content) → x ≢ word null → in_scale s x ≢ word null
 scaled-apart null s nothing h = λ is. cc

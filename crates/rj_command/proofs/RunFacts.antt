@@ -24,9 +24,9 @@ use Rattle.rj_fault.specs.declared.fault.Fault.TheVariants as fault
 use Rattle.rj_fault.specs.declared.fault.Side.{Side}
 use Rattle.rj_fault.specs.declared.fault.Side.TheVariants as side
 use Rattle.rj_command.specs.declared.join.operands.Operands.{Operands}
-use Rattle.rj_command.specs.declared.join.request.Request.{Request}
-use Rattle.rj_command.specs.declared.join.request.Strictness.{Strictness}
-use Rattle.rj_command.specs.declared.join.request.Strictness.TheVariants as strictness
+use Rattle.rj_line.specs.declared.request.Request.{Request}
+use Rattle.rj_line.specs.declared.request.Strictness.{Strictness}
+use Rattle.rj_line.specs.declared.request.Strictness.TheVariants as strictness
 use Rattle.rj_command.specs.declared.join.stats.Stats.{Stats}
 use Rattle.rj_strict.specs.declared.fault.StrictFault.{StrictFault}
 use Rattle.rj_strict.specs.declared.fault.StrictFault.TheVariants as strict

@@ -21,9 +21,9 @@ use Rattle.rj_types.specs.declared.entry.TypeEntry.{TypeEntry}
 use Rattle.rj_fault.specs.declared.fault.Fault.{Fault}
 use Rattle.rj_fault.specs.declared.fault.Fault.TheVariants as fault
 use Rattle.rj_fault.specs.declared.fault.Side.{Side}
-use Rattle.rj_command.specs.declared.join.request.Request.{Request}
-use Rattle.rj_command.specs.declared.join.request.Strictness.{Strictness}
-use Rattle.rj_command.specs.declared.join.request.Strictness.TheVariants as strictness
+use Rattle.rj_line.specs.declared.request.Request.{Request}
+use Rattle.rj_line.specs.declared.request.Strictness.{Strictness}
+use Rattle.rj_line.specs.declared.request.Strictness.TheVariants as strictness
 
 module _ (q : Request) (s : Side) where
   -- where a null text is not lawful, that is told

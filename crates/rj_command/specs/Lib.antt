@@ -1,7 +1,7 @@
 pub use Rattle.rj_fault.specs.Faults
-pub mod Line
+pub use Rattle.rj_line.specs.Line
+pub use Rattle.rj_line.specs.Options
 pub mod Operands
-pub mod Options
 pub mod Runs
 pub mod Sides
 pub mod Statistics

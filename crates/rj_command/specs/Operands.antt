@@ -9,7 +9,7 @@ use Rattle.rj_condition.specs.declared.refused.BindRefused.TheVariants as bind
 use Rattle.rj_fault.specs.declared.fault.Fault.{Fault}
 use Rattle.rj_fault.specs.declared.fault.Fault.TheVariants as fault
 use Rattle.rj_fault.specs.declared.fault.Side.TheVariants as side
-use Rattle.rj_command.specs.declared.join.request.Request.{Request}
+use Rattle.rj_line.specs.declared.request.Request.{Request}
 use Rattle.rj_command.specs.Sides.{IsTable, IsTableFault}
 use Rattle.rj_condition.specs.Clauses.{HasClause, IsFault}
 use Rattle.rj_condition.specs.declared.refused.ParseRefused.{ParseRefused}

@@ -18,11 +18,11 @@ use Rattle.rj_command.specs.Operands.{AreOperands, IsFirstFault}
 use Rattle.rj_fault.specs.declared.fault.Fault.{Fault}
 use Rattle.rj_fault.specs.declared.fault.Fault.TheVariants as fault
 use Rattle.rj_command.specs.declared.join.operands.Operands.{Operands}
-use Rattle.rj_command.specs.declared.join.request.Hash.{Hash}
-use Rattle.rj_command.specs.declared.join.request.Hash.TheVariants as hash
-use Rattle.rj_command.specs.declared.join.request.Request.{Request}
-use Rattle.rj_command.specs.declared.join.request.Strictness.{Strictness}
-use Rattle.rj_command.specs.declared.join.request.Strictness.TheVariants as strictness
+use Rattle.rj_line.specs.declared.request.Hash.{Hash}
+use Rattle.rj_line.specs.declared.request.Hash.TheVariants as hash
+use Rattle.rj_line.specs.declared.request.Request.{Request}
+use Rattle.rj_line.specs.declared.request.Strictness.{Strictness}
+use Rattle.rj_line.specs.declared.request.Strictness.TheVariants as strictness
 use Rattle.rj_fault.specs.declared.fault.Side.TheVariants as side
 use Rattle.rj_command.specs.Sides.{nulls_of}
 use Rattle.rj_command.specs.declared.join.stats.Stats.{Stats}

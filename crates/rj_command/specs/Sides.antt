@@ -22,9 +22,9 @@ use Rattle.rj_fault.specs.declared.fault.Fault.{Fault}
 use Rattle.rj_fault.specs.declared.fault.Fault.TheVariants as fault
 use Rattle.rj_fault.specs.declared.fault.Side.{Side}
 use Rattle.rj_fault.specs.declared.fault.Side.TheVariants as side
-use Rattle.rj_command.specs.declared.join.request.Request.{Request}
-use Rattle.rj_command.specs.declared.join.request.Strictness.{Strictness}
-use Rattle.rj_command.specs.declared.join.request.Strictness.TheVariants as strictness
+use Rattle.rj_line.specs.declared.request.Request.{Request}
+use Rattle.rj_line.specs.declared.request.Strictness.{Strictness}
+use Rattle.rj_line.specs.declared.request.Strictness.TheVariants as strictness
 
 -- the fault of a text that is not of RFC 4180's grammar
 abbrev pub strict_fault : Side → StrictFault → Fault

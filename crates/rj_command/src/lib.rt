@@ -1,13 +1,14 @@
-//! The command line of a join, its faults and its statuses, and the run from the bytes of two tables to the bytes of their joined table.
+//! The run of a join, from the bytes of two tables to the bytes of their joined table; its command line, faults and statuses are handed on.
 #![tactic(auto)]
 
 mod join;
 
 pub use join::{
-    Hash, Line, PartitionRows, Request, Stats, Strictness, bind_clause, fault_of_text, read_line,
-    read_nulls, read_strictly, read_types, run, run_owned, types_of_header,
+    PartitionRows, Stats, bind_clause, fault_of_text, read_strictly, run, run_owned,
+    types_of_header,
 };
 pub use rj_engine::Open;
 pub use rj_fault::{Fault, Side, Told, VERSION, fault_of_read, read_words, tell, texts_of};
+pub use rj_line::{Hash, Line, Request, Strictness, read_line, read_nulls, read_types};
 pub use rj_script::arrivals;
 pub use rj_types::TypeEntry;

@@ -7,12 +7,12 @@ ghost use Rattle.rj_command.specs.Operands.{AreOperands, IsFirstFault, IsJoinFau
 ghost use Rattle.rj_command.specs.Runs.{AreReadApart};
 ghost use Rattle.rj_command.specs.Sides.{IsTable, IsTableFault};
 
-use crate::join::request::{Request, Strictness};
 use crate::join::strict::{read_strictly, read_text};
 use rj_columns::Table;
 use rj_condition::{BindRefused, BoundJoin, ParseRefused, bind, parse};
 use rj_csv_io::null_texts_read_as_null;
 use rj_fault::{Fault, Side};
+use rj_line::{Request, Strictness};
 use std::alloc::Global;
 use std::convert::AsSlice;
 use std::thread::Threads;

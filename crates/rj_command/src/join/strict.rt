@@ -10,11 +10,11 @@ ghost use Rattle.rj_command.specs.Sides.{IsReading, IsStrictFault, IsStrictTable
 ghost use Rattle.rj_command.specs.Sides as sides;
 
 use crate::join::nulls::{has_lawful_nulls, nulls_of};
-use crate::join::request::Request;
 use crate::join::types::types_of_text;
 use rj_columns::Table;
 use rj_csv_io::{read_table_in_parts, without_bom};
 use rj_fault::{Fault, Side, fault_of_read};
+use rj_line::Request;
 use rj_strict::{
     Header, StrictFault, above_fault, check, derived_with_header, one_derivation,
     quote_empty_lines, reads_all_records, reads_quoted_records,

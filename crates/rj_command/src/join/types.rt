@@ -1,38 +1,20 @@
-//! Type lists, and the types that they give the columns of a text.
+//! The types that type lists give the columns of a text.
 
-ghost use Rattle.std.specs.Prelude.{◌≡◌, ◌≢◌, IfOk, IfErr, IsTrue, List, None, Err, OnOk, Some};
+ghost use Rattle.std.specs.Prelude.{◌≡◌, ◌≢◌, IfOk, IfErr, IsTrue, None, Err, OnOk, Some};
 ghost use Rattle.rj_columns.specs.Names.{begun};
 ghost use Rattle.rj_columns.specs.declared.refused.BuildRefused.{BuildRefused};
 ghost use Rattle.rj_csv_io.specs.Pieces.{names_in};
 ghost use Rattle.rj_csv_io.specs.Tables.{of_begun, read_of};
 ghost use Rattle.rj_types.specs.Columns as columns;
-ghost use Rattle.rj_types.specs.Lists.{IsTypeList};
 ghost use Rattle.rj_command.specs.Sides.{has_lawful_nulls, nulls_of, side_read, stands, told, type_fault, types_of};
 
-use crate::join::request::Request;
 use rj_columns::ColumnType;
 use rj_condition::Word;
 use rj_csv_io::{Header, ReadRefused, without_bom};
 use rj_fault::{Fault, Side};
-use rj_types::{TypeEntry, name_fault, read_list, types_under};
+use rj_line::Request;
+use rj_types::{TypeEntry, name_fault, types_under};
 use std::alloc::{AllocError, Global};
-
-/// The entries of a type list such as `int,num(4,1)` or `id=int,*=text`, which is that of this side.
-///
-/// # Errors
-///
-/// `BadTypeList` where the text is no such list. `Memory` comes only where a growth was refused.
-pub fn read_types(alloc: Global, text: &str, side: Side) -> Result<Vec<TypeEntry>, Fault>
-    ensures types { IfOk result (λ v. IsTypeList text.now v.items) }
-    ensures fault { IfErr result (λ e. e ≢ Fault.Memory →
-        (e ≡ Fault.BadTypeList side) × ((types : List TypeEntry) → IsTypeList text.now types → ⊥)) }
-{
-    match read_list(alloc, text) {
-        Ok(Some(entries)) => Ok(entries),
-        Ok(None) => Err(Fault::BadTypeList(side)),
-        Err(_) => Err(Fault::Memory),
-    }
-}
 
 // Whether a header that is refused for this has no fault but the count of its types.
 fn stands_refused(refused: ReadRefused) -> Result<bool, AllocError>

@@ -1,6 +1,6 @@
 use Rattle.std.proofs.Common.{IfOk, sym, subst}
 use Rattle.rj_command.specs.Runs.{WritesTables, hash_value}
-use Rattle.rj_command.specs.declared.join.request.Hash.{Hash}
+use Rattle.rj_line.specs.declared.request.Hash.{Hash}
 use Rattle.rj_command.proofs.join.running.write_by_hash.Goals as goal
 
 pub returns-in-Plain-clause-ok : goal.returns-in-Plain-clause-ok

@@ -1,0 +1,5 @@
+mod ChainFacts
+mod LineFacts
+mod NumberFacts
+mod NullFacts
+pub mod LimitFacts

@@ -1,0 +1,22 @@
+use Rattle.std.proofs.Common.{rules, ap, refl, codes, true, ◌≡◌, ◌∙◌}
+use Rattle.std.proofs.lemmas.Result.{IfOk-weaker}
+use Rattle.clap.specs.Words.{app_of, new_app}
+use Rattle.clap.specs.Simple.{on_top, app_of_fields}
+use Rattle.rj_line.specs.Options.{OptionWords, IsLineCommand, option_rules, with_rules}
+use Rattle.rj_line.proofs.ChainFacts.{chain_app}
+use Rattle.rj_line.proofs.options.line_command.Goals as goal
+
+pub returns : goal.returns
+returns c =
+    let words : OptionWords = record { hashes = _; are_hashes = refl; levels = _; are_levels = refl } in
+    let versioned : app_of c.version.result ≡ on_top (λ s. record s { has_version = true }) (new_app (codes "radixjoin")) =
+    ap app_of_fields c.version.ensures ∙ ap (on_top (λ s. record s { has_version = true })) (ap app_of_fields c.about.ensures ∙ c.new.ensures.app) in
+    let base : app_of c.no_binary_name-command.result ≡ on_top (λ s. record s { has_version = true; no_binary_name = true }) (new_app (codes "radixjoin")) =
+    ap app_of_fields c.no_binary_name-command.ensures ∙ ap (on_top (λ s. record s { no_binary_name = true })) versioned in
+    IfOk-weaker c.with_options.result _ IsLineCommand (λ r h. record {
+      start = c.no_binary_name-command.result;
+      option_words = words;
+      bare = record { args = search rules; groups = search rules; globals = search rules; negates = search rules };
+      chain = h;
+      app = chain_app c.no_binary_name-command.result r (option_rules words) h refl ∙ ap (λ a. with_rules a (option_rules words)) base;
+    }) c.with_options.ensures

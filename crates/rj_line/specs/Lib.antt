@@ -1,0 +1,3 @@
+pub use Rattle.rj_settings.specs.Limits
+pub mod Line
+pub mod Options

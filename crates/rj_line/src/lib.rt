@@ -1,0 +1,13 @@
+//! The command line of a join: its options, and the request that its words make.
+#![tactic(auto)]
+
+mod line;
+mod nulls;
+mod options;
+mod request;
+mod types;
+
+pub use line::{Line, read_line};
+pub use nulls::read_nulls;
+pub use request::{Hash, Request, Strictness};
+pub use types::read_types;

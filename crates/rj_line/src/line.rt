@@ -1,0 +1,166 @@
+//! Reading the words of the command line.
+
+ghost use Rattle.std.specs.Prelude.{◌≡◌, ◌⊎◌, ◌-◌, ◌^◌, IfOk, IfErr, Some, codes, is_some, map, true};
+ghost use Rattle.clap.specs.Words.{first_value, found_of, kind_of};
+ghost use Rattle.rj_line.specs.Line.{AreNumbersIn, AreSettings, IsHashName, IsHashOr, IsLineFault, IsLineOf, IsNumberIn, IsNumberOr, IsParseOf, IsStrictName, IsStrictness, is_true};
+
+use crate::nulls::read_nulls;
+use crate::options::line_command;
+use crate::request::{Hash, Request, Strictness};
+use crate::types::read_types;
+use clap::error::ErrorKind;
+use clap::{ArgMatches, Error};
+use rj_fault::{Fault, Side};
+use rj_settings::Settings;
+use std::alloc::Global;
+
+/// What the words of the command line say.
+#[derive(Drop)]
+pub struct Line<'a> {
+    /// The name of the left table's file.
+    pub left: &'a str,
+    /// The name of the right table's file.
+    pub right: &'a str,
+    /// What is asked of the two tables.
+    pub request: Request<'a>,
+    /// Whether the statistics are asked for.
+    pub stats: bool,
+}
+
+// The fault of an error of `clap`'s.
+fn fault_of_error(error: Error) -> Fault
+    ensures memory { kind_of error ≡ ErrorKind.OutOfMemory → result ≡ Fault.Memory }
+    ensures told { (result ≡ Fault.Memory) ⊎ (result ≡ Fault.CommandLine error) }
+{
+    if error.kind() == ErrorKind::OutOfMemory {
+        Fault::Memory
+    } else {
+        Fault::CommandLine(error)
+    }
+}
+
+// The matches of the words.
+fn parse_words<'a>(alloc: Global, words: &'a [&'a str]) -> Result<ArgMatches<'a>, Fault>
+    ensures ok { IfOk result (IsParseOf (map (λ w. w.now) words.entry.now)) }
+    ensures fault { IfErr result (IsLineFault (map (λ w. w.now) words.entry.now)) }
+{
+    let Ok(command) = line_command(alloc) else {
+        return Err(Fault::Memory);
+    };
+    match command.try_get_matches_from(words) {
+        Ok(matches) => Ok(matches),
+        Err(error) => Err(fault_of_error(error)),
+    }
+}
+
+// The value of an option that must be given.
+fn given<'a>(matches: &ArgMatches<'a>, name: &str) -> &'a str
+    requires { is_some (first_value (found_of matches.now) name.now) ≡ true }
+    ensures { first_value (found_of matches.now) name.now ≡ Some result.now }
+{
+    matches.get_str(name).unwrap()
+}
+
+// The number of an option, or another one where it is not given.
+fn number_or(matches: &ArgMatches<'_>, name: &str, other: u32) -> u32
+    requires { IsNumberIn 0 (2 ^ 32 - 1) (first_value (found_of matches.now) name.now) }
+    ensures { IsNumberOr other (first_value (found_of matches.now) name.now) result }
+{
+    match matches.get_str(name) {
+        Some(text) => text.parse::<i64>().unwrap() as u32,
+        None => other,
+    }
+}
+
+// The settings of a join: where nothing else is asked, one worker, 16 partitions that are not parted further, blocks of
+// 1,024 rows, one lane of 64 parcels, one retry, and pieces of 65,536 rows.
+fn settings_of(matches: &ArgMatches<'_>) -> Settings
+    requires { AreNumbersIn (first_value (found_of matches.now)) }
+    ensures { AreSettings (first_value (found_of matches.now)) result }
+{
+    Settings {
+        workers: number_or(matches, "workers", 1),
+        bits1: number_or(matches, "bits1", 4),
+        bits2: number_or(matches, "bits2", 0),
+        block: number_or(matches, "block", 1024),
+        lanes: number_or(matches, "lanes", 1),
+        capacity: number_or(matches, "capacity", 64),
+        retries: number_or(matches, "retries", 1),
+        piece: number_or(matches, "piece", 65_536),
+    }
+}
+
+// The hash that is named, or the plain one where none is.
+fn hash_of(matches: &ArgMatches<'_>) -> Hash
+    requires { IsHashName (first_value (found_of matches.now) (codes "hash")) }
+    ensures { IsHashOr Hash.Plain (first_value (found_of matches.now) (codes "hash")) result }
+{
+    match matches.get_str("hash") {
+        Some("mixed") => Hash::Mixed,
+        _ => Hash::Plain,
+    }
+}
+
+// How strictly the files are read.
+fn strictness_of(matches: &ArgMatches<'_>) -> Strictness
+    requires { IsStrictName (first_value (found_of matches.now) (codes "strict")) }
+    ensures { IsStrictness (first_value (found_of matches.now) (codes "strict")) result }
+{
+    match matches.get_str("strict") {
+        Some("full") => Strictness::Full,
+        Some(_) => Strictness::On,
+        None => Strictness::Off,
+    }
+}
+
+// Whether a flag is given.
+fn is_given(matches: &ArgMatches<'_>, name: &str) -> bool
+    ensures { result ≡ is_true (first_value (found_of matches.now) name.now) }
+{
+    match matches.get_str(name) {
+        Some(text) => text == "true",
+        None => false,
+    }
+}
+
+/// Reads the words after the program's name.
+///
+/// # Errors
+///
+/// A line that `clap` refuses, or that asks for help or the version, is `Fault::CommandLine`; a bad type list is told
+/// after that, the left one before the right one, and then more than four null texts on the left, and on the right.
+/// `Fault::Memory` comes only where a growth was refused.
+pub fn read_line<'a>(alloc: Global, words: &'a [&'a str]) -> Result<Line<'a>, Fault>
+    ensures line { IfOk result (IsLineOf (map (λ w. w.now) words.entry.now)) }
+    ensures fault { IfErr result (IsLineFault (map (λ w. w.now) words.entry.now)) }
+{
+    let matches = parse_words(alloc, words)?;
+    let left_types = read_types(alloc, given(&matches, "left-types"), Side::Left)?;
+    let right_types = read_types(alloc, given(&matches, "right-types"), Side::Right)?;
+    let null = matches.get_str("null").unwrap_or("");
+    let left_nulls = match read_nulls(alloc, &matches, "left-null", null, Side::Left) {
+        Ok(nulls) => nulls,
+        Err(fault) => return Err(fault),
+    };
+    let right_nulls = match read_nulls(alloc, &matches, "right-null", null, Side::Right) {
+        Ok(nulls) => nulls,
+        Err(fault) => return Err(fault),
+    };
+    Ok(Line {
+        left: given(&matches, "left"),
+        right: given(&matches, "right"),
+        request: Request {
+            left_types,
+            right_types,
+            left_nulls,
+            right_nulls,
+            out_null: matches.get_str("out-null").unwrap_or(null),
+            strict: strictness_of(&matches),
+            clause: given(&matches, "join"),
+            settings: settings_of(&matches),
+            hash: hash_of(&matches),
+            tells_pieces: matches.get_str("piece").is_some(),
+        },
+        stats: is_given(&matches, "stats"),
+    })
+}

@@ -1,0 +1,49 @@
+//! What a join is asked to do.
+
+use rj_settings::Settings;
+use rj_types::TypeEntry;
+
+/// The hash of a row's key, whose bits lead the row to its partition. No choice changes the rows of a join.
+#[derive(Clone, Copy)]
+pub enum Hash {
+    /// The digits of the key in base 31, modulo 2^64.
+    Plain,
+    /// The plain hash with its bits mixed, which spreads keys that lie close together.
+    Mixed,
+}
+
+/// Whether the texts of the two tables have to be of RFC 4180's grammar.
+#[derive(Clone, Copy)]
+pub enum Strictness {
+    /// They are read as the library `csv` reads them.
+    Off,
+    /// They have to be.
+    On,
+    /// They have to be, and the last record of each has its line end.
+    Full,
+}
+
+/// What a join of two files is asked to do.
+#[derive(Drop)]
+pub struct Request<'a> {
+    /// The types of the left table's columns, by position or by name.
+    pub left_types: Vec<TypeEntry>,
+    /// The types of the right table's columns.
+    pub right_types: Vec<TypeEntry>,
+    /// The texts that stand for null in the left table.
+    pub left_nulls: Vec<&'a str>,
+    /// The texts that stand for null in the right table.
+    pub right_nulls: Vec<&'a str>,
+    /// The text that is written for null.
+    pub out_null: &'a str,
+    /// Whether their texts have to be of RFC 4180's grammar.
+    pub strict: Strictness,
+    /// The text of the join clause.
+    pub clause: &'a str,
+    /// How the join is done. No setting changes its rows.
+    pub settings: Settings,
+    /// The hash that partitions the rows.
+    pub hash: Hash,
+    /// Whether the statistics tell the number of pieces.
+    pub tells_pieces: bool,
+}
