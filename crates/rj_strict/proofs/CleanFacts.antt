@@ -79,3 +79,8 @@ turn text at k p p2 p3 h quote e f =
     ∙ ap (λ (t : List ℕ). walk p2 t) quoted
     ∙ walk-quote p2 (drop (at + (k + 1)) text)
     ∙ ap (λ (o : Option Place). option_and_then (λ q. walk q (drop (at + (k + 1)) text)) o) f
+
+-- over the first part of a text
+pub over-part : (p q : Place) (text part rest : List ℕ) → text ≡ part ++ rest → walk p part ≡ Some q → walk p text ≡ walk q rest
+over-part p q text part rest e f =
+    ap (λ (t : List ℕ). walk p t) e ∙ walk-append p part rest ∙ ap (λ (o : Option Place). option_and_then (λ r. walk r rest) o) f

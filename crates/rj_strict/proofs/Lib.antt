@@ -17,3 +17,4 @@ pub mod HeaderFacts
 pub mod AboveFacts
 pub mod QuotingFacts
 pub mod MarkedParts
+pub mod PartFacts

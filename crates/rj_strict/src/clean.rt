@@ -9,6 +9,9 @@ ghost use Rattle.rj_strict.specs.declared.standing.Place.TheVariants.{Start};
 use crate::standing::Place;
 use memchr::memchr;
 
+// How many bytes are looked at for quotes, and then again: so few that they are still near.
+const NEAR: usize = 32_768;
+
 // Whether a byte may not follow another outside quotes.
 fn is_bad(before: u8, byte: u8) -> bool
     ensures { result ≡ may_not_follow before byte }
@@ -66,6 +69,9 @@ fn stretch(place: Place, text: &[u8]) -> Option<Place>
     match place {
         Place::Open => Some(Place::Open),
         Place::Start => follow(b'\n', text),
+        Place::Fresh => follow(b',', text),
+        Place::Inside => follow(b'a', text),
+        Place::Return => follow(b'\r', text),
         Place::Closed => {
             let byte = text[0];
             if (byte == b',') | (byte == b'\n') | (byte == b'\r') {
@@ -73,7 +79,7 @@ fn stretch(place: Place, text: &[u8]) -> Option<Place>
             }
             None
         }
-        Place::Fresh | Place::Inside | Place::Blank | Place::Return => None,
+        Place::Blank => None,
     }
 }
 
@@ -89,10 +95,10 @@ fn behind_quote(place: Place) -> Option<Place>
 }
 
 // The place after a text that has neither a fault nor an empty line, from quote to quote.
-fn place_at_end(text: &[u8]) -> Option<Place>
-    ensures { IfSome result (λ p. walk Start text.now ≡ Some p) }
+fn place_behind_text(start: Place, text: &[u8]) -> Option<Place>
+    ensures { IfSome result (λ p. walk start text.now ≡ Some p) }
 {
-    let mut place = Place::Start;
+    let mut place = start;
     let mut at = 0usize;
     for _turn in 0..text.len() {
         match memchr(b'"', &text[at..]) {
@@ -106,8 +112,19 @@ fn place_at_end(text: &[u8]) -> Option<Place>
     Some(place)
 }
 
-// Whether a text may end at a place.
-fn ends_well(place: Place, full: bool) -> bool
+/// The place after a text that has neither a fault nor an empty line, if it is seen to have none.
+pub(crate) fn place_at_end(text: &[u8]) -> Option<Place>
+    ensures { IfSome result (λ p. walk Start text.now ≡ Some p) }
+{
+    let mut place = Place::Start;
+    for part in text.chunks(NEAR) {
+        place = place_behind_text(place, part)?;
+    }
+    Some(place)
+}
+
+/// Whether a text may end at a place.
+pub(crate) fn ends_well(place: Place, full: bool) -> bool
     ensures { result ≡ may_end full place }
 {
     match place {

@@ -11,6 +11,7 @@ mod fault;
 mod header;
 mod laws;
 mod mark;
+mod parts;
 mod quoting;
 mod standing;
 
@@ -22,4 +23,5 @@ pub use laws::{
     derived_with_header, joined_texts, one_derivation, reads_all_records, reads_quoted_records,
     reads_records,
 };
+pub use parts::is_derived_in_parts;
 pub use quoting::quote_empty_lines;

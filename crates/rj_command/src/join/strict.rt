@@ -16,8 +16,8 @@ use rj_csv_io::{read_table_in_parts, without_bom};
 use rj_fault::{Fault, Side, fault_of_read};
 use rj_line::Request;
 use rj_strict::{
-    Header, StrictFault, above_fault, check, derived_with_header, one_derivation,
-    quote_empty_lines, reads_all_records, reads_quoted_records,
+    Header, StrictFault, above_fault, check, derived_with_header, is_derived_in_parts,
+    one_derivation, quote_empty_lines, reads_all_records, reads_quoted_records,
 };
 use std::alloc::Global;
 use std::thread::Threads;
@@ -103,11 +103,22 @@ fn read_quoted<R: Threads + Sync>(
     read_text(rt, alloc, quoted.as_slice(), request, side)
 }
 
-// Whether a text is seen to be derived with no empty line in it.
-fn has_full_lines(text: &[u8], full: bool) -> bool
+// Whether a text is seen to be derived with no empty line in it, by a look at as many parts as there are workers, or at all of
+// it where a part has been cut within a field.
+fn has_full_lines<R: Threads + Sync>(
+    rt: &R,
+    alloc: Global,
+    text: &[u8],
+    request: &Request<'_>,
+    full: bool,
+) -> bool
     ensures { result ≡ true → (file : File) × Derives (Above 2) full (strip_bom text.now) file }
 {
-    check(without_bom(text), Header::Above(2), full).is_ok()
+    let (body, parts) = (without_bom(text), request.settings.workers as usize);
+    if parts > 1 && is_derived_in_parts(rt, alloc, body, full, parts) {
+        return true;
+    }
+    check(body, Header::Above(2), full).is_ok()
 }
 
 // The table of all records of a text of whole lines.
@@ -124,7 +135,7 @@ fn read_lines<R: Threads + Sync>(
     one_derivation();
     reads_all_records();
     derived_with_header();
-    if has_full_lines(text, true) {
+    if has_full_lines(rt, alloc, text, request, true) {
         return read_text(rt, alloc, text, request, side);
     }
     read_quoted(rt, alloc, text, request, side)
@@ -151,7 +162,7 @@ pub fn read_strictly<R: Threads + Sync>(
 {
     reads_all_records();
     derived_with_header();
-    if has_full_lines(text, full) {
+    if has_full_lines(rt, alloc, text, request, full) {
         return read_text(rt, alloc, text, request, side);
     }
     match check(text, Header::First, full) {

@@ -1,34 +1,22 @@
-use Rattle.std.proofs.Common.{◌≡◌, ◌<◌, ◌+◌, ◌-◌, length, take, drop, refl, sym, ap, arith, ◌∙◌, Some}
-use Rattle.std.proofs.lemmas.Bool.{eqb-true}
-use Rattle.std.proofs.lemmas.List.{length-drop, at_drop_all}
-use Rattle.rj_strict.specs.Walk.{walk, over_quote}
+use Rattle.std.proofs.Common.{◌≡◌, sym, ◌∙◌, rules, Some}
+use Rattle.std.proofs.lemmas.List.{nil_from_length}
+use Rattle.std.specs.Slice.Iter.{chunks_rest}
+use Rattle.rj_strict.specs.Walk.{walk}
 use Rattle.rj_strict.specs.declared.standing.Place.{Place}
-use Rattle.rj_strict.proofs.Slices.{rest-drop, rest-at}
 use Rattle.rj_strict.proofs.WalkFacts.{walk-none}
-use Rattle.rj_strict.proofs.CleanFacts.{some-is, turn}
+use Rattle.rj_strict.proofs.CleanFacts.{some-is, over-part}
 use Rattle.rj_strict.proofs.clean.place_at_end.Goals as goal
 
-pub loop-turn-preserved : goal.loop-turn-preserved
-loop-turn-preserved c =
-    let text = c.args.text.now in
-    let from = c.loop-turn.at in
-    let k = c.in-Some.k in
-    let size = length-drop from text in
-    let rest = ap length (rest-drop text from) in
-    let high = c.in-Some.ensures.0.high in
-    let within : from + k < length text = omega (arith, size, rest, high) in
-    let found = rw (rest-at text from k) at c.in-Some.ensures.1 in
-    let p = c.in_ok-stretch-in-Some.field-0 in
-    let walked = some-is c.stretch-in-Some.result p (λ (q : Place). walk c.loop-turn.place (take (from + k - from) (drop from text)) ≡ Some q) c.in_ok-stretch-in-Some.was c.stretch-in-Some.ensures in
-    let over : over_quote p ≡ Some c.in_ok-place-in-Some.place = sym c.behind_quote.ensures ∙ c.in_ok-place-in-Some.was in
-    record {
-      within = omega (arith, within);
-      turn = omega (arith, c.loop-turn.invariant.turn);
-      end = refl;
-      walked = sym (turn text from k c.loop-turn.place p c.in_ok-place-in-Some.place within (eqb-true _ 34 found) walked over) ∙ c.loop-turn.invariant.walked;
-    }
+pub loop-part-preserved : goal.loop-part-preserved
+loop-part-preserved c =
+    let from = c.loop-part.place in
+    let to = c.in_ok-place.place in
+    let part = c.in-Some.part.now in
+    let walked = some-is c.place_behind_text.result to (λ (q : Place). walk from part ≡ Some q) c.in_ok-place.was c.place_behind_text.ensures in
+    let step = over-part from to _ part (chunks_rest c.next.new.self) c.in-Some.ensures.steps.1.0 walked in
+    (search rules, tt, sym step ∙ c.loop-part.invariant.2)
 
 pub returns : goal.returns
 returns c =
-    let past = at_drop_all (walk c.loop-turn.place) c.args.text.now c.loop-turn.at (omega (arith, c.loop-turn.invariant.turn, c.loop-turn.invariant.end)) in
-    sym c.loop-turn.invariant.walked ∙ past ∙ walk-none c.loop-turn.place
+    let none = nil_from_length _ c.in-None.ensures.steps.1.0 in
+    sym c.loop-part.invariant.2 ∙ rw none (walk-none c.loop-part.place)

@@ -1,0 +1,101 @@
+//! The fast look at a text in parts, each by a thread.
+
+ghost use Rattle.std.specs.Prelude.{◌≡◌, true, IfOk, IfSome, length, map};
+ghost use Rattle.std.specs.List.{concat};
+ghost use Rattle.rj_strict.specs.Grammar.{Derives, File};
+ghost use Rattle.rj_strict.specs.Walk.{AreWalked, walk};
+ghost use Rattle.rj_strict.specs.declared.header.Header.{Header as Heading};
+ghost use Rattle.rj_strict.specs.declared.standing.Place.TheVariants.{Start};
+
+use crate::clean::{ends_well, place_at_end};
+use crate::standing::Place;
+use memchr::memchr;
+use std::alloc::{AllocError, Global};
+use std::thread::{self, Threads};
+
+// The least bytes of a part: fewer take less time than a thread's start.
+const LEAST_PART: usize = 262_144;
+
+// Cuts a text behind line feeds into up to so many texts of about one size.
+fn cut_at_lines<'a>(
+    alloc: Global,
+    text: &'a [u8],
+    count: usize,
+) -> Result<Vec<&'a [u8]>, AllocError>
+    ensures { IfOk result (λ v. concat (map (λ p. p.now) v.items) ≡ text.now) }
+{
+    let mut parts = Vec::new(alloc);
+    let mut rest = text;
+    let size = text.len() / count.max(1) + 1;
+    for _k in 1..count {
+        if rest.len() <= size {
+            break;
+        }
+        let Some(feed) = memchr(b'\n', &rest[size..]) else {
+            break;
+        };
+        let (part, more) = rest.split_at(size + feed + 1);
+        parts.push(part)?;
+        rest = more;
+    }
+    parts.push(rest)?;
+    Ok(parts)
+}
+
+// The place after texts that stand one after another, by the places after each of them alone: all but the last have to end
+// with a line.
+fn place_after_all(texts: &[&[u8]], places: &[Option<Place>]) -> Option<Place>
+    requires count { length places.now ≡ length texts.now }
+    requires walked { AreWalked (map (λ t. t.now) texts.now) places.now }
+    ensures { IfSome result (λ p. walk Start (concat (map (λ t. t.now) texts.now)) ≡ Some p) }
+{
+    let mut place = Place::Start;
+    for i in 0..texts.len() {
+        match place {
+            Place::Start => place = places[i]?,
+            _ => return None,
+        }
+    }
+    Some(place)
+}
+
+// The place after a text, looked at in up to so many parts.
+fn place_in_parts<R: Threads + Sync>(
+    rt: &R,
+    alloc: Global,
+    text: &[u8],
+    parts: usize,
+) -> Option<Place>
+    ensures { IfSome result (λ p. walk Start text.now ≡ Some p) }
+{
+    let Ok(texts) = cut_at_lines(alloc, text, parts) else {
+        return None;
+    };
+    let texts = texts.as_slice();
+    let looked = thread::map_indices(rt, alloc, texts.len(), &|i| place_at_end(texts[i]));
+    let Ok(places) = looked else {
+        return None;
+    };
+    place_after_all(texts, places.as_slice())
+}
+
+/// Whether a text is seen to be derived under more than one name, so that it has no empty line: by a fast look at up to so many
+/// parts at a time, each by a thread, the calling one among them. A part has at least 256 KiB.
+///
+/// Where it answers false nothing is known of the text, and [`crate::check`] tells: a quoted field may have a line feed where
+/// the text was cut, or memory was refused.
+pub fn is_derived_in_parts<R: Threads + Sync>(
+    rt: &R,
+    alloc: Global,
+    text: &[u8],
+    full: bool,
+    parts: usize,
+) -> bool
+    ensures { result ≡ true → (header : Heading) → (file : File) × Derives header full text.now file }
+{
+    let parts = parts.min(text.len() / LEAST_PART);
+    match place_in_parts(rt, alloc, text, parts) {
+        Some(place) => ends_well(place, full),
+        None => false,
+    }
+}
