@@ -51,7 +51,7 @@ module _ (nulls : List (List ℕ)) (null : List ℕ) (among : is_null_field null
           false≢true (sym not ∙ (ap (is_null_field nulls) same ∙ among))
       go false e = absurd (cc)
 
-  cell-apart : (k : ColumnType) (f : List ℕ) (x : Content) → read_cell nulls k f ≡ Some x → Apart x
+  pub cell-apart : (k : ColumnType) (f : List ℕ) (x : Content) → read_cell nulls k f ≡ Some x → Apart x
   cell-apart k f x e = elim (cases_Bool (is_null_field nulls f)) [
     | inl among ↦ let q : Some nothing ≡ Some x = rw among at e in λ is. cc
     | inr other ↦ let q : typed_cell k f ≡ Some x = rw other at e in typed-apart k f x other q

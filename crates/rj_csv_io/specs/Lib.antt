@@ -11,3 +11,4 @@ pub mod Cuts
 pub mod Parts
 pub mod Pieces
 pub mod Ambiguous
+pub mod RoundTrips

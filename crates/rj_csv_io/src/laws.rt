@@ -1,12 +1,15 @@
 //! Laws of reading and writing, for the crates above.
 
-ghost use Rattle.std.specs.Prelude.{◌≡◌, List, ℕ, true, Ok};
-ghost use Rattle.rj_columns.specs.Contents.{Content};
+ghost use Rattle.std.specs.Prelude.{◌≡◌, List, ℕ, [], true, false, slice_index_or, Ok, Some};
+ghost use Rattle.rj_columns.specs.Contents.{Content, FitsType};
 ghost use Rattle.rj_columns.specs.Tables.{TableValue};
 ghost use Rattle.rj_columns.specs.declared.cell.ColumnType.{ColumnType};
 ghost use Rattle.rj_csv_io.specs.Ambiguous.{AreApart, AreClear};
-ghost use Rattle.rj_csv_io.specs.Tables.{is_null_text, records_read};
-ghost use Rattle.rj_csv_io.specs.Typed.{is_null_field};
+ghost use Rattle.rj_csv_io.specs.Cuts.{has_bom};
+ghost use Rattle.rj_csv_io.specs.RoundTrips.{CanReadBack, IsHeld, IsNoneOf};
+ghost use Rattle.rj_csv_io.specs.Shown.{shown, table_text};
+ghost use Rattle.rj_csv_io.specs.Tables.{are_null_texts, is_null_text, read_of, records_read};
+ghost use Rattle.rj_csv_io.specs.Typed.{is_null_field, read_cell};
 
 /// No cell of a table that was read is one of its null texts as a text: such a field was read as null.
 pub fn null_texts_read_as_null()
@@ -18,4 +21,52 @@ pub fn null_texts_read_as_null()
 /// text.
 pub fn told_apart()
     ensures { (null : List ℕ) (rows : List (List Content)) → is_null_text null ≡ true → AreApart null rows → AreClear null rows }
+{}
+
+/// The text of a cell reads back as the cell, where the text that is written for null is one of the reader's null texts and
+/// the cell, if it is a text, is none of them. So a number reads back by all null texts.
+pub fn cells_read_back()
+    ensures { (nulls : List (List ℕ)) (null : List ℕ) (kind : ColumnType) (x : Content)
+        → are_null_texts nulls ≡ true → is_null_field nulls null ≡ true → FitsType kind x → IsHeld x → IsNoneOf nulls x
+        → read_cell nulls kind (shown null x) ≡ Some x }
+{}
+
+/// A cell that was read, and is written, is read again as it was.
+pub fn read_cells_read_back()
+    ensures { (nulls : List (List ℕ)) (null : List ℕ) (kind : ColumnType) (field : List ℕ) (x : Content)
+        → are_null_texts nulls ≡ true → is_null_field nulls null ≡ true → read_cell nulls kind field ≡ Some x
+        → read_cell nulls kind (shown null x) ≡ Some x }
+{}
+
+/// The text of a table reads back as the table, by its types, where the text that is written for null is one of the reader's
+/// null texts, no text in a cell is one of them, and no byte order mark stands at the start: a reader leaves that out.
+pub fn tables_read_back()
+    ensures { (nulls : List (List ℕ)) (null : List ℕ) (t : TableValue)
+        → are_null_texts nulls ≡ true → is_null_field nulls null ≡ true → CanReadBack nulls t
+        → has_bom (table_text null t.names t.rows) ≡ false
+        → read_of (table_text null t.names t.rows) t.types nulls ≡ Ok t }
+{}
+
+/// A table that was read, and is written, is read again as it was by the same types and null texts, where one of these is
+/// written for null.
+pub fn read_tables_read_back()
+    ensures { (bytes : List ℕ) (types : List ColumnType) (nulls : List (List ℕ)) (null : List ℕ) (t : TableValue)
+        → read_of bytes types nulls ≡ Ok t → is_null_field nulls null ≡ true
+        → has_bom (table_text null t.names t.rows) ≡ false
+        → read_of (table_text null t.names t.rows) types nulls ≡ Ok t }
+{}
+
+/// The same by other null texts, where none of them is the text in a cell.
+pub fn read_tables_read_back_by_others()
+    ensures { (bytes : List ℕ) (types : List ColumnType) (known nulls : List (List ℕ)) (null : List ℕ) (t : TableValue)
+        → read_of bytes types known ≡ Ok t → are_null_texts nulls ≡ true → is_null_field nulls null ≡ true
+        → ((text : List ℕ) → is_null_field nulls text ≡ true → AreApart text t.rows)
+        → has_bom (table_text null t.names t.rows) ≡ false
+        → read_of (table_text null t.names t.rows) types nulls ≡ Ok t }
+{}
+
+/// The text of a table begins with a byte order mark only where its first name does.
+pub fn mark_is_of_the_first_name()
+    ensures { (null : List ℕ) (names : List (List ℕ)) (rows : List (List Content))
+        → has_bom (slice_index_or names 0 []) ≡ false → has_bom (table_text null names rows) ≡ false }
 {}

@@ -32,7 +32,10 @@ pub use cut::without_bom;
 pub use fields::is_null_field;
 pub use filling::read_up_to;
 pub use input::{CountedReader, Input, read_all};
-pub use laws::{null_texts_read_as_null, told_apart};
+pub use laws::{
+    cells_read_back, mark_is_of_the_first_name, null_texts_read_as_null, read_cells_read_back,
+    read_tables_read_back, read_tables_read_back_by_others, tables_read_back, told_apart,
+};
 pub use null_text::{are_lawful_nulls, is_lawful_null};
 pub use output::{CountedWriter, Failed, Output};
 pub use pieces::Header;

@@ -7,6 +7,7 @@ mod nulls;
 mod parts_read;
 mod parts_written;
 mod pieces;
+mod read_back;
 
 use rj_columns::{Cell, ColumnType, NumericType, RowSource, Table};
 use rj_csv_io::{

@@ -1,0 +1,5 @@
+use Rattle.rj_csv_io.proofs.TableBackFacts.{table-back}
+use Rattle.rj_csv_io.proofs.laws.tables_read_back.Goals as goal
+
+pub returns : goal.returns
+returns c = λ nulls null t lawful among. table-back nulls null lawful among t
