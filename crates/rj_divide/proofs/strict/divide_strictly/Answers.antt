@@ -1,15 +1,15 @@
 use Rattle.std.proofs.Common.{◌∙◌, Ok, ap, refl, map}
 use Rattle.rj_csv_io.specs.Typed.{null_texts}
-use Rattle.shards.proofs.RangeFacts.{if-some, read-none}
-use Rattle.shards.proofs.blocks.divide_strictly.Goals as goal
+use Rattle.rj_divide.proofs.StrictFacts.{read-none}
+use Rattle.rj_divide.proofs.UnderwayFacts.{if-some}
+use Rattle.rj_divide.proofs.strict.divide_strictly.Goals as goal
 
 pub loop-turn-init : goal.loop-turn-init
 loop-turn-init g c =
     let d = c.args.division.now in
     record {
       read = λ text e. read-none (null_texts d.nulls.now) d.types.now (g.W.Route.part d.route.now) d.first text (map g.O.Output.told c.args.outputs.now)
-          (g.I.Input.tells c.args.input.now) c.new.result.items 0 e c.new.ensures.items refl
-          (c.divided_in_turn.ensures.none (null_texts d.nulls.now) d.types.now (g.W.Route.part d.route.now) d.first (map g.O.Output.told c.args.outputs.now));
+          (g.I.Input.tells c.args.input.now) c.new.result.items e c.new.ensures.items;
       reads = refl;
       writes = c.requires.writes;
     }

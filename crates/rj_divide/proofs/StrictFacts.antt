@@ -6,30 +6,18 @@ use Rattle.std.proofs.lemmas.Bool.{and_parts, false≢true}
 use Rattle.std.proofs.lemmas.List.{append-nil, map-append, take-append-drop, take_all}
 use Rattle.rj_columns.specs.declared.cell.ColumnType.{ColumnType}
 use Rattle.rj_columns.specs.Contents.{Content}
+use Rattle.rj_divide.specs.Blocks.{IsRangeDivided, IsReadTo}
 use Rattle.rj_divide.specs.Divisions.{IsDivided}
-use Rattle.rj_strict.specs.Grammar.{Derives, File, Line, Record, is_blank, is_record, is_rest, records_of, rest_records, values_of}
+use Rattle.rj_divide.proofs.DivisionFacts.{divided-more, divided-none}
+use Rattle.rj_strict.specs.Grammar.{Derives, File, Line, Record, is_blank, is_record, is_rest, names_of, records_of, rest_records, values_of}
 use Rattle.rj_strict.specs.Joined.{joined}
 use Rattle.rj_strict.specs.declared.header.Header.{Header}
 use Rattle.rj_strict.specs.declared.header.Header.TheVariants.{Above}
-use Rattle.rj_strict.specs.Grammar.{names_of}
-use Rattle.shards.specs.Blocks.{IsRangeDivided, IsReadTo}
-
--- a fact of whatever a device tells
-pub if-some : (o : Option (List ℕ)) (P : List ℕ → Type 0) → ((x : List ℕ) → o ≡ Some x → P x) → IfSome o P
-if-some None P h = tt
-if-some (Some x) P h = h x refl
 
 -- the law of texts that are derived in turn
 abbrev pub Joins : Type 0
 Joins = (header : Header) (full : Bool) (text more : List ℕ) (file other : File)
     → Derives header true text file → 0 < length file.lines → Derives (Above (names_of header file.lines)) full more other → Derives header full (text ++ more) (joined file other)
-
--- the law of records that are divided in turn
-abbrev pub Divides : Type 0
-Divides = (nulls : List (List ℕ)) (types : List ColumnType) (part : List Content → ℕ) (first : ℕ) (records more : List (List (List ℕ)))
-    (before between after : List (Option (List ℕ))) (m n : ℕ) → length between ≡ length before
-    → IsDivided nulls types part first records before between m → IsDivided nulls types part (first + m) more between after n
-    → IsDivided nulls types part first (records ++ more) before after (m + n)
 
 no-rest : (rest : Option Record) → is_rest true rest ≡ true → rest ≡ None
 no-rest None e = refl
@@ -57,32 +45,31 @@ records-joined lines more rest last none =
 
 module _ (nulls : List (List ℕ)) (types : List ColumnType) (part : List Content → ℕ) (first : ℕ) (text : List ℕ) (before : List (Option (List ℕ))) where
   -- nothing is read yet
-  pub read-none : (tells : Option (List ℕ)) (bytes : List ℕ) (rows : ℕ) → tells ≡ Some text → bytes ≡ [] → rows ≡ 0 → IsDivided nulls types part first [] before before rows
-      → IsReadTo nulls types part first text before tells bytes before rows
-  read-none tells bytes rows told none zero divided = record {
+  pub read-none : (tells : Option (List ℕ)) (bytes : List ℕ) → tells ≡ Some text → bytes ≡ [] → IsReadTo nulls types part first text before tells bytes before 0
+  read-none tells bytes told none = record {
     left = text;
     told = told;
     taken = [];
     order = sym (ap (λ (l : List ℕ). l ++ text) none);
     file = record { lines = []; rest = None };
     derived = record { spelled = refl; lines = refl; rest = refl };
-    divided = divided;
+    divided = divided-none nulls types part first before;
     outputs = refl;
   }
 
   -- a block behind what was divided
-  both : Joins → Divides → (full : Bool) (taken more : List ℕ) (file other : File) (between after : List (Option (List ℕ))) (m n : ℕ)
+  both : Joins → (full : Bool) (taken more : List ℕ) (file other : File) (between after : List (Option (List ℕ))) (m n : ℕ)
       → Derives (Above (length types)) true taken file → IsDivided nulls types part first (records_of file) before between m → length between ≡ length before
       → Derives (Above (length types)) full more other → IsDivided nulls types part (first + m) (records_of other) between after n
       → IsRangeDivided nulls types part first full (taken ++ more) before after (m + n)
-  both joins divides full taken more file other between after m n d old same e new = (
+  both joins full taken more file other between after m n d old same e new = (
     joined file other,
     joined-below joins (length types) full taken more file.lines file.rest other d e,
     subst (λ (x : List (List (List ℕ))). IsDivided nulls types part first x before after (m + n)) (sym (records-joined file.lines other.lines file.rest other.rest (no-rest file.rest d.rest)))
-        (divides nulls types part first (records_of file) (records_of other) before between after m n same old new),
+        (divided-more nulls types part first (records_of file) (records_of other) before between after m n same old new),
   )
 
-  module _ (joins : Joins) (divides : Divides) (old now : List ℕ) (told tells : Option (List ℕ)) (between after : List (Option (List ℕ))) (m n end : ℕ)
+  module _ (joins : Joins) (old now : List ℕ) (told tells : Option (List ℕ)) (between after : List (Option (List ℕ))) (m n end : ℕ)
       (u : IsReadTo nulls types part first text before told old between m) (reads : (start : Option (List ℕ)) → Consumes start told old → Consumes start tells now) where
     -- what is told behind the bytes that were read
     record More : Type 0 where
@@ -101,7 +88,7 @@ module _ (nulls : List (List ℕ)) (types : List ColumnType) (part : List Conten
     pub read-more : (other : File) → length after ≡ length between → Derives (Above (length types)) true (take end now) other
         → IsDivided nulls types part (first + m) (records_of other) between after n → IsReadTo nulls types part first text before tells (drop end now) after (m + n)
     read-more other many e new =
-        let all = both joins divides true u.taken (take end now) u.file other between after m n u.derived u.divided u.outputs e new in
+        let all = both joins true u.taken (take end now) u.file other between after m n u.derived u.divided u.outputs e new in
         let cut : now ++ more.behind ≡ take end now ++ (drop end now ++ more.behind) =
         sym (ap (λ (l : List ℕ). l ++ more.behind) (take-append-drop end now)) ∙ append_assoc (take end now) (drop end now) more.behind in
         record {
@@ -124,7 +111,7 @@ module _ (nulls : List (List ℕ)) (types : List ColumnType) (part : List Conten
         let is : text ≡ u.taken ++ take end now =
         u.order ∙ ap (λ (l : List ℕ). u.taken ++ l) (more.same ∙ (ap (λ (l : List ℕ). now ++ l) none ∙ (append-nil now ∙ sym all))) in
         subst (λ (t : List ℕ). IsRangeDivided nulls types part first full t before after (m + n)) (sym is)
-        (both joins divides full u.taken (take end now) u.file other between after m n u.derived u.divided u.outputs e new)
+        (both joins full u.taken (take end now) u.file other between after m n u.derived u.divided u.outputs e new)
 
 -- a block that isn't the last one is full, and the last one is where the range is
 pub full-block : (full : Bool) → full || not false ≡ true

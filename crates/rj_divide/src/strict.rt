@@ -1,37 +1,29 @@
 //! Dividing a range of a file whose text has to be of RFC 4180's grammar: each block is checked, and then divided.
 
-ghost use Rattle.std.specs.Prelude.{◌≡◌, ◌<◌, ◌≤◌, ◌+◌, ◌-◌, ◌^◌, ℕ, Bool, true, false, List, Option, Ok, All, IfErr, IfOk, IfSome, IsTrue, OnOk, drop, length, map, vec_len};
+ghost use Rattle.std.specs.Prelude.{◌≡◌, ◌<◌, ◌≤◌, ◌+◌, ◌-◌, ◌^◌, ℕ, Bool, true, false, List, Option, Ok, All, IfErr, IfOk, IfSome, IsTrue, OnOk, drop, length, map};
 ghost use Rattle.csv.specs.Reading.{strip_bom};
 ghost use Rattle.rj_columns.specs.Names.{begun};
 ghost use Rattle.rj_columns.specs.Tables.{TableValue};
 ghost use Rattle.rj_csv_io.specs.Pieces.{names_in, piece_records};
 ghost use Rattle.rj_csv_io.specs.Tables.{is_null_text};
 ghost use Rattle.rj_csv_io.specs.Typed.{null_texts};
+ghost use Rattle.rj_divide.specs.Blocks.{IsBlockFault, IsRangeDivided, IsReadTo, block_counts, strict_behind};
 ghost use Rattle.rj_divide.specs.Divisions.{IsDivided, counts_after, written_null};
 ghost use Rattle.rj_divide.specs.Readings.{IsFaultBehind};
 ghost use Rattle.rj_strict.specs.Faults.{row_at};
 ghost use Rattle.rj_strict.specs.Grammar.{Derives, File, records_of};
 ghost use Rattle.rj_strict.specs.declared.header.Header.TheVariants.{Above};
-ghost use Rattle.shards.specs.Blocks.{IsBlockFault, IsRangeDivided, IsReadTo, block_counts, strict_behind};
 
+use crate::next::{drop_front, next_piece};
+use crate::piece::{Division, divide_piece};
+use crate::refused::{BlockRefused, DivideRefused};
+use crate::route::Route;
 use rj_csv_io::{Input, Output, without_bom};
-use rj_divide::{DivideRefused, Division, Route, divide_piece, divided_in_turn, next_piece};
 use rj_strict::{
     Header, StrictFault, above_fault, check, joined_texts, quote_empty_lines, reads_all_records,
     reads_quoted_records,
 };
 use std::alloc::{AllocError, Global};
-
-/// Why a block, or a range, wasn't divided. Outputs may have got some of its rows then.
-#[derive(Clone, Copy, Debug, PartialEq, Eq)]
-pub(crate) enum BlockRefused {
-    /// The place where the text stops being of the grammar, its row counted from the range's first one. The rows above have
-    /// no fault.
-    Broken(StrictFault),
-    /// The first fault of the rows, or of those above the place where the text stops being of the grammar; a failure of a
-    /// device; or want of memory.
-    Divided(DivideRefused),
-}
 
 // A fault of a block that has so many rows before it.
 fn behind(before: u64, fault: StrictFault) -> StrictFault
@@ -111,7 +103,7 @@ fn divide_derived<W: Route, O: Output>(
 ///
 /// The first fault of the block: of its rows, or the place where it stops being of the grammar, below rows without a fault.
 /// `WriteDevice` where an output failed, and `Memory`. The outputs may have got rows then.
-pub(crate) fn divide_block<W: Route, O: Output>(
+pub fn divide_block<W: Route, O: Output>(
     alloc: Global,
     division: &Division<'_, W>,
     text: &[u8],
@@ -143,7 +135,7 @@ pub(crate) fn divide_block<W: Route, O: Output>(
             let above = above_fault(text, header, fault);
             match divide_derived(alloc, division, above, before, outputs) {
                 Ok(_) => Err(BlockRefused::Broken(behind(before, fault))),
-                Err(refused) => Err(BlockRefused::Divided(refused)),
+                Err(earlier) => Err(BlockRefused::Divided(earlier)),
             }
         }
     }
@@ -156,14 +148,6 @@ struct Rest {
     bytes: Vec<u8>,
     // How many rows were divided.
     rows: u64,
-}
-
-// Takes the first bytes away.
-fn drop_front(bytes: &mut Vec<u8>, end: usize)
-    requires { end ≤ vec_len bytes.old }
-    ensures { bytes.new.items ≡ drop end bytes.old.items }
-{
-    bytes.drain(..end);
 }
 
 // Divides the next block of a range: whether it was the last one.
@@ -196,7 +180,6 @@ fn divide_next<I: Input, W: Route, O: Output>(
     ensures writes { OnOk result (All (λ o. O.count o < 2 ^ 64 - 1) outputs.new) }
 {
     joined_texts();
-    divided_in_turn();
     let piece = match next_piece(input, &mut rest.bytes, block) {
         Ok(piece) => piece,
         Err(refused) => return Err(BlockRefused::Divided(refused)),
@@ -220,7 +203,7 @@ fn divide_next<I: Input, W: Route, O: Output>(
 ///
 /// The first fault of the range, its row counted from the range's first one; `TooLong`, or a failure of a device; or `Memory`.
 /// The outputs may have got rows then.
-pub(crate) fn divide_strictly<I: Input, W: Route, O: Output>(
+pub fn divide_strictly<I: Input, W: Route, O: Output>(
     alloc: Global,
     input: &mut I,
     division: &Division<'_, W>,
@@ -238,7 +221,6 @@ pub(crate) fn divide_strictly<I: Input, W: Route, O: Output>(
         IsRangeDivided (null_texts division.now.nulls.now) division.now.types.now (W.part division.now.route.now) division.now.first full text
         (map O.told outputs.old) (map O.told outputs.new) n)) }
 {
-    divided_in_turn();
     let mut rest = Rest {
         bytes: Vec::new(alloc),
         rows: 0,

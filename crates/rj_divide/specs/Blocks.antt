@@ -10,8 +10,8 @@ use Rattle.rj_strict.specs.Grammar.{Derives, File, Line, records_of}
 use Rattle.rj_strict.specs.declared.header.Header.TheVariants.{Above}
 use Rattle.rj_strict.specs.declared.fault.StrictFault.{StrictFault}
 use Rattle.rj_strict.specs.declared.fault.StrictFault.TheVariants as fault
-use Rattle.shards.specs.declared.blocks.BlockRefused.{BlockRefused}
-use Rattle.shards.specs.declared.blocks.BlockRefused.TheVariants as refused
+use Rattle.rj_divide.specs.declared.refused.BlockRefused.{BlockRefused}
+use Rattle.rj_divide.specs.declared.refused.BlockRefused.TheVariants as refused
 
 -- the same fault where so many rows stand before
 abbrev pub strict_behind : ℕ → StrictFault → StrictFault

@@ -1,7 +1,7 @@
 use Rattle.std.proofs.Common.{◌≡◌, ◌<◌, ◌-◌, ◌^◌, ℕ, List, All, Some, map}
 use Rattle.rj_csv_io.specs.Typed.{null_texts}
-use Rattle.shards.specs.Blocks.{IsReadTo}
-use Rattle.shards.proofs.blocks.divide_strictly.Given as goal
+use Rattle.rj_divide.specs.Blocks.{IsReadTo}
+use Rattle.rj_divide.proofs.strict.divide_strictly.Given as goal
 
 abbrev pub invariant-loop-turn : goal.invariant-loop-turn
 invariant-loop-turn g l = record {

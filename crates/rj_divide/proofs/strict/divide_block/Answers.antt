@@ -3,9 +3,9 @@ use Rattle.std.specs.Prelude.{None}
 use Rattle.rj_strict.specs.Faults.{row_at}
 use Rattle.rj_strict.specs.Grammar.{File}
 use Rattle.rj_csv_io.specs.Typed.{null_texts}
-use Rattle.shards.specs.Blocks.{above, in_all}
-use Rattle.shards.proofs.BlockFacts.{above-derived, row-below}
-use Rattle.shards.proofs.blocks.divide_block.Goals as goal
+use Rattle.rj_divide.specs.Blocks.{above, in_all}
+use Rattle.rj_divide.proofs.BlockFacts.{above-derived, row-below}
+use Rattle.rj_divide.proofs.strict.divide_block.Goals as goal
 
 pub divide_derived-requires-in-Err-clause-derived : goal.divide_derived-requires-in-Err-clause-derived
 divide_derived-requires-in-Err-clause-derived g c =
