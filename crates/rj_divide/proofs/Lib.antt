@@ -7,4 +7,5 @@ pub mod UnderwayFacts
 pub mod HeaderFacts
 pub mod RangeFacts
 pub mod BlockFacts
+pub mod BrokenFacts
 pub mod StrictFacts
