@@ -6,3 +6,6 @@ pub mod DivisionFacts
 pub mod UnderwayFacts
 pub mod HeaderFacts
 pub mod RangeFacts
+pub mod BlockFacts
+pub mod BrokenFacts
+pub mod StrictFacts

@@ -4,3 +4,4 @@ pub mod Readings
 pub mod Underway
 pub mod Headers
 pub mod Ranges
+pub mod Blocks

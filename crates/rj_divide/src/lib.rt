@@ -10,6 +10,7 @@ mod piece;
 mod placed;
 mod refused;
 mod route;
+mod strict;
 mod table;
 mod whole;
 
@@ -18,6 +19,7 @@ pub use header::write_headers;
 pub use laws::divided_in_turn;
 pub use next::{Piece, next_piece};
 pub use piece::{Division, divide_piece};
-pub use refused::DivideRefused;
+pub use refused::{BlockRefused, DivideRefused};
 pub use route::Route;
+pub use strict::{divide_block, divide_strictly};
 pub use whole::divide;

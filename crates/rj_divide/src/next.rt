@@ -1,6 +1,6 @@
 //! The next piece of a device's bytes, which ends where a record does.
 
-ghost use Rattle.std.specs.Prelude.{◌≡◌, ◌<◌, ◌≤◌, ◌+◌, ◌-◌, ◌^◌, ◌++◌, ℕ, List, [], Option, true, false, vec_len, take, drop, IfOk, IfErr, OnOk};
+ghost use Rattle.std.specs.Prelude.{◌≡◌, ◌<◌, ◌≤◌, ◌+◌, ◌-◌, ◌^◌, ◌++◌, ℕ, List, [], Option, true, false, vec_len, take, drop, slice_index_or, IfOk, IfErr, OnOk};
 ghost use Rattle.std.specs.Io.KnownBytes.{Consumes, IsAtEnd};
 ghost use Rattle.csv.specs.Reading.{default_config, records};
 ghost use Rattle.csv.specs.declared.parser.State.TheVariants as st;
@@ -40,8 +40,8 @@ fn read_more<I: Input>(
     }
 }
 
-/// Adds the next bytes of a device to some, until there is the end of a record or the device is at its end: the piece up
-/// to the last such end, or all where the device is at its end. At least a block is read, and twice as many bytes as
+/// Adds the next bytes of a device to some, until there is a line feed that ends a record or the device is at its end: the piece
+/// up to the last such end, or all where the device is at its end. At least a block is read, and twice as many bytes as
 /// before where there is no such end in them.
 ///
 /// # Errors
@@ -62,6 +62,7 @@ pub fn next_piece<I: Input>(
     ensures records { IfOk result (λ p. (more : List ℕ) → (p.is_last ≡ true → more ≡ []) → records default_config (bytes.new.items ++ more)
         ≡ records default_config (take p.end bytes.new.items) ++ records default_config (drop p.end bytes.new.items ++ more)) }
     ensures ends { IfOk result (λ p. p.is_last ≡ false → state_after st.StartRecord (take p.end bytes.new.items) ≡ st.StartRecord) }
+    ensures feed { IfOk result (λ p. p.is_last ≡ false → slice_index_or bytes.new.items (p.end - 1) 0 ≡ 10) }
     ensures count { I.count input.new ≡ reads_after result (I.count input.old) }
     ensures fault { IfErr result IsInputFault }
 {

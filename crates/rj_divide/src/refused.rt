@@ -1,6 +1,7 @@
 //! Why a text was not divided.
 
 use rj_csv_io::ReadRefused;
+use rj_strict::StrictFault;
 
 /// Why a text was not divided. Outputs may have got some of its rows then.
 #[derive(Clone, Copy, Debug, PartialEq, Eq)]
@@ -15,4 +16,16 @@ pub enum DivideRefused {
     WriteDevice(usize),
     /// A growth was refused.
     Memory,
+}
+
+/// Why a block, or a range, of a text that has to be of RFC 4180's grammar was not divided. Outputs may have got some of its
+/// rows then.
+#[derive(Clone, Copy, Debug, PartialEq, Eq)]
+pub enum BlockRefused {
+    /// The place where the text stops being of the grammar, its row counted from the range's first one. The rows above have
+    /// no fault.
+    Broken(StrictFault),
+    /// The first fault of the rows, or of those above the place where the text stops being of the grammar; a failure of a
+    /// device; or want of memory.
+    Divided(DivideRefused),
 }

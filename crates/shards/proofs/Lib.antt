@@ -1,4 +1,2 @@
 pub mod Lists
 pub mod Nulls
-pub mod BlockFacts
-pub mod RangeFacts

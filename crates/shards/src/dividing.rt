@@ -7,7 +7,6 @@ ghost use Rattle.rj_csv_io.specs.Tables.{is_null_text};
 ghost use Rattle.rj_csv_io.specs.Typed.{null_texts};
 ghost use Rattle.rj_divide.specs.Divisions.{written_null};
 
-use crate::blocks::{BlockRefused, divide_strictly};
 use crate::failure::Failure;
 use crate::files::{Head, open_range, read_head};
 use crate::line::{Line, Operand};
@@ -16,7 +15,9 @@ use rj_columns::{ColumnType, Table};
 use rj_command::{Strictness, bind_clause, fault_of_text, types_of_header};
 use rj_condition::{BoundJoin, split};
 use rj_csv_io::{CountedWriter, Input, Output, are_lawful_nulls};
-use rj_divide::{DivideRefused, Division, Route, divide, write_headers};
+use rj_divide::{
+    BlockRefused, DivideRefused, Division, Route, divide, divide_strictly, write_headers,
+};
 use rj_fault::{Fault, Side, fault_of_read};
 use rj_radix::Mixed;
 use rj_shards::{ShardRoute, Shards};

@@ -2,7 +2,6 @@
 //! by part, and says where a file can be cut. Faults go to standard error.
 #![tactic(auto)]
 
-mod blocks;
 mod cutting;
 mod dividing;
 mod failure;

@@ -6,7 +6,7 @@ use Rattle.rj_csv_io.specs.Typed.{null_texts}
 use Rattle.rj_divide.specs.Divisions.{IsDivided}
 use Rattle.rj_divide.specs.Readings.{IsFaultBehind}
 use Rattle.rj_strict.specs.declared.header.Header.TheVariants.{Above}
-use Rattle.shards.proofs.blocks.divide_derived.Goals as goal
+use Rattle.rj_divide.proofs.strict.divide_derived.Goals as goal
 
 pub returns-then-division-gt1-clause-divided : goal.returns-then-division-gt1-clause-divided
 returns-then-division-gt1-clause-divided g c =

@@ -3,9 +3,9 @@ use Rattle.std.specs.Prelude.{None}
 use Rattle.rj_strict.specs.Faults.{row_at}
 use Rattle.rj_strict.specs.Grammar.{File}
 use Rattle.rj_csv_io.specs.Typed.{null_texts}
-use Rattle.shards.specs.Blocks.{above, in_all}
-use Rattle.shards.proofs.BlockFacts.{above-derived, row-below}
-use Rattle.shards.proofs.blocks.divide_block.Goals as goal
+use Rattle.rj_divide.specs.Blocks.{above, in_all}
+use Rattle.rj_divide.proofs.BlockFacts.{above-derived, row-below}
+use Rattle.rj_divide.proofs.strict.divide_block.Goals as goal
 
 pub divide_derived-requires-in-Err-clause-derived : goal.divide_derived-requires-in-Err-clause-derived
 divide_derived-requires-in-Err-clause-derived g c =
@@ -40,3 +40,6 @@ returns-in-Err-divide_derived-2-clause-fault g c = λ t begins.
     let file : File = record { lines = found.0; rest = None } in
     let derived = above-derived (length d.types.now) c.args.text.now c.above_fault-above.result.now (row_at c.in-Err.fault) found.0 found.1 found.2 in
     (_, above c.in-Err.fault found.0 c.in-Err.ensures.fault found.1, c.in-Err-divide_derived-2.ensures.fault t true file begins derived)
+
+pub returns-in-Ok-divide_derived-2-clause-refusal : goal.returns-in-Ok-divide_derived-2-clause-refusal
+returns-in-Ok-divide_derived-2-clause-refusal g c = λ b begins none. let made = c.in-Ok-divide_derived-2.ensures.begins.1 in absurd (cc)

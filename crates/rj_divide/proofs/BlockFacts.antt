@@ -1,5 +1,5 @@
 -- Blocks that are derived, and what stands in them.
-use Rattle.std.proofs.Common.{◌≡◌, ◌∙◌, ◌≤◌, ◌+◌, ℕ, suc, List, [], ◌∷◌, Bool, true, refl, sym, ap, arith, length, map}
+use Rattle.std.proofs.Common.{◌≡◌, ◌∙◌, ◌≤◌, ◌+◌, ℕ, List, [], ◌∷◌, Bool, true, refl, sym, ap, arith, length, map}
 use Rattle.std.specs.Prelude.{◌||◌, ◌&&◌, not, None}
 use Rattle.std.specs.List.{list_all}
 use Rattle.std.proofs.lemmas.Bool.{le-leb}
@@ -11,7 +11,8 @@ use Rattle.rj_csv_io.specs.Pieces.{AreRows}
 use Rattle.rj_strict.specs.Faults.{AreAbove}
 use Rattle.rj_strict.specs.Grammar.{Derives, File, LF, Line, is_blank, is_record, lines_text, non-escaped, values_of}
 use Rattle.rj_strict.specs.declared.header.Header.TheVariants.{Above, First}
-use Rattle.shards.specs.Blocks.{records_in}
+use Rattle.rj_divide.specs.Blocks.{records_in}
+use Rattle.rj_divide.proofs.ReadingFacts.{rows-many}
 
 -- the line of one name that is put above a text
 abbrev pub name_line : Line
@@ -41,12 +42,6 @@ under-one names full text file low d = record {
 pub above-derived : (names : ℕ) (text above : List ℕ) (row : ℕ) (lines : List Line) → AreAbove (Above names) text row lines → above ≡ lines_text lines
     → Derives (Above names) true above (record { lines = lines; rest = None })
 above-derived names text above row lines are is = record { spelled = is ∙ sym (append-nil (lines_text lines)); lines = are.are_lines; rest = refl }
-
-rows-many : (nulls : List (List ℕ)) (types : List ColumnType) (xs : List (List (List ℕ))) (rows : List (List Content)) → AreRows nulls types xs rows → length xs ≡ length rows
-rows-many nulls types [] [] a = refl
-rows-many nulls types [] (r ∷ rows) a = absurd a
-rows-many nulls types (x ∷ xs) [] a = absurd a
-rows-many nulls types (x ∷ xs) (r ∷ rows) a = ap suc (rows-many nulls types xs rows a.1)
 
 -- the row of a fault is the one below the rows above it
 pub row-below : (nulls : List (List ℕ)) (types : List ColumnType) (names : ℕ) (text : List ℕ) (row : ℕ) (lines : List Line) (rows : List (List Content)) (n : ℕ) → AreAbove (Above names) text row lines

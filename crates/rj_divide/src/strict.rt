@@ -1,37 +1,31 @@
 //! Dividing a range of a file whose text has to be of RFC 4180's grammar: each block is checked, and then divided.
 
-ghost use Rattle.std.specs.Prelude.{◌≡◌, ◌<◌, ◌≤◌, ◌+◌, ◌-◌, ◌^◌, ℕ, Bool, true, false, List, Option, Ok, All, IfErr, IfOk, IfSome, IsTrue, OnOk, drop, length, map, vec_len};
+ghost use Rattle.std.specs.Io.KnownBytes.{IsAtEnd};
+ghost use Rattle.std.specs.Prelude.{◌≡◌, ◌<◌, ◌≤◌, ◌+◌, ◌-◌, ◌^◌, ℕ, Bool, true, false, List, Option, Ok, Err, All, IfErr, IfOk, IfSome, IsTrue, OnOk, drop, length, map};
 ghost use Rattle.csv.specs.Reading.{strip_bom};
+ghost use Rattle.rj_columns.specs.declared.refused.BuildRefused.{BuildRefused};
 ghost use Rattle.rj_columns.specs.Names.{begun};
 ghost use Rattle.rj_columns.specs.Tables.{TableValue};
 ghost use Rattle.rj_csv_io.specs.Pieces.{names_in, piece_records};
 ghost use Rattle.rj_csv_io.specs.Tables.{is_null_text};
 ghost use Rattle.rj_csv_io.specs.Typed.{null_texts};
+ghost use Rattle.rj_divide.specs.Blocks.{IsAfterBlock, IsBlockFault, IsBlockRefusal, IsRangeDivided, IsRangeFault, IsReadTo, block_counts, block_reads, strict_behind};
 ghost use Rattle.rj_divide.specs.Divisions.{IsDivided, counts_after, written_null};
-ghost use Rattle.rj_divide.specs.Readings.{IsFaultBehind};
+ghost use Rattle.rj_divide.specs.Readings.{IsAfterReading, IsFaultBehind, IsHeaderRefusal};
 ghost use Rattle.rj_strict.specs.Faults.{row_at};
 ghost use Rattle.rj_strict.specs.Grammar.{Derives, File, records_of};
 ghost use Rattle.rj_strict.specs.declared.header.Header.TheVariants.{Above};
-ghost use Rattle.shards.specs.Blocks.{IsBlockFault, IsRangeDivided, IsReadTo, block_counts, strict_behind};
 
+use crate::next::{drop_front, next_piece};
+use crate::piece::{Division, divide_piece};
+use crate::refused::{BlockRefused, DivideRefused};
+use crate::route::Route;
 use rj_csv_io::{Input, Output, without_bom};
-use rj_divide::{DivideRefused, Division, Route, divide_piece, divided_in_turn, next_piece};
 use rj_strict::{
     Header, StrictFault, above_fault, check, joined_texts, quote_empty_lines, reads_all_records,
-    reads_quoted_records,
+    reads_quoted_records, reads_records,
 };
 use std::alloc::{AllocError, Global};
-
-/// Why a block, or a range, wasn't divided. Outputs may have got some of its rows then.
-#[derive(Clone, Copy, Debug, PartialEq, Eq)]
-pub(crate) enum BlockRefused {
-    /// The place where the text stops being of the grammar, its row counted from the range's first one. The rows above have
-    /// no fault.
-    Broken(StrictFault),
-    /// The first fault of the rows, or of those above the place where the text stops being of the grammar; a failure of a
-    /// device; or want of memory.
-    Divided(DivideRefused),
-}
 
 // A fault of a block that has so many rows before it.
 fn behind(before: u64, fault: StrictFault) -> StrictFault
@@ -85,6 +79,11 @@ fn divide_derived<W: Route, O: Output>(
     ensures few { IfOk result (λ n. before + n < 2 ^ 62) }
     ensures counts { map O.count outputs.new ≡ counts_after result (map O.count outputs.old) }
     ensures writes { OnOk result (All (λ o. O.count o < 2 ^ 64 - 1) outputs.new) }
+    ensures read { IfErr result IsAfterReading }
+    ensures begins { OnOk result ((t : TableValue) × (begun (names_in division.now.header.now) division.now.types.now ≡ Ok t)) }
+    ensures refusal { IfErr result (λ e. (b : BuildRefused) → begun (names_in division.now.header.now) division.now.types.now ≡ Err b
+        → before ≡ 0 → IsHeaderRefusal b e) }
+    ensures untouched { (b : BuildRefused) → begun (names_in division.now.header.now) division.now.types.now ≡ Err b → outputs.new ≡ outputs.old }
 {
     reads_all_records();
     if division.types.len() > 1 {
@@ -109,9 +108,11 @@ fn divide_derived<W: Route, O: Output>(
 ///
 /// # Errors
 ///
-/// The first fault of the block: of its rows, or the place where it stops being of the grammar, below rows without a fault.
-/// `WriteDevice` where an output failed, and `Memory`. The outputs may have got rows then.
-pub(crate) fn divide_block<W: Route, O: Output>(
+/// The reason why the header and the types make no table, as `Header::table` tells it, where no rows stand before; the outputs
+/// are unchanged then. Else the first fault of the block: of its rows, or the place where it stops being of the grammar, below
+/// rows without a fault; or `TooLong`; or `WriteDevice` where an output failed: the outputs may have got rows. `Memory` may come
+/// in place of each of these.
+pub fn divide_block<W: Route, O: Output>(
     alloc: Global,
     division: &Division<'_, W>,
     text: &[u8],
@@ -132,6 +133,11 @@ pub(crate) fn divide_block<W: Route, O: Output>(
     ensures few { IfOk result (λ n. before + n < 2 ^ 62) }
     ensures counts { map O.count outputs.new ≡ block_counts result (map O.count outputs.old) }
     ensures writes { OnOk result (All (λ o. O.count o < 2 ^ 64 - 1) outputs.new) }
+    ensures read { IfErr result IsAfterBlock }
+    ensures begins { OnOk result ((t : TableValue) × (begun (names_in division.now.header.now) division.now.types.now ≡ Ok t)) }
+    ensures refusal { IfErr result (λ e. (b : BuildRefused) → begun (names_in division.now.header.now) division.now.types.now ≡ Err b
+        → before ≡ 0 → IsBlockRefusal b e) }
+    ensures untouched { (b : BuildRefused) → begun (names_in division.now.header.now) division.now.types.now ≡ Err b → outputs.new ≡ outputs.old }
 {
     let header = Header::Above(division.types.len() as u64);
     match check(text, header, full) {
@@ -143,7 +149,7 @@ pub(crate) fn divide_block<W: Route, O: Output>(
             let above = above_fault(text, header, fault);
             match divide_derived(alloc, division, above, before, outputs) {
                 Ok(_) => Err(BlockRefused::Broken(behind(before, fault))),
-                Err(refused) => Err(BlockRefused::Divided(refused)),
+                Err(earlier) => Err(BlockRefused::Divided(earlier)),
             }
         }
     }
@@ -156,14 +162,6 @@ struct Rest {
     bytes: Vec<u8>,
     // How many rows were divided.
     rows: u64,
-}
-
-// Takes the first bytes away.
-fn drop_front(bytes: &mut Vec<u8>, end: usize)
-    requires { end ≤ vec_len bytes.old }
-    ensures { bytes.new.items ≡ drop end bytes.old.items }
-{
-    bytes.drain(..end);
 }
 
 // Divides the next block of a range: whether it was the last one.
@@ -182,21 +180,31 @@ fn divide_next<I: Input, W: Route, O: Output>(
     requires null { IsTrue (is_null_text (written_null (null_texts division.now.nulls.now))) }
     requires reads { I.count input.old < 2 ^ 64 - 1 }
     requires writes { All (λ o. O.count o < 2 ^ 64 - 1) outputs.old }
-    ensures more { result ≡ Ok false → (text : List ℕ) (before : List (Option (List ℕ)))
+    ensures more { result ≡ Ok false → (text : List ℕ) (before : List (Option (List ℕ))) (blocks : ℕ)
         → IsReadTo (null_texts division.now.nulls.now) division.now.types.now (W.part division.now.route.now) division.now.first text before
-        (I.tells input.old) rest.old.bytes.items (map O.told outputs.old) rest.old.rows
+        (I.tells input.old) rest.old.bytes.items (map O.told outputs.old) rest.old.rows blocks
         → IsReadTo (null_texts division.now.nulls.now) division.now.types.now (W.part division.now.route.now) division.now.first text before
-        (I.tells input.new) rest.new.bytes.items (map O.told outputs.new) rest.new.rows }
-    ensures last { result ≡ Ok true → (text : List ℕ) (before : List (Option (List ℕ)))
+        (I.tells input.new) rest.new.bytes.items (map O.told outputs.new) rest.new.rows (blocks + 1) }
+    ensures last { result ≡ Ok true → (text : List ℕ) (before : List (Option (List ℕ))) (blocks : ℕ)
         → IsReadTo (null_texts division.now.nulls.now) division.now.types.now (W.part division.now.route.now) division.now.first text before
-        (I.tells input.old) rest.old.bytes.items (map O.told outputs.old) rest.old.rows
+        (I.tells input.old) rest.old.bytes.items (map O.told outputs.old) rest.old.rows blocks
         → IsRangeDivided (null_texts division.now.nulls.now) division.now.types.now (W.part division.now.route.now) division.now.first full text before
         (map O.told outputs.new) rest.new.rows }
-    ensures reads { OnOk result (I.count input.new ≡ I.count input.old) }
-    ensures writes { OnOk result (All (λ o. O.count o < 2 ^ 64 - 1) outputs.new) }
+    ensures end { result ≡ Ok true → IsAtEnd (I.tells input.new) }
+    ensures reads { I.count input.new ≡ block_reads result (I.count input.old) }
+    ensures writes { map O.count outputs.new ≡ block_counts result (map O.count outputs.old) }
+    ensures fault { IfErr result (λ e. (t : TableValue) (text : List ℕ) (before : List (Option (List ℕ))) (blocks : ℕ)
+        → begun (names_in division.now.header.now) division.now.types.now ≡ Ok t
+        → IsReadTo (null_texts division.now.nulls.now) division.now.types.now (W.part division.now.route.now) division.now.first text before
+        (I.tells input.old) rest.old.bytes.items (map O.told outputs.old) rest.old.rows blocks
+        → IsRangeFault (null_texts division.now.nulls.now) division.now.types.now full text (length outputs.old) e) }
+    ensures begins { OnOk result ((t : TableValue) × (begun (names_in division.now.header.now) division.now.types.now ≡ Ok t)) }
+    ensures refusal { IfErr result (λ e. (b : BuildRefused) → begun (names_in division.now.header.now) division.now.types.now ≡ Err b
+        → rest.old.rows ≡ 0 → IsBlockRefusal b e) }
+    ensures untouched { (b : BuildRefused) → begun (names_in division.now.header.now) division.now.types.now ≡ Err b → outputs.new ≡ outputs.old }
 {
     joined_texts();
-    divided_in_turn();
+    reads_records();
     let piece = match next_piece(input, &mut rest.bytes, block) {
         Ok(piece) => piece,
         Err(refused) => return Err(BlockRefused::Divided(refused)),
@@ -218,9 +226,11 @@ fn divide_next<I: Input, W: Route, O: Output>(
 ///
 /// # Errors
 ///
-/// The first fault of the range, its row counted from the range's first one; `TooLong`, or a failure of a device; or `Memory`.
-/// The outputs may have got rows then.
-pub(crate) fn divide_strictly<I: Input, W: Route, O: Output>(
+/// The reason why the header and the types make no table, as `Header::table` tells it; the outputs are unchanged then. Else the
+/// first fault of the range, whatever its blocks are: of its rows, or the place where it stops being of the grammar, its row
+/// counted from the range's first one; `TooLong`; or `WriteDevice` where an output failed: the outputs may have got rows.
+/// `ReadDevice` where the device that gives bytes failed, and `Memory`, may come in place of each of these.
+pub fn divide_strictly<I: Input, W: Route, O: Output>(
     alloc: Global,
     input: &mut I,
     division: &Division<'_, W>,
@@ -234,11 +244,23 @@ pub(crate) fn divide_strictly<I: Input, W: Route, O: Output>(
     requires null { IsTrue (is_null_text (written_null (null_texts division.now.nulls.now))) }
     requires reads { I.count input.old < 2 ^ 64 - 1 }
     requires writes { All (λ o. O.count o < 2 ^ 64 - 1) outputs.old }
-    ensures { IfOk result (λ n. IfSome (I.tells input.old) (λ text.
+    ensures divided { IfOk result (λ n. IfSome (I.tells input.old) (λ text.
         IsRangeDivided (null_texts division.now.nulls.now) division.now.types.now (W.part division.now.route.now) division.now.first full text
         (map O.told outputs.old) (map O.told outputs.new) n)) }
+    ensures end { OnOk result (IsAtEnd (I.tells input.new)) }
+    ensures reads { I.count input.new ≡ block_reads result (I.count input.old) }
+    ensures writes { map O.count outputs.new ≡ block_counts result (map O.count outputs.old) }
+
+    // where the header and the types go together, as `Header::table` tells, an error comes for this alone
+    ensures fault { IfErr result (λ e. (t : TableValue) → begun (names_in division.now.header.now) division.now.types.now ≡ Ok t
+        → IfSome (I.tells input.old) (λ text. IsRangeFault (null_texts division.now.nulls.now) division.now.types.now full text (length outputs.old) e)) }
+
+    // where they don't, nothing is divided, and it is told why they don't
+    ensures begins { OnOk result ((t : TableValue) × (begun (names_in division.now.header.now) division.now.types.now ≡ Ok t)) }
+    ensures refusal { IfErr result (λ e. (b : BuildRefused) → begun (names_in division.now.header.now) division.now.types.now ≡ Err b
+        → IsBlockRefusal b e) }
+    ensures untouched { (b : BuildRefused) → begun (names_in division.now.header.now) division.now.types.now ≡ Err b → outputs.new ≡ outputs.old }
 {
-    divided_in_turn();
     let mut rest = Rest {
         bytes: Vec::new(alloc),
         rows: 0,

@@ -1,17 +1,19 @@
 -- Blocks of a file whose text has to be of RFC 4180's grammar: each stands under the header and begins where a record does.
-use Rattle.std.specs.Prelude.{ℕ, ◌+◌, ◌≡◌, ◌++◌, Bool, true, List, Option, Some, None, Result, Ok, Err, length}
+use Rattle.std.specs.Prelude.{ℕ, ◌+◌, ◌-◌, ◌^◌, ◌≡◌, ◌≤◌, ◌<◌, ◌⊎◌, ◌++◌, Bool, true, List, Option, Some, None, Result, Ok, Err, length}
 use Rattle.rj_columns.specs.declared.cell.ColumnType.{ColumnType}
+use Rattle.rj_columns.specs.declared.refused.BuildRefused.{BuildRefused}
 use Rattle.rj_columns.specs.Contents.{Content}
 use Rattle.rj_csv_io.specs.Pieces.{AreRows}
 use Rattle.rj_divide.specs.Divisions.{IsDivided, counts_after}
-use Rattle.rj_divide.specs.Readings.{IsFaultBehind}
+use Rattle.rj_divide.specs.Readings.{IsAfterReading, IsFaultBehind, IsFirstFault, IsHeaderRefusal, reads_after}
 use Rattle.rj_strict.specs.Faults.{AreAbove, HasFault, row_at}
 use Rattle.rj_strict.specs.Grammar.{Derives, File, Line, records_of}
 use Rattle.rj_strict.specs.declared.header.Header.TheVariants.{Above}
 use Rattle.rj_strict.specs.declared.fault.StrictFault.{StrictFault}
 use Rattle.rj_strict.specs.declared.fault.StrictFault.TheVariants as fault
-use Rattle.shards.specs.declared.blocks.BlockRefused.{BlockRefused}
-use Rattle.shards.specs.declared.blocks.BlockRefused.TheVariants as refused
+use Rattle.rj_divide.specs.declared.refused.BlockRefused.{BlockRefused}
+use Rattle.rj_divide.specs.declared.refused.BlockRefused.TheVariants as refused
+use Rattle.rj_divide.specs.declared.refused.DivideRefused.TheVariants as divide
 
 -- the same fault where so many rows stand before
 abbrev pub strict_behind : ℕ → StrictFault → StrictFault
@@ -54,10 +56,26 @@ block_counts (Ok x) counts = counts
 block_counts (Err (refused.Broken f)) counts = counts
 block_counts (Err (refused.Divided e)) counts = counts_after {T = ℕ} (Err e) counts
 
--- a range of which so many rows are divided: those of its first bytes, which are lines below the header's names; the others are
--- those of the bytes that were read and of what the device tells
+-- the count of the failures of the device that gives bytes: one more where it failed
+abbrev pub block_reads : {T : Type 0} → Result T BlockRefused → ℕ → ℕ
+block_reads (Ok x) count = count
+block_reads (Err (refused.Broken f)) count = count
+block_reads (Err (refused.Divided e)) count = reads_after {T = ℕ} (Err e) count
+
+-- any fault but one of the device that gives bytes
+abbrev pub IsAfterBlock : BlockRefused → Type 0
+IsAfterBlock (refused.Broken f) = Unit {0}
+IsAfterBlock (refused.Divided e) = IsAfterReading e
+
+-- why nothing is divided under a header that makes no table with the types
+abbrev pub IsBlockRefusal : BuildRefused → BlockRefused → Type 0
+IsBlockRefusal b (refused.Broken f) = ⊥
+IsBlockRefusal b (refused.Divided e) = IsHeaderRefusal b e
+
+-- a range of which so many rows are divided, in at least so many blocks: those of its first bytes, which are lines below the
+-- header's names; the others are those of the bytes that were read and of what the device tells
 pub record IsReadTo (nulls : List (List ℕ)) (types : List ColumnType) (part : List Content → ℕ) (first : ℕ) (text : List ℕ)
-    (before : List (Option (List ℕ))) (tells : Option (List ℕ)) (bytes : List ℕ) (now : List (Option (List ℕ))) (rows : ℕ) : Type 0 where
+    (before : List (Option (List ℕ))) (tells : Option (List ℕ)) (bytes : List ℕ) (now : List (Option (List ℕ))) (rows blocks : ℕ) : Type 0 where
   pub left : List ℕ
   pub told : tells ≡ Some left
   pub taken : List ℕ
@@ -66,8 +84,26 @@ pub record IsReadTo (nulls : List (List ℕ)) (types : List ColumnType) (part : 
   pub derived : Derives (Above (length types)) true taken file
   pub divided : IsDivided nulls types part first (records_of file) before now rows
   pub outputs : length now ≡ length before
+  pub shorter : blocks + length (bytes ++ left) ≤ length text
 
 -- a range whose rows are divided, so many: the records of its one derivation below the header's names
 abbrev pub IsRangeDivided : List (List ℕ) → List ColumnType → (List Content → ℕ) → ℕ → Bool → List ℕ → List (Option (List ℕ)) → List (Option (List ℕ)) → ℕ → Type 0
 IsRangeDivided nulls types part first full text before after rows =
     (file : File) × Derives (Above (length types)) full text file × IsDivided nulls types part first (records_of file) before after rows
+
+-- the records of lines that a range begins with, or all its records, as the grammar derives them below so many names
+pub data BeginIn (names : ℕ) (full : Bool) (text : List ℕ) : List (List (List ℕ)) → Type 0 where
+  in_text : (file : File) → Derives (Above names) full text file → BeginIn names full text (records_of file)
+  in_lines : (row : ℕ) (lines : List Line) → AreAbove (Above names) text row lines → BeginIn names full text (records_in lines)
+
+-- why a range is not divided among so many outputs: the place where its text stops being derived, below records that are all
+-- rows; the first fault of records that it begins with; a fault of a device or of memory; or its length
+abbrev pub IsRangeFault : List (List ℕ) → List ColumnType → Bool → List ℕ → ℕ → BlockRefused → Type 0
+IsRangeFault nulls types full text outputs (refused.Broken f) = IsBrokenAt nulls types full text 0 f
+IsRangeFault nulls types full text outputs (refused.Divided (divide.Read f)) =
+    (records : List (List (List ℕ))) × BeginIn (length types) full text records × IsFirstFault nulls types 0 records f
+IsRangeFault nulls types full text outputs (refused.Divided divide.TooLong) =
+    ((records : List (List (List ℕ))) × BeginIn (length types) full text records × (2 ^ 31 ≤ length records)) ⊎ (2 ^ 64 - 1 ≤ length text)
+IsRangeFault nulls types full text outputs (refused.Divided divide.ReadDevice) = Unit {0}
+IsRangeFault nulls types full text outputs (refused.Divided (divide.WriteDevice p)) = p < outputs
+IsRangeFault nulls types full text outputs (refused.Divided divide.Memory) = Unit {0}

@@ -4,8 +4,8 @@ use Rattle.csv.specs.Reading.{default_config, records, strip_bom}
 use Rattle.rj_strict.specs.Grammar.{Derives}
 use Rattle.rj_strict.specs.Joined.{joined}
 use Rattle.rj_strict.specs.declared.header.Header.TheVariants.{First}
-use Rattle.shards.proofs.BlockFacts.{name-derived, name_file, under-one, unmarked}
-use Rattle.shards.proofs.blocks.quote_below_name.Goals as goal
+use Rattle.rj_divide.proofs.BlockFacts.{name-derived, name_file, under-one, unmarked}
+use Rattle.rj_divide.proofs.strict.quote_below_name.Goals as goal
 
 pub quote_empty_lines-requires : goal.quote_empty_lines-requires
 quote_empty_lines-requires c =
