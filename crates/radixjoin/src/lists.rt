@@ -2,7 +2,7 @@
 
 use crate::inputs::read_file;
 use rj_fault::{Fault, Side};
-use rj_suggest::read_list;
+use rj_suggest::list_of_lines;
 use std::alloc::AllocError;
 use std::fs::Files;
 
@@ -30,7 +30,7 @@ fn with_list<R: Files + AllocGlobal>(rt: &R, word: &str) -> Result<Option<String
 // The list that a file has.
 fn list_of<R: Files + AllocGlobal>(rt: &R, file: &str, side: Side) -> Result<String, Fault> {
     let bytes = read_file(rt, file, side)?;
-    read_list(rt.alloc(), bytes.as_slice(), side)
+    list_of_lines(rt.alloc(), bytes.as_slice(), side)
 }
 
 // A word in whose place a list is put if it names a file of one. The side is that of the word before, where it is such an option.

@@ -1,2 +1,4 @@
+pub mod ReadBack
+pub mod ReadTypes
 pub mod RetypedFacts
 pub mod SuggestFacts

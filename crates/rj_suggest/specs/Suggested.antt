@@ -16,6 +16,8 @@ use Rattle.rj_csv_io.specs.Typed.{is_int_text}
 use Rattle.rj_csv_io.specs.declared.refused.ReadRefused.{ReadRefused}
 use Rattle.rj_fault.specs.Faults.{read_fault}
 use Rattle.rj_types.specs.Words.{begin_word, end_word}
+use Rattle.rj_types.specs.declared.entry.Label.TheVariants.{Name}
+use Rattle.rj_types.specs.declared.entry.TypeEntry.{TypeEntry}
 use Rattle.rj_fault.specs.declared.fault.Fault.{Fault}
 use Rattle.rj_fault.specs.declared.fault.Side.TheVariants as side
 use Rattle.rj_suggest.specs.declared.number.Form.{Form}
@@ -110,7 +112,8 @@ pub record AreSuggested (t : TableValue) (kinds : List ColumnType) : Type 0 wher
   pub count : length kinds ≡ length t.types
   pub each : (col : ℕ) (kind : ColumnType) → slice_get kinds col ≡ Some kind → IsSuggested t col kind
 
--- a name as it is where it is an identifier, and else between double quotes, each one in it doubled
+-- a name as it is where it is an identifier of a clause (a list of types takes more, those that begin with an underscore), and else between
+-- double quotes, each one in it doubled
 abbrev pub is_identifier : List ℕ → Bool
 is_identifier [] = false
 is_identifier (b ∷ bs) = is_ascii_alphabetic b && list_all is_name_byte bs
@@ -133,6 +136,15 @@ abbrev pub column_lines : List (List ℕ) → List ColumnType → List ℕ
 column_lines [] kinds = []
 column_lines (name ∷ names) [] = []
 column_lines (name ∷ names) (kind ∷ kinds) = column_line name kind ++ column_lines names kinds
+
+-- the entry of a column in a list by name, and those of columns, in order
+abbrev pub entry_of : List ℕ → ColumnType → TypeEntry
+entry_of name kind = record { label = Name (record { text = name; delimited = not (is_identifier name) }); kind = kind }
+
+abbrev pub entries_of : List (List ℕ) → List ColumnType → List TypeEntry
+entries_of [] kinds = []
+entries_of (name ∷ names) [] = []
+entries_of (name ∷ names) (kind ∷ kinds) = entry_of name kind ∷ entries_of names kinds
 
 -- the lines of the types that are suggested for the columns of a file, which reads as texts, and reads with these types too
 pub record IsSuggestedList (bytes : List ℕ) (nulls : List (List ℕ)) (text : List ℕ) : Type 0 where

@@ -12,7 +12,8 @@ mod number;
 mod writing;
 
 use crate::columns::kinds_of;
-pub use crate::listed::read_list;
+pub use crate::listed::list_of_lines;
+pub use crate::writing::lines_are_read_back;
 use crate::writing::lines_of;
 use rj_columns::ColumnType;
 use rj_csv_io::{Header, read_table, without_bom};

@@ -60,7 +60,7 @@ fn list_in(alloc: Global, bytes: &[u8]) -> Result<Vec<u8>, AllocError>
 /// # Errors
 ///
 /// `BadTypeList` of the side where the list isn't UTF-8. `Memory` comes only where a growth was refused.
-pub fn read_list(alloc: Global, bytes: &[u8], side: Side) -> Result<String, Fault>
+pub fn list_of_lines(alloc: Global, bytes: &[u8], side: Side) -> Result<String, Fault>
     ensures list { IfOk result (λ list. string_bytes list ≡ list_in bytes.now) }
     ensures fault { IfErr result (λ f. f ≢ Fault.Memory → (f ≡ Fault.BadTypeList side) × (is_utf8 (list_in bytes.now) ≡ false)) }
 {

@@ -1,9 +1,13 @@
 //! The text of a list of types by name.
 
-ghost use Rattle.std.specs.Prelude.{◌≡◌, ◌++◌, ◌∷◌, [], length, IfOk, OnOk, string_bytes};
+ghost use Rattle.std.specs.Prelude.{◌≡◌, ◌≢◌, ◌++◌, ◌∷◌, [], ℕ, List, None, length, IfOk, OnOk, string_bytes};
 ghost use Rattle.std.specs.List.{list_all};
 ghost use Rattle.rj_condition.specs.Tokens.{doubled, in_quotes, is_name_byte};
-ghost use Rattle.rj_suggest.specs.Suggested.{column_line, column_lines, is_identifier, name_text, type_word};
+ghost use Rattle.rj_columns.specs.Names.{name_fault};
+ghost use Rattle.rj_types.specs.Columns as given;
+ghost use Rattle.rj_types.specs.Lists.{IsTypeList};
+ghost use Rattle.rj_suggest.specs.Listed.{list_in};
+ghost use Rattle.rj_suggest.specs.Suggested.{column_line, column_lines, entries_of, is_identifier, name_text, type_word};
 
 use rj_columns::{ColumnType, Table};
 use std::alloc::{AllocError, Global};
@@ -20,7 +24,8 @@ fn are_name_bytes(bytes: &[u8]) -> bool
     bytes.iter().all(|b| is_name_byte(*b))
 }
 
-// Whether a name is an identifier: a letter, and then letters, digits and underscores.
+// Whether a name is an identifier: a letter, and then letters, digits and underscores. A list of types would take an underscore in front,
+// too, but a clause wants quotes round such a name, and so it gets them here.
 fn is_identifier(name: &[u8]) -> bool
     ensures { result ≡ is_identifier name.now }
 {
@@ -103,3 +108,15 @@ pub(crate) fn lines_of(
     }
     Ok(lines)
 }
+
+/// A law, whose contract is a fact about all headers: the lines of lawful names and of types for them are a list by name. It gives the columns of
+/// these names these types, and each of its names means one. So what [`suggest_types`](crate::suggest_types) gives is read back, by
+/// [`list_of_lines`](crate::list_of_lines) and the reading of type lists, as the types that it suggests.
+pub fn lines_are_read_back()
+    ensures list { (names : List (List ℕ)) (kinds : List ColumnType) → names ≢ [] → length kinds ≡ length names → name_fault [] names ≡ None
+        → IsTypeList (list_in (column_lines names kinds)) (entries_of names kinds) }
+    ensures types { (names : List (List ℕ)) (kinds : List ColumnType) → names ≢ [] → length kinds ≡ length names → name_fault [] names ≡ None
+        → given.types_under (entries_of names kinds) names ≡ kinds }
+    ensures named { (names : List (List ℕ)) (kinds : List ColumnType) → length kinds ≡ length names → name_fault [] names ≡ None
+        → given.name_fault (entries_of names kinds) names ≡ None }
+{}

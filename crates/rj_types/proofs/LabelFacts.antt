@@ -4,7 +4,7 @@ use Rattle.std.specs.Prelude.{◌==◌, nat_lt, MatchOption}
 use Rattle.std.specs.Borrow.{Bor}
 use Rattle.std.specs.Char.{is_ascii_digit}
 use Rattle.std.specs.List.{list_all, prefix_len}
-use Rattle.std.proofs.lemmas.Bool.{and_parts, cases_Bool}
+use Rattle.std.proofs.lemmas.Bool.{and_parts, cases_Bool, eqb-true}
 use Rattle.std.proofs.lemmas.Bool.Decides.{nat_tests}
 use Rattle.std.proofs.lemmas.List.{take-append-drop}
 use Rattle.std.proofs.Math.Seq.{drop-append_seam, take-append_seam}
@@ -19,9 +19,6 @@ use Rattle.rj_types.specs.Scanning.{behind, delimited_at, label_by, label_in, la
 use Rattle.rj_types.specs.Words.{IsTypeWord, before, text_of}
 use Rattle.rj_types.specs.declared.entry.Label.{Label}
 use Rattle.rj_types.specs.declared.entry.Label.TheVariants.{Place, Name, Rest}
-
-same_sign : (b sign : ℕ) → (b == sign) ≡ true → b ≡ sign
-same_sign b sign e = grind (arith, nat_tests)
 
 no_sign : (b sign : ℕ) → b ≢ sign → (b == sign) ≡ false
 no_sign b sign e = grind (arith, nat_tests)
@@ -41,7 +38,7 @@ behind_sound sign (b ∷ bs) rest e = elim (cases_Bool (b == sign)) [
   | inl h ↦
       let f : Some bs ≡ Some rest = sym (behind_yes sign b bs h) ∙ e in
       let same : bs ≡ rest = cc in
-      ap (λ (z : ℕ). z ∷ bs) (same_sign b sign h) ∙ ap (λ (z : List ℕ). sign ∷ z) same
+      ap (λ (z : ℕ). z ∷ bs) (eqb-true b sign h) ∙ ap (λ (z : List ℕ). sign ∷ z) same
   | inr h ↦ let f : ◌≡◌ {A = Option (List ℕ)} None (Some rest) = sym (behind_no sign b bs h) ∙ e in cc
 ]
 
@@ -50,7 +47,7 @@ pub behind_found : (sign : ℕ) (text : List ℕ) (r : Option (Bor (List ℕ))) 
 behind_found sign text (Some x) is = sym (ap (behind sign) is ∙ behind_yes sign sign x.now (is_sign sign))
 behind_found sign [] None is = refl
 behind_found sign (b ∷ bs) None is = elim (cases_Bool (b == sign)) [
-  | inl h ↦ absurd (is bs (ap (λ (z : ℕ). z ∷ bs) (same_sign b sign h)))
+  | inl h ↦ absurd (is bs (ap (λ (z : ℕ). z ∷ bs) (eqb-true b sign h)))
   | inr h ↦ sym (behind_no sign b bs h)
 ]
 

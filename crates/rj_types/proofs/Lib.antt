@@ -1,4 +1,5 @@
 mod EntryFacts
 mod LabelFacts
-mod NumberFacts
+pub mod NumberFacts
+mod OneList
 mod WordFacts

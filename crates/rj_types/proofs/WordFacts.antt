@@ -41,7 +41,7 @@ no_comma_here x a none = apart (and_parts (not (x == 44)) (has_no_comma a) none)
 no_comma_later : (x : ℕ) (a : List ℕ) → has_no_comma (x ∷ a) ≡ true → has_no_comma a ≡ true
 no_comma_later x a none = (and_parts (not (x == 44)) (has_no_comma a) none).1
 
-some_same : {A : Type 0} (x y : A) → Some x ≡ Some y → x ≡ y
+pub some_same : {A : Type 0} (x y : A) → Some x ≡ Some y → x ≡ y
 some_same x y e = cc
 
 -- a text is cut at its first comma in one way
@@ -92,13 +92,13 @@ word_form kind.Text word is = inl (ap has_no_comma is)
 word_form (kind.Num n) word (inl is) = inr (n, refl, is)
 word_form (kind.Num n) word (inr is) = inl (ap has_no_comma is ∙ colon_no_comma n)
 
-n_is_i : ◌≡◌ {A = ℕ} 110 105 → ⊥
+pub n_is_i : ◌≡◌ {A = ℕ} 110 105 → ⊥
 n_is_i e = absurd (omega arith)
 
-n_is_t : ◌≡◌ {A = ℕ} 110 116 → ⊥
+pub n_is_t : ◌≡◌ {A = ℕ} 110 116 → ⊥
 n_is_t e = absurd (omega arith)
 
-no_paren : ◌≡◌ {A = ℕ} 40 58 → ⊥
+pub no_paren : ◌≡◌ {A = ℕ} 40 58 → ⊥
 no_paren e = absurd (omega arith)
 
 -- what stands before its comma is no word

@@ -6,7 +6,8 @@ use Rattle.rj_condition.specs.Tokens.{in_quotes, is_name_byte}
 use Rattle.rj_types.specs.declared.entry.Label.{Label}
 use Rattle.rj_types.specs.declared.entry.Label.TheVariants.{Place, Name, Rest}
 
--- letters, digits and underscores, the first of them no digit
+-- letters, digits and underscores, the first of them no digit: an identifier of a clause, or one that begins with an underscore, since
+-- nothing else could stand there
 abbrev pub is_regular : List ℕ → Bool
 is_regular [] = false
 is_regular (b ∷ bs) = not (is_ascii_digit b) && list_all is_name_byte (b ∷ bs)

@@ -10,4 +10,4 @@ mod word;
 
 pub use columns::{name_fault, types_under};
 pub use entry::{Label, TypeEntry};
-pub use list::read_list;
+pub use list::{one_list, read_list};

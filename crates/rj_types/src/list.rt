@@ -1,4 +1,4 @@
-//! Reading a type list.
+//! Reading a type list. A function without a body is a law: its contract is a fact about all texts.
 
 ghost use Rattle.std.specs.Prelude.{◌≡◌, ◌&&◌, true, IfOk, List, ℕ, Option, MatchOption, Some, map};
 ghost use Rattle.std.specs.List.{count_by};
@@ -102,3 +102,8 @@ pub fn read_list(alloc: Global, text: &str) -> Result<Option<Vec<TypeEntry>>, Al
         None => Ok(None),
     }
 }
+
+/// A text is one list of types at most: so what [`read_list`] gives is the list.
+pub fn one_list()
+    ensures { (text : List ℕ) (a b : List TypeEntry) → IsTypeList text a → IsTypeList text b → a ≡ b }
+{}

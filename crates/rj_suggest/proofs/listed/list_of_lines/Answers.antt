@@ -1,7 +1,7 @@
 use Rattle.std.proofs.Common.{◌≡◌, ◌∙◌, true, false, refl, ap, sym}
 use Rattle.std.specs.Str.{IsUtf8, is_utf8}
 use Rattle.rj_csv_io.proofs.TypedFacts.{no-utf8}
-use Rattle.rj_suggest.proofs.listed.read_list.Goals as goal
+use Rattle.rj_suggest.proofs.listed.list_of_lines.Goals as goal
 
 pub returns-clause-fault : goal.returns-clause-fault
 returns-clause-fault c =
