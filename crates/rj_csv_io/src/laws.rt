@@ -24,14 +24,15 @@ pub fn told_apart()
 {}
 
 /// The text of a cell reads back as the cell, where the text that is written for null is one of the reader's null texts and
-/// the cell, if it is a text, is none of them. So a number reads back by all null texts.
+/// the cell, if it is a text, is none of them. A number never is.
 pub fn cells_read_back()
     ensures { (nulls : List (List ℕ)) (null : List ℕ) (kind : ColumnType) (x : Content)
         → are_null_texts nulls ≡ true → is_null_field nulls null ≡ true → FitsType kind x → IsHeld x → IsNoneOf nulls x
         → read_cell nulls kind (shown null x) ≡ Some x }
 {}
 
-/// A cell that was read, and is written, is read again as it was.
+/// A cell that was read, and is written, is read again as it was by the same type and null texts, where one of these is
+/// written for null.
 pub fn read_cells_read_back()
     ensures { (nulls : List (List ℕ)) (null : List ℕ) (kind : ColumnType) (field : List ℕ) (x : Content)
         → are_null_texts nulls ≡ true → is_null_field nulls null ≡ true → read_cell nulls kind field ≡ Some x
@@ -39,7 +40,7 @@ pub fn read_cells_read_back()
 {}
 
 /// The text of a table reads back as the table, by its types, where the text that is written for null is one of the reader's
-/// null texts, no text in a cell is one of them, and no byte order mark stands at the start: a reader leaves that out.
+/// null texts, no text in a cell is one of them, and no byte order mark stands at the start, which a reader leaves out.
 pub fn tables_read_back()
     ensures { (nulls : List (List ℕ)) (null : List ℕ) (t : TableValue)
         → are_null_texts nulls ≡ true → is_null_field nulls null ≡ true → CanReadBack nulls t
@@ -48,7 +49,7 @@ pub fn tables_read_back()
 {}
 
 /// A table that was read, and is written, is read again as it was by the same types and null texts, where one of these is
-/// written for null.
+/// written for null and no byte order mark stands at the start.
 pub fn read_tables_read_back()
     ensures { (bytes : List ℕ) (types : List ColumnType) (nulls : List (List ℕ)) (null : List ℕ) (t : TableValue)
         → read_of bytes types nulls ≡ Ok t → is_null_field nulls null ≡ true
@@ -56,7 +57,7 @@ pub fn read_tables_read_back()
         → read_of (table_text null t.names t.rows) types nulls ≡ Ok t }
 {}
 
-/// The same by other null texts, where none of them is the text in a cell.
+/// The same by other null texts, where no text in a cell is one of them.
 pub fn read_tables_read_back_by_others()
     ensures { (bytes : List ℕ) (types : List ColumnType) (known nulls : List (List ℕ)) (null : List ℕ) (t : TableValue)
         → read_of bytes types known ≡ Ok t → are_null_texts nulls ≡ true → is_null_field nulls null ≡ true
