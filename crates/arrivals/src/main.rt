@@ -34,7 +34,15 @@ impl From<AllocError> for Failure {
 }
 
 impl Told for Failure {
-    // 0 help and version, 2 command line, 5 memory, 6 device.
+    ghost use Rattle.arrivals.specs.Failures.{clap_error_of, exit_of};
+    ghost use Rattle.arrivals.specs.declared.Failure.TheVariants.{WriteDevice};
+
+    ghost exit = { exit_of };
+
+    ghost of_clap = { clap_error_of };
+
+    ghost unwritten = { WriteDevice };
+
     fn status(&self) -> u8 {
         match self {
             Failure::CommandLine(error) => { if error.use_stderr() { 2 } else { 0 } }

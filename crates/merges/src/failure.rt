@@ -71,7 +71,15 @@ fn name_of(alloc: Global, files: &[&str], input: u32) -> Result<String, AllocErr
 }
 
 impl Told for Failure {
-    // 0 help and version, 2 command line, 3 an input, 5 memory, 6 device.
+    ghost use Rattle.merges.specs.Failures.{clap_error_of, exit_of};
+    ghost use Rattle.merges.specs.declared.failure.Failure.TheVariants.{WriteDevice};
+
+    ghost exit = { exit_of };
+
+    ghost of_clap = { clap_error_of };
+
+    ghost unwritten = { WriteDevice };
+
     fn status(&self) -> u8 {
         match self {
             Failure::CommandLine(error) => { if error.use_stderr() { 2 } else { 0 } }

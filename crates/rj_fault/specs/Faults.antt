@@ -1,6 +1,7 @@
 -- The texts of the sides, the exit statuses, and the faults of what is written.
-use Rattle.std.specs.Prelude.{◌≡◌, ◌⊎◌, ℕ, List, codes}
+use Rattle.std.specs.Prelude.{◌≡◌, ◌⊎◌, ℕ, List, Option, Some, None, codes}
 use Rattle.clap.specs.Values.{kind_of}
+use Rattle.clap.specs.declared.error.Error.{Error}
 use Rattle.clap.specs.declared.error.kind.ErrorKind.{ErrorKind}
 use Rattle.clap.specs.declared.error.kind.ErrorKind.TheVariants.{DisplayHelp, DisplayVersion}
 use Rattle.rj_csv_io.specs.declared.refused.ReadRefused.{ReadRefused}
@@ -22,6 +23,11 @@ abbrev pub refused_status : ErrorKind → ℕ
 refused_status DisplayHelp = 0
 refused_status DisplayVersion = 0
 refused_status _ = 2
+
+-- what `clap` tells is help or the version
+abbrev pub IsAskedFor : Option Error → Type 0
+IsAskedFor None = ⊥
+IsAskedFor (Some e) = refused_status (kind_of e) ≡ 0
 
 -- the fault of a table that can't be read
 abbrev pub read_fault : Side → ReadRefused → Fault
@@ -79,6 +85,11 @@ status_of (fault.ReadDevice side) = 6
 status_of fault.WriteDevice = 6
 status_of fault.TwoStandardInputs = 2
 status_of (fault.OutputIsInput side) = 6
+
+-- what `clap` tells in place of the fault
+abbrev pub clap_error_of : Fault → Option Error
+clap_error_of (fault.CommandLine e) = Some e
+clap_error_of _ = None
 
 -- the fault is want of memory, or that the writer failed
 abbrev pub IsOfWriting : Fault → Type 0

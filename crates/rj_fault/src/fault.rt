@@ -161,6 +161,15 @@ impl From<WriteRefused> for Fault {
 }
 
 impl Told for Fault {
+    ghost use Rattle.rj_fault.specs.Faults.{clap_error_of, status_of};
+    ghost use Rattle.rj_fault.specs.declared.fault.Fault.TheVariants.{WriteDevice};
+
+    ghost exit = { status_of };
+
+    ghost of_clap = { clap_error_of };
+
+    ghost unwritten = { WriteDevice };
+
     fn status(&self) -> u8 {
         Fault::status(self)
     }

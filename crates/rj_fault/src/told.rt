@@ -1,29 +1,50 @@
 //! Telling why a program ended without its output.
 
+ghost use Rattle.std.specs.Prelude.{◌≡◌, ◌⊎◌, ℕ, Option};
+ghost use Rattle.std.specs.Option.{option_copied};
+ghost use Rattle.clap.specs.declared.error.Error.{Error};
+ghost use Rattle.rj_fault.specs.Faults.{IsAskedFor};
+
 use clap::Error;
 use std::fmt::Display;
 
 /// Why a program ended without its output. Its text is the line that is printed, without its line end.
 pub trait Told: Display + Drop {
+    // The exit status.
+    ghost exit: { Self → ℕ };
+
+    // What `clap` prints in place of the line, if it does.
+    ghost of_clap: { Self → Option Error };
+
+    // That standard output couldn't be written.
+    ghost unwritten: { Self };
+
     /// The exit status. It takes no memory.
-    fn status(&self) -> u8;
+    fn status(&self) -> u8
+        ensures { result ≡ exit self.now };
 
     /// What `clap` prints in place of the line, where it refused the words, or where they ask for help or for the version.
-    fn by_clap(&self) -> Option<&Error>;
+    fn by_clap(&self) -> Option<&Error>
+        ensures { option_copied result ≡ of_clap self.now };
 
     /// That standard output couldn't be written.
-    fn failed_write() -> Self;
+    fn failed_write() -> Self
+        ensures { result ≡ unwritten };
 }
 
 // Prints the line, and gives the exit status.
-fn tell_line<T: Told>(rt: &impl Eprint, told: &T) -> u8 {
+fn tell_line<T: Told>(rt: &impl Eprint, told: &T) -> u8
+    ensures { result ≡ T.exit told.now }
+{
     let _ = eprintln!(rt; "{told}");
     told.status()
 }
 
 /// Prints why there is no output on standard error, or help or the version on standard output, and gives the exit status.
 /// Where help or the version couldn't be printed, the status is that of a failed write.
-pub fn tell<R: Print + Eprint, T: Told>(rt: &R, told: &T) -> u8 {
+pub fn tell<R: Print + Eprint, T: Told>(rt: &R, told: &T) -> u8
+    ensures { (result ≡ T.exit told.now) ⊎ (IsAskedFor (T.of_clap told.now) × (result ≡ T.exit T.unwritten)) }
+{
     if let Some(error) = told.by_clap() {
         let printed = error.print(rt).is_ok();
         if printed || error.use_stderr() {

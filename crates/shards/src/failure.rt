@@ -30,7 +30,14 @@ impl From<AllocError> for Failure {
 }
 
 impl Told for Failure {
-    // 0 help and version, 2 command line, 3 input, 4 clause, 5 memory, 6 device.
+    ghost use Rattle.shards.specs.Failures.{clap_error_of, exit_of, unwritten};
+
+    ghost exit = { exit_of };
+
+    ghost of_clap = { clap_error_of };
+
+    ghost unwritten = { unwritten };
+
     fn status(&self) -> u8 {
         match self {
             Failure::Told(fault) => fault.status(),
