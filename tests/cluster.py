@@ -14,6 +14,7 @@ import tomllib
 
 import examples
 import harness
+import shards
 
 SCRIPT = harness.ROOT / "cluster" / "radixjoin-cluster"
 PROCESSES = 3
@@ -99,18 +100,10 @@ def run_example(cluster, case, files, tally):
     return ran.stderr == NO_KEY
 
 
-def is_example(case):
-    """Whether an example is a join whose output is looked at, with no more options than a null text, and room for a column of places."""
-    options = case.get("options", [])
-    if case["name"] == "hostile_inputs, 256 columns":
-        return False
-    return "left" in case and "right" in case and case.get("output", "read") == "read" and all(word.startswith("--null") for word in options)
-
-
 def run_examples(cluster, tally):
     with open(harness.ROOT / "tests" / "examples.toml", "rb") as text:
         table = tomllib.load(text)
-    cases = [case for case in table["case"] if is_example(case)]
+    cases = [case for case in table["case"] if shards.is_example(case)]
     tasks = [lambda own, case=case: run_example(cluster, case, table["file"], own) for case in cases]
     without_key = sum(harness.side_by_side(tally, tasks))
     tally.check("cluster: most examples have a key", [] if 0 < without_key < len(cases) / 2 else [f"{without_key} of {len(cases)} have none"])

@@ -56,6 +56,7 @@ def tasks_of_scripts(programs):
     """All scripts, each by a Python that has what it needs."""
     frames = python_with("pandas")
     yield run_script(frames or sys.executable, "faults")
+    yield run_script(frames or sys.executable, "nulls")
     needed = {"values": ("pandas", "hypothesis"), "memory": ("pandas",), "pages": ("pandas",), "clusters": ("distributed",)}
     words = {"pages": [harness.ROOT / "docs" / "python.md"], "clusters": [programs]}
     for script, modules in needed.items():

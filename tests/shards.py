@@ -8,7 +8,6 @@ import pathlib
 import random
 import subprocess
 import sys
-import tempfile
 import tomllib
 
 import examples
@@ -22,23 +21,32 @@ from radixjoin import cluster as SCRIPT  # noqa: E402
 
 
 class OneByOne:
-    """Runs tasks one after another, in place of a cluster."""
+    """Runs tasks one after another, in place of a cluster of so many processes."""
+
+    def __init__(self, processes):
+        self.number = processes
+
+    def processes(self):
+        return self.number
 
     def answers(self, tasks):
         return [SCRIPT.answer(*task) for task in tasks]
 
 
-def joined(words, folder, ranges):
-    """What the script's tasks give for these words: how they end, and the bytes of the result, if there is one."""
-    out = folder / "out.csv"
+def joined(words, folder, ranges, out=None):
+    """What the script's tasks give for these words: how they end, and the bytes of the result, if there is one. Nothing else may be
+    left in the folder."""
+    out = out or folder / "out.csv"
     out.unlink(missing_ok=True)
-    asked = SCRIPT.read_line([*map(str, words), "--out", str(out)])
+    known = {it.name for it in folder.iterdir()}
     status, line = 0, b""
-    with tempfile.TemporaryDirectory(prefix="radixjoin-", dir=folder) as scratch:
-        try:
-            SCRIPT.run(SCRIPT.Job(asked, scratch), OneByOne(), ranges)
-        except SCRIPT.Told as told:
-            status, line = told.status, told.line.encode() + b"\n"
+    try:
+        asked = SCRIPT.read_line([*map(str, words), "--out", str(out)])
+        SCRIPT.run_in(asked, contextlib.nullcontext(OneByOne(ranges)))
+    except (SCRIPT.Told, SCRIPT.Fault) as told:
+        status, line = told.status, told.line.encode() + b"\n"
+    left = sorted(it.name for it in folder.iterdir() if it.name not in known and it != out)
+    line += "".join(f"{name} was left behind\n" for name in left).encode()
     return harness.Ran(status, out.read_bytes() if out.exists() else b"", line)
 
 
@@ -57,11 +65,14 @@ def faults_of(words, folder, parts, ranges, wanted):
 
 
 def is_example(case):
-    """Whether an example is a join with no more options than a null text, and leaves room for a column of places."""
+    """Whether an example is a join whose output is looked at, by options that the script takes and gives to `radixjoin` as they are
+    (`-1` isn't: Python takes it for a value), and leaves room for a column of places."""
     options = case.get("options", [])
-    if case["name"] == "hostile_inputs, 256 columns":
-        return False
-    return "left" in case and "right" in case and case.get("output", "read") == "read" and all(word.startswith("--null") for word in options)
+    if case["name"] == "hostile_inputs, 256 columns" or case["name"].endswith(" twice") or "-1" in options:
+        return "null texts" in case["name"]
+    names = [*SCRIPT.OF_ONE_JOIN, "null", "left-null", "right-null", "out-null", "strict"]
+    is_known = all(word.partition("=")[0][2:] in names for word in options if word.startswith("--"))
+    return "left" in case and "right" in case and case.get("output", "read") == "read" and is_known
 
 
 def run_example(case, files, tally):

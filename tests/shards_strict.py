@@ -1,6 +1,5 @@
 """Joins in shards whose files are read strictly, beside `radixjoin --strict`: the files of tests/strict.py, alone and with rows
-before what is wrong so that they are cut into ranges, and random broken files. Then the order of faults: random runs in which
-several things are wrong at once, read strictly and not, tell the fault that `radixjoin` tells."""
+before what is wrong so that they are cut into ranges, and random broken files."""
 import pathlib
 import random
 
@@ -95,38 +94,6 @@ def run_all_random(tally):
     tally.check("shards_strict: random texts of both kinds", [] if 30 < statuses.count(3) < 290 else [f"{statuses.count(3)} of 300 have a fault"])
 
 
-HEADERS = (b"k,a\n", b"k,a\n", b"k,a\n", b"", b"\n", b"k,k\n", b"k\n", b"k,9\n", b'k,"a\n', b'k,a"\n', b"\nk,a\n")
-BODIES = (b"1,x\n2,y\n", b"1,x\n2,y\n", b"", b"1\n", b"1,x\nz,y\n", b"1,\xff\n", b'1,"x\n', b"1,x\n\n2,y\n", b"1,x\n2,y")
-CLAUSES = ("JOIN USING (k)", "JOIN USING (k)", "LEFT JOIN ON L.k = R.k", "-1", "--", "JOIN USING (q)", "JOIN ON L.k = R.k AND", "JOIN ON a = 1", "JOIN ON L.k = R.a")
-NULLS = ([], [], [], ["--null=no null"], ["--null=-"], ["--null=1"], ["--null="])
-TYPES = ("int,text", "int,text", "int,text", "int", "int,int", "text,text", "int,txt", "-1", "")
-
-
-def run_order(seed, tally):
-    """A run in which several things may be wrong, beside what `radixjoin` tells of it. It gives the status."""
-    pick = random.Random(seed)
-    with harness.folder() as name:
-        folder = pathlib.Path(name)
-        words = []
-        for side in ("left", "right"):
-            rows = b"7,x\n" * pick.choice((0, 0, 25_000))
-            path = folder / f"{side}.csv"
-            path.write_bytes(pick.choice(HEADERS) + rows + pick.choice(BODIES))
-            if pick.random() < 0.05:
-                path.unlink()
-            words += [f"--{side}={path}", f"--{side}-types={pick.choice(TYPES)}"]
-        words += [f"--join={pick.choice(CLAUSES)}", *pick.choice(NULLS), *pick.choice(([], ON, FULL))]
-        return both(folder, words, tally, f"the first fault {seed}: {words}", ((2, pick.choice((1, 3))),)).status
-
-
-def run_orders(tally):
-    """400 runs: all ends are among them."""
-    statuses = harness.side_by_side(tally, [lambda own, seed=seed: run_order(seed, own) for seed in range(400)])
-    missing = [status for status in (0, 2, 3, 4, 6) if status not in statuses]
-    tally.check("shards_strict: every end", [f"none ended by {status}" for status in missing])
-
-
 def run_all(tally):
     run_texts(tally)
     run_all_random(tally)
-    run_orders(tally)

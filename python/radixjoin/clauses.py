@@ -5,6 +5,7 @@ import re
 from typing import List, Optional, Sequence, Tuple, Union
 
 from .columns import Column
+from .lists import lower
 
 _HOW = {"inner": "", "left": "LEFT ", "right": "RIGHT ", "outer": "FULL ", "full": "FULL "}
 # What a clause begins with up to its names or condition: blanks, words, delimited names and signs.
@@ -63,17 +64,12 @@ def _join_names(clause: str) -> Union[None, bool, List[str]]:
     return [token for token in tokens[behind + 1 :] if token not in ("(", ",", ")")]
 
 
-def _lower(name: str) -> str:
-    """A name without regard to case, as the grammar has it: of ASCII alone."""
-    return re.sub("[A-Z]", lambda found: found[0].lower(), name)
-
-
 def _place(name: str, columns: Sequence[Column]) -> int:
     """The place of the column that a name of USING means."""
     if name.startswith('"'):
         exact = name[1:-1].replace('""', '"')
         return next(at for at, column in enumerate(columns) if column.name == exact)
-    return next(at for at, column in enumerate(columns) if _lower(column.name or "") == _lower(name))
+    return next(at for at, column in enumerate(columns) if lower(column.name or "") == lower(name))
 
 
 def _partners(clause: str, left: Sequence[Column], right: Sequence[Column]) -> List[Tuple[int, int]]:
@@ -82,8 +78,8 @@ def _partners(clause: str, left: Sequence[Column], right: Sequence[Column]) -> L
     if names is None:
         return []
     if names is True:
-        places = {_lower(column.name or ""): at for at, column in enumerate(right)}
-        return [(at, places[_lower(column.name or "")]) for at, column in enumerate(left) if _lower(column.name or "") in places]
+        places = {lower(column.name or ""): at for at, column in enumerate(right)}
+        return [(at, places[lower(column.name or "")]) for at, column in enumerate(left) if lower(column.name or "") in places]
     return sorted((_place(name, left), _place(name, right)) for name in names)
 
 

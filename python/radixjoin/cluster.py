@@ -4,30 +4,41 @@ Both files are divided by the hash of their rows' keys (the program `shards`, on
 parts of each shard are joined (`radixjoin`, one task a shard), and what the shards give is merged (`merges`, one task). The
 bytes written are those that `radixjoin` would write. docs/cluster.md says what of this is proved, and how to run it.
 
-Every task writes under a new name and renames at its end, so that a task may run twice. What is half made is removed at
-the end, whether it is a good one or not. It needs Dask (Debian's python3-dask and python3-distributed).
+Every task writes under a new name and renames at its end, so that a task may run twice. The parts of a shard are removed as soon
+as it is joined, and all that is half made at the end, whether it is a good one or not. It needs Dask (Debian's python3-dask and
+python3-distributed).
 """
 from __future__ import annotations
 
 import argparse
+import codecs
 import contextlib
 import ctypes
+import errno
+import glob
 import logging
 import os
 import re
 import resource
 import shutil
 import signal
+import stat
 import subprocess
 import sys
 import tempfile
+import time
 import uuid
 from pathlib import Path
 from typing import TYPE_CHECKING, Any, Callable, Dict, Iterator, List, Optional, Sequence, Tuple, Union
 
-from .columns import Types, listed, word_of
-from .faults import fault_of
+from .clauses import quoted
+from .columns import Types, text_of, word_of
+from .faults import Fault, fault_of
+from .lists import lower, read_list, with_place
+from .nulls import Texts, texts_of
+from .placed import LEFT, RIGHT, Place, column_in_whole, place_of_row, rows_before
 from .programs import ProgramNotFound, build, built
+from .text import header_in
 
 if TYPE_CHECKING:
     from distributed import Client
@@ -35,8 +46,16 @@ if TYPE_CHECKING:
 # The options that go to `radixjoin` alone, as they are.
 OF_ONE_JOIN = ("workers", "bits1", "bits2", "hash", "block", "capacity", "lanes", "retries", "piece")
 SIDES = ("left", "right")
+# The options that may be given again.
+SEVERAL = ("--left-null", "--right-null")
+PLACES = {"left": LEFT, "right": RIGHT}
 LIMITS = (("parts", 1, 1024), ("processes", 1, 1024), ("ranges", 1, 100_000))
 PROGRAMS = ("radixjoin", "shards", "merges")
+# What the system tells where there is no room, which no second try changes.
+FULL = (errno.ENOSPC, errno.EDQUOT, errno.EROFS)
+AMBIGUOUS = re.compile(r"radixjoin: E28 AmbiguousNull row (\d+) column (\d+)")
+# How often, and after how many seconds, it is tried again to remove what is half made.
+TRIES, SECONDS = 20, 0.1
 
 
 class Told(Exception):
@@ -55,13 +74,16 @@ class Told(Exception):
 
 def read_line(words: Sequence[str]) -> argparse.Namespace:
     """What the words of the command line ask for."""
-    line = argparse.ArgumentParser(prog="radixjoin-cluster", description=__doc__, formatter_class=argparse.RawDescriptionHelpFormatter)
+    line = argparse.ArgumentParser(prog="radixjoin-cluster", description=__doc__, formatter_class=argparse.RawDescriptionHelpFormatter, allow_abbrev=False)
     for side in SIDES:
         line.add_argument(f"--{side}", required=True, metavar="FILE", help=f"CSV file of the {side} table, which every process can read")
     for side in SIDES:
-        line.add_argument(f"--{side}-types", required=True, metavar="TYPES", help=f"types of the {side} columns, as 'int,num(9,2),text'")
+        line.add_argument(f"--{side}-types", required=True, metavar="TYPES", help=f"types of the {side} columns, as 'int,num(9,2),text' or 'id=int,*=text', or @FILE that has them")
     line.add_argument("--join", required=True, metavar="CLAUSE", help="how to join, as 'LEFT JOIN USING (id)'; it needs a key")
     line.add_argument("--null", metavar="TEXT", help="text of a field that is null, read and written [default: an empty field]")
+    for side in SIDES:
+        line.add_argument(f"--{side}-null", action="append", metavar="TEXT", help=f"text of a {side} field that is null; up to four by giving it again [default: as --null]")
+    line.add_argument("--out-null", metavar="TEXT", help="text that is written for null [default: as --null]")
     line.add_argument("--strict", nargs="?", const="on", choices=("on", "full"), help="refuse files that aren't of RFC 4180's grammar; full: also those whose last line has no end")
     line.add_argument("--out", required=True, metavar="FILE", help="file of the joined table; it is there when the whole table is")
     line.add_argument("--parts", type=int, default=16, metavar="N", help="shards that the tables are divided into, 1 to 1024 [default: 16]")
@@ -75,10 +97,31 @@ def read_line(words: Sequence[str]) -> argparse.Namespace:
     line.add_argument("--progress", action="store_true", help="show how many tasks are done, by Dask's own bar")
     for option in OF_ONE_JOIN:
         line.add_argument(f"--{option}", metavar="X", help=f"as radixjoin's --{option}, for the join of each shard")
-    asked = line.parse_args(words)
+    asked = line.parse_args(with_lists(words))
+    given = [word.partition("=")[0] for word in words if word.startswith("--")]
+    for option in given:
+        if given.count(option) > 1 and option not in SEVERAL:
+            line.error(f"{option} can be given once")
+    for side in SIDES:
+        if getattr(asked, side) == "-":
+            line.error(f"--{side}: standard input can't be divided, give a file")
     for name, least, most in beyond(asked):
         line.error(f"--{name} is from {least} to {most}")
     return asked
+
+
+def with_lists(words: Sequence[str]) -> List[str]:
+    """The words with each list of types that a file has in the place of `@FILE`, as `radixjoin` reads them."""
+    sides = {f"--{side}-types": side for side in SIDES}
+    read, side = [], None
+    for word in words:
+        option, has_file, file = word.partition("=@")
+        if side is not None:
+            read.append(read_list(word[1:], side) if word.startswith("@") else word)
+        else:
+            read.append(f"{option}={read_list(file, sides[option])}" if has_file and option in sides else word)
+        side = sides.get(word)
+    return read
 
 
 def beyond(asked: argparse.Namespace) -> List[Tuple[str, int, int]]:
@@ -90,6 +133,11 @@ def beyond(asked: argparse.Namespace) -> List[Tuple[str, int, int]]:
 def program(folder: Optional[str], name: str) -> str:
     """The path of one of the programs."""
     return str(Path(folder).resolve() / name) if folder else built(name)
+
+
+def unwritten(path: str, why: str = "it can't be written, or there is no room") -> Told:
+    """The fault of a folder, or of the result, that can't be written."""
+    return Told(f'radixjoin-cluster: E20 WriteDevice "{path}": {why}', 6)
 
 
 class Job:
@@ -105,13 +153,21 @@ class Job:
         self.files = {side: str(Path(getattr(asked, side)).resolve()) for side in SIDES}
         self.types = {side: getattr(asked, f"{side}_types") for side in SIDES}
         self.clause = asked.join
-        self.null = [f"--null={asked.null}"] if asked.null is not None else []
+        null = asked.null or ""
+        nulls = {side: getattr(asked, f"{side}_null") or [] for side in SIDES}
+        # The words for the texts that are null in the files, and the text that is written for null.
+        self.null = [f"--null={null}", *(f"--{side}-null={text}" for side in SIDES for text in nulls[side])]
+        self.out_null = null if asked.out_null is None else asked.out_null
+        # Whether a cell that isn't null may be written as null is, which has to be told.
+        self.is_apart = bool(asked.strict) and any(self.out_null not in (nulls[side] or [null]) for side in SIDES)
         self.strict = [f"--strict={asked.strict}"] if asked.strict else []
         self.parts = asked.parts
         self.one_join = [f"--{option}={getattr(asked, option)}" for option in OF_ONE_JOIN if getattr(asked, option) is not None]
         self.memory = asked.memory and asked.memory << 20
         self.scratch = scratch
         self.out = str(Path(asked.out).resolve())
+        # The first letters of the names of results that are half made.
+        self.half = os.path.join(os.path.dirname(self.out), f".{os.path.basename(scratch)}")
 
     def run(self, name: str, words: Sequence[str], output: Any = subprocess.PIPE) -> bytes:
         """Runs a program, and gives what it printed. What it refuses is told; that it was killed is an error, so that Dask tries again."""
@@ -120,8 +176,20 @@ class Job:
         if ran.returncode < 0:
             raise RuntimeError(f"{name} was ended by signal {-ran.returncode}")
         if ran.returncode:
-            raise Told(ran.stderr.decode(errors="replace").rstrip("\n"), ran.returncode, ran.stdout or b"")
+            line = ran.stderr.decode(errors="replace").rstrip("\n")
+            if line.endswith(": E20 WriteDevice"):
+                raise unwritten(self.out if name == "merges" else self.folder())
+            raise Told(line, ran.returncode, ran.stdout or b"")
         return ran.stdout
+
+    def folder(self) -> str:
+        """The folder that was given for what is half made."""
+        return os.path.dirname(self.scratch)
+
+    def joining(self, tables: Dict[str, str], types: Dict[str, str]) -> List[str]:
+        """The words for `radixjoin` that join two files of these types."""
+        words = [word for side in SIDES for word in (f"--{side}={tables[side]}", f"--{side}-types={types[side]}")]
+        return [*words, f"--join={self.clause}", *self.null, f"--out-null={self.out_null}", *self.one_join]
 
     def division(self, side: str) -> List[str]:
         """The words for `shards` that don't depend on the range."""
@@ -131,6 +199,10 @@ class Job:
     def place(self, name: str) -> str:
         """The path of something that is made in the scratch folder."""
         return os.path.join(self.scratch, name)
+
+    def joined(self, part: int) -> str:
+        """The path of a joined shard."""
+        return self.place(f"joined-{part:04}/table.csv")
 
 
 def beginning(memory: Optional[int]) -> Callable[[], None]:
@@ -147,25 +219,62 @@ def beginning(memory: Optional[int]) -> Callable[[], None]:
 
 
 @contextlib.contextmanager
-def made(path: str) -> Iterator[str]:
-    """A new name for what is to stand at a path. It is renamed at the end, unless another try of the task was faster, and removed after a fault."""
-    new = f"{path}.{uuid.uuid4().hex}"
+def made(path: str, begin: Optional[str] = None) -> Iterator[str]:
+    """A new name for what is to stand at a path. It is renamed at the end, and removed after a fault. A folder isn't, where another
+    try of the task was faster."""
+    new = f"{begin or path}.{uuid.uuid4().hex}"
     try:
         yield new
-        with contextlib.suppress(OSError):
+        try:
             os.rename(new, path)
-        if not os.path.exists(path):
-            raise RuntimeError(f"{path} could not be made")
+        except OSError:
+            if not (os.path.isdir(new) and os.path.isdir(path)):
+                raise
     finally:
         remove(new)
 
 
 def remove(path: str) -> None:
-    """Removes a file or a folder, if it is there."""
-    if os.path.isdir(path):
-        shutil.rmtree(path, ignore_errors=True)
-    with contextlib.suppress(FileNotFoundError, IsADirectoryError):
-        os.remove(path)
+    """Removes a file or a folder, if it is there. A program that is just being ended may still write into it."""
+    for _ in range(TRIES):
+        if os.path.isdir(path) and not os.path.islink(path):
+            shutil.rmtree(path, ignore_errors=True)
+        else:
+            with contextlib.suppress(OSError):
+                os.remove(path)
+        if not os.path.lexists(path):
+            return
+        time.sleep(SECONDS)
+
+
+@contextlib.contextmanager
+def scratch_in(folder: str) -> Iterator[str]:
+    """A new folder for what is half made, in another one. It is removed at the end."""
+    try:
+        scratch = tempfile.mkdtemp(prefix="radixjoin-", dir=folder)
+    except OSError as error:
+        raise unwritten(folder, error.strerror) from None
+    try:
+        yield scratch
+    finally:
+        remove(scratch)
+
+
+@contextlib.contextmanager
+def output_of(job: Job) -> Iterator[None]:
+    """Sees that the result can be written, before anything is done for it. At the end what is half made of it is removed."""
+    try:
+        if os.path.isdir(job.out):
+            raise IsADirectoryError(errno.EISDIR, os.strerror(errno.EISDIR))
+        with open(job.half, "xb"):
+            pass
+    except OSError as error:
+        raise unwritten(job.out, error.strerror) from None
+    try:
+        yield
+    finally:
+        for name in glob.glob(f"{glob.escape(job.half)}*"):
+            remove(name)
 
 
 def cuts_of(job: Job, side: str, count: int) -> List[Tuple[int, Optional[int]]]:
@@ -195,43 +304,97 @@ def divide(job: Job, side: str, number: int, start: int, end: Optional[int]) -> 
     return counts_in(Path(path, "told").read_bytes())
 
 
+def part_of(job: Job, side: str, number: int, part: int) -> str:
+    """The path of a part of a range."""
+    return job.place(f"{side}-{number}/{part:04}.csv")
+
+
 def gather(job: Job, side: str, part: int, ranges: int, header: int, path: str) -> None:
-    """Puts the rows of a part from all ranges of a file behind one header."""
+    """Puts the rows of a part from all ranges of a file behind one header. A name that begins with a byte order mark gets another
+    one before it, which is dropped."""
     with open(path, "wb") as whole:
         for number in range(ranges):
-            with open(job.place(f"{side}-{number}/{part:04}.csv"), "rb") as piece:
+            with open(part_of(job, side, number, part), "rb") as piece:
+                if number == 0 and piece.read(len(codecs.BOM_UTF8)) == codecs.BOM_UTF8:
+                    whole.write(codecs.BOM_UTF8)
                 piece.seek(header if number else 0)
                 shutil.copyfileobj(piece, whole, 1 << 20)
 
 
-def join_shard(job: Job, part: int, ranges: Dict[str, int], headers: Dict[str, int]) -> None:
-    """Joins the two tables of a shard."""
-    path = job.place(f"joined-{part:04}.csv")
-    if os.path.exists(path):
-        return
-    with made(path) as new, tempfile.TemporaryDirectory(dir=job.scratch) as tables:
-        words = [f"--join={job.clause}", *job.null, *job.one_join]
+def join_parts(job: Job, part: int, ranges: Dict[str, int], headers: Dict[str, int], folder: str) -> None:
+    """Joins the two tables of a shard into a folder: the joined table, and the place of its first cell that isn't null and is
+    written as null is, if that has to be told and there is one."""
+    with tempfile.TemporaryDirectory(dir=job.scratch) as name, open(os.path.join(folder, "table.csv"), "wb") as output:
+        tables = {side: os.path.join(name, side) for side in SIDES}
         for side in SIDES:
-            table = os.path.join(tables, side)
-            gather(job, side, part, ranges[side], headers[side], table)
-            words += [f"--{side}={table}", f"--{side}-types={job.types[side]},int"]
-        with open(new, "wb") as output:
+            gather(job, side, part, ranges[side], headers[side], tables[side])
+        # (dropped by `merges`, and so not a mark that a name begins with)
+        output.write(codecs.BOM_UTF8)
+        output.flush()
+        words, cell = job.joining(tables, {side: with_place(job.types[side], PLACES[side]) for side in SIDES}), None
+        try:
+            job.run("radixjoin", [*words, *(job.strict if job.is_apart else [])], output)
+        except Told as told:
+            cell = AMBIGUOUS.fullmatch(told.line)
+            if cell is None:
+                raise
             job.run("radixjoin", words, output)
+    Path(folder, "ambiguous").write_text(f"{cell[1]} {cell[2]}" if cell else "")
+
+
+def join_shard(job: Job, part: int, ranges: Dict[str, int], headers: Dict[str, int]) -> bool:
+    """Joins the two tables of a shard, and removes its parts. It gives whether there is a cell in it that isn't null and has to be
+    told, since it is written as null is."""
+    path = job.place(f"joined-{part:04}")
+    if not os.path.isdir(path):
+        try:
+            with made(path) as new:
+                os.mkdir(new)
+                join_parts(job, part, ranges, headers, new)
+        except FileNotFoundError:
+            # (another try that was faster has removed the parts)
+            if not os.path.isdir(path):
+                raise
+    for side in SIDES:
+        for number in range(ranges[side]):
+            with contextlib.suppress(FileNotFoundError):
+                os.remove(part_of(job, side, number, part))
+    return bool(Path(path, "ambiguous").read_text())
+
+
+def ambiguous_cell(job: Job, part: int) -> Tuple[Place, int]:
+    """Where the first cell of a shard that isn't null and is written as null is stands: the place of its row, and its column in
+    the joined table."""
+    row, column = map(int, Path(job.place(f"joined-{part:04}"), "ambiguous").read_text().split())
+    return place_of_row(job.joined(part), row), column_in_whole(job.joined(part), column)
+
+
+def count_before(job: Job, part: int, place: Place) -> int:
+    """How many rows of a joined shard stand before a place."""
+    return rows_before(job.joined(part), place)
 
 
 def merge_shards(job: Job) -> None:
     """Merges the joined shards into the joined table."""
-    joined = [job.place(f"joined-{part:04}.csv") for part in range(job.parts)]
-    with made(job.out) as new, open(new, "wb") as output:
-        job.run("merges", [*job.null, *joined], output)
-
-
-def answer(task: Callable[..., Any], *words: Any) -> Any:
-    """What a task gives, or the fault that it told: a fault is an answer too, which no second try changes."""
     try:
-        return task(*words)
+        with made(job.out, job.half) as new, open(new, "wb") as output:
+            job.run("merges", [f"--null={job.out_null}", *map(job.joined, range(job.parts))], output)
+            os.fsync(output.fileno())
+    except OSError as error:
+        raise unwritten(job.out, error.strerror) from None
+
+
+def answer(task: Callable[..., Any], job: Job, *words: Any) -> Any:
+    """What a task gives, or the fault that it told: a fault is an answer too, which no second try changes. So is a folder for what
+    is half made that is full."""
+    try:
+        return task(job, *words)
     except Told as fault:
         return fault
+    except OSError as error:
+        if error.errno not in FULL:
+            raise
+        return unwritten(job.folder())
 
 
 def _packed(task: Tuple[Any, ...]) -> bytes:
@@ -280,7 +443,19 @@ class Cluster:
 
             progress(futures, notebook=False)
             print(file=sys.stderr)
-        return [Told(*found) if is_fault else found for is_fault, found in self.client.gather(futures)]
+        return [Told(*found) if is_fault else found for is_fault, found in self._gathered(futures)]
+
+    def _gathered(self, futures: List[Any]) -> List[Any]:
+        """What all tasks gave, once none of them runs any more. What Dask tells, as of processes that end each time, is a RuntimeError."""
+        from distributed import wait
+
+        try:
+            wait(futures)
+            return list(self.client.gather(futures))
+        except (OSError, RuntimeError):
+            raise
+        except Exception as error:
+            raise RuntimeError(f"{type(error).__name__}: {error}") from error
 
     def processes(self) -> int:
         """How many there are."""
@@ -294,6 +469,12 @@ def first_fault(answers: Sequence[Any]) -> None:
             raise it
 
 
+def counted_on(line: str, before: int) -> str:
+    """The line of a fault with its row counted on from so many rows. A name in it stands between double quotes, and stays."""
+    told, quote, name = line.partition('"')
+    return re.sub(r"\brow (\d+)", lambda found: f"row {before + int(found[1])}", told) + quote + name
+
+
 def first_fault_of_file(answers: Sequence[Any], side: str) -> None:
     """Raises the first fault of a side's own file among the answers of its ranges, its row counted through the whole file.
 
@@ -303,35 +484,100 @@ def first_fault_of_file(answers: Sequence[Any], side: str) -> None:
     for it in answers:
         if isinstance(it, Told):
             if it.is_of(side) or not it.printed:
-                line = re.sub(r"\brow (\d+)", lambda found: f"row {before + int(found[1])}", it.line)  # pylint: disable=cell-var-from-loop
-                raise Told(line, it.status)
+                raise Told(counted_on(it.line, before), it.status)
             before += counts_in(it.printed)[0]
         else:
             before += it[0]
 
 
+def names_in(file: str) -> List[str]:
+    """The names of a file's columns."""
+    with open(file, "rb") as opened:
+        return header_in(opened.read(1 << 20))
+
+
+def refuse_taken_names(job: Job) -> None:
+    """Refuses files of which a column has the name of a column of places."""
+    for side in SIDES:
+        for name in names_in(job.files[side]):
+            if lower(name) in PLACES.values():
+                raise Told(f"radixjoin-cluster: the {side} file has a column {name}, which is the name of a column of places: rename it", 3)
+
+
+def refuse_line(job: Job) -> Optional[Told]:
+    """Tells what `radixjoin` does of the command line, by a run on empty files. A null text that isn't lawful is given back:
+    files that can't be read are told before it."""
+    try:
+        job.run("radixjoin", [*job.joining({side: os.devnull for side in SIDES}, job.types), *job.strict])
+    except Told as told:
+        if told.status != 3:
+            raise
+        return told if told.line == "radixjoin: E10 BadNull" else None
+    return None
+
+
+def refuse_pipes(job: Job) -> None:
+    """Refuses files that can be read once only."""
+    for side in SIDES:
+        with contextlib.suppress(OSError):
+            if stat.S_ISFIFO(os.stat(job.files[side]).st_mode):
+                raise Told(f"radixjoin-cluster: the {side} file is a pipe, which can't be divided: give a file", 2)
+
+
+def ranges_of(job: Job, cluster: Any, count: int) -> Dict[str, List[Tuple[int, Optional[int]]]]:
+    """The ranges of both files, where these can be read and the null texts are lawful."""
+    bad_null = refuse_line(job)
+    refuse_pipes(job)
+    cuts = cluster.answers([(cuts_of, job, side, count) for side in SIDES])
+    first_fault([*cuts, bad_null])
+    return dict(zip(SIDES, cuts))
+
+
 def divided(job: Job, cluster: Any, count: int) -> Tuple[Dict[str, int], Dict[str, int]]:
     """Divides both files. It gives how many ranges each has, and how many bytes the header of each's parts has."""
-    ranges = {side: cuts_of(job, side, count) for side in SIDES}
+    ranges = ranges_of(job, cluster, count)
     tasks = {side: [(divide, job, side, number, *it) for number, it in enumerate(ranges[side])] for side in SIDES}
     answers = cluster.answers([*tasks["left"], *tasks["right"]])
     of_side = {"left": answers[: len(ranges["left"])], "right": answers[len(ranges["left"]) :]}
-    for side in SIDES:
-        first_fault_of_file(of_side[side], side)
-    first_fault(answers)
+    try:
+        for side in SIDES:
+            first_fault_of_file(of_side[side], side)
+        first_fault(answers)
+    except Told as told:
+        repeated = re.fullmatch(r"radixjoin: E3 RepeatedName (left|right) column (\d+)", told.line)
+        if repeated and int(repeated[2]) > len(names_in(job.files[repeated[1]])):
+            # (the column of places, which stands behind all of the file)
+            refuse_taken_names(job)
+        raise
+    refuse_taken_names(job)
     return {side: len(ranges[side]) for side in SIDES}, {side: of_side[side][0][1] for side in SIDES}
+
+
+def refuse_ambiguous(job: Job, cluster: Any, parts: Sequence[int]) -> None:
+    """Tells the first cell of the joined table that isn't null and is written as null is, which these shards have."""
+    cells = cluster.answers([(ambiguous_cell, job, part) for part in parts])
+    first_fault(cells)
+    place, column = min(cells)
+    before = cluster.answers([(count_before, job, part, place) for part in range(job.parts)])
+    first_fault(before)
+    raise Told(f"radixjoin: E28 AmbiguousNull row {sum(before) + 1} column {column}", 3)
 
 
 def run(job: Job, cluster: Any, count: int) -> None:
     """Divides, joins and merges."""
-    ranges, headers = divided(job, cluster, count)
-    first_fault(cluster.answers([(join_shard, job, part, ranges, headers) for part in range(job.parts)]))
-    first_fault(cluster.answers([(merge_shards, job)]))
+    with output_of(job):
+        ranges, headers = divided(job, cluster, count)
+        joined = cluster.answers([(join_shard, job, part, ranges, headers) for part in range(job.parts)])
+        first_fault(joined)
+        ambiguous = [part for part, has_cell in enumerate(joined) if has_cell]
+        if ambiguous:
+            refuse_ambiguous(job, cluster, ambiguous)
+        first_fault(cluster.answers([(merge_shards, job)]))
 
 
 @contextlib.contextmanager
-def client_of(asked: argparse.Namespace) -> Iterator[Client]:
-    """A client of the cluster that is asked for, or of one on this machine."""
+def cluster_of(asked: argparse.Namespace) -> Iterator[Cluster]:
+    """The cluster that is asked for, or one on this machine."""
     from distributed import Client, LocalCluster
 
     # (what ends late or is called off at the end is no fault of the join)
@@ -339,18 +585,17 @@ def client_of(asked: argparse.Namespace) -> Iterator[Client]:
         logging.getLogger(name).setLevel(logging.CRITICAL)
     if asked.scheduler:
         with Client(asked.scheduler) as client:
-            yield client
+            yield Cluster(client, asked.progress)
         return
     with LocalCluster(asked.processes, threads_per_worker=1, memory_limit=0, dashboard_address=":0", silence_logs=50) as cluster, Client(cluster) as client:
-        yield client
+        yield Cluster(client, asked.progress)
 
 
-def run_in(asked: argparse.Namespace, client: contextlib.AbstractContextManager[Client]) -> None:
-    """Joins as asked by the processes of a client, in a scratch folder that is removed at the end."""
-    folder = Path(asked.scratch or Path(asked.out).resolve().parent)
-    with tempfile.TemporaryDirectory(prefix="radixjoin-", dir=folder) as scratch, client as it:
-        job, cluster = Job(asked, scratch), Cluster(it, asked.progress)
-        run(job, cluster, asked.ranges or cluster.processes())
+def run_in(asked: argparse.Namespace, cluster: contextlib.AbstractContextManager[Any]) -> None:
+    """Joins as asked by the processes of a cluster, in a scratch folder that is removed at the end."""
+    folder = str(Path(asked.scratch or Path(asked.out).resolve().parent).resolve())
+    with scratch_in(folder) as scratch, cluster as it:
+        run(Job(asked, scratch), it, asked.ranges or it.processes())
 
 
 def join(
@@ -363,6 +608,9 @@ def join(
     right_types: Types,
     output: Union[str, os.PathLike[str]],
     null: Optional[str] = None,
+    left_null: Texts = None,
+    right_null: Texts = None,
+    out_null: Optional[str] = None,
     strict: Union[bool, str] = False,
     parts: int = 16,
     ranges: Optional[int] = None,
@@ -375,52 +623,65 @@ def join(
     """Joins two files by the processes of a Dask client, and gives the path of the result, `output`. All processes have to see the
     files, the programs and the scratch folder under the same names.
 
-    The arguments are the options of the command line `radixjoin-cluster` (docs/cluster.md): `strict`, True or "full", has files
-    refused that aren't of RFC 4180's grammar; `parts` that the tables are divided into (1 to 1,024), `ranges` of a file that are divided side by side, `memory` in MiB for each program; `workers` and other options
-    of the join of each shard go to `radixjoin`. Types are a list, or a text as `"int,text"`.
+    The arguments are the options of the command line `radixjoin-cluster` (docs/cluster.md): `left_null` and `right_null`, a text or
+    up to four, and `out_null`, in place of `null`; `strict`, True or "full", has files refused that aren't of RFC 4180's grammar;
+    `parts` that the tables are divided into (1 to 1,024), `ranges` of a file that are divided side by side, `memory` in MiB for
+    each program; `workers` and other options of the join of each shard go to `radixjoin`. Types are a list, a text as the program
+    has it (`"int,text"`, `"id=int,*=text"`, `"@FILE"`), or a mapping by name, in which `*` stands for all other columns.
 
     Raises:
-        Fault: a program told a fault, as `radixjoin.join` raises it. There is no result then, and nothing is left behind.
+        Fault: a program told a fault, as `radixjoin.join` raises it, or the result or the scratch folder can't be written
+            (`DeviceFault`). There is no result then, and nothing is left behind.
+        RuntimeError: a program was ended by a signal, or a process of the cluster ended, each time that a task was tried.
     """
     unknown = next((name for name in of_one_join if name not in OF_ONE_JOIN), None)
     if unknown is not None:
         raise TypeError(f"{unknown}= is no option of the join of a shard")
     each = {name: None if of_one_join.get(name) is None else str(of_one_join[name]) for name in OF_ONE_JOIN}
-    types = {"left_types": _types(left_types), "right_types": _types(right_types)}
+    types = {"left_types": _types("left", left_types), "right_types": _types("right", right_types)}
+    nulls = {"null": null, "left_null": texts_of("left_null", left_null), "right_null": texts_of("right_null", right_null), "out_null": out_null}
     where = {"left": left, "right": right, "out": output, "scratch": scratch, "programs": programs}
     if strict not in (True, False, "full"):
         raise ValueError(f"strict={strict!r} is none of True, False and 'full'")
-    asked = argparse.Namespace(join=clause, null=null, strict="on" if strict is True else strict or None, parts=parts, processes=1, ranges=ranges, memory=memory, progress=progress, **where, **types, **each)
+    how = {"strict": "on" if strict is True else strict or None, "parts": parts, "ranges": ranges, "memory": memory, "progress": progress}
+    asked = argparse.Namespace(join=clause, processes=1, **how, **where, **types, **nulls, **each)
     for name, least, most in beyond(asked):
         raise ValueError(f"{name}= is from {least} to {most}")
     try:
-        run_in(asked, contextlib.nullcontext(client))
+        run_in(asked, contextlib.nullcontext(Cluster(client, progress)))
     except Told as told:
         raise fault_of(told.line, told.status) from None
     return output
 
 
-def _types(types: Types) -> str:
+def _types(side: str, types: Types) -> str:
     """Types as an option has them."""
-    if isinstance(types, str):
-        return ",".join(listed(types))
-    if types is None or not isinstance(types, (list, tuple)):
-        raise TypeError("types are a list, or a text as 'int,text'")
-    return ",".join(map(word_of, types))
+    if types is None:
+        raise TypeError(f"{side}_types has to be given: a list, a text as 'int,text', or a mapping by name")
+    if not isinstance(types, str) and hasattr(types, "keys"):
+        entries = ((name if name == "*" else quoted(name), word_of(word)) for name, word in dict(types).items())
+        return ",".join(f"{name}={word}" for name, word in entries)
+    return text_of(side, types)
+
+
+def ended_by(number: int, _: Any) -> None:
+    """Ends the script where a signal asks for it: what is half made is removed."""
+    sys.exit(128 + number)
 
 
 def main() -> int:
     """The command line."""
-    asked = read_line(sys.argv[1:])
-    signal.signal(signal.SIGTERM, lambda *_: sys.exit(143))
+    for number in (signal.SIGTERM, signal.SIGINT):
+        signal.signal(number, ended_by)
     try:
-        run_in(asked, client_of(asked))
-    except Told as fault:
+        asked = read_line(sys.argv[1:])
+        run_in(asked, cluster_of(asked))
+    except (Told, Fault) as fault:
         print(fault.line, file=sys.stderr)
         return fault.status
-    except OSError as error:
+    except (OSError, RuntimeError) as error:
         print(f"radixjoin-cluster: {error}", file=sys.stderr)
-        return 6
+        return 6 if isinstance(error, OSError) else 1
     return 0
 
 

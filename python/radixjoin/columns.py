@@ -6,6 +6,8 @@ from dataclasses import dataclass, replace
 from decimal import Decimal
 from typing import Any, Callable, List, Mapping, Optional, Sequence, Union
 
+from .lists import entries_of, given_list, is_by_name, means, types_under
+
 Types = Union[str, Sequence[Any], Mapping[str, Any], None]
 # More words than the most columns of a table make no difference: the program tells too many columns first.
 _MOST = 256
@@ -53,6 +55,46 @@ def word_of(declared: Any) -> str:
 def listed(types: str) -> List[str]:
     """The words of a list of types in one text."""
     return re.findall(r"(?:[^,(]|\([^)]*\)?)+|(?<=,)(?=,|$)|^(?=,)", types)
+
+
+def text_of(side: str, types: Union[str, Sequence[Any]]) -> str:
+    """The list that is declared, as the program has it: a text, that of a file (`@FILE`), or the words of a list."""
+    return given_list(types, side) if isinstance(types, str) else ",".join(map(word_of, types))
+
+
+def words_under(text: str, names: Sequence[str]) -> List[str]:
+    """The words of a list, by position or by name, for columns of these names. Where a list by name is none that the program
+    would take, or lacks a column's type, that is a text: the program tells why."""
+    return [word or "text" for word in types_under(text, names)] if is_by_name(text) else listed(text)
+
+
+def declared_of(side: str, types: Types, names: Sequence[Any]) -> List[Optional[str]]:
+    """The words that are declared for columns that are there, None where there is none. What doesn't fit them is a ValueError."""
+    if types is None:
+        return [None] * len(names)
+    if not isinstance(types, str) and hasattr(types, "keys"):
+        return some_by_name(side, dict(types), names)
+    text = text_of(side, types)
+    if is_by_name(text):
+        return _fitting(side, text, names)
+    words = listed(text)
+    if len(words) != len(names):
+        raise ValueError(f"{side}_types has {len(words)} types, and the {side} table has {len(names)} columns")
+    return [*words]
+
+
+def _fitting(side: str, text: str, names: Sequence[Any]) -> List[Optional[str]]:
+    """The words of a list by name, each of whose names means one of these columns, and another one than those before it."""
+    entries = entries_of(text)
+    if entries is None:
+        raise ValueError(f"{side}_types is no list of types by name: {text!r}")
+    taken: List[str] = []
+    for written in (it for it, _ in entries):
+        meant = ["*"] if written == "*" else [f'"{name}"' for name in names if means(written, str(name))]
+        if not meant or meant[0] in taken:
+            raise ValueError(f"{side}_types names {written}, which is no column of the {side} table" if not meant else f"{side}_types names {written} twice")
+        taken.append(meant[0])
+    return types_under(text, list(map(str, names)))
 
 
 def some_by_name(side: str, types: Mapping[str, Any], names: Sequence[str]) -> List[Optional[str]]:

@@ -19,10 +19,10 @@ class Fault(Exception):
         self.line = line
         self.status = status
         self.explanation = explanation
-        told = re.match(r"\w+: (E\d+) (\w+)", line)
+        told = re.match(r"[\w-]+: (E\d+) (\w+)", line)
         self.code: Optional[str] = told[1] if told else None
         self.name: Optional[str] = told[2] if told else None
-        # (a name of a list of types stands between double quotes, and may have any words)
+        # (a name of a list of types, or of a folder, stands between double quotes, and may have any words)
         place = line.partition('"')[0]
         side = re.search(r"\b(left|right)\b", place)
         self.side: Optional[str] = side[1] if side else None

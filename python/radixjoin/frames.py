@@ -4,7 +4,7 @@ from __future__ import annotations
 from typing import Any, Dict, FrozenSet, Iterator, List, Optional, Sequence
 
 from . import text
-from .columns import Column, Types, listed, reader_of, some_by_name, word_of
+from .columns import Column, Types, declared_of, reader_of
 from .dtypes import Builder, kind_of_series
 from .tables import Digits, Table
 
@@ -82,18 +82,8 @@ class FrameTable(Table):
         self.side = side
         self.rows = len(frame)
         names = list(frame.columns)
-        declared = self._declared(types, names)
+        declared = declared_of(side, types, names)
         self.made = [_FrameColumn(side, name, frame.iloc[:, at], declared[at]) for at, name in enumerate(names)]
-
-    def _declared(self, types: Types, names: Sequence[Any]) -> List[Optional[str]]:
-        if types is None:
-            return [None] * len(names)
-        if not isinstance(types, (str, list, tuple)):
-            return some_by_name(self.side, dict(types), names)  # type: ignore[call-overload]
-        words: List[Optional[str]] = [*listed(types)] if isinstance(types, str) else [word_of(declared) for declared in types]
-        if len(words) != len(names):
-            raise ValueError(f"{self.side}_types has {len(words)} types, and the {self.side} frame has {len(names)} columns")
-        return words
 
     def words(self) -> List[str]:
         return [column.word for column in self.made]

@@ -2,7 +2,6 @@
 from __future__ import annotations
 
 import contextlib
-import itertools
 import os
 import re
 import stat
@@ -13,15 +12,14 @@ from typing import Any, Dict, FrozenSet, Iterator, List, Mapping, Optional, Sequ
 
 from . import programs, text
 from .clauses import clause_of, given, needs_names, result_columns
-from .columns import Column, Types, list_of_types
+from .columns import Column, Types
 from .faults import DeviceFault
 from .frames import FrameTable, frame_of, is_frame
+from .nulls import Nulls
 from .process import Run
 from .rows import Rows
 from .tables import FileTable, RowsTable, Table, table_of_path
 
-# Null texts that are tried first.
-_NULLS = ("", "\\N", "NULL", "null", "~", "-", "?", "None")
 _OWN = {"left", "right", "left_types", "right_types", "join", "strict", "workers", "output", "help", "version", "stats"}
 
 
@@ -43,47 +41,27 @@ class Stats:
 
 
 class _Asked:
-    """A join as it was asked for: the program, its tables, the null text, and the words of its command line."""
+    """A join as it was asked for: the program, its tables, the null texts, and the words of its command line."""
 
     def __init__(self, left: Any, right: Any, clause: str, types: Dict[str, Types], names: Dict[str, Any], options: Dict[str, Any]) -> None:
         self.program = programs.find(options.pop("program", None))
         self.clause = clause
-        null: Optional[str] = options.pop("null", None)
+        self.nulls = Nulls(*(options.pop(name, None) for name in ("null", "left_null", "right_null", "out_null")))
         strict, self.output = options.pop("strict"), options.pop("output")
         known = programs.options(self.program)
         words = [word for name, value in options.items() for word in programs.words_of(known, name, value)]
-        watched = frozenset(_NULLS) | ({null} if null is not None else frozenset())
+        watched = self.nulls.watched()
         self.tables: List[Table] = []
         try:
             for side, table in (("left", left), ("right", right)):
                 self.tables.append(_table(side, table, types[side], names[side], watched))
-            self.null = self._null(null)
+            self.nulls.choose(self.tables, self.output is None)
             self.words: List[Union[str, bytes]] = [*words, *self._strict(strict, known), b"--join=" + given(clause)]
-            self.words += [f"--{table.side}-types={list_of_types(table.words())}" for table in self.tables]
-            self.words += [f"--null={self.null}"] if self.null else []
+            self.words += [f"--{table.side}-types={table.types_given()}" for table in self.tables]
+            self.words += self.nulls.words(known)
         except BaseException:
             self.close()
             raise
-
-    def _null(self, null: Optional[str]) -> str:
-        """The null text: the one given, the program's own where a file is read or written with it, else one that no cell has."""
-        if null is None and self.output is None and all(table.is_written for table in self.tables):
-            return self._free_null()
-        null = null or ""
-        for table in self.tables:
-            seen = table.seen(frozenset([null]))
-            if seen:
-                raise ValueError(f"{table.side} column {seen[null]!r} has the text {null!r}, which stands for null: give null= a text that no cell has")
-        return null
-
-    def _free_null(self) -> str:
-        """A null text that no cell has."""
-        taken = {found for table in self.tables for found in table.seen(frozenset(_NULLS))}
-        free = next((it for it in _NULLS if it not in taken), None)
-        if free is not None:
-            return free
-        made = ("~" + "".join(letters) for count in range(1, 16) for letters in itertools.product("abcdefghijklmnopqrstuvwxyz", repeat=count))
-        return next(it for it in made if not any(table.seen(frozenset([it])) for table in self.tables))
 
     def _strict(self, strict: Union[bool, str], known: FrozenSet[str]) -> List[str]:
         """The words for strict reading. What this package writes is strict already."""
@@ -98,7 +76,8 @@ class _Asked:
         return []
 
     def run(self, output: Any = subprocess.PIPE, more: Sequence[str] = ()) -> Run:
-        return Run(self.program, [*self.words, *more], self.tables, self.null, output)
+        nulls = {table.side: self.nulls.of(table.side)[0] for table in self.tables}
+        return Run(self.program, [*self.words, *more], self.tables, nulls, output)
 
     def close(self) -> None:
         for table in self.tables:
@@ -157,13 +136,15 @@ def join(
     `natural`, `how` is `inner`, `left`, `right` or `outer`.
 
     Types are those declared: a frame's dtypes, the classes of rows' cells, or `left_types` and `right_types`, which files need: a
-    text (`"int,num(9,2),text"`), a list, or a mapping by name, in which `*` stands for all other columns.
+    text as the program has it (`"int,num(9,2),text"`, `"id=int,*=text"`, or `"@FILE"`), a list, or a mapping by name, in which
+    `*` stands for all other columns.
 
     It gives a DataFrame where either side is one, with the dtypes that its columns had; else `Rows`, an iterator that reads
     the rows as they are asked for. With `output`, a path, the result is written there as CSV, whole or not at all, and the path given.
 
     `strict` has files read by RFC 4180's grammar alone. `null` is the text that stands for null in files, read and written (the
-    empty field unless given). `program` is the path of the program. All other options are the program's own, as `bits1=6`.
+    empty field unless given); `left_null` and `right_null` are those of one table, a text or up to four, and `out_null` is the one
+    that is written. `program` is the path of the program. All other options are the program's own, as `bits1=6`.
 
     Raises:
         Fault: the program told a fault; a subclass for each exit status.
@@ -235,9 +216,9 @@ def _has_names(asked: _Asked, table: Table) -> bool:
 
 def _read(asked: _Asked, is_of_frames: bool, are_dicts: bool, which: str) -> Any:
     """The result, as a frame or as rows. A fault is raised before the first row is given."""
-    if needs_names(asked.clause):
-        # (before the program takes what can be read only once)
-        for table in asked.tables:
+    for table in asked.tables:
+        if needs_names(asked.clause) or table.needs_names():
+            # (before the program takes what can be read only once)
             table.columns()
     run = asked.run()
     try:
@@ -250,13 +231,13 @@ def _read(asked: _Asked, is_of_frames: bool, are_dicts: bool, which: str) -> Any
         columns = _columns(asked, names, which)
         if is_of_frames:
             try:
-                return frame_of(names, columns, _fields(rest, pieces, run), asked.null)
+                return frame_of(names, columns, _fields(rest, pieces, run), asked.nulls.out)
             finally:
                 run.close()
         if are_dicts and len(set(names)) < len(names):
             twice = next(name for at, name in enumerate(names) if name in names[:at])
             raise ValueError(f"the result has two columns {twice!r}, and a dict one: join by using=, rename one, or give sequences with columns=")
-        return Rows(names, columns, _fields(rest, pieces, run), asked.null, are_dicts, run.close)
+        return Rows(names, columns, _fields(rest, pieces, run), asked.nulls.out, are_dicts, run.close)
     except BaseException:
         run.close()
         raise

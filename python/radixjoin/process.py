@@ -8,7 +8,7 @@ import signal
 import subprocess
 import tempfile
 import threading
-from typing import IO, Any, BinaryIO, Iterator, List, Optional, Sequence, Tuple, Union, cast
+from typing import IO, Any, BinaryIO, Iterator, List, Mapping, Optional, Sequence, Tuple, Union, cast
 
 from .faults import fault_of
 from .programs import encoded
@@ -29,10 +29,11 @@ def _pipe() -> Tuple[int, int]:
 class _Feeder(threading.Thread):
     """Writes tables into pipes, in the order in which the program reads them."""
 
-    def __init__(self, feeds: List[Tuple[Table, int]], null: str) -> None:
+    def __init__(self, feeds: List[Tuple[Table, int]], nulls: Mapping[str, str]) -> None:
         super().__init__(name="radixjoin", daemon=True)
         self.feeds = feeds
-        self.null = null
+        # What is written for null in the table of each side.
+        self.nulls = nulls
         self.process: Optional[subprocess.Popen[bytes]] = None
         # What went wrong with a table.
         self.failed: Optional[BaseException] = None
@@ -43,7 +44,7 @@ class _Feeder(threading.Thread):
             table, number = self.feeds[0]
             try:
                 with open(number, "wb", buffering=0, closefd=False) as pipe:
-                    for chunk in table.chunks(self.null):
+                    for chunk in table.chunks(self.nulls[table.side]):
                         _write(pipe, chunk)
             except BrokenPipeError:
                 pass
@@ -60,9 +61,9 @@ class _Feeder(threading.Thread):
 class Run:
     """The program at work. `close` ends it, wherever it is: killed and waited for, with nothing left behind."""
 
-    def __init__(self, program: str, words: Sequence[Union[str, bytes]], tables: Sequence[Table], null: str, output: Union[int, IO[Any]]) -> None:
+    def __init__(self, program: str, words: Sequence[Union[str, bytes]], tables: Sequence[Table], nulls: Mapping[str, str], output: Union[int, IO[Any]]) -> None:
         self._tables = tables
-        self._feeder = _Feeder([], null)
+        self._feeder = _Feeder([], nulls)
         self._process: Optional[subprocess.Popen[bytes]] = None
         self._told = tempfile.TemporaryFile()
         given: List[int] = []

@@ -13,7 +13,8 @@ from itertools import chain, islice
 from typing import Any, BinaryIO, Dict, FrozenSet, Iterable, Iterator, List, Mapping, Optional, Sequence, Set, Tuple
 
 from . import text
-from .columns import Column, Types, by_name, listed, some_by_name, word_of
+from .columns import Column, Types, by_name, declared_of, list_of_types, text_of, words_under
+from .lists import is_by_name
 
 _CHUNK = 1 << 20
 _ROWS = 8_192
@@ -29,6 +30,14 @@ class Table(ABC):
     @abstractmethod
     def words(self) -> List[str]:
         """The types of the columns."""
+
+    def types_given(self) -> str:
+        """The list of types, as the program is given it."""
+        return list_of_types(self.words())
+
+    def needs_names(self) -> bool:
+        """Whether the types of the columns are known by their names alone."""
+        return False
 
     @abstractmethod
     def columns(self) -> List[Column]:
@@ -63,16 +72,22 @@ class _Given(Table):
         if types is None:
             raise ValueError(f"{side}_types has to be given: of a file types are declared, never guessed")
         self.side = side
-        self.types = types
+        # The types by Python's own names of columns, or the program's list of them.
+        self.by_name = types if isinstance(types, Mapping) else {}
+        self.list = None if isinstance(types, Mapping) else text_of(side, types)
 
     def words(self) -> List[str]:
-        if isinstance(self.types, str):
-            return listed(self.types)
-        if isinstance(self.types, Mapping):
-            names = self.names()
-            # (where there are none the program tells why)
-            return by_name(self.side, self.types, names) if names else ["text"]
-        return [word_of(declared) for declared in self.types]
+        if self.list is not None:
+            return words_under(self.list, self.names() if is_by_name(self.list) else [])
+        names = self.names()
+        # (where there are none the program tells why)
+        return by_name(self.side, self.by_name, names) if names else ["text"]
+
+    def types_given(self) -> str:
+        return self.list if self.list is not None and is_by_name(self.list) else super().types_given()
+
+    def needs_names(self) -> bool:
+        return self.list is None or is_by_name(self.list)
 
     def columns(self) -> List[Column]:
         return [Column(name, word) for name, word in zip(self.names(), self.words())]
@@ -284,7 +299,7 @@ class RowsTable(Table):
             if not isinstance(name, str):
                 raise TypeError(f"the {self.side} column {name!r} has a name that is no str")
         self.names = list(names)
-        self.made = [_RowColumn(self.side, name, word, self.watched) for name, word in zip(self.names, self._declared(types))]
+        self.made = [_RowColumn(self.side, name, word, self.watched) for name, word in zip(self.names, declared_of(self.side, types, self.names))]
         self.file.write(text.header(self.names))
         self.sizes.append(self.file.tell())
         every = chain(first, rows)
@@ -295,16 +310,6 @@ class RowsTable(Table):
                 break
             self._write([self._cells(row, number + at + 1) for at, row in enumerate(some)])
             number += len(some)
-
-    def _declared(self, types: Types) -> List[Optional[str]]:
-        if types is None:
-            return [None] * len(self.names)
-        if isinstance(types, Mapping):
-            return some_by_name(self.side, types, self.names)
-        words = listed(types) if isinstance(types, str) else [word_of(declared) for declared in types]
-        if len(words) != len(self.names):
-            raise ValueError(f"{self.side}_types has {len(words)} types, and the {self.side} rows have {len(self.names)} columns")
-        return list(words)
 
     def _cells(self, row: Any, number: int) -> Sequence[Any]:
         """The cells of a row, in the order of the columns."""

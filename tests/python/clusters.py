@@ -43,6 +43,33 @@ def joins(client, programs, folder):
     yield from telling.differs("files", sorted(os.listdir(folder)), ["alone.csv", "left.csv", "right.csv"])
 
 
+def by_side(client, programs, folder):
+    """Null texts by side and types by name, as texts, in files and by Python's own names; what is written as null is; a full result."""
+    left, right, out, types = folder / "left.csv", folder / "right.csv", folder / "out.csv", folder / "left.types"
+    left.write_text(LEFT.replace("n11\n", "none\n").replace("n12\n", "\n"))
+    right.write_text(RIGHT.replace("c7\n", "-\n"))
+    types.write_text("id=int\n*=text\n")
+    nulls = {"left_null": ["none", "null"], "right_null": "-", "out_null": "~"}
+    alone = radixjoin.join(left, right, CLAUSE, output=folder / "alone.csv", program=programs / "radixjoin", **nulls, **TYPES)
+    options = {"output": out, "programs": programs, "parts": 3, "ranges": 2}
+    for each in (f"@{types}", "id=int,*=text", ["*=text", "ID=int"], {"id": int, "*": "text"}, {"name": str, "id": "int"}):
+        cluster.join(client, left, right, CLAUSE, left_types=each, right_types="*=text,id=int", strict=True, **nulls, **options)
+        yield from telling.differs(f"the bytes {each}", out.read_bytes() == alone.read_bytes(), True)
+        out.unlink()
+    for more, kind, line in (
+        ({**nulls, "out_null": "c8"}, radixjoin.InputFault, None),
+        ({**nulls, "left_null": list("abcde")}, radixjoin.LineFault, "radixjoin: more than four null texts left"),
+        ({"left_types": f"@{folder}/none"}, radixjoin.DeviceFault, "radixjoin: E19 ReadDevice left"),
+        ({"left_types": 'id=int,"row 007"=int,*=text'}, radixjoin.InputFault, 'radixjoin: E27 TypeName left "row 007"'),
+        ({"output": folder}, radixjoin.DeviceFault, f'radixjoin-cluster: E20 WriteDevice "{folder.resolve()}": Is a directory'),
+    ):
+        error = telling.raised(cluster.join, client, left, right, CLAUSE, **{**TYPES, "strict": "full", **options, **more})
+        wanted = telling.raised(radixjoin.join, left, right, CLAUSE, strict="full", output=folder / "alone.csv", **{**TYPES, **more}) if line is None else line
+        yield from telling.differs(f"{more}", (type(error), str(error)), (kind, str(wanted)))
+    yield from telling.differs("a place that has no side", (error.code, error.name, error.side, error.row), ("E20", "WriteDevice", None, None))
+    yield from telling.differs("files", sorted(os.listdir(folder)), ["alone.csv", "left.csv", "left.types", "right.csv"])
+
+
 def command(programs, folder):
     """The module as a command."""
     (folder / "left.csv").write_text("id\n2\n1\n")
@@ -52,6 +79,14 @@ def command(programs, folder):
     ran = subprocess.run([sys.executable, "-m", "radixjoin.cluster", *words], cwd=folder, capture_output=True, check=False)
     yield from telling.differs("how it ends", (ran.returncode, ran.stdout, ran.stderr), (0, b"", b""))
     yield from telling.differs("the bytes", (folder / "out.csv").read_bytes(), b"id,id\n1,1\n2,\n")
+    for more, told in (
+        (["--nul", "x"], b"unrecognized arguments"),
+        (["--out", "other.csv"], b"--out can be given once"),
+        (["--left", "left.csv"], b"--left can be given once"),
+        (["--right-null=a", "--right-null=b", "--null=x", "--null=y"], b"--null can be given once"),
+    ):
+        ran = subprocess.run([sys.executable, "-m", "radixjoin.cluster", *words, *more], cwd=folder, capture_output=True, check=False)
+        yield from telling.differs(f"{more}", (ran.returncode, told in ran.stderr), (2, True))
 
 
 def main(programs):
@@ -60,6 +95,8 @@ def main(programs):
     with tempfile.TemporaryDirectory(prefix="radixjoin-test-") as name:
         with LocalCluster(2, threads_per_worker=1, memory_limit=0, dashboard_address=":0", silence_logs=50) as local, Client(local) as client:
             telling.attempt("radixjoin.cluster.join", joins, client, programs, pathlib.Path(name))
+            with tempfile.TemporaryDirectory(prefix="radixjoin-test-left-") as other:
+                telling.attempt("radixjoin.cluster.join, null texts by side and types by name", by_side, client, programs, pathlib.Path(other))
     with tempfile.TemporaryDirectory(prefix="radixjoin-test-") as name:
         telling.attempt("python -m radixjoin.cluster", command, programs, pathlib.Path(name))
 

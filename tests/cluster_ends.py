@@ -1,0 +1,195 @@
+"""How runs of cluster/radixjoin-cluster end where something goes wrong beside the tables: a process of the cluster, or a program, is
+killed while it divides, joins or merges; the script is told to end; the folder for what is half made, or that of the result, is
+full; the result can't be renamed. The result is there whole or not at all, what stood there before stays, and nothing is left.
+
+It needs Dask, as tests/cluster.py does."""
+import contextlib
+import os
+import pathlib
+import signal
+import subprocess
+import time
+
+import cluster
+import harness
+import shards
+
+# For each program a text that its words have where a task runs it, and not before.
+STEPS = {"shards": "--out /", "radixjoin": "/radixjoin-", "merges": "/joined-"}
+# What a program does in place of its work: it waits for a signal, or is ended by one.
+WAITS = 'echo $PPID > "$0.number.new" && mv "$0.number.new" "$0.number"; exec sleep 60'
+IS_KILLED = "kill -9 $$"
+ROWS = 4_000
+CLAUSE = ["--join", "FULL JOIN USING (k)"]
+NO_ROOM = "it can't be written, or there is no room"
+
+
+def write_tables(folder, rows=ROWS):
+    """Writes two tables, and gives the words that name them."""
+    words = []
+    for side, name in (("left", "a"), ("right", "b")):
+        lines = (f"{at * 7919 % rows},{'x' * (at % 40)}\n" for at in range(rows))
+        (folder / f"{side}.csv").write_text(f"k,{name}\n" + "".join(lines))
+        words += [f"--{side}", f"{folder}/{side}.csv", f"--{side}-types", "int,text"]
+    return [*words, *CLAUSE]
+
+
+def programs_in(folder, name, does, is_once=True):
+    """A folder of the programs, of which one does something else: the first time that a task runs it, or each time."""
+    folder.mkdir()
+    for it in STEPS:
+        (folder / it).symlink_to(harness.program(it))
+    (folder / name).unlink()
+    once = 'mkdir "$0.once" 2>/dev/null' if is_once else "true"
+    (folder / name).write_text(f'#!/bin/sh\ncase "$*" in *"{STEPS[name]}"*) if {once}; then {does}; fi;; esac\nexec "{harness.program(name)}" "$@"\n')
+    (folder / name).chmod(0o755)
+    return folder
+
+
+def begun(python, words, folder, *more):
+    """Starts the script."""
+    words = [python, cluster.SCRIPT, *words, "--parts", "3", *([] if "--out" in more else ["--out", "out.csv"]), *more]
+    return subprocess.Popen([str(word) for word in words], cwd=folder, stdin=subprocess.DEVNULL, stdout=subprocess.DEVNULL, stderr=subprocess.PIPE)
+
+
+def number_in(programs, name):
+    """The number of the process that began a program, once it waits; None where it never does."""
+    path, until = programs / f"{name}.number", time.monotonic() + cluster.SECONDS
+    while time.monotonic() < until:
+        if path.exists():
+            return int(path.read_text())
+        time.sleep(0.01)
+    return None
+
+
+def run_killed(on, folder, words, name, tally):
+    """A process of the cluster is killed while one of its programs runs; the program is killed once; and each time."""
+    wanted = harness.run([harness.program("radixjoin"), *words], folder)
+    how = ["--scheduler", on.address, "--programs"]
+    programs = programs_in(folder / "waits", name, WAITS)
+    known = {it.name for it in folder.iterdir()} | {"killed", "always"}
+    running = begun(on.python, words, folder, *how, programs)
+    number = number_in(programs, name)
+    if number is not None:
+        os.kill(number, signal.SIGKILL)
+    faults = cluster.faults_of_run(cluster.ended(running), folder, known, wanted)
+    tally.check(f"cluster_ends: a process that runs {name} is killed", faults + ([] if number else ["there was none to kill"]))
+    (folder / "out.csv").unlink(missing_ok=True)
+    ran = cluster.ended(begun(on.python, words, folder, *how, programs_in(folder / "killed", name, IS_KILLED)))
+    faults = cluster.faults_of_run(ran, folder, known, wanted)
+    tally.check(f"cluster_ends: {name} is killed", faults + ([] if (folder / "killed" / f"{name}.once").exists() else ["it wasn't"]))
+    (folder / "out.csv").unlink(missing_ok=True)
+    told = harness.Ran(1, b"", f"radixjoin-cluster: {name} was ended by signal 9\n".encode())
+    ran = cluster.ended(begun(on.python, words, folder, *how, programs_in(folder / "always", name, IS_KILLED, is_once=False)))
+    tally.check(f"cluster_ends: {name} is killed each time", cluster.faults_of_run(ran, folder, known, told))
+
+
+def run_told_to_end(python, name, number, tally):
+    """The script is told to end while a program runs: what stood at the result's place stays, and no program goes on."""
+    with harness.folder() as place:
+        folder = pathlib.Path(place)
+        words = write_tables(folder)
+        programs = programs_in(folder / "waits", name, WAITS)
+        (folder / "out.csv").write_text("before")
+        known = {it.name for it in folder.iterdir()}
+        running = begun(python, words, folder, "--processes", "1", "--programs", programs)
+        is_running = number_in(programs, name) is not None
+        running.send_signal(number)
+        ran = cluster.ended(running)
+        faults = [] if is_running else [f"{name} didn't run"]
+        faults += harness.differences(harness.Ran(ran.returncode, b"", ran.stderr), b"", b"", 128 + number)
+        faults += [] if (folder / "out.csv").read_text() == "before" else ["out.csv is another one"]
+        faults += [f"{it} was left behind" for it in cluster.left_behind(folder, known)]
+        tally.check(f"cluster_ends: told to end by {number.name} while {name} runs", faults)
+
+
+def run_output(on, tally):
+    """A result that can't be written: it is told before anything is done, or, where it shows later, at the end."""
+    with harness.folder() as place:
+        folder = pathlib.Path(place)
+        words = write_tables(folder)
+        how = ["--scheduler", on.address, "--programs"]
+        late = programs_in(folder / "late", "merges", "mkdir out.csv")
+        (folder / "late" / "merges").write_text((folder / "late" / "merges").read_text().replace("mkdir out.csv", f"mkdir {folder}/out.csv"))
+        known = {it.name for it in folder.iterdir()} | {"out.csv"}
+        line = f'radixjoin-cluster: E20 WriteDevice "{folder.resolve()}/out.csv": Is a directory\n'
+        for name, programs in (("while it is merged", late), ("before", on.programs)):
+            ran = cluster.ended(begun(on.python, words, folder, *how, programs))
+            faults = harness.differences(harness.Ran(ran.returncode, b"", ran.stderr), b"", line.encode(), 6)
+            faults += [f"{it} was left behind" for it in cluster.left_behind(folder, known)]
+            tally.check(f"cluster_ends: the result is a folder {name}", faults + [f"{it} is in it" for it in (folder / "out.csv").iterdir()])
+        for option in ("--out", "--scratch"):
+            missing = folder / "missing" / "out.csv" if option == "--out" else folder / "missing"
+            ran = cluster.ended(begun(on.python, words, folder, *how, on.programs, *(["--out", missing, "--scratch", folder] if option == "--out" else ["--out", "new.csv", "--scratch", missing])))
+            line = f'radixjoin-cluster: E20 WriteDevice "{missing.resolve()}": No such file or directory\n'
+            faults = harness.differences(harness.Ran(ran.returncode, b"", ran.stderr), b"", line.encode(), 6)
+            tally.check(f"cluster_ends: {option} in no folder", faults + [f"{it} was left behind" for it in cluster.left_behind(folder, known)])
+
+
+@contextlib.contextmanager
+def disk(folder, size):
+    """A small file system, or None where none can be mounted."""
+    place = folder / "disk"
+    place.mkdir(exist_ok=True)
+    if subprocess.run(["mount", "-t", "tmpfs", "-o", f"size={size}k", "none", place], capture_output=True, check=False).returncode:
+        yield None
+        return
+    try:
+        yield place
+    finally:
+        subprocess.run(["umount", place], check=True)
+
+
+def run_on_disk(folder, words, size, option, tally):
+    """Joins with what is half made, or the result, on a disk of some KiB. It gives how it ended."""
+    with disk(folder, size) as place:
+        if place is None:
+            return None
+        out, scratch = (folder / "out.csv", place) if option == "scratch" else (place / "out.csv", folder)
+        wanted = harness.run([harness.program("radixjoin"), *words], folder)
+        ran = shards.joined([*words, "--parts", "3", "--scratch", scratch], folder, 2, out)
+        if ran.status == 6:
+            told = place.resolve() if option == "scratch" else f"{place.resolve()}/out.csv"
+            wanted = harness.Ran(6, b"", f'radixjoin-cluster: E20 WriteDevice "{told}": {NO_ROOM}\n'.encode())
+        faults = harness.differences(ran, wanted.stdout, wanted.stderr, wanted.status)
+        tally.check(f"cluster_ends: {option} on a disk of {size} KiB", faults + [f"{it} was left behind" for it in place.iterdir() if it != out])
+        return ran.status
+
+
+def run_full(on, tally):
+    """Disks of many sizes, so that each step meets a full one, and one in the processes of the cluster."""
+    with harness.folder() as name:
+        folder = pathlib.Path(name)
+        words = write_tables(folder, 20_000)
+        for option, sizes in (("scratch", range(64, 4_096, 192)), ("result", range(64, 1_600, 384))):
+            ends = [run_on_disk(folder, words, size, option, tally) for size in sizes]
+            if None in ends:
+                print("cluster_ends: full disks are left out, since no small file system can be mounted")
+                return
+            tally.check(f"cluster_ends: {option} on disks that are full, and not", [] if {*ends} == {0, 6} else [f"they end by {ends}"])
+        (folder / "out.csv").unlink(missing_ok=True)
+        with disk(folder, 1_024) as place:
+            known = {it.name for it in folder.iterdir()}
+            ran = cluster.ended(begun(on.python, words, folder, "--scheduler", on.address, "--programs", on.programs, "--scratch", place))
+            told = harness.Ran(6, b"", f'radixjoin-cluster: E20 WriteDevice "{place.resolve()}": {NO_ROOM}\n'.encode())
+            faults = cluster.faults_of_run(ran, folder, known, told)
+            tally.check("cluster_ends: a full disk in a cluster", faults + [f"{it} was left behind" for it in place.iterdir()])
+
+
+def run_all(tally):
+    python = cluster.python_with_dask()
+    if python is None:
+        print("cluster_ends: left out, since there is no Dask (Debian's python3-dask and python3-distributed)")
+        return
+    with harness.folder() as programs:
+        on = cluster.Cluster(python, programs)
+        try:
+            for name in STEPS:
+                with harness.folder() as place:
+                    run_killed(on, pathlib.Path(place), write_tables(pathlib.Path(place)), name, tally)
+            run_output(on, tally)
+            run_full(on, tally)
+        finally:
+            on.close()
+    tasks = [(name, number) for name in STEPS for number in (signal.SIGTERM, signal.SIGINT)]
+    harness.side_by_side(tally, [lambda own, it=it: run_told_to_end(python, *it, own) for it in tasks])
