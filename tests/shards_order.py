@@ -49,23 +49,23 @@ def types_of(pick, is_bad, side, folder):
     return f"@{folder}/{side}.types"
 
 
-def table_of(pick, wrong, side):
-    """The bytes of a side's file."""
+def table_of(pick, wrong, side, is_long):
+    """The bytes of a side's file. One side alone has many rows: with no name in both NATURAL JOIN keeps every pair."""
     head = pick.choice(HEADERS) if f"{side} header" in wrong else pick.choice((b"k,a\n", b"k,a\n", b"K,a\r\n"))
     body = pick.choice(BODIES) if f"{side} rows" in wrong else pick.choice(CELLS if "cells" in wrong else CELLS[-1:])
-    # (of no key that the other side has)
-    many = (b"7,x\n" if side == "left" else b"8,y\n") * pick.choice((0, 0, 25_000))
+    many = (b"7,x\n" if side == "left" else b"8,y\n") * min(pick.choice((0, 0, 25_000)), 25_000 * is_long)
     return head + (many + body if pick.random() < 0.8 else body + many)
 
 
 def words_of(pick, folder):
     """The words of a run in which up to three things are wrong."""
     wrong = set(pick.sample(KINDS, pick.choice((0, 1, 2, 2, 2, 3))))
-    words = []
+    words, is_long = [], True
     for side in ("left", "right"):
         path = folder / f"{side}.csv"
         if f"{side} file" not in wrong:
-            path.write_bytes(table_of(pick, wrong, side))
+            path.write_bytes(table_of(pick, wrong, side, is_long))
+            is_long = path.stat().st_size < 10_000
         elif pick.random() < 0.5:
             path.mkdir()
         words += [f"--{side}={path}", f"--{side}-types={types_of(pick, f'{side} types' in wrong, side, folder)}"]
