@@ -1,5 +1,5 @@
 -- Walks over a text, piece by piece.
-use Rattle.std.specs.Prelude.{ℕ, zero, suc, ◌==◌, ◌≡◌, ◌+◌, ◌-◌, ◌<◌, ◌≤◌, ◌||◌, not, Bool, true, false, List, [], ◌∷◌, ◌++◌, length, get_or, take, drop, Option, Some, IfSome, option_and_then}
+use Rattle.std.specs.Prelude.{ℕ, zero, suc, ◌==◌, ◌≡◌, ◌+◌, ◌-◌, ◌<◌, ◌≤◌, ◌&&◌, ◌||◌, not, Bool, true, false, List, [], ◌∷◌, ◌++◌, length, get_or, take, drop, Option, Some, IfSome, option_and_then}
 use Rattle.std.proofs.Common.{refl, sym, ap, subst, ◌∙◌, arith}
 use Rattle.std.proofs.lemmas.Bool.{and_from, not_from_false, false≢true}
 use Rattle.std.proofs.lemmas.List.{take_all, take_more, take-append-drop, drop-drop, at_drop_more}
@@ -84,3 +84,13 @@ turn text at k p p2 p3 h quote e f =
 pub over-part : (p q : Place) (text part rest : List ℕ) → text ≡ part ++ rest → walk p part ≡ Some q → walk p text ≡ walk q rest
 over-part p q text part rest e f =
     ap (λ (t : List ℕ). walk p t) e ∙ walk-append p part rest ∙ ap (λ (o : Option Place). option_and_then (λ r. walk r rest) o) f
+
+-- where neither is a return and the second is no quote, only a line feed behind another one may not follow
+pub plain-pair : (before c : ℕ) → (c == dquote) ≡ false → (c == cr) ≡ false → (before == cr) ≡ false → ((before == lf) && (c == lf)) ≡ false
+    → may_not_follow before c ≡ false
+plain-pair before c q r k e = rw (q, r, k) (go (before == lf) (c == lf) e)
+  where
+    go : (n m : Bool) → (n && m) ≡ false → (n && (m || false) || false) ≡ false
+    go true true e = absurd (false≢true (sym e))
+    go true false e = refl
+    go false m e = refl

@@ -47,12 +47,40 @@ fn all_may_follow(before: u8, text: &[u8]) -> bool
     !bad
 }
 
+// Whether each byte may follow the one before it, in a text with no return.
+fn follow_without_returns(before: u8, text: &[u8]) -> bool
+    requires quotes { (i : ℕ) → i < length text.now → (slice_index text.now i == 34) ≡ false }
+    requires returns { (i : ℕ) → i < length text.now → (slice_index text.now i == 13) ≡ false }
+    ensures { result ≡ true → all_follow before text.now ≡ true }
+{
+    if text.is_empty() {
+        return true;
+    }
+    let mut bad = is_bad(before, text[0]);
+    for i in 1..text.len() {
+        bad |= (text[i - 1] == b'\n') & (text[i] == b'\n');
+    }
+    !bad
+}
+
+// Whether each byte may follow the one before it, in a text with no quote.
+fn follow_without_quotes(before: u8, text: &[u8]) -> bool
+    requires { (i : ℕ) → i < length text.now → (slice_index text.now i == 34) ≡ false }
+    ensures { result ≡ true → all_follow before text.now ≡ true }
+{
+    match memchr(b'\r', text) {
+        Some(_) => all_may_follow(before, text),
+        None => follow_without_returns(before, text),
+    }
+}
+
 // The place after a text outside quotes that has none, behind this byte.
 fn follow(before: u8, text: &[u8]) -> Option<Place>
-    requires { 0 < length text.now }
+    requires some { 0 < length text.now }
+    requires quotes { (i : ℕ) → i < length text.now → (slice_index text.now i == 34) ≡ false }
     ensures { IfSome result (λ p. walk (place_after before) text.now ≡ Some p) }
 {
-    if all_may_follow(before, text) {
+    if follow_without_quotes(before, text) {
         return Some(place_behind(text[text.len() - 1]));
     }
     None

@@ -3,6 +3,6 @@ use Rattle.rj_strict.specs.declared.standing.Place.{Place}
 use Rattle.rj_strict.proofs.CleanFacts.{follow-whole}
 use Rattle.rj_strict.proofs.clean.follow.Goals as goal
 
-pub returns-then-all_may_follow : goal.returns-then-all_may_follow
-returns-then-all_may_follow c =
-    follow-whole c.args.before c.args.text.now c.requires (c.all_may_follow.ensures c.if-all_may_follow.true) ∙ ap (λ (p : Place). Some p) (sym c.place_behind.ensures)
+pub returns-then-follow_without_quotes : goal.returns-then-follow_without_quotes
+returns-then-follow_without_quotes c =
+    follow-whole c.args.before c.args.text.now c.requires.some (c.follow_without_quotes.ensures c.if-follow_without_quotes.true) ∙ ap (λ (p : Place). Some p) (sym c.place_behind.ensures)
