@@ -129,6 +129,8 @@ pub record IsLineOf (words : List Text) (l : Line) : Type 0 where
   pub right : word_of option_words words (codes "right") ≡ Some l.right.now
   pub request : IsRequestOf (word_of option_words words) (words_of option_words words) l.request
   pub stats : l.stats ≡ is_true (word_of option_words words (codes "stats"))
+  pub explain : l.explain ≡ is_true (word_of option_words words (codes "explain"))
+  pub output : option_map (λ s. s.now) l.output ≡ word_of option_words words (codes "output")
 
 -- both type lists are such lists
 abbrev pub GiveTypes : (Text → Option Text) → Type 0

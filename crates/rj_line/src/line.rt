@@ -25,6 +25,10 @@ pub struct Line<'a> {
     pub request: Request<'a>,
     /// Whether the statistics are asked for.
     pub stats: bool,
+    /// Whether a fault is explained by further lines.
+    pub explain: bool,
+    /// The name of the file that the result is written to, in place of standard output.
+    pub output: Option<&'a str>,
 }
 
 // The fault of an error of `clap`'s.
@@ -175,5 +179,7 @@ pub fn read_line<'a>(alloc: Global, words: &'a [&'a str]) -> Result<Line<'a>, Fa
         right: given(&matches, "right"),
         request,
         stats: is_given(&matches, "stats"),
+        explain: is_given(&matches, "explain"),
+        output: matches.get_str("output"),
     })
 }

@@ -25,6 +25,8 @@ returns-clause-line c =
       request = by_words (λ word texts. IsRequestOf word texts c.in-Ok.request) (first_value found) (word_of parse.option_words words)
           (texts_found found) (words_of parse.option_words words) parse.values parse.texts c.in-Ok.ensures.request;
       stats = c.is_given.ensures ∙ ap is_true (parse.values (codes "stats"));
+      explain = c.is_given-2.ensures ∙ ap is_true (parse.values (codes "explain"));
+      output = c.get_str.ensures ∙ parse.values (codes "output");
     }
 
 pub returns-in-Err-clause-fault : goal.returns-in-Err-clause-fault
