@@ -4,7 +4,8 @@ use Rattle.clap.specs.Words.{Text, fault_of}
 use Rattle.rj_fault.specs.declared.fault.Fault.{Fault}
 use Rattle.rj_fault.specs.declared.fault.Fault.TheVariants as fault
 use Rattle.rj_fault.specs.declared.fault.Side.TheVariants as side
-use Rattle.rj_line.specs.Line.{GiveTypes, IsLineFault, IsRequestFault, nulls_or, word_of, words_of}
+use Rattle.rj_line.specs.Choices.{IsChoiceFault}
+use Rattle.rj_line.specs.Line.{AreTablesGiven, GiveTypes, IsLineFault, IsRequestFault, nulls_or, word_of, words_of}
 use Rattle.rj_line.specs.Options.{OptionWords, line_app}
 use Rattle.rj_types.specs.Lists.{IsTypeList}
 use Rattle.rj_types.specs.declared.entry.TypeEntry.{TypeEntry}
@@ -44,6 +45,13 @@ module _ (word : Text → Option Text) (texts : Text → List Text) where
       let t = told not in
       subst (IsRequestFault word texts) (sym t.0) (types, few, t.1))
 
+  -- a fault of what is chosen is told where nothing is wrong with the tables
+  pub choice_fault : (f : Fault) → AreTablesGiven word texts → IsChoiceFault word f → IsRequestFault word texts f
+  choice_fault fault.Memory given told = tt
+  choice_fault (fault.BadTypeList side) given told = absurd told
+  choice_fault (fault.TooManyNulls side) given told = absurd told
+  choice_fault f given told = (given, told)
+
 -- a table has as many null texts as it is given, or one
 pub few_given : (texts : List Text) (null : Text) (count : ℕ) → count ≡ length (nulls_or texts null) → count ≤ 4 → length texts ≤ 4
 few_given [] null count is few = omega arith
@@ -52,6 +60,6 @@ few_given (t ∷ texts) null count is few = subst (λ n. n ≤ 4) is few
 -- where `clap` has no fault to tell, a fault of the values is one of the line
 pub line_fault : (words : List Text) (h : OptionWords) (f : Fault) → fault_of (line_app h) words ≡ []
     → IsRequestFault (word_of h words) (words_of h words) f → IsLineFault words f
-line_fault words h (fault.CommandLine e) accepted told = absurd told
+line_fault words h (fault.CommandLine e) accepted told = absurd told.1
 line_fault words h fault.Memory accepted told = tt
 line_fault words h f accepted told = (h, accepted, told)

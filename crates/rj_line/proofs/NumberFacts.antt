@@ -23,7 +23,8 @@ use Rattle.clap.specs.declared.parser.matches.Found.{Found}
 use Rattle.clap.specs.declared.parser.matches.MatchedArg.{MatchedArg}
 use Rattle.clap.proofs.WalkLemmas.{list_any-map}
 use Rattle.clap.proofs.CallerLemmas.{added_plain, entry_by_id, same_rules_by_id}
-use Rattle.rj_line.specs.Line.{IsNameOf, IsNumberIn, IsStrictName}
+use Rattle.rj_line.specs.Line.{IsNumberIn, IsStrictName}
+use Rattle.rj_line.specs.Named.{IsNameOf}
 use Rattle.rj_line.specs.Options.{OptionWords, IsBare, IsChain}
 use Rattle.rj_line.proofs.ChainFacts.{all_distinct, all_fit, are_distinct, fits_option, rule_at}
 

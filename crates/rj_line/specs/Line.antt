@@ -16,6 +16,8 @@ use Rattle.rj_line.specs.declared.request.Hash.TheVariants as hash
 use Rattle.rj_line.specs.declared.request.Request.{Request}
 use Rattle.rj_line.specs.declared.request.Strictness.{Strictness}
 use Rattle.rj_line.specs.declared.request.Strictness.TheVariants as strictness
+use Rattle.rj_line.specs.Choices.{IsChoiceFault, IsChoiceOf, columns_name, order_name}
+use Rattle.rj_line.specs.Named.{IsNameOf, IsNamedOr}
 use Rattle.rj_line.specs.Options.{OptionWords, line_app}
 use Rattle.rj_types.specs.Lists.{IsTypeList}
 use Rattle.rj_types.specs.declared.entry.TypeEntry.{TypeEntry}
@@ -72,16 +74,6 @@ abbrev pub hash_name : Hash → Text
 hash_name hash.Plain = codes "plain"
 hash_name hash.Mixed = codes "mixed"
 
--- what an option's value names, or another one where it has none
-abbrev pub IsNamedOr : {X : Type 0} → (X → Text) → X → Option Text → X → Type 0
-IsNamedOr name other None x = x ≡ other
-IsNamedOr name other (Some text) x = text ≡ name x
-
--- an option's value, where it has one, is the name of something
-abbrev pub IsNameOf : {X : Type 0} → (X → Text) → Option Text → Type 0
-IsNameOf name None = Unit {0}
-IsNameOf {X} name (Some text) = (x : X) × (text ≡ name x)
-
 -- how strictly an option's value says that files are read, `Off` where it has none
 abbrev pub IsStrictness : Option Text → Strictness → Type 0
 IsStrictness None s = s ≡ strictness.Off
@@ -120,6 +112,7 @@ pub record IsRequestOf (word : Text → Option Text) (texts : Text → List Text
   pub settings : AreSettings word r.settings
   pub hash : IsNamedOr hash_name hash.Plain (word (codes "hash")) r.hash
   pub tells_pieces : r.tells_pieces ≡ is_some (word (codes "piece"))
+  pub choice : IsChoiceOf word r.choice
 
 -- `clap` has no fault to tell, each option that is required is given, and each value is the one given or the default
 pub record IsLineOf (words : List Text) (l : Line) : Type 0 where
@@ -138,8 +131,12 @@ GiveTypes word =
     ((types : List TypeEntry) × GivesTypes (word (codes "left-types")) types)
     × ((types : List TypeEntry) × GivesTypes (word (codes "right-types")) types)
 
+-- and no more than four null texts are given for either table
+abbrev pub AreTablesGiven : (Text → Option Text) → (Text → List Text) → Type 0
+AreTablesGiven word texts = GiveTypes word × (length (texts (codes "left-null")) ≤ 4) × (length (texts (codes "right-null")) ≤ 4)
+
 -- why the values of the options ask for nothing that can be done: a bad type list on the left, then one on the right, then too many
--- null texts on the left, then on the right; or want of memory
+-- null texts on the left, then on the right, then what is chosen of the joined table; or want of memory
 abbrev pub IsRequestFault : (Text → Option Text) → (Text → List Text) → Fault → Type 0
 IsRequestFault word texts (fault.BadTypeList side.Left) = GivesNoTypes (word (codes "left-types"))
 IsRequestFault word texts (fault.BadTypeList side.Right) =
@@ -148,7 +145,7 @@ IsRequestFault word texts (fault.TooManyNulls side.Left) = GiveTypes word × (4 
 IsRequestFault word texts (fault.TooManyNulls side.Right) =
     GiveTypes word × (length (texts (codes "left-null")) ≤ 4) × (4 < length (texts (codes "right-null")))
 IsRequestFault word texts fault.Memory = Unit {0}
-IsRequestFault word texts _ = ⊥
+IsRequestFault word texts f = AreTablesGiven word texts × IsChoiceFault word f
 
 -- a fault of `clap`'s; or where it has none to tell, one of the values; or want of memory
 abbrev pub IsLineFault : List Text → Fault → Type 0
@@ -176,6 +173,8 @@ pub record HasValues (word : Text → Option Text) : Type 0 where
   pub numbers : AreNumbersIn word
   pub hash : IsNameOf hash_name (word (codes "hash"))
   pub strict : IsStrictName (word (codes "strict"))
+  pub order : IsNameOf order_name (word (codes "order"))
+  pub columns : IsNameOf columns_name (word (codes "columns"))
 
 -- the matches of the words, with the names of both files, and the values that a request is read from
 pub record IsParseOf (words : List Text) (m : ArgMatches) : Type 0 where

@@ -2,8 +2,10 @@
 
 ghost use Rattle.std.specs.Prelude.{◌≡◌, ◌⊎◌, ◌-◌, ◌^◌, IfOk, IfErr, Some, codes, is_some, map, true};
 ghost use Rattle.clap.specs.Words.{first_value, found_of, kind_of};
-ghost use Rattle.rj_line.specs.Line.{AreNumbersIn, AreSettings, HasValues, IsLineFault, IsLineOf, IsNameOf, IsNamedOr, IsNumberIn, IsNumberOr, IsParseOf, IsRequestFault, IsRequestOf, IsStrictName, IsStrictness, hash_name, is_true, texts_found};
+ghost use Rattle.rj_line.specs.Named.{IsNameOf, IsNamedOr};
+ghost use Rattle.rj_line.specs.Line.{AreNumbersIn, AreSettings, HasValues, IsLineFault, IsLineOf, IsNumberIn, IsNumberOr, IsParseOf, IsRequestFault, IsRequestOf, IsStrictName, IsStrictness, hash_name, is_true, texts_found};
 
+use crate::choosing::choice_of;
 use crate::nulls::read_nulls;
 use crate::options::line_command;
 use crate::request::{Hash, Request, Strictness};
@@ -144,6 +146,10 @@ fn request_of<'a>(alloc: Global, matches: &ArgMatches<'a>) -> Result<Request<'a>
         Ok(nulls) => nulls,
         Err(fault) => return Err(fault),
     };
+    let choice = match choice_of(alloc, matches) {
+        Ok(choice) => choice,
+        Err(fault) => return Err(fault),
+    };
     Ok(Request {
         left_types,
         right_types,
@@ -155,6 +161,7 @@ fn request_of<'a>(alloc: Global, matches: &ArgMatches<'a>) -> Result<Request<'a>
         settings: settings_of(matches),
         hash: hash_of(matches),
         tells_pieces: matches.get_str("piece").is_some(),
+        choice,
     })
 }
 
@@ -163,8 +170,8 @@ fn request_of<'a>(alloc: Global, matches: &ArgMatches<'a>) -> Result<Request<'a>
 /// # Errors
 ///
 /// A line that `clap` refuses, or that asks for help or the version, is `Fault::CommandLine`; a bad type list is told
-/// after that, the left one before the right one, and then more than four null texts on the left, and on the right.
-/// `Fault::Memory` comes only where a growth was refused.
+/// after that, the left one before the right one, and then more than four null texts on the left, and on the right, then a bad
+/// list of kinds of rows, and then `MatchedLeftColumns`. `Fault::Memory` comes only where a growth was refused.
 pub fn read_line<'a>(alloc: Global, words: &'a [&'a str]) -> Result<Line<'a>, Fault>
     ensures line { IfOk result (IsLineOf (map (λ w. w.now) words.entry.now)) }
     ensures fault { IfErr result (IsLineFault (map (λ w. w.now) words.entry.now)) }

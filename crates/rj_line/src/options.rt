@@ -38,7 +38,7 @@ pub(crate) struct LineOption {
 // The bits of the hash that a pass partitions by.
 const BITS: Takes = Takes::Number(0, 10);
 
-const OPTIONS: [LineOption; 22] = [
+const OPTIONS: [LineOption; 25] = [
     LineOption {
         name: "left",
         takes: Takes::Required,
@@ -149,6 +149,22 @@ const OPTIONS: [LineOption; 22] = [
         name: "output",
         takes: Takes::Text,
         help: "File that gets the whole result at the end, or nothing [default: standard output]",
+    },
+    LineOption {
+        name: "order",
+        takes: Takes::Word(&["pairs", "left"]),
+        help: "Order of the rows: pairs before rows in no pair, or each left row at its place [default: pairs]",
+    },
+    LineOption {
+        name: "rows",
+        takes: Takes::Text,
+        help: "Rows that are written, of pairs, lone-left, lone-right and, with --columns left, matched-left \
+            [default: pairs,lone-left,lone-right]",
+    },
+    LineOption {
+        name: "columns",
+        takes: Takes::Word(&["all", "left", "right"]),
+        help: "Columns that are written: all, or those of one table [default: all]",
     },
 ];
 

@@ -5,8 +5,12 @@ use Rattle.clap.proofs.WalkLemmas.{first_value-rows, raw_values-rows}
 use Rattle.rj_line.specs.Line.{IsLineFault}
 use Rattle.rj_fault.specs.declared.fault.Fault.TheVariants as fault
 use Rattle.rj_line.specs.Options.{OptionWords, line_app, option_rules}
-use Rattle.rj_line.proofs.ChainFacts.{wanted_given}
+use Rattle.std.specs.List.{list_all}
+use Rattle.rj_line.proofs.ChainFacts.{are_distinct, fits_option, wanted_given}
+use Rattle.rj_line.specs.Choices.{columns_name, order_name}
 use Rattle.rj_line.specs.Line.{hash_name}
+use Rattle.rj_settings.specs.declared.choice.ColumnChoice.TheVariants as columns
+use Rattle.rj_settings.specs.declared.choice.RowOrder.TheVariants as order
 use Rattle.rj_line.specs.declared.request.Hash.TheVariants as hash
 use Rattle.rj_line.proofs.NumberFacts.{name_given, number_given, strict_given}
 use Rattle.rj_line.proofs.line.parse_words.Goals as goal
@@ -27,9 +31,10 @@ returns-in-Ok-try_get_matches_from-clause-ok c =
     let m = c.in-Ok-try_get_matches_from.matches in
     let got = c.in-Ok-try_get_matches_from.ensures in
     let rows = (got.matches (ap is_simple command.app ∙ simple h)).0 ∙ ap (λ (a : App). matches_of a words) command.app in
-    let given = wanted_given command.start c.in-Ok.command (option_rules h) m command.bare command.chain refl refl in
-    let number = number_given command.start c.in-Ok.command (option_rules h) m command.bare command.chain refl refl in
-    let named = name_given command.start c.in-Ok.command (option_rules h) m command.bare command.chain refl refl in
+    let fits : list_all fits_option (option_rules h) ≡ true = refl in
+    let distinct : are_distinct (option_rules h) ≡ true = refl in
+    let given = wanted_given command.start c.in-Ok.command (option_rules h) m command.bare command.chain fits distinct in
+    let number = number_given command.start c.in-Ok.command (option_rules h) m command.bare command.chain fits distinct in
     record {
       option_words = h;
       accepted = ap (λ (a : App). fault_of a words) (sym command.app) ∙ got.kinds (ap is_simple_and_free command.app ∙ free h);
@@ -51,8 +56,10 @@ returns-in-Ok-try_get_matches_from-clause-ok c =
           retries = number 17 0 3 (lit< tt) refl got.parsed;
           piece = number 18 1 1048576 (lit< tt) refl got.parsed;
         };
-        hash = named hash_name (hash.Plain ∷ hash.Mixed ∷ []) h.hashes h.are_hashes 12 (lit< tt) refl refl got.parsed;
-        strict = strict_given command.start c.in-Ok.command (option_rules h) m command.bare command.chain refl refl 9 (lit< tt) h refl refl got.parsed;
+        hash = name_given command.start c.in-Ok.command (option_rules h) m command.bare command.chain fits distinct hash_name (hash.Plain ∷ hash.Mixed ∷ []) h.hashes h.are_hashes 12 (lit< tt) refl refl got.parsed;
+        order = name_given command.start c.in-Ok.command (option_rules h) m command.bare command.chain fits distinct order_name (order.PairsFirst ∷ order.LeftFirst ∷ []) h.orders h.are_orders 22 (lit< tt) refl refl got.parsed;
+        columns = name_given command.start c.in-Ok.command (option_rules h) m command.bare command.chain fits distinct columns_name (columns.All ∷ columns.Left ∷ columns.Right ∷ []) h.sides h.are_sides 24 (lit< tt) refl refl got.parsed;
+        strict = strict_given command.start c.in-Ok.command (option_rules h) m command.bare command.chain fits distinct 9 (lit< tt) h refl refl got.parsed;
       };
     }
 

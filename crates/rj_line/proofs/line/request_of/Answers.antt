@@ -2,7 +2,7 @@ use Rattle.std.proofs.Common.{◌≡◌, ◌∙◌, ap, length, refl, sym, [], O
 use Rattle.std.proofs.lemmas.List.{length-map}
 use Rattle.clap.specs.Words.{Text, first_value, found_of}
 use Rattle.rj_line.specs.Line.{nulls_or, texts_found}
-use Rattle.rj_line.proofs.LineFacts.{few_given, left_list_fault, left_nulls_fault, right_list_fault, right_nulls_fault}
+use Rattle.rj_line.proofs.LineFacts.{choice_fault, few_given, left_list_fault, left_nulls_fault, right_list_fault, right_nulls_fault}
 use Rattle.rj_line.proofs.line.request_of.Goals as goal
 
 -- the value of an option, or its default
@@ -32,6 +32,7 @@ returns-clause-request c =
       strict = c.strictness_of.ensures;
       settings = c.settings_of.ensures;
       hash = c.hash_of.ensures;
+      choice = c.in-Ok-choice_of.ensures.choice;
       tells_pieces = c.is_some.ensures ∙ same-given _ c.get_str-3.result c.get_str-3.ensures;
     }
 
@@ -51,6 +52,23 @@ returns-in-Err-read_nulls-clause-fault c =
       (c.in_ok-left_types.left_types.items, (c.given.result.now, c.given.ensures, c.in_ok-left_types.ensures.types)),
       (c.in_ok-right_types.right_types.items, (c.given-2.result.now, c.given-2.ensures, c.in_ok-right_types.ensures.types)),
     ) (few_given own c.unwrap_or-null.result.now _ count c.in-Ok.ensures.few) c.in-Err-read_nulls.ensures.fault
+
+pub returns-in-Err-choice_of-clause-fault : goal.returns-in-Err-choice_of-clause-fault
+returns-in-Err-choice_of-clause-fault c =
+    let found = found_of c.args.matches.now in
+    let null = c.unwrap_or-null.result.now in
+    let lefts : length c.in-Ok.nulls.items ≡ length (nulls_or (texts_found found (codes "left-null")) null) =
+    sym (length-map c.in-Ok.nulls.items (λ (n : Bor Text). n.now)) ∙ ap length c.in-Ok.ensures.texts in
+    let rights : length c.in-Ok-read_nulls.nulls.items ≡ length (nulls_or (texts_found found (codes "right-null")) null) =
+    sym (length-map c.in-Ok-read_nulls.nulls.items (λ (n : Bor Text). n.now)) ∙ ap length c.in-Ok-read_nulls.ensures.texts in
+    choice_fault (first_value found) (texts_found found) c.in-Err-choice_of.fault (
+      (
+        (c.in_ok-left_types.left_types.items, (c.given.result.now, c.given.ensures, c.in_ok-left_types.ensures.types)),
+        (c.in_ok-right_types.right_types.items, (c.given-2.result.now, c.given-2.ensures, c.in_ok-right_types.ensures.types)),
+      ),
+      few_given _ null _ lefts c.in-Ok.ensures.few,
+      few_given _ null _ rights c.in-Ok-read_nulls.ensures.few,
+    ) c.in-Err-choice_of.ensures.fault
 
 pub returns-in_err-left_types-clause-fault : goal.returns-in_err-left_types-clause-fault
 returns-in_err-left_types-clause-fault c =
