@@ -57,6 +57,7 @@ status_of (fault.BadTypeList side) = 2
 status_of (fault.TooManyNulls side) = 2
 status_of fault.BadRows = 2
 status_of fault.MatchedLeftColumns = 2
+status_of fault.BadSuffix = 2
 status_of (fault.NoHeader side) = 3
 status_of (fault.BadName side column) = 3
 status_of (fault.RepeatedName side column) = 3

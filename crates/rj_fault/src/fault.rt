@@ -51,6 +51,9 @@ pub enum Fault {
     /// Left rows that are in a pair are to be written, and not the columns of the left table alone.
     #[error("radixjoin: --rows matched-left needs --columns left")]
     MatchedLeftColumns,
+    /// A text that is to be added to a repeated name has no byte, or more than 16.
+    #[error("radixjoin: bad suffix of repeated names")]
+    BadSuffix,
     /// A file has no record at all.
     #[error("radixjoin: E1 NoHeader {0}")]
     NoHeader(Side),
@@ -206,6 +209,7 @@ impl Fault {
             | Fault::TooManyNulls(_)
             | Fault::BadRows
             | Fault::MatchedLeftColumns
+            | Fault::BadSuffix
             | Fault::TwoStandardInputs => 2,
             Fault::NoHeader(_)
             | Fault::BadName(_, _)
