@@ -1,6 +1,6 @@
 # Completion of radixjoin for bash: options that were not given yet, files, and the words of options.
 _radixjoin() {
-    local options="--left --right --left-types --right-types --join --null --left-null --right-null --out-null --strict --stats --order --rows --columns --repeated --output --explain --workers
+    local options="--left --right --left-types --right-types --join --null --left-null --right-null --out-null --strict --stats --order --rows --columns --repeated --expect --max-rows --count --report --output --explain --workers
         --bits1 --bits2 --hash --piece --block --capacity --lanes --retries --help --version"
     local word=${COMP_WORDS[COMP_CWORD]} before=${COMP_WORDS[COMP_CWORD - 1]}
     # `--left=a` is three words here: --left, = and a.
@@ -35,6 +35,9 @@ _radixjoin() {
         --repeated)
             mapfile -t COMPREPLY < <(compgen -W "keep qualify" -- "$word")
             ;;
+        --expect)
+            mapfile -t COMPREPLY < <(compgen -W "one-to-one many-to-one one-to-many" -- "$word")
+            ;;
         --hash)
             mapfile -t COMPREPLY < <(compgen -W "plain mixed" -- "$word")
             ;;
@@ -47,7 +50,7 @@ _radixjoin() {
                 mapfile -t COMPREPLY < <(compgen -P @ -f -- "${word#@}")
             fi
             ;;
-        --join | --null | --left-null | --right-null | --out-null | --workers | --bits1 | --bits2 | --piece | --block | --capacity | --lanes | --retries) ;;
+        --join | --null | --left-null | --right-null | --out-null | --workers | --bits1 | --bits2 | --piece | --block | --capacity | --lanes | --retries | --max-rows) ;;
         *)
             local option left=
             for option in $options; do

@@ -2,6 +2,7 @@
 
 Options are long ones, used at most once but for those of a side's null texts; `--name value` and `--name=value` mean the same, and a value that begins
 with `-` is given by `=` (but `-` alone is a value)."""
+import math
 import re
 
 from .faults import BadLine, Fault, Help
@@ -68,6 +69,10 @@ OPTIONS_OF = {
         "order": Word(("pairs", "left"), "pairs"),
         "rows": TEXT,
         "repeated": TEXT,
+        "expect": Word(("one-to-one", "many-to-one", "one-to-many"), None),
+        "max-rows": Number(0, 4_294_967_295, math.inf),
+        "count": FLAG,
+        "report": FLAG,
         "columns": Word(("all", "left", "right"), "all"),
     },
     "arrivals": {"partition": Number(0, 1023), "senders": Number(1, 128), "block": Number(1, 65536), "gaps": FLAG},

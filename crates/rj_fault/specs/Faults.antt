@@ -49,7 +49,7 @@ abbrev pub write_fault : WriteRefused → Fault
 write_fault write.Memory = fault.Memory
 write_fault write.WriteDevice = fault.WriteDevice
 
--- 0 done, 2 command line, 3 input, 4 clause, 5 memory, 6 device
+-- 0 done, 2 command line, 3 input, 4 clause, 5 memory, 6 device, 7 not as expected
 abbrev pub status_of : Fault → ℕ
 status_of (fault.CommandLine e) = refused_status (kind_of e)
 status_of fault.NotText = 2
@@ -88,6 +88,7 @@ status_of (fault.ReadDevice side) = 6
 status_of fault.WriteDevice = 6
 status_of fault.TwoStandardInputs = 2
 status_of (fault.OutputIsInput side) = 6
+status_of fault.NotAsExpected = 7
 
 -- what `clap` tells in place of the fault
 abbrev pub clap_error_of : Fault → Option Error

@@ -145,6 +145,9 @@ pub enum Fault {
     /// A file to be read is the one that is written.
     #[error("radixjoin: E29 OutputIsInput {0}")]
     OutputIsInput(Side),
+    /// The joined table isn't as it was expected to be: a row is in more kept pairs, or there are more rows.
+    #[error("radixjoin: E30 NotAsExpected")]
+    NotAsExpected,
 }
 
 impl From<AllocError> for Fault {
@@ -198,7 +201,7 @@ impl Told for Fault {
 
 impl Fault {
     /// The exit status of a program that ends by this fault: 0 for help and the version, 2 for the command line, 3 for input, 4 for the clause, 5 for
-    /// memory, 6 for a device. It takes no memory.
+    /// memory, 6 for a device, 7 for a joined table that isn't as expected. It takes no memory.
     pub fn status(&self) -> u8
         ensures { result ≡ status_of self.now }
     {
@@ -238,6 +241,7 @@ impl Fault {
             | Fault::ClauseTooLong => 4,
             Fault::Memory => 5,
             Fault::ReadDevice(_) | Fault::WriteDevice | Fault::OutputIsInput(_) => 6,
+            Fault::NotAsExpected => 7,
         }
     }
 }

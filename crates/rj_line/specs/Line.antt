@@ -13,6 +13,9 @@ use Rattle.rj_fault.specs.declared.fault.Side.TheVariants as side
 use Rattle.rj_line.specs.declared.line.Line.{Line}
 use Rattle.rj_line.specs.declared.request.Hash.{Hash}
 use Rattle.rj_line.specs.declared.request.Hash.TheVariants as hash
+use Rattle.rj_settings.specs.declared.expectation.Expectation.{Expectation}
+use Rattle.rj_settings.specs.declared.expectation.Matching.{Matching}
+use Rattle.rj_settings.specs.declared.expectation.Matching.TheVariants as matching
 use Rattle.rj_line.specs.declared.request.Request.{Request}
 use Rattle.rj_line.specs.declared.request.Strictness.{Strictness}
 use Rattle.rj_line.specs.declared.request.Strictness.TheVariants as strictness
@@ -74,6 +77,23 @@ abbrev pub hash_name : Hash → Text
 hash_name hash.Plain = codes "plain"
 hash_name hash.Mixed = codes "mixed"
 
+-- the name of an expectation of the pairs
+abbrev pub matching_name : Matching → Text
+matching_name matching.OneToOne = codes "one-to-one"
+matching_name matching.ManyToOne = codes "many-to-one"
+matching_name matching.OneToMany = codes "one-to-many"
+
+-- the number that an option's value spells, where it has one
+abbrev pub SpellsSome : Option Text → Option ℕ → Type 0
+SpellsSome None n = n ≡ None
+SpellsSome (Some text) None = ⊥
+SpellsSome (Some text) (Some n) = Spells text n
+
+-- what the values of the options expect of a joined table
+pub record IsExpectationOf (word : Text → Option Text) (e : Expectation) : Type 0 where
+  pub matching : option_map matching_name e.matching ≡ word (codes "expect")
+  pub most_rows : SpellsSome (word (codes "max-rows")) e.most_rows
+
 -- how strictly an option's value says that files are read, `Off` where it has none
 abbrev pub IsStrictness : Option Text → Strictness → Type 0
 IsStrictness None s = s ≡ strictness.Off
@@ -113,6 +133,7 @@ pub record IsRequestOf (word : Text → Option Text) (texts : Text → List Text
   pub hash : IsNamedOr hash_name hash.Plain (word (codes "hash")) r.hash
   pub tells_pieces : r.tells_pieces ≡ is_some (word (codes "piece"))
   pub choice : IsChoiceOf word r.choice
+  pub expectation : IsExpectationOf word r.expectation
 
 -- `clap` has no fault to tell, each option that is required is given, and each value is the one given or the default
 pub record IsLineOf (words : List Text) (l : Line) : Type 0 where
@@ -124,6 +145,8 @@ pub record IsLineOf (words : List Text) (l : Line) : Type 0 where
   pub stats : l.stats ≡ is_true (word_of option_words words (codes "stats"))
   pub explain : l.explain ≡ is_true (word_of option_words words (codes "explain"))
   pub output : option_map (λ s. s.now) l.output ≡ word_of option_words words (codes "output")
+  pub count : l.count ≡ is_true (word_of option_words words (codes "count"))
+  pub report : l.report ≡ is_true (word_of option_words words (codes "report"))
 
 -- both type lists are such lists
 abbrev pub GiveTypes : (Text → Option Text) → Type 0
@@ -175,6 +198,8 @@ pub record HasValues (word : Text → Option Text) : Type 0 where
   pub strict : IsStrictName (word (codes "strict"))
   pub order : IsNameOf order_name (word (codes "order"))
   pub columns : IsNameOf columns_name (word (codes "columns"))
+  pub expect : IsNameOf matching_name (word (codes "expect"))
+  pub most_rows : IsNumberIn 0 4294967295 (word (codes "max-rows"))
 
 -- the matches of the words, with the names of both files, and the values that a request is read from
 pub record IsParseOf (words : List Text) (m : ArgMatches) : Type 0 where

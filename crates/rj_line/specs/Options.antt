@@ -49,6 +49,8 @@ pub record OptionWords : Type 0 where
   pub are_orders : map (λ w. w.now) orders.now ≡ codes "pairs" ∷ codes "left" ∷ []
   pub sides : Bor (List (Bor Text))
   pub are_sides : map (λ w. w.now) sides.now ≡ codes "all" ∷ codes "left" ∷ codes "right" ∷ []
+  pub matchings : Bor (List (Bor Text))
+  pub are_matchings : map (λ w. w.now) matchings.now ≡ codes "one-to-one" ∷ codes "many-to-one" ∷ codes "one-to-many" ∷ []
 
 -- the options, in order
 abbrev pub option_rules : OptionWords → List Rule
@@ -79,6 +81,10 @@ option_rules h =
     ∷ rule_for (codes "rows") takes.Text
     ∷ rule_for (codes "columns") (takes.Word h.sides)
     ∷ rule_for (codes "repeated") takes.Text
+    ∷ rule_for (codes "expect") (takes.Word h.matchings)
+    ∷ rule_for (codes "max-rows") (takes.Number 0 4294967295)
+    ∷ rule_for (codes "count") takes.Nothing
+    ∷ rule_for (codes "report") takes.Nothing
     ∷ []
 
 -- a command with these rules more

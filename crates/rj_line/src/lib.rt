@@ -2,6 +2,7 @@
 #![tactic(auto)]
 
 mod choosing;
+mod expecting;
 mod line;
 mod nulls;
 mod options;

@@ -6,6 +6,7 @@ ghost use Rattle.rj_line.specs.Named.{IsNameOf, IsNamedOr};
 ghost use Rattle.rj_line.specs.Line.{AreNumbersIn, AreSettings, HasValues, IsLineFault, IsLineOf, IsNumberIn, IsNumberOr, IsParseOf, IsRequestFault, IsRequestOf, IsStrictName, IsStrictness, hash_name, is_true, texts_found};
 
 use crate::choosing::choice_of;
+use crate::expecting::expectation_of;
 use crate::nulls::read_nulls;
 use crate::options::line_command;
 use crate::request::{Hash, Request, Strictness};
@@ -31,6 +32,10 @@ pub struct Line<'a> {
     pub explain: bool,
     /// The name of the file that the result is written to, in place of standard output.
     pub output: Option<&'a str>,
+    /// Whether the numbers of rows are asked for in place of the rows.
+    pub count: bool,
+    /// Whether a report on the tables and the join is asked for.
+    pub report: bool,
 }
 
 // The fault of an error of `clap`'s.
@@ -162,6 +167,7 @@ fn request_of<'a>(alloc: Global, matches: &ArgMatches<'a>) -> Result<Request<'a>
         hash: hash_of(matches),
         tells_pieces: matches.get_str("piece").is_some(),
         choice,
+        expectation: expectation_of(matches),
     })
 }
 
@@ -188,5 +194,7 @@ pub fn read_line<'a>(alloc: Global, words: &'a [&'a str]) -> Result<Line<'a>, Fa
         stats: is_given(&matches, "stats"),
         explain: is_given(&matches, "explain"),
         output: matches.get_str("output"),
+        count: is_given(&matches, "count"),
+        report: is_given(&matches, "report"),
     })
 }

@@ -38,7 +38,7 @@ pub(crate) struct LineOption {
 // The bits of the hash that a pass partitions by.
 const BITS: Takes = Takes::Number(0, 10);
 
-const OPTIONS: [LineOption; 26] = [
+const OPTIONS: [LineOption; 30] = [
     LineOption {
         name: "left",
         takes: Takes::Required,
@@ -171,6 +171,26 @@ const OPTIONS: [LineOption; 26] = [
         takes: Takes::Text,
         help: "Names that stand twice in the header: keep them, or for the later one: qualify writes R.id, and any other \
             text is added to it [default: keep]",
+    },
+    LineOption {
+        name: "expect",
+        takes: Takes::Word(&["one-to-one", "many-to-one", "one-to-many"]),
+        help: "Write nothing where a row has more partners than this says (E30)",
+    },
+    LineOption {
+        name: "max-rows",
+        takes: Takes::Number(0, 4_294_967_295),
+        help: "Write nothing where the result has more rows (E30), 0 to 4294967295",
+    },
+    LineOption {
+        name: "count",
+        takes: Takes::Nothing,
+        help: "Print in place of the result how many rows of each kind it has",
+    },
+    LineOption {
+        name: "report",
+        takes: Takes::Nothing,
+        help: "Print on standard error how many rows, nulls and repeated keys the tables have, and what came of them",
     },
 ];
 

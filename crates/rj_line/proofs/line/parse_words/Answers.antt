@@ -8,7 +8,8 @@ use Rattle.rj_line.specs.Options.{OptionWords, line_app, option_rules}
 use Rattle.std.specs.List.{list_all}
 use Rattle.rj_line.proofs.ChainFacts.{are_distinct, fits_option, wanted_given}
 use Rattle.rj_line.specs.Choices.{columns_name, order_name}
-use Rattle.rj_line.specs.Line.{hash_name}
+use Rattle.rj_line.specs.Line.{hash_name, matching_name}
+use Rattle.rj_settings.specs.declared.expectation.Matching.TheVariants as matching
 use Rattle.rj_settings.specs.declared.choice.ColumnChoice.TheVariants as columns
 use Rattle.rj_settings.specs.declared.choice.RowOrder.TheVariants as order
 use Rattle.rj_line.specs.declared.request.Hash.TheVariants as hash
@@ -56,6 +57,8 @@ returns-in-Ok-try_get_matches_from-clause-ok c =
           retries = number 17 0 3 (lit< tt) refl got.parsed;
           piece = number 18 1 1048576 (lit< tt) refl got.parsed;
         };
+        expect = name_given command.start c.in-Ok.command (option_rules h) m command.bare command.chain fits distinct matching_name (matching.OneToOne ∷ matching.ManyToOne ∷ matching.OneToMany ∷ []) h.matchings h.are_matchings 26 (lit< tt) refl refl got.parsed;
+        most_rows = number 27 0 4294967295 (lit< tt) refl got.parsed;
         hash = name_given command.start c.in-Ok.command (option_rules h) m command.bare command.chain fits distinct hash_name (hash.Plain ∷ hash.Mixed ∷ []) h.hashes h.are_hashes 12 (lit< tt) refl refl got.parsed;
         order = name_given command.start c.in-Ok.command (option_rules h) m command.bare command.chain fits distinct order_name (order.PairsFirst ∷ order.LeftFirst ∷ []) h.orders h.are_orders 22 (lit< tt) refl refl got.parsed;
         columns = name_given command.start c.in-Ok.command (option_rules h) m command.bare command.chain fits distinct columns_name (columns.All ∷ columns.Left ∷ columns.Right ∷ []) h.sides h.are_sides 24 (lit< tt) refl refl got.parsed;
