@@ -180,6 +180,9 @@ class Request:
         self.rows = self.rows_of(found, bad)
         if "matched-left" in self.rows and self.columns != "left":
             raise bad("--rows matched-left needs --columns left")
+        self.expect = found.get("expect")
+        self.most_rows = found.get("max-rows", options["max-rows"].default)
+        self.counts = "count" in found
         self.repeated = found.get("repeated", "keep")
         if self.repeated not in ("keep", "qualify") and not 1 <= len(self.repeated.encode()) <= LONGEST_SUFFIX:
             raise bad("bad suffix of repeated names")

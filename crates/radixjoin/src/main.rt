@@ -9,7 +9,7 @@ mod suggesting;
 use crate::inputs::{is_standard_input, read_table, refuse_output};
 use crate::lists::read_lists;
 use crate::suggesting::suggest;
-use rj_command::{Line, Open, read_line, run_owned};
+use rj_command::{Line, Open, count, read_line, run_owned};
 use rj_csv_io::CountedWriter;
 use rj_fault::{Fault, Side, read_words, tell, texts_of};
 use std::env::Env;
@@ -42,6 +42,9 @@ fn join<R: Files + Input + AllocGlobal + Print + Eprint + Threads + Wait + Clock
     let left = read_table(rt, line.left, Side::Left)?;
     let right = read_table(rt, line.right, Side::Right)?;
     let mut writer = CountedWriter::new(io::writer(rt));
+    if line.count {
+        return count(rt, alloc, left, right, &line.request, &Open, &mut writer);
+    }
     let stats = run_owned(rt, alloc, left, right, &line.request, &Open, &mut writer)?;
     if line.stats {
         let _ = eprintln!(rt; "{stats}");

@@ -37,7 +37,7 @@ pub joined_of_operands : (left right : List ℕ) (q : Request) (o : Operands) (b
     → IfOk result (WritesTables (hash_value q.hash) q o before after) → IfOk result (WritesJoined left right q before after)
 joined_of_operands left right q o before after result operands =
     let text = joined_text q.out_null.now o.join o.left o.right in
-    IfOk-weaker result _ _ (λ stats h. (text, record { l = o.left; r = o.right; join = o.join; operands = operands; counts = h.0; told_apart = h.1; shown = refl }, h.2))
+    IfOk-weaker result _ _ (λ stats h. (text, record { l = o.left; r = o.right; join = o.join; operands = operands; counts = h.0; expected = h.1; told_apart = h.2; shown = refl }, h.3))
 
 -- a fault of writing is one of a run
 pub no_other : (left right : List ℕ) (q : Request) (o : Operands) (result : Result Stats Fault) → AreOperands left right q o.left o.right o.join
@@ -46,7 +46,10 @@ no_other left right q o result operands = IfErr-weaker result _ _ (λ f h m d. e
   | inl e ↦ absurd (m e)
   | inr other ↦ elim other [
     | inl e ↦ absurd (d e)
-    | inr told ↦ inr (record { l = o.left; r = o.right; join = o.join; operands = operands; told = told })
+    | inr untold ↦ inr (elim untold [
+      | inl told ↦ inl (record { l = o.left; r = o.right; join = o.join; operands = operands; told = told })
+      | inr told ↦ inr (record { l = o.left; r = o.right; join = o.join; operands = operands; expected = told.0; told = told.1 })
+    ])
   ]
 ])
 

@@ -7,3 +7,5 @@ pub mod Operands
 pub mod Runs
 pub mod Sides
 pub mod Statistics
+pub mod Expected
+pub mod Counts

@@ -14,6 +14,7 @@ use Rattle.rj_engine.specs.Cells.{header_of, view_of}
 use Rattle.rj_engine.specs.Partitioned.{sizes_of}
 use Rattle.rj_engine.specs.Pools.{pieces_of_sizes}
 use Rattle.rj_engine.specs.Results.{joined_of}
+use Rattle.rj_command.specs.Expected.{IsExpected, IsUnexpected}
 use Rattle.rj_command.specs.Operands.{AreOperands, IsFirstFault}
 use Rattle.rj_fault.specs.declared.fault.Fault.{Fault}
 use Rattle.rj_fault.specs.declared.fault.Fault.TheVariants as fault
@@ -70,16 +71,18 @@ pub record IsCounted (value : List Content → ℕ) (q : Request) (l r : TableVa
 -- the text of the operands' joined table was written behind what the writer had been told, and this is counted of it
 abbrev pub WritesTables : (List Content → ℕ) → Request → Operands → Option (List ℕ) → Option (List ℕ) → Stats → Type 0
 WritesTables value q o before after stats =
-    IsCounted value q o.left o.right o.join stats × IsToldApart q.strict q.out_null.now (view_of o.join o.left o.right).cells
+    IsCounted value q o.left o.right o.join stats × IsExpected q o.join o.left o.right × IsToldApart q.strict q.out_null.now (view_of o.join o.left o.right).cells
     × Appends before after (joined_text q.out_null.now o.join o.left o.right)
 
 -- the joined table of the operands has a cell that can't be told from null, and this fault tells the first one
 abbrev pub HasNullFault : Request → Operands → Fault → Type 0
 HasNullFault q o f = IsNullFault q.strict q.out_null.now (view_of o.join o.left o.right).cells f
 
--- why operands' joined table isn't written: that, want of memory, or that the writer failed
+-- why operands' joined table isn't written: want of memory, that the writer failed, that the table isn't as expected, or that it is and
+-- has such a cell
 abbrev pub IsUnwritten : Request → Operands → Fault → Type 0
-IsUnwritten q o f = (f ≡ fault.Memory) ⊎ ((f ≡ fault.WriteDevice) ⊎ HasNullFault q o f)
+IsUnwritten q o f =
+    (f ≡ fault.Memory) ⊎ ((f ≡ fault.WriteDevice) ⊎ (IsUnexpected q o.join o.left o.right f ⊎ (IsExpected q o.join o.left o.right × HasNullFault q o f)))
 
 -- the text of the joined table of what the bytes denote, and what is counted of it
 pub record IsJoined (left right : List ℕ) (q : Request) (stats : Stats) (text : List ℕ) : Type 0 where
@@ -88,6 +91,7 @@ pub record IsJoined (left right : List ℕ) (q : Request) (stats : Stats) (text 
   pub join : BoundJoin
   pub operands : AreOperands left right q l r join
   pub counts : IsCounted (hash_value q.hash) q l r join stats
+  pub expected : IsExpected q join l r
   pub told_apart : IsToldApart q.strict q.out_null.now (view_of join l r).cells
   pub shown : text ≡ joined_text q.out_null.now join l r
 
@@ -95,17 +99,27 @@ pub record IsJoined (left right : List ℕ) (q : Request) (stats : Stats) (text 
 abbrev pub WritesJoined : List ℕ → List ℕ → Request → Option (List ℕ) → Option (List ℕ) → Stats → Type 0
 WritesJoined left right q before after stats = (text : List ℕ) × IsJoined left right q stats text × Appends before after text
 
--- the bytes denote two tables, whose joined table has a cell that can't be told from null
+-- the bytes denote two tables, whose joined table isn't as expected
+pub record IsFirstUnexpected (left right : List ℕ) (q : Request) (f : Fault) : Type 0 where
+  pub l : TableValue
+  pub r : TableValue
+  pub join : BoundJoin
+  pub operands : AreOperands left right q l r join
+  pub told : IsUnexpected q join l r f
+
+-- the bytes denote two tables, whose joined table is as expected and has a cell that can't be told from null
 pub record IsFirstNullFault (left right : List ℕ) (q : Request) (f : Fault) : Type 0 where
   pub l : TableValue
   pub r : TableValue
   pub join : BoundJoin
   pub operands : AreOperands left right q l r join
+  pub expected : IsExpected q join l r
   pub told : IsNullFault q.strict q.out_null.now (view_of join l r).cells f
 
 -- the fault of a run: but for want of memory and a failed writer, it is the first one of the operands, or of their joined table
 abbrev pub IsRunFault : List ℕ → List ℕ → Request → Fault → Type 0
-IsRunFault left right q f = f ≢ fault.Memory → f ≢ fault.WriteDevice → IsFirstFault left right q f ⊎ IsFirstNullFault left right q f
+IsRunFault left right q f =
+    f ≢ fault.Memory → f ≢ fault.WriteDevice → IsFirstFault left right q f ⊎ (IsFirstUnexpected left right q f ⊎ IsFirstNullFault left right q f)
 
 -- the bytes denote two tables, and the clause a join of them
 abbrev pub HasOperands : List ℕ → List ℕ → Request → Type 0

@@ -39,7 +39,7 @@ All-flat_range P f a (suc n) h =
 abbrev IsPairOf : ℕ → ℕ → ℕ × ℕ → Type 0
 IsPairOf m n p = (p.0 < m) × (p.1 < n)
 
-pairs-within : (keeps : ℕ → ℕ → Bool) (m n : ℕ) → All (IsPairOf m n) (pairs keeps m n)
+pub pairs-within : (keeps : ℕ → ℕ → Bool) (m n : ℕ) → All (IsPairOf m n) (pairs keeps m n)
 unfolding pairs product row_of
 pairs-within keeps m n =
     All-filter (λ p. keeps p.0 p.1) (IsPairOf m n) (flat_map (λ i. map (λ j. (i, j)) (range_with_len 0 n)) (range_with_len 0 m))
