@@ -24,3 +24,5 @@ pub mod ShardLone
 pub mod ShardMerges
 pub mod ShardFacts
 pub mod OnceFacts
+pub mod KeyOrder
+pub mod ChosenFacts

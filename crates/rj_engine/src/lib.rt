@@ -2,6 +2,8 @@
 #![tactic(auto)]
 
 mod cells;
+mod choices;
+mod choosing;
 mod closes;
 mod collecting;
 mod dealing;
@@ -19,6 +21,7 @@ mod sizes;
 mod view;
 mod working;
 
+pub use choices::{left_order, plain_choice};
 pub use closes::nothing_after_close;
 pub use gathering::gather;
 pub use joined::{Joined, JoinedRow, Rows};
@@ -26,7 +29,7 @@ pub use marks::unmatched;
 pub use nested_loops::nested_loop;
 pub use once::keyed_rows_stand_once;
 pub use partitions::run_join;
-pub use rj_settings::Settings;
+pub use rj_settings::{Choice, ColumnChoice, Repeated, RowKinds, RowOrder, Settings};
 pub use rj_workers::{Gate, Open, Place};
 pub use shards::{rows_stand_once, shard_is_part, shard_of_row, shards_merge};
-pub use view::{View, header};
+pub use view::{View, chosen_header, header};
