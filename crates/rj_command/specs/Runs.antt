@@ -11,6 +11,7 @@ use Rattle.rj_condition.specs.Splits.{keys_of}
 use Rattle.rj_columns.specs.Contents.{Content}
 use Rattle.rj_radix.specs.Hashes.{mixed, plain}
 use Rattle.rj_engine.specs.Cells.{header_of, view_of}
+use Rattle.rj_engine.specs.Chosen.{chosen_header, chosen_view}
 use Rattle.rj_engine.specs.Partitioned.{sizes_of}
 use Rattle.rj_engine.specs.Pools.{pieces_of_sizes}
 use Rattle.rj_engine.specs.Results.{joined_of}
@@ -30,6 +31,10 @@ use Rattle.rj_command.specs.declared.join.stats.Stats.{Stats}
 -- the text of the joined table of two tables by a bound join
 abbrev pub joined_text : List ℕ → BoundJoin → TableValue → TableValue → List ℕ
 joined_text null join l r = table_text null (header_of join l r) (view_of join l r).cells
+
+-- the text of what is chosen of it; where all is chosen, that is the text of the joined table (the law `plain_text`)
+abbrev pub chosen_text : Request → BoundJoin → TableValue → TableValue → List ℕ
+chosen_text q join l r = table_text q.out_null.now (chosen_header q.choice join l r) (chosen_view q.choice join l r).cells
 
 -- read strictly, rows have no cell that isn't null and is written as null is
 abbrev pub IsToldApart : Strictness → List ℕ → List (List Content) → Type 0
@@ -67,41 +72,41 @@ pub record IsCounted (value : List Content → ℕ) (q : Request) (l r : TableVa
   pub pieces : stats.pieces ≡ pieces_of_sizes q.settings.piece (map (λ p. p.left) stats.partitions.items) (map (λ p. p.right) stats.partitions.items)
   pub tells_pieces : stats.tells_pieces ≡ q.tells_pieces
 
--- the text of the operands' joined table was written behind what the writer had been told, and this is counted of it
+-- the text of what is chosen of the operands' joined table was written behind what the writer had been told, and this is counted of it
 abbrev pub WritesTables : (List Content → ℕ) → Request → Operands → Option (List ℕ) → Option (List ℕ) → Stats → Type 0
 WritesTables value q o before after stats =
-    IsCounted value q o.left o.right o.join stats × IsToldApart q.strict q.out_null.now (view_of o.join o.left o.right).cells
-    × Appends before after (joined_text q.out_null.now o.join o.left o.right)
+    IsCounted value q o.left o.right o.join stats × IsToldApart q.strict q.out_null.now (chosen_view q.choice o.join o.left o.right).cells
+    × Appends before after (chosen_text q o.join o.left o.right)
 
--- the joined table of the operands has a cell that can't be told from null, and this fault tells the first one
+-- what is chosen of the joined table of the operands has a cell that can't be told from null, and this fault tells the first one
 abbrev pub HasNullFault : Request → Operands → Fault → Type 0
-HasNullFault q o f = IsNullFault q.strict q.out_null.now (view_of o.join o.left o.right).cells f
+HasNullFault q o f = IsNullFault q.strict q.out_null.now (chosen_view q.choice o.join o.left o.right).cells f
 
 -- why operands' joined table isn't written: that, want of memory, or that the writer failed
 abbrev pub IsUnwritten : Request → Operands → Fault → Type 0
 IsUnwritten q o f = (f ≡ fault.Memory) ⊎ ((f ≡ fault.WriteDevice) ⊎ HasNullFault q o f)
 
--- the text of the joined table of what the bytes denote, and what is counted of it
+-- the text of what is chosen of the joined table of what the bytes denote, and what is counted of that table
 pub record IsJoined (left right : List ℕ) (q : Request) (stats : Stats) (text : List ℕ) : Type 0 where
   pub l : TableValue
   pub r : TableValue
   pub join : BoundJoin
   pub operands : AreOperands left right q l r join
   pub counts : IsCounted (hash_value q.hash) q l r join stats
-  pub told_apart : IsToldApart q.strict q.out_null.now (view_of join l r).cells
-  pub shown : text ≡ joined_text q.out_null.now join l r
+  pub told_apart : IsToldApart q.strict q.out_null.now (chosen_view q.choice join l r).cells
+  pub shown : text ≡ chosen_text q join l r
 
--- the text of the joined table of what the bytes denote was written behind what the writer had been told
+-- that text was written behind what the writer had been told
 abbrev pub WritesJoined : List ℕ → List ℕ → Request → Option (List ℕ) → Option (List ℕ) → Stats → Type 0
 WritesJoined left right q before after stats = (text : List ℕ) × IsJoined left right q stats text × Appends before after text
 
--- the bytes denote two tables, whose joined table has a cell that can't be told from null
+-- the bytes denote two tables, and what is chosen of their joined table has a cell that can't be told from null
 pub record IsFirstNullFault (left right : List ℕ) (q : Request) (f : Fault) : Type 0 where
   pub l : TableValue
   pub r : TableValue
   pub join : BoundJoin
   pub operands : AreOperands left right q l r join
-  pub told : IsNullFault q.strict q.out_null.now (view_of join l r).cells f
+  pub told : IsNullFault q.strict q.out_null.now (chosen_view q.choice join l r).cells f
 
 -- the fault of a run: but for want of memory and a failed writer, it is the first one of the operands, or of their joined table
 abbrev pub IsRunFault : List ℕ → List ℕ → Request → Fault → Type 0

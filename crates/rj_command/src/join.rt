@@ -1,5 +1,6 @@
 //! A run of the program `radixjoin`, from the bytes of two tables to the bytes of their joined table.
 
+mod laws;
 mod nulls;
 mod operands;
 mod running;
@@ -7,6 +8,7 @@ mod stats;
 mod strict;
 mod types;
 
+pub use self::laws::plain_text;
 pub use self::operands::bind_clause;
 pub use self::running::{run, run_owned};
 pub use self::stats::{PartitionRows, Stats};

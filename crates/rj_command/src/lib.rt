@@ -4,7 +4,7 @@
 mod join;
 
 pub use join::{
-    PartitionRows, Stats, bind_clause, fault_of_text, read_strictly, run, run_owned,
+    PartitionRows, Stats, bind_clause, fault_of_text, plain_text, read_strictly, run, run_owned,
     types_of_header,
 };
 pub use rj_engine::Open;

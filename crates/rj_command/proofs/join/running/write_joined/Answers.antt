@@ -8,7 +8,8 @@ use Rattle.rj_engine.specs.Join.{JoinedValue, Outcome}
 use Rattle.rj_engine.specs.Partitioned.{rows_of_partition}
 use Rattle.rj_engine.specs.Pools.{pieces_of_sizes}
 use Rattle.std.proofs.lemmas.List.{length-map}
-use Rattle.rj_engine.specs.Cells.{ViewValue, columns_of, header_of, name_of}
+use Rattle.rj_engine.specs.Cells.{ViewValue, name_of}
+use Rattle.rj_engine.specs.Chosen.{chosen_columns, chosen_header}
 use Rattle.std.proofs.lemmas.Bool.{and_parts}
 use Rattle.rj_csv_io.specs.Ambiguous.{AreApart}
 use Rattle.rj_command.specs.Runs.{IsToldApart}
@@ -21,7 +22,7 @@ tell_apart-requires-clause-apart g c = λ both.
     let r = c.args.operands.now.right in
     let null = c.args.request.now.out_null.now in
     let sides = and_parts _ _ both in
-    subst (λ (v : ViewValue). AreApart null v.cells) (sym c.in_ok-view.ensures) (view-apart null l r (c.requires.apart.0 sides.0) (c.requires.apart.1 sides.1) c.args.operands.now.join)
+    subst (λ (v : ViewValue). AreApart null v.cells) (sym c.in_ok-view.ensures) (view-apart null l r (c.requires.apart.0 sides.0) (c.requires.apart.1 sides.1) c.args.request.now.choice c.args.operands.now.join)
 
 pub write_rows_in_parts-requires-clause-header : goal.write_rows_in_parts-requires-clause-header
 write_rows_in_parts-requires-clause-header g c κs within =
@@ -31,7 +32,7 @@ write_rows_in_parts-requires-clause-header g c κs within =
     let names = c.in_ok-names.names.items in
     ap length c.as_slice.ensures.value
     ∙ (sym (length-map names (λ (n : Bor (List ℕ)). n.now))
-    ∙ (ap length c.in_ok-names.ensures ∙ (length-map (columns_of join r) (name_of l r) ∙ sym (ap (λ (v : ViewValue). v.width) c.in_ok-view.ensures))))
+    ∙ (ap length c.in_ok-names.ensures ∙ (length-map (chosen_columns c.args.request.now.choice join r) (name_of l r) ∙ sym (ap (λ (v : ViewValue). v.width) c.in_ok-view.ensures))))
 
 pub returns-clause-ok : goal.returns-clause-ok
 returns-clause-ok g c =
@@ -47,7 +48,7 @@ returns-clause-ok g c =
     let many = ap length joined.left_sizes ∙ length-map-range_with_len (λ p. length (rows_of_partition value bits l (map (λ (k : ℕ × ℕ). k.0) (keys_of join)) p)) 0 (2 ^ bits) in
     let names = ap (map (λ (n : Bor (List ℕ)). n.now)) c.as_slice.ensures.value ∙ c.in_ok-names.ensures in
     let text =
-    ap (λ header. table_text null header c.in_ok-view.view.cells) names ∙ ap (λ (v : ViewValue). table_text null (header_of join l r) v.cells) c.in_ok-view.ensures in
+    ap (λ header. table_text null header c.in_ok-view.view.cells) names ∙ ap (λ (v : ViewValue). table_text null (chosen_header c.args.request.now.choice join l r) v.cells) c.in_ok-view.ensures in
     let Writes : List ℕ → Type 0 = λ t. Appends (g.O.Output.told c.args.writer.now) (g.O.Output.told c.write_rows_in_parts.new.output) t in (
       record {
         pairs = c.pairs.ensures ∙ (ap (λ (o : Outcome). length o.members.pairs) forgot ∙ ap (λ (m : JoinedValue). length m.pairs) joined.members);
