@@ -1,5 +1,5 @@
 -- What writing says of a whole run.
-use Rattle.std.proofs.Common.{◌≡◌, ◌∙◌, ◌∷◌, [], Bool, true, false, cond, inl, inr, ap, refl, sym, true≢false, List, Option, Some, None, ℕ}
+use Rattle.std.proofs.Common.{◌≡◌, ◌∙◌, ◌∷◌, [], Bool, true, false, cond, inl, inr, ap, refl, subst, sym, true≢false, List, Option, Some, None, ℕ}
 use Rattle.std.specs.Prelude.{◌≢◌, if◌then◌else◌, option_map, Result, Ok, Err, IfOk, IfErr}
 use Rattle.std.proofs.lemmas.Bool.{cases_Bool}
 use Rattle.csv.specs.Reading.{default_config, records, strip_bom}
@@ -38,6 +38,10 @@ pub joined_of_operands : (left right : List ℕ) (q : Request) (o : Operands) (b
 joined_of_operands left right q o before after result operands =
     let text = chosen_text q o.join o.left o.right in
     IfOk-weaker result _ _ (λ stats h. (text, record { l = o.left; r = o.right; join = o.join; operands = operands; counts = h.0; told_apart = h.1; shown = refl }, h.2))
+
+-- the first fault of the operands is one of a run
+pub of_operands : (left right : List ℕ) (q : Request) (result : Result Stats Fault) (f : Fault) → result ≡ Err f → (f ≢ fault.Memory → IsFirstFault left right q f) → IfErr result (IsRunFault left right q)
+of_operands left right q result f is told = subst (λ (r : Result Stats Fault). IfErr r (IsRunFault left right q)) (sym is) (λ m d. inl (told m))
 
 -- a fault of writing is one of a run
 pub no_other : (left right : List ℕ) (q : Request) (o : Operands) (result : Result Stats Fault) → AreOperands left right q o.left o.right o.join
