@@ -24,3 +24,4 @@ pub mod ShardLone
 pub mod ShardMerges
 pub mod ShardFacts
 pub mod OnceFacts
+pub mod NamingFacts

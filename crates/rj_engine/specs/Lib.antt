@@ -9,3 +9,4 @@ pub mod Stripes
 pub mod Pools
 pub mod Shards
 pub mod Once
+pub mod Naming
