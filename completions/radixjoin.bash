@@ -1,6 +1,6 @@
-# Completion of radixjoin for bash: options that were not given yet, files, and the words of --hash and --strict.
+# Completion of radixjoin for bash: options that were not given yet, files, and the words of options.
 _radixjoin() {
-    local options="--left --right --left-types --right-types --join --null --left-null --right-null --out-null --strict --stats --workers
+    local options="--left --right --left-types --right-types --join --null --left-null --right-null --out-null --strict --stats --order --rows --columns --repeated --output --explain --workers
         --bits1 --bits2 --hash --piece --block --capacity --lanes --retries --help --version"
     local word=${COMP_WORDS[COMP_CWORD]} before=${COMP_WORDS[COMP_CWORD - 1]}
     # `--left=a` is three words here: --left, = and a.
@@ -19,9 +19,21 @@ _radixjoin() {
     fi
     COMPREPLY=()
     case $before in
-        --left | --right | --suggest-types)
+        --left | --right | --output | --suggest-types)
             compopt -o filenames 2>/dev/null
             mapfile -t COMPREPLY < <(compgen -f -- "$word")
+            ;;
+        --order)
+            mapfile -t COMPREPLY < <(compgen -W "pairs left" -- "$word")
+            ;;
+        --rows)
+            mapfile -t COMPREPLY < <(compgen -W "pairs lone-left lone-right matched-left" -- "$word")
+            ;;
+        --columns)
+            mapfile -t COMPREPLY < <(compgen -W "all left right" -- "$word")
+            ;;
+        --repeated)
+            mapfile -t COMPREPLY < <(compgen -W "keep qualify" -- "$word")
             ;;
         --hash)
             mapfile -t COMPREPLY < <(compgen -W "plain mixed" -- "$word")

@@ -1,4 +1,4 @@
-# Completion of radixjoin for fish: options, files, and the words of --hash and --strict.
+# Completion of radixjoin for fish: options, files, and the words of options.
 complete -c radixjoin -f
 complete -c radixjoin -l left -r -F -d 'File of the left table'
 complete -c radixjoin -l right -r -F -d 'File of the right table'
@@ -11,6 +11,12 @@ complete -c radixjoin -l right-null -x -d 'Text that stands for null in the righ
 complete -c radixjoin -l out-null -x -d 'Text that is written for null'
 complete -c radixjoin -l strict -x -a 'on full' -d 'Refuse files that are not of RFC 4180'
 complete -c radixjoin -l stats -d 'Tell how many rows were joined and written'
+complete -c radixjoin -l order -x -a 'pairs left' -d 'Order of the rows'
+complete -c radixjoin -l rows -x -a 'pairs lone-left lone-right matched-left' -d 'Rows that are written'
+complete -c radixjoin -l columns -x -a 'all left right' -d 'Columns that are written'
+complete -c radixjoin -l repeated -x -a 'keep qualify' -d 'What becomes of names that stand twice'
+complete -c radixjoin -l output -r -F -d 'File that gets the result'
+complete -c radixjoin -l explain -d 'Tell more of a fault: where it is, and what stands there'
 complete -c radixjoin -l workers -x -d 'Threads that scan, and as many that join, 1 to 64'
 complete -c radixjoin -l bits1 -x -d 'Bits of the hash that name a partition, 0 to 10'
 complete -c radixjoin -l bits2 -x -d 'Bits of the hash that divide a partition, 0 to 10'

@@ -10,6 +10,12 @@ from . import joining, ledger, reading
 # What an option takes: any text that has to be given, any text, any text at each use, a number of a range, or nothing.
 TEXT, NEEDED_TEXT, TEXTS, FLAG = "text", "needed text", "texts", "flag"
 
+# The kinds of rows that can be written.
+KINDS = ("pairs", "lone-left", "lone-right", "matched-left")
+
+# The most bytes that are added to a repeated name at once.
+LONGEST_SUFFIX = 16
+
 # How many null texts a side has at most.
 MOST_NULLS = 4
 
@@ -57,6 +63,12 @@ OPTIONS_OF = {
         "retries": Number(0, 3, 1),
         "piece": Number(1, 1_048_576, 65_536),
         "stats": FLAG,
+        "explain": FLAG,
+        "output": TEXT,
+        "order": Word(("pairs", "left"), "pairs"),
+        "rows": TEXT,
+        "repeated": TEXT,
+        "columns": Word(("all", "left", "right"), "all"),
     },
     "arrivals": {"partition": Number(0, 1023), "senders": Number(1, 128), "block": Number(1, 65536), "gaps": FLAG},
 }
@@ -158,6 +170,22 @@ class Request:
         self.piece = found.get("piece", options["piece"].default)
         self.tells_pieces = "piece" in found
         self.stats = "stats" in found
+        self.order = found.get("order", options["order"].default)
+        self.columns = found.get("columns", options["columns"].default)
+        self.rows = self.rows_of(found, bad)
+        if "matched-left" in self.rows and self.columns != "left":
+            raise bad("--rows matched-left needs --columns left")
+        self.repeated = found.get("repeated", "keep")
+        if self.repeated not in ("keep", "qualify") and not 1 <= len(self.repeated.encode()) <= LONGEST_SUFFIX:
+            raise bad("bad suffix of repeated names")
+
+    @staticmethod
+    def rows_of(found, bad):
+        """The kinds of rows that are asked for."""
+        rows = found.get("rows", "pairs,lone-left,lone-right").split(",")
+        if not set(rows) <= {*KINDS} or len(rows) != len({*rows}) or {"pairs", "matched-left"} <= {*rows}:
+            raise bad("bad list of rows")
+        return rows
 
     @staticmethod
     def nulls_of(found, side, null, bad):

@@ -1,5 +1,7 @@
 pub use Rattle.rj_fault.specs.Faults
+pub use Rattle.rj_line.specs.Choices
 pub use Rattle.rj_line.specs.Line
+pub use Rattle.rj_line.specs.Named
 pub use Rattle.rj_line.specs.Options
 pub mod Operands
 pub mod Runs

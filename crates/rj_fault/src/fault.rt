@@ -44,6 +44,16 @@ pub enum Fault {
     /// More than four texts are to stand for null in a table.
     #[error("radixjoin: more than four null texts {0}")]
     TooManyNulls(Side),
+    /// A list of kinds of rows has another form than `pairs,lone-left,lone-right`, names a kind twice, or has both `pairs` and
+    /// `matched-left`.
+    #[error("radixjoin: bad list of rows")]
+    BadRows,
+    /// Left rows that are in a pair are to be written, and not the columns of the left table alone.
+    #[error("radixjoin: --rows matched-left needs --columns left")]
+    MatchedLeftColumns,
+    /// A text that is to be added to a repeated name has no byte, or more than 16.
+    #[error("radixjoin: bad suffix of repeated names")]
+    BadSuffix,
     /// A file has no record at all.
     #[error("radixjoin: E1 NoHeader {0}")]
     NoHeader(Side),
@@ -197,6 +207,9 @@ impl Fault {
             Fault::NotText
             | Fault::BadTypeList(_)
             | Fault::TooManyNulls(_)
+            | Fault::BadRows
+            | Fault::MatchedLeftColumns
+            | Fault::BadSuffix
             | Fault::TwoStandardInputs => 2,
             Fault::NoHeader(_)
             | Fault::BadName(_, _)

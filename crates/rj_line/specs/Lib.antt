@@ -1,3 +1,5 @@
 pub use Rattle.rj_settings.specs.Limits
 pub mod Line
 pub mod Options
+pub mod Choices
+pub mod Named

@@ -39,12 +39,16 @@ rule_for name takes.Nothing = record (new_rule name) { long = Some name; action 
 abbrev pub rule_of_option : LineOption → Rule
 rule_of_option o = rule_for o.name.now o.takes
 
--- the words that `--hash` and `--strict` take, wherever they stand in memory
+-- the words that options take, wherever they stand in memory
 pub record OptionWords : Type 0 where
   pub hashes : Bor (List (Bor Text))
   pub are_hashes : map (λ w. w.now) hashes.now ≡ codes "plain" ∷ codes "mixed" ∷ []
   pub levels : Bor (List (Bor Text))
   pub are_levels : map (λ w. w.now) levels.now ≡ codes "on" ∷ codes "full" ∷ []
+  pub orders : Bor (List (Bor Text))
+  pub are_orders : map (λ w. w.now) orders.now ≡ codes "pairs" ∷ codes "left" ∷ []
+  pub sides : Bor (List (Bor Text))
+  pub are_sides : map (λ w. w.now) sides.now ≡ codes "all" ∷ codes "left" ∷ codes "right" ∷ []
 
 -- the options, in order
 abbrev pub option_rules : OptionWords → List Rule
@@ -69,6 +73,12 @@ option_rules h =
     ∷ rule_for (codes "retries") (takes.Number 0 3)
     ∷ rule_for (codes "piece") (takes.Number 1 1048576)
     ∷ rule_for (codes "stats") takes.Nothing
+    ∷ rule_for (codes "explain") takes.Nothing
+    ∷ rule_for (codes "output") takes.Text
+    ∷ rule_for (codes "order") (takes.Word h.orders)
+    ∷ rule_for (codes "rows") takes.Text
+    ∷ rule_for (codes "columns") (takes.Word h.sides)
+    ∷ rule_for (codes "repeated") takes.Text
     ∷ []
 
 -- a command with these rules more

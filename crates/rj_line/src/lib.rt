@@ -1,6 +1,7 @@
 //! The command line of a join: its options, and the request that its words make.
 #![tactic(auto)]
 
+mod choosing;
 mod line;
 mod nulls;
 mod options;

@@ -38,7 +38,7 @@ pub(crate) struct LineOption {
 // The bits of the hash that a pass partitions by.
 const BITS: Takes = Takes::Number(0, 10);
 
-const OPTIONS: [LineOption; 20] = [
+const OPTIONS: [LineOption; 26] = [
     LineOption {
         name: "left",
         takes: Takes::Required,
@@ -139,6 +139,38 @@ const OPTIONS: [LineOption; 20] = [
         takes: Takes::Nothing,
         help: "Print on standard error how many rows each partition had, how many rows of each kind were written, \
             and where --piece is given how many pieces were joined",
+    },
+    LineOption {
+        name: "explain",
+        takes: Takes::Nothing,
+        help: "Print behind the line of a fault where it is, what stands there and what may have been meant",
+    },
+    LineOption {
+        name: "output",
+        takes: Takes::Text,
+        help: "File that gets the whole result at the end, or nothing [default: standard output]",
+    },
+    LineOption {
+        name: "order",
+        takes: Takes::Word(&["pairs", "left"]),
+        help: "Order of the rows: pairs before rows in no pair, or each left row at its place [default: pairs]",
+    },
+    LineOption {
+        name: "rows",
+        takes: Takes::Text,
+        help: "Rows that are written, of pairs, lone-left, lone-right and, with --columns left, matched-left \
+            [default: pairs,lone-left,lone-right]",
+    },
+    LineOption {
+        name: "columns",
+        takes: Takes::Word(&["all", "left", "right"]),
+        help: "Columns that are written: all, or those of one table [default: all]",
+    },
+    LineOption {
+        name: "repeated",
+        takes: Takes::Text,
+        help: "Names that stand twice in the header: keep them, or for the later one: qualify writes R.id, and any other \
+            text is added to it [default: keep]",
     },
 ];
 

@@ -1,6 +1,6 @@
 //! What a join is asked to do.
 
-use rj_settings::Settings;
+use rj_settings::{Choice, Settings};
 use rj_types::TypeEntry;
 
 /// The hash of a row's key, whose bits lead the row to its partition. No choice changes the rows of a join.
@@ -46,4 +46,6 @@ pub struct Request<'a> {
     pub hash: Hash,
     /// Whether the statistics tell the number of pieces.
     pub tells_pieces: bool,
+    /// What is written of the joined table.
+    pub choice: Choice<'a>,
 }

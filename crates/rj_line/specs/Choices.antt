@@ -1,0 +1,98 @@
+-- What the words of the command line choose of a joined table.
+use Rattle.std.specs.Prelude.{◌≡◌, ◌≢◌, ◌≤◌, ◌==◌, ◌||◌, ◌&&◌, length, if◌then◌else◌, Bool, true, false, List, Option, Some, None, codes}
+use Rattle.std.specs.List.{count_by, list_all, slice_split}
+use Rattle.std.specs.Str.{bytes_eq}
+use Rattle.clap.specs.Words.{Text}
+use Rattle.rj_fault.specs.declared.fault.Fault.{Fault}
+use Rattle.rj_fault.specs.declared.fault.Fault.TheVariants as fault
+use Rattle.rj_settings.specs.declared.choice.Choice.{Choice}
+use Rattle.rj_settings.specs.declared.choice.ColumnChoice.{ColumnChoice}
+use Rattle.rj_settings.specs.declared.choice.ColumnChoice.TheVariants as column
+use Rattle.rj_settings.specs.declared.choice.Repeated.{Repeated}
+use Rattle.rj_settings.specs.declared.choice.Repeated.TheVariants as repeated
+use Rattle.rj_settings.specs.declared.choice.RowKinds.{RowKinds}
+use Rattle.rj_settings.specs.declared.choice.RowOrder.{RowOrder}
+use Rattle.rj_settings.specs.declared.choice.RowOrder.TheVariants as order
+use Rattle.rj_line.specs.Named.{IsNamedOr}
+
+-- the name of an order
+abbrev pub order_name : RowOrder → Text
+order_name order.PairsFirst = codes "pairs"
+order_name order.LeftFirst = codes "left"
+
+-- the name of a choice of columns
+abbrev pub columns_name : ColumnChoice → Text
+columns_name column.All = codes "all"
+columns_name column.Left = codes "left"
+columns_name column.Right = codes "right"
+
+-- the word is the name of a kind of rows
+abbrev pub is_kind : Text → Bool
+is_kind word =
+    bytes_eq word (codes "pairs") || (bytes_eq word (codes "matched-left") || (bytes_eq word (codes "lone-left") || bytes_eq word (codes "lone-right")))
+
+-- a word stands once among words where this says so, and else not at all
+abbrev pub StandsWhere : Text → List Text → Bool → Type 0
+StandsWhere word words says = count_by (λ w. bytes_eq w word) words ≡ (if says then 1 else 0)
+
+-- these words name these kinds of rows, each once, and not both pairs and left rows that are in a pair
+pub record AreKinds (words : List Text) (k : RowKinds) : Type 0 where
+  pub known : list_all is_kind words ≡ true
+  pub pairs : StandsWhere (codes "pairs") words k.pairs
+  pub matched_left : StandsWhere (codes "matched-left") words k.matched_left
+  pub lone_left : StandsWhere (codes "lone-left") words k.lone_left
+  pub lone_right : StandsWhere (codes "lone-right") words k.lone_right
+  pub apart : (k.pairs && k.matched_left) ≡ false
+
+-- the kinds of rows that are written where nothing is said: all members of the joined table
+abbrev pub members : RowKinds
+members = record { pairs = true; matched_left = false; lone_left = true; lone_right = true }
+
+-- the kinds of rows that an option's value names, separated by commas, or the members of the joined table where it has none
+abbrev pub AreRowsOf : Option Text → RowKinds → Type 0
+AreRowsOf None k = k ≡ members
+AreRowsOf (Some text) k = AreKinds (slice_split (λ b. b == 44) text) k
+
+-- an option's value names no kinds of rows
+abbrev pub GivesNoRows : Option Text → Type 0
+GivesNoRows word = (k : RowKinds) → AreRowsOf word k → ⊥
+
+-- the columns that an option's value names, all where it has none
+abbrev pub AreColumnsOf : Option Text → ColumnChoice → Type 0
+AreColumnsOf word c = IsNamedOr columns_name column.All word c
+
+-- what an option's value says of names that stand twice: the words `keep` and `qualify`, and any other text of 1 to 16 bytes that is
+-- added; they are kept where it has none
+abbrev pub IsRepeatedOf : Option Text → Repeated → Type 0
+IsRepeatedOf None r = r ≡ repeated.Kept
+IsRepeatedOf (Some text) repeated.Kept = text ≡ codes "keep"
+IsRepeatedOf (Some text) repeated.Qualified = text ≡ codes "qualify"
+IsRepeatedOf (Some text) (repeated.Suffixed suffix) =
+    (suffix.now ≡ text) × (text ≢ codes "keep") × (text ≢ codes "qualify") × (1 ≤ length text) × (length text ≤ 16)
+
+-- what the values of the options choose; left rows that are in a pair are chosen with the columns of the left table alone
+pub record IsChoiceOf (word : Text → Option Text) (c : Choice) : Type 0 where
+  pub rows : AreRowsOf (word (codes "rows")) c.rows
+  pub order : IsNamedOr order_name order.PairsFirst (word (codes "order")) c.order
+  pub columns : AreColumnsOf (word (codes "columns")) c.columns
+  pub of_left : c.rows.matched_left ≡ true → c.columns ≡ column.Left
+  pub repeated : IsRepeatedOf (word (codes "repeated")) c.repeated
+
+-- left rows that are in a pair are asked for, and not the columns of the left table alone
+abbrev pub AreColumnsMissing : (Text → Option Text) → Type 0
+AreColumnsMissing word =
+    ((k : RowKinds) × AreRowsOf (word (codes "rows")) k × (k.matched_left ≡ true)) × (AreColumnsOf (word (codes "columns")) column.Left → ⊥)
+
+-- the kinds of rows are named, and the columns go with them
+abbrev pub AreRowsChosen : (Text → Option Text) → Type 0
+AreRowsChosen word =
+    (k : RowKinds) × AreRowsOf (word (codes "rows")) k × (k.matched_left ≡ true → AreColumnsOf (word (codes "columns")) column.Left)
+
+-- why the values of the options choose nothing that can be written: no kinds of rows, then columns that don't go with them, then a text
+-- that can't be added to a name; or want of memory
+abbrev pub IsChoiceFault : (Text → Option Text) → Fault → Type 0
+IsChoiceFault word fault.BadRows = GivesNoRows (word (codes "rows"))
+IsChoiceFault word fault.MatchedLeftColumns = AreColumnsMissing word
+IsChoiceFault word fault.BadSuffix = AreRowsChosen word × ((r : Repeated) → IsRepeatedOf (word (codes "repeated")) r → ⊥)
+IsChoiceFault word fault.Memory = Unit {0}
+IsChoiceFault word _ = ⊥

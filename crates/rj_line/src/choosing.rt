@@ -1,0 +1,176 @@
+//! What the command line chooses of the joined table: which rows, in which order, and which columns under which names.
+
+ghost use Rattle.std.specs.Prelude.{◌≡◌, ◌≢◌, ◌==◌, ◌↔◌, Bool, IfOk, IfErr, IsTrue, MatchOption, codes, map};
+ghost use Rattle.std.specs.List.{count_by, list_all, slice_split};
+ghost use Rattle.std.specs.Str.{bytes_eq};
+ghost use Rattle.clap.specs.Words.{first_value, found_of};
+ghost use Rattle.rj_settings.specs.declared.choice.Repeated.{Repeated};
+ghost use Rattle.rj_settings.specs.declared.choice.RowKinds.{RowKinds};
+ghost use Rattle.rj_line.specs.Choices as choices;
+ghost use Rattle.rj_line.specs.Choices.{AreColumnsOf, AreKinds, AreRowsOf, GivesNoRows, IsChoiceFault, IsChoiceOf, IsRepeatedOf, StandsWhere, columns_name, order_name};
+ghost use Rattle.rj_line.specs.Named.{IsNameOf, IsNamedOr};
+
+use clap::ArgMatches;
+use rj_fault::Fault;
+use rj_settings::{Choice, ColumnChoice, Repeated, RowKinds, RowOrder};
+use std::alloc::{AllocError, Global};
+
+// Whether a word is the name of a kind of rows.
+fn is_kind(word: &str) -> bool
+    ensures { result ≡ choices.is_kind word.now }
+{
+    word == "pairs" || word == "matched-left" || word == "lone-left" || word == "lone-right"
+}
+
+// Whether all words are names of kinds of rows.
+fn are_kinds(words: &[&str]) -> bool
+    ensures { result ≡ list_all (λ w. choices.is_kind w.now) words.now }
+{
+    words.iter().all(|word| is_kind(word))
+}
+
+// How often a word stands among words.
+fn times(words: &[&str], word: &str) -> usize
+    ensures { result ≡ count_by (λ w. bytes_eq w word.now) (map (λ w. w.now) words.now) }
+{
+    words.iter().filter(|other| **other == word).count()
+}
+
+// Whether a word stands among words, or none where it stands there more than once.
+fn stands_once(words: &[&str], word: &str) -> Option<bool>
+    ensures { MatchOption result ((says : Bool) → StandsWhere word.now (map (λ w. w.now) words.now) says → ⊥) (StandsWhere word.now (map (λ w. w.now) words.now)) }
+{
+    match times(words, word) {
+        0 => Some(false),
+        1 => Some(true),
+        _ => None,
+    }
+}
+
+// The kinds of rows that these words name, or none where they name none, one twice, or both pairs and left rows in a pair.
+fn kinds_of(words: &[&str]) -> Option<RowKinds>
+    ensures { MatchOption result ((k : RowKinds) → AreKinds (map (λ w. w.now) words.now) k → ⊥) (AreKinds (map (λ w. w.now) words.now)) }
+{
+    if !are_kinds(words) {
+        return None;
+    }
+    let pairs = stands_once(words, "pairs")?;
+    let matched_left = stands_once(words, "matched-left")?;
+    let lone_left = stands_once(words, "lone-left")?;
+    let lone_right = stands_once(words, "lone-right")?;
+    if pairs && matched_left {
+        return None;
+    }
+    Some(RowKinds {
+        pairs,
+        matched_left,
+        lone_left,
+        lone_right,
+    })
+}
+
+// The kinds of rows that are asked for.
+fn rows_of(alloc: Global, matches: &ArgMatches<'_>) -> Result<RowKinds, Fault>
+    ensures rows { IfOk result (AreRowsOf (first_value (found_of matches.now) (codes "rows"))) }
+    ensures fault { IfErr result (λ f. f ≢ Fault.Memory → (f ≡ Fault.BadRows) × GivesNoRows (first_value (found_of matches.now) (codes "rows"))) }
+{
+    let Some(text) = matches.get_str("rows") else {
+        return Ok(RowKinds {
+            pairs: true,
+            matched_left: false,
+            lone_left: true,
+            lone_right: true,
+        });
+    };
+    let words = words_between_commas(alloc, text)?;
+    match kinds_of(words.as_slice()) {
+        Some(kinds) => Ok(kinds),
+        None => Err(Fault::BadRows),
+    }
+}
+
+// The words of a text, between commas.
+fn words_between_commas(alloc: Global, text: &str) -> Result<Vec<&str>, AllocError>
+    ensures { IfOk result (λ v. map (λ w. w.now) v.items ≡ slice_split (λ b. b == 44) text.now) }
+{
+    text.split(',').collect(alloc)
+}
+
+// The order that is named, or pairs first where none is.
+fn order_of(matches: &ArgMatches<'_>) -> RowOrder
+    requires { IsNameOf order_name (first_value (found_of matches.now) (codes "order")) }
+    ensures { IsNamedOr order_name RowOrder.PairsFirst (first_value (found_of matches.now) (codes "order")) result }
+{
+    match matches.get_str("order") {
+        Some("left") => RowOrder::LeftFirst,
+        _ => RowOrder::PairsFirst,
+    }
+}
+
+// The columns that are named, or all where none are.
+fn columns_of(matches: &ArgMatches<'_>) -> ColumnChoice
+    requires { IsNameOf columns_name (first_value (found_of matches.now) (codes "columns")) }
+    ensures { AreColumnsOf (first_value (found_of matches.now) (codes "columns")) result }
+{
+    match matches.get_str("columns") {
+        Some("left") => ColumnChoice::Left,
+        Some("right") => ColumnChoice::Right,
+        _ => ColumnChoice::All,
+    }
+}
+
+// The most bytes that are added to a name at once.
+const LONGEST_SUFFIX: usize = 16;
+
+// What becomes of names that stand twice.
+fn repeated_of<'a>(matches: &ArgMatches<'a>) -> Result<Repeated<'a>, Fault>
+    ensures repeated { IfOk result (IsRepeatedOf (first_value (found_of matches.now) (codes "repeated"))) }
+    ensures fault { IfErr result (λ f. (f ≡ Fault.BadSuffix) × ((r : Repeated) → IsRepeatedOf (first_value (found_of matches.now) (codes "repeated")) r → ⊥)) }
+{
+    match matches.get_str("repeated") {
+        None | Some("keep") => Ok(Repeated::Kept),
+        Some("qualify") => Ok(Repeated::Qualified),
+        Some(suffix) => {
+            if suffix.is_empty() || suffix.len() > LONGEST_SUFFIX {
+                Err(Fault::BadSuffix)
+            } else {
+                Ok(Repeated::Suffixed(suffix))
+            }
+        }
+    }
+}
+
+// Whether the columns of the left table alone are chosen.
+fn is_left(columns: ColumnChoice) -> bool
+    ensures { IsTrue result ↔ (columns ≡ ColumnChoice.Left) }
+{
+    match columns {
+        ColumnChoice::Left => true,
+        ColumnChoice::All | ColumnChoice::Right => false,
+    }
+}
+
+/// What the options choose of the joined table.
+///
+/// # Errors
+///
+/// `BadRows` where `--rows` has no list of kinds of rows, and then `MatchedLeftColumns` where it names left rows that are in a pair
+/// and `--columns` isn't `left`, and then `BadSuffix` where a text that is added to names has no byte or more than 16. `Memory` comes only where a growth was refused.
+pub(crate) fn choice_of<'a>(alloc: Global, matches: &ArgMatches<'a>) -> Result<Choice<'a>, Fault>
+    requires order { IsNameOf order_name (first_value (found_of matches.now) (codes "order")) }
+    requires columns { IsNameOf columns_name (first_value (found_of matches.now) (codes "columns")) }
+    ensures choice { IfOk result (IsChoiceOf (first_value (found_of matches.now))) }
+    ensures fault { IfErr result (IsChoiceFault (first_value (found_of matches.now))) }
+{
+    let rows = rows_of(alloc, matches)?;
+    let columns = columns_of(matches);
+    if rows.matched_left && !is_left(columns) {
+        return Err(Fault::MatchedLeftColumns);
+    }
+    Ok(Choice {
+        rows,
+        order: order_of(matches),
+        columns,
+        repeated: repeated_of(matches)?,
+    })
+}
