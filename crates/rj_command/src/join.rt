@@ -1,5 +1,6 @@
 //! A run of the program `radixjoin`, from the bytes of two tables to the bytes of their joined table.
 
+mod naming;
 mod nulls;
 mod operands;
 mod running;
