@@ -13,6 +13,9 @@ TEXT, NEEDED_TEXT, TEXTS, FLAG = "text", "needed text", "texts", "flag"
 # The kinds of rows that can be written.
 KINDS = ("pairs", "lone-left", "lone-right", "matched-left")
 
+# The most bytes that are added to a repeated name at once.
+LONGEST_SUFFIX = 16
+
 # How many null texts a side has at most.
 MOST_NULLS = 4
 
@@ -64,6 +67,7 @@ OPTIONS_OF = {
         "output": TEXT,
         "order": Word(("pairs", "left"), "pairs"),
         "rows": TEXT,
+        "repeated": TEXT,
         "columns": Word(("all", "left", "right"), "all"),
     },
     "arrivals": {"partition": Number(0, 1023), "senders": Number(1, 128), "block": Number(1, 65536), "gaps": FLAG},
@@ -171,6 +175,9 @@ class Request:
         self.rows = self.rows_of(found, bad)
         if "matched-left" in self.rows and self.columns != "left":
             raise bad("--rows matched-left needs --columns left")
+        self.repeated = found.get("repeated", "keep")
+        if self.repeated not in ("keep", "qualify") and not 1 <= len(self.repeated.encode()) <= LONGEST_SUFFIX:
+            raise bad("bad suffix of repeated names")
 
     @staticmethod
     def rows_of(found, bad):

@@ -18,7 +18,7 @@ use Rattle.rj_csv_io.specs.declared.refused.ReadRefused.TheVariants as read
 use Rattle.rj_command.specs.Operands.{AreOperands, IsFirstFault, IsJoinFault, bind_fault, in_clause, in_left, in_right, parse_fault, unbound, unread}
 use Rattle.rj_command.specs.Sides.{IsStrictFault, IsTableFaultBy, fault_below, has_lawful_nulls, header_records, is_no_header, nulls_of, of_records, of_text, records_in_lines, side_records, stands, strict_fault, told, told_first, types_of}
 use Rattle.rj_fault.specs.Faults.{read_fault}
-use Rattle.rj_command.specs.Runs.{HasNullFault, IsNullFault, IsRunFault, IsUnwritten, WritesJoined, WritesTables, chosen_text, hash_value}
+use Rattle.rj_command.specs.Runs.{IsRunFault, IsUnwritten, WritesJoined, WritesTables, chosen_text, hash_value}
 use Rattle.rj_fault.specs.declared.fault.Fault.{Fault}
 use Rattle.rj_fault.specs.declared.fault.Fault.TheVariants as fault
 use Rattle.rj_fault.specs.declared.fault.Side.{Side}
@@ -36,8 +36,10 @@ pub joined_of_operands : (left right : List ℕ) (q : Request) (o : Operands) (b
     → AreOperands left right q o.left o.right o.join
     → IfOk result (WritesTables (hash_value q.hash) q o before after) → IfOk result (WritesJoined left right q before after)
 joined_of_operands left right q o before after result operands =
-    let text = chosen_text q o.join o.left o.right in
-    IfOk-weaker result _ _ (λ stats h. (text, record { l = o.left; r = o.right; join = o.join; operands = operands; counts = h.0; told_apart = h.1; shown = refl }, h.2))
+    let text = λ (names : List (List ℕ)). chosen_text q names o.join o.left o.right in
+    IfOk-weaker result _ _ (λ stats h.
+    let names = h.2.0 in
+    (text names, record { l = o.left; r = o.right; join = o.join; operands = operands; counts = h.0; told_apart = h.1; names = names; named = h.2.1; shown = refl }, h.2.2))
 
 -- the first fault of the operands is one of a run
 pub of_operands : (left right : List ℕ) (q : Request) (result : Result Stats Fault) (f : Fault) → result ≡ Err f → (f ≢ fault.Memory → IsFirstFault left right q f) → IfErr result (IsRunFault left right q)

@@ -1,6 +1,7 @@
 //! A run of the program `radixjoin`, from the bytes of two tables to the bytes of their joined table.
 
 mod laws;
+mod naming;
 mod nulls;
 mod operands;
 mod running;

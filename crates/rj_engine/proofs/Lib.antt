@@ -24,5 +24,6 @@ pub mod ShardLone
 pub mod ShardMerges
 pub mod ShardFacts
 pub mod OnceFacts
+pub mod NamingFacts
 pub mod KeyOrder
 pub mod ChosenFacts

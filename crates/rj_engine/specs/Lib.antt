@@ -9,4 +9,5 @@ pub mod Stripes
 pub mod Pools
 pub mod Shards
 pub mod Once
+pub mod Naming
 pub mod Chosen

@@ -51,6 +51,9 @@ pub enum Fault {
     /// Left rows that are in a pair are to be written, and not the columns of the left table alone.
     #[error("radixjoin: --rows matched-left needs --columns left")]
     MatchedLeftColumns,
+    /// A text that is to be added to a repeated name has no byte, or more than 16.
+    #[error("radixjoin: bad suffix of repeated names")]
+    BadSuffix,
     /// A file has no record at all.
     #[error("radixjoin: E1 NoHeader {0}")]
     NoHeader(Side),
@@ -136,6 +139,10 @@ pub enum Fault {
     /// result, counted from 1.
     #[error("radixjoin: E28 AmbiguousNull row {0} column {1}")]
     AmbiguousNull(u64, u64),
+    /// The name of a column of the result stands before it already, and there is no free name in its place; the column is that of the
+    /// result, counted from 1.
+    #[error("radixjoin: E31 NoFreeName column {0}")]
+    NoFreeName(u64),
     /// Both tables are to be read from standard input.
     #[error("radixjoin: only one of --left and --right can be standard input")]
     TwoStandardInputs,
@@ -206,6 +213,7 @@ impl Fault {
             | Fault::TooManyNulls(_)
             | Fault::BadRows
             | Fault::MatchedLeftColumns
+            | Fault::BadSuffix
             | Fault::TwoStandardInputs => 2,
             Fault::NoHeader(_)
             | Fault::BadName(_, _)
@@ -224,7 +232,8 @@ impl Fault {
             | Fault::EmptyLine(_, _)
             | Fault::CutShort(_, _)
             | Fault::TypeName(_, _)
-            | Fault::AmbiguousNull(_, _) => 3,
+            | Fault::AmbiguousNull(_, _)
+            | Fault::NoFreeName(_) => 3,
             Fault::Syntax(_)
             | Fault::TooDeep
             | Fault::UnknownColumn

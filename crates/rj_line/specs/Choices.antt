@@ -1,5 +1,5 @@
 -- What the words of the command line choose of a joined table.
-use Rattle.std.specs.Prelude.{◌≡◌, ◌==◌, ◌||◌, ◌&&◌, if◌then◌else◌, Bool, true, false, List, Option, Some, None, codes}
+use Rattle.std.specs.Prelude.{◌≡◌, ◌≢◌, ◌≤◌, ◌==◌, ◌||◌, ◌&&◌, length, if◌then◌else◌, Bool, true, false, List, Option, Some, None, codes}
 use Rattle.std.specs.List.{count_by, list_all, slice_split}
 use Rattle.std.specs.Str.{bytes_eq}
 use Rattle.clap.specs.Words.{Text}
@@ -8,6 +8,7 @@ use Rattle.rj_fault.specs.declared.fault.Fault.TheVariants as fault
 use Rattle.rj_settings.specs.declared.choice.Choice.{Choice}
 use Rattle.rj_settings.specs.declared.choice.ColumnChoice.{ColumnChoice}
 use Rattle.rj_settings.specs.declared.choice.ColumnChoice.TheVariants as column
+use Rattle.rj_settings.specs.declared.choice.Repeated.{Repeated}
 use Rattle.rj_settings.specs.declared.choice.Repeated.TheVariants as repeated
 use Rattle.rj_settings.specs.declared.choice.RowKinds.{RowKinds}
 use Rattle.rj_settings.specs.declared.choice.RowOrder.{RowOrder}
@@ -60,23 +61,38 @@ GivesNoRows word = (k : RowKinds) → AreRowsOf word k → ⊥
 abbrev pub AreColumnsOf : Option Text → ColumnChoice → Type 0
 AreColumnsOf word c = IsNamedOr columns_name column.All word c
 
+-- what an option's value says of names that stand twice: the words `keep` and `qualify`, and any other text of 1 to 16 bytes that is
+-- added; they are kept where it has none
+abbrev pub IsRepeatedOf : Option Text → Repeated → Type 0
+IsRepeatedOf None r = r ≡ repeated.Kept
+IsRepeatedOf (Some text) repeated.Kept = text ≡ codes "keep"
+IsRepeatedOf (Some text) repeated.Qualified = text ≡ codes "qualify"
+IsRepeatedOf (Some text) (repeated.Suffixed suffix) =
+    (suffix.now ≡ text) × (text ≢ codes "keep") × (text ≢ codes "qualify") × (1 ≤ length text) × (length text ≤ 16)
+
 -- what the values of the options choose; left rows that are in a pair are chosen with the columns of the left table alone
 pub record IsChoiceOf (word : Text → Option Text) (c : Choice) : Type 0 where
   pub rows : AreRowsOf (word (codes "rows")) c.rows
   pub order : IsNamedOr order_name order.PairsFirst (word (codes "order")) c.order
   pub columns : AreColumnsOf (word (codes "columns")) c.columns
   pub of_left : c.rows.matched_left ≡ true → c.columns ≡ column.Left
-  pub repeated : c.repeated ≡ repeated.Kept
+  pub repeated : IsRepeatedOf (word (codes "repeated")) c.repeated
 
 -- left rows that are in a pair are asked for, and not the columns of the left table alone
 abbrev pub AreColumnsMissing : (Text → Option Text) → Type 0
 AreColumnsMissing word =
     ((k : RowKinds) × AreRowsOf (word (codes "rows")) k × (k.matched_left ≡ true)) × (AreColumnsOf (word (codes "columns")) column.Left → ⊥)
 
--- why the values of the options choose nothing that can be written: no kinds of rows, and then columns that don't go with them; or want
--- of memory
+-- the kinds of rows are named, and the columns go with them
+abbrev pub AreRowsChosen : (Text → Option Text) → Type 0
+AreRowsChosen word =
+    (k : RowKinds) × AreRowsOf (word (codes "rows")) k × (k.matched_left ≡ true → AreColumnsOf (word (codes "columns")) column.Left)
+
+-- why the values of the options choose nothing that can be written: no kinds of rows, then columns that don't go with them, then a text
+-- that can't be added to a name; or want of memory
 abbrev pub IsChoiceFault : (Text → Option Text) → Fault → Type 0
 IsChoiceFault word fault.BadRows = GivesNoRows (word (codes "rows"))
 IsChoiceFault word fault.MatchedLeftColumns = AreColumnsMissing word
+IsChoiceFault word fault.BadSuffix = AreRowsChosen word × ((r : Repeated) → IsRepeatedOf (word (codes "repeated")) r → ⊥)
 IsChoiceFault word fault.Memory = Unit {0}
 IsChoiceFault word _ = ⊥

@@ -78,6 +78,7 @@ option_rules h =
     ∷ rule_for (codes "order") (takes.Word h.orders)
     ∷ rule_for (codes "rows") takes.Text
     ∷ rule_for (codes "columns") (takes.Word h.sides)
+    ∷ rule_for (codes "repeated") takes.Text
     ∷ []
 
 -- a command with these rules more

@@ -1,12 +1,13 @@
-//! What the command line chooses of the joined table: which rows, in which order, and which columns.
+//! What the command line chooses of the joined table: which rows, in which order, and which columns under which names.
 
 ghost use Rattle.std.specs.Prelude.{◌≡◌, ◌≢◌, ◌==◌, ◌↔◌, Bool, IfOk, IfErr, IsTrue, MatchOption, codes, map};
 ghost use Rattle.std.specs.List.{count_by, list_all, slice_split};
 ghost use Rattle.std.specs.Str.{bytes_eq};
 ghost use Rattle.clap.specs.Words.{first_value, found_of};
+ghost use Rattle.rj_settings.specs.declared.choice.Repeated.{Repeated};
 ghost use Rattle.rj_settings.specs.declared.choice.RowKinds.{RowKinds};
 ghost use Rattle.rj_line.specs.Choices as choices;
-ghost use Rattle.rj_line.specs.Choices.{AreColumnsOf, AreKinds, AreRowsOf, GivesNoRows, IsChoiceFault, IsChoiceOf, StandsWhere, columns_name, order_name};
+ghost use Rattle.rj_line.specs.Choices.{AreColumnsOf, AreKinds, AreRowsOf, GivesNoRows, IsChoiceFault, IsChoiceOf, IsRepeatedOf, StandsWhere, columns_name, order_name};
 ghost use Rattle.rj_line.specs.Named.{IsNameOf, IsNamedOr};
 
 use clap::ArgMatches;
@@ -118,6 +119,27 @@ fn columns_of(matches: &ArgMatches<'_>) -> ColumnChoice
     }
 }
 
+// The most bytes that are added to a name at once.
+const LONGEST_SUFFIX: usize = 16;
+
+// What becomes of names that stand twice.
+fn repeated_of<'a>(matches: &ArgMatches<'a>) -> Result<Repeated<'a>, Fault>
+    ensures repeated { IfOk result (IsRepeatedOf (first_value (found_of matches.now) (codes "repeated"))) }
+    ensures fault { IfErr result (λ f. (f ≡ Fault.BadSuffix) × ((r : Repeated) → IsRepeatedOf (first_value (found_of matches.now) (codes "repeated")) r → ⊥)) }
+{
+    match matches.get_str("repeated") {
+        None | Some("keep") => Ok(Repeated::Kept),
+        Some("qualify") => Ok(Repeated::Qualified),
+        Some(suffix) => {
+            if suffix.is_empty() || suffix.len() > LONGEST_SUFFIX {
+                Err(Fault::BadSuffix)
+            } else {
+                Ok(Repeated::Suffixed(suffix))
+            }
+        }
+    }
+}
+
 // Whether the columns of the left table alone are chosen.
 fn is_left(columns: ColumnChoice) -> bool
     ensures { IsTrue result ↔ (columns ≡ ColumnChoice.Left) }
@@ -133,7 +155,7 @@ fn is_left(columns: ColumnChoice) -> bool
 /// # Errors
 ///
 /// `BadRows` where `--rows` has no list of kinds of rows, and then `MatchedLeftColumns` where it names left rows that are in a pair
-/// and `--columns` isn't `left`. `Memory` comes only where a growth was refused.
+/// and `--columns` isn't `left`, and then `BadSuffix` where a text that is added to names has no byte or more than 16. `Memory` comes only where a growth was refused.
 pub(crate) fn choice_of<'a>(alloc: Global, matches: &ArgMatches<'a>) -> Result<Choice<'a>, Fault>
     requires order { IsNameOf order_name (first_value (found_of matches.now) (codes "order")) }
     requires columns { IsNameOf columns_name (first_value (found_of matches.now) (codes "columns")) }
@@ -149,6 +171,6 @@ pub(crate) fn choice_of<'a>(alloc: Global, matches: &ArgMatches<'a>) -> Result<C
         rows,
         order: order_of(matches),
         columns,
-        repeated: Repeated::Kept,
+        repeated: repeated_of(matches)?,
     })
 }

@@ -171,7 +171,7 @@ fn request_of<'a>(alloc: Global, matches: &ArgMatches<'a>) -> Result<Request<'a>
 ///
 /// A line that `clap` refuses, or that asks for help or the version, is `Fault::CommandLine`; a bad type list is told
 /// after that, the left one before the right one, and then more than four null texts on the left, and on the right, then a bad
-/// list of kinds of rows, and then `MatchedLeftColumns`. `Fault::Memory` comes only where a growth was refused.
+/// list of kinds of rows, then `MatchedLeftColumns`, and then a bad suffix. `Fault::Memory` comes only where a growth was refused.
 pub fn read_line<'a>(alloc: Global, words: &'a [&'a str]) -> Result<Line<'a>, Fault>
     ensures line { IfOk result (IsLineOf (map (λ w. w.now) words.entry.now)) }
     ensures fault { IfErr result (IsLineFault (map (λ w. w.now) words.entry.now)) }

@@ -38,7 +38,7 @@ pub(crate) struct LineOption {
 // The bits of the hash that a pass partitions by.
 const BITS: Takes = Takes::Number(0, 10);
 
-const OPTIONS: [LineOption; 25] = [
+const OPTIONS: [LineOption; 26] = [
     LineOption {
         name: "left",
         takes: Takes::Required,
@@ -165,6 +165,12 @@ const OPTIONS: [LineOption; 25] = [
         name: "columns",
         takes: Takes::Word(&["all", "left", "right"]),
         help: "Columns that are written: all, or those of one table [default: all]",
+    },
+    LineOption {
+        name: "repeated",
+        takes: Takes::Text,
+        help: "Names that stand twice in the header: keep them, or for the later one: qualify writes R.id, and any other \
+            text is added to it [default: keep]",
     },
 ];
 
