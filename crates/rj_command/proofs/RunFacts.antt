@@ -18,7 +18,7 @@ use Rattle.rj_csv_io.specs.declared.refused.ReadRefused.TheVariants as read
 use Rattle.rj_command.specs.Operands.{AreOperands, IsFirstFault, IsJoinFault, bind_fault, in_clause, in_left, in_right, parse_fault, unbound, unread}
 use Rattle.rj_command.specs.Sides.{IsStrictFault, IsTableFaultBy, fault_below, has_lawful_nulls, header_records, is_no_header, nulls_of, of_records, of_text, records_in_lines, side_records, stands, strict_fault, told, told_first, types_of}
 use Rattle.rj_fault.specs.Faults.{read_fault}
-use Rattle.rj_command.specs.Runs.{HasNullFault, IsNullFault, IsRunFault, IsUnwritten, WritesJoined, WritesTables, chosen_text, hash_value}
+use Rattle.rj_command.specs.Runs.{IsRunFault, IsUnwritten, WritesJoined, WritesTables, chosen_text, hash_value}
 use Rattle.rj_fault.specs.declared.fault.Fault.{Fault}
 use Rattle.rj_fault.specs.declared.fault.Fault.TheVariants as fault
 use Rattle.rj_fault.specs.declared.fault.Side.{Side}
