@@ -1,14 +1,13 @@
 -- A joined table has no text that its tables lack, and a table no text that is read as null.
-use Rattle.std.proofs.Common.{◌≡◌, ◌≢◌, ◌<◌, ◌≤◌, ◌∙◌, ℕ, zero, suc, List, [], ◌∷◌, length, map, Bool, true, false, Option, Some, None, Result, Ok, Err, refl, sym, ap, inl, inr, arith, true≢false}
+use Rattle.std.proofs.Common.{◌≡◌, ◌≢◌, ◌∙◌, ℕ, zero, suc, List, [], ◌∷◌, length, map, Bool, true, false, Option, Some, None, Result, Ok, Err, refl, ap, inl, inr}
 use Rattle.std.specs.Prelude.{if◌then◌else◌, slice_index_or, ◌==◌}
-use Rattle.std.proofs.lemmas.Bool.{cases_Bool, cases_lt}
-use Rattle.std.proofs.lemmas.List.{get_or-map, get_or_past, length-map}
+use Rattle.std.proofs.lemmas.Bool.{cases_Bool}
 use Rattle.csv.specs.Reading.{default_config, records, strip_bom}
 use Rattle.rj_decimal.specs.Numbers.{finer}
 use Rattle.rj_columns.specs.declared.cell.ColumnType.{ColumnType}
 use Rattle.rj_columns.specs.Contents.{Content, nothing, whole, decimal, word}
 use Rattle.rj_columns.specs.Scales.{coalesced, in_scale}
-use Rattle.rj_columns.specs.Tables.{TableValue, cell_in}
+use Rattle.rj_columns.specs.Tables.{TableValue}
 use Rattle.rj_condition.specs.declared.bound.BoundJoin.{BoundJoin}
 use Rattle.rj_csv_io.specs.Ambiguous.{AreApart}
 use Rattle.rj_csv_io.specs.Tables.{records_read}
