@@ -30,6 +30,7 @@ KINDS = {"REFUSE_ALLOCATION": "allocations", "REFUSE_THREAD": "starts of threads
 JOINS = [
     ("basic_inner", "radixjoin", TABLES, WORDS, b"", b"id,name,city\n2,bob,oslo\n"),
     ("full_null_keys", "radixjoin", NULLS, NULLS_WORDS, b"", b"id,a,b\n1,x,q\n,y,\n,,p\n3,,r\n"),
+    ("repeated_names", "radixjoin", TABLES, [*WORDS[:-1], "JOIN ON L.id = R.id", "--repeated", "qualify"], b"", b"id,name,R.id,city\n2,bob,2,oslo\n"),
     ("partition_statistics", "radixjoin", NUMBERS, NUMBERS_WORDS, b"", b"k\n5\n"),
 ]
 ARRIVALS = (

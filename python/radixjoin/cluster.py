@@ -44,7 +44,10 @@ if TYPE_CHECKING:
     from distributed import Client
 
 # The options that go to `radixjoin` alone, as they are.
-OF_ONE_JOIN = ("workers", "bits1", "bits2", "hash", "block", "capacity", "lanes", "retries", "piece")
+OF_ONE_JOIN = ("workers", "bits1", "bits2", "hash", "block", "capacity", "lanes", "retries", "piece", "rows")
+# The options of `radixjoin` that a join in shards has no other value of than this one: the merge goes by the places of the pairs
+# and of the lone rows of both sides, which have to stand in the joined shards.
+OF_WHOLE_TABLES = {"order": "pairs", "columns": "all"}
 SIDES = ("left", "right")
 # The options that may be given again.
 SEVERAL = ("--left-null", "--right-null")
@@ -97,6 +100,8 @@ def read_line(words: Sequence[str]) -> argparse.Namespace:
     line.add_argument("--progress", action="store_true", help="show how many tasks are done, by Dask's own bar")
     for option in OF_ONE_JOIN:
         line.add_argument(f"--{option}", metavar="X", help=f"as radixjoin's --{option}, for the join of each shard")
+    for option in OF_WHOLE_TABLES:
+        line.add_argument(f"--{option}", help=argparse.SUPPRESS)
     asked = line.parse_args(with_lists(words))
     given = [word.partition("=")[0] for word in words if word.startswith("--")]
     for option in given:
@@ -107,6 +112,9 @@ def read_line(words: Sequence[str]) -> argparse.Namespace:
             line.error(f"--{side}: standard input can't be divided, give a file")
     for name, least, most in beyond(asked):
         line.error(f"--{name} is from {least} to {most}")
+    for option, only in OF_WHOLE_TABLES.items():
+        if getattr(asked, option) not in (None, only):
+            line.error(f"--{option}: a join in shards writes all columns, in the order of the pairs and then of the lone rows")
     return asked
 
 

@@ -1,22 +1,23 @@
 -- A joined table has no text that its tables lack, and a table no text that is read as null.
-use Rattle.std.proofs.Common.{◌≡◌, ◌≢◌, ◌<◌, ◌≤◌, ◌∙◌, ℕ, zero, suc, List, [], ◌∷◌, length, map, Bool, true, false, Option, Some, None, Result, Ok, Err, refl, sym, ap, inl, inr, arith, true≢false}
+use Rattle.std.proofs.Common.{◌≡◌, ◌≢◌, ◌∙◌, ℕ, zero, suc, List, [], ◌∷◌, length, map, Bool, true, false, Option, Some, None, Result, Ok, Err, refl, ap, inl, inr}
 use Rattle.std.specs.Prelude.{if◌then◌else◌, slice_index_or, ◌==◌}
-use Rattle.std.proofs.lemmas.Bool.{cases_Bool, cases_lt}
-use Rattle.std.proofs.lemmas.List.{get_or-map, get_or_past, length-map}
+use Rattle.std.proofs.lemmas.Bool.{cases_Bool}
 use Rattle.csv.specs.Reading.{default_config, records, strip_bom}
 use Rattle.rj_decimal.specs.Numbers.{finer}
 use Rattle.rj_columns.specs.declared.cell.ColumnType.{ColumnType}
 use Rattle.rj_columns.specs.Contents.{Content, nothing, whole, decimal, word}
 use Rattle.rj_columns.specs.Scales.{coalesced, in_scale}
-use Rattle.rj_columns.specs.Tables.{TableValue, cell_in}
+use Rattle.rj_columns.specs.Tables.{TableValue}
 use Rattle.rj_condition.specs.declared.bound.BoundJoin.{BoundJoin}
 use Rattle.rj_csv_io.specs.Ambiguous.{AreApart}
 use Rattle.rj_csv_io.specs.Tables.{records_read}
 use Rattle.rj_csv_io.specs.Typed.{is_null_field}
 use Rattle.rj_csv_io.specs.declared.refused.ReadRefused.{ReadRefused}
 use Rattle.rj_types.specs.Columns.{types_under}
-use Rattle.rj_engine.specs.Cells.{coalesced_scale, columns_of, joined_cell, joined_cells, left_cell, right_cell, view_of}
-use Rattle.rj_engine.specs.Results.{result_of}
+use Rattle.rj_engine.specs.Cells.{coalesced_scale, joined_cell, joined_cells, left_cell, right_cell}
+use Rattle.rj_engine.specs.Chosen.{chosen_columns, chosen_rows, chosen_view}
+use Rattle.rj_engine.specs.Results.{joined_of}
+use Rattle.rj_settings.specs.declared.choice.Choice.{Choice}
 use Rattle.rj_engine.specs.declared.joined.JoinedRow.{JoinedRow}
 use Rattle.rj_engine.specs.declared.joined.JoinedRow.TheVariants.{Both, LeftOnly, RightOnly}
 use Rattle.rj_engine.specs.declared.origin.Origin.{Origin}
@@ -74,9 +75,9 @@ module _ (null : List ℕ) (l r : TableValue) (left : AreApart null l.rows) (rig
   rows-apart origins (m ∷ members) zero col = row-apart origins m col
   rows-apart origins (m ∷ members) (suc row) col = rows-apart origins members row col
 
-  -- a joined table has no text that its tables lack
-  pub view-apart : (join : BoundJoin) → AreApart null (view_of join l r).cells
-  view-apart join = rows-apart (columns_of join r) (result_of join l r)
+  -- what is chosen of a joined table has no text that its tables lack
+  pub view-apart : (choice : Choice) (join : BoundJoin) → AreApart null (chosen_view choice join l r).cells
+  view-apart choice join = rows-apart (chosen_columns choice join r) (chosen_rows choice (length l.rows) (joined_of join l r))
 
 -- what the reading of records says where the null text is one of the side's
 module _ (law : (records : List (List (List ℕ))) (types : List ColumnType) (nulls : List (List ℕ)) (null : List ℕ) (t : TableValue)

@@ -1,5 +1,5 @@
 -- What writing says of a whole run.
-use Rattle.std.proofs.Common.{◌≡◌, ◌∙◌, ◌∷◌, [], Bool, true, false, cond, inl, inr, ap, refl, sym, true≢false, List, Option, Some, None, ℕ}
+use Rattle.std.proofs.Common.{◌≡◌, ◌∙◌, ◌∷◌, [], Bool, true, false, cond, inl, inr, ap, refl, subst, sym, true≢false, List, Option, Some, None, ℕ}
 use Rattle.std.specs.Prelude.{◌≢◌, if◌then◌else◌, option_map, Result, Ok, Err, IfOk, IfErr}
 use Rattle.std.proofs.lemmas.Bool.{cases_Bool}
 use Rattle.csv.specs.Reading.{default_config, records, strip_bom}
@@ -18,7 +18,7 @@ use Rattle.rj_csv_io.specs.declared.refused.ReadRefused.TheVariants as read
 use Rattle.rj_command.specs.Operands.{AreOperands, IsFirstFault, IsJoinFault, bind_fault, in_clause, in_left, in_right, parse_fault, unbound, unread}
 use Rattle.rj_command.specs.Sides.{IsStrictFault, IsTableFaultBy, fault_below, has_lawful_nulls, header_records, is_no_header, nulls_of, of_records, of_text, records_in_lines, side_records, stands, strict_fault, told, told_first, types_of}
 use Rattle.rj_fault.specs.Faults.{read_fault}
-use Rattle.rj_command.specs.Runs.{HasNullFault, IsNullFault, IsRunFault, IsUnwritten, WritesJoined, WritesTables, hash_value, joined_text}
+use Rattle.rj_command.specs.Runs.{IsRunFault, IsUnwritten, WritesJoined, WritesTables, chosen_text, hash_value}
 use Rattle.rj_fault.specs.declared.fault.Fault.{Fault}
 use Rattle.rj_fault.specs.declared.fault.Fault.TheVariants as fault
 use Rattle.rj_fault.specs.declared.fault.Side.{Side}
@@ -36,8 +36,18 @@ pub joined_of_operands : (left right : List ℕ) (q : Request) (o : Operands) (b
     → AreOperands left right q o.left o.right o.join
     → IfOk result (WritesTables (hash_value q.hash) q o before after) → IfOk result (WritesJoined left right q before after)
 joined_of_operands left right q o before after result operands =
-    let text = joined_text q.out_null.now o.join o.left o.right in
-    IfOk-weaker result _ _ (λ stats h. (text, record { l = o.left; r = o.right; join = o.join; operands = operands; counts = h.0; expected = h.1; told_apart = h.2; shown = refl }, h.3))
+    let text = λ (names : List (List ℕ)). chosen_text q names o.join o.left o.right in
+    IfOk-weaker result _ _ (λ stats h.
+    let names = h.3.0 in
+    (text names, record { l = o.left; r = o.right; join = o.join; operands = operands; counts = h.0; expected = h.1; told_apart = h.2; names = names; named = h.3.1; shown = refl }, h.3.2))
+
+-- the first fault of the operands is one of a run
+pub of_operands : (left right : List ℕ) (q : Request) (result : Result Stats Fault) (f : Fault) → result ≡ Err f → (f ≢ fault.Memory → IsFirstFault left right q f) → IfErr result (IsRunFault left right q)
+of_operands left right q result f is told = subst (λ (r : Result Stats Fault). IfErr r (IsRunFault left right q)) (sym is) (λ m d. inl (told m))
+
+-- what holds of a fault holds of the result that it is
+pub of_fault : {T : Type 0} (P : Fault → Type 0) (result : Result T Fault) (f : Fault) → result ≡ Err f → P f → IfErr result P
+of_fault {T} P result f is holds = subst (λ (r : Result T Fault). IfErr r P) (sym is) holds
 
 -- a fault of writing is one of a run
 pub no_other : (left right : List ℕ) (q : Request) (o : Operands) (result : Result Stats Fault) → AreOperands left right q o.left o.right o.join
@@ -46,10 +56,7 @@ no_other left right q o result operands = IfErr-weaker result _ _ (λ f h m d. e
   | inl e ↦ absurd (m e)
   | inr other ↦ elim other [
     | inl e ↦ absurd (d e)
-    | inr untold ↦ inr (elim untold [
-      | inl told ↦ inl (record { l = o.left; r = o.right; join = o.join; operands = operands; told = told })
-      | inr told ↦ inr (record { l = o.left; r = o.right; join = o.join; operands = operands; expected = told.0; told = told.1 })
-    ])
+    | inr told ↦ inr (record { l = o.left; r = o.right; join = o.join; operands = operands; told = told })
   ]
 ])
 

@@ -1,6 +1,6 @@
 -- What the bytes of a side denote, by how they were read.
 use Rattle.std.proofs.Common.{◌≡◌, ◌≢◌, ◌∙◌, ◌∷◌, [], Bool, true, false, List, ℕ, refl, sym, ap, subst}
-use Rattle.std.specs.Prelude.{Result, Ok, Err, IfOk, IfErr, Option, None, Some}
+use Rattle.std.specs.Prelude.{Result, Ok, Err, IfOk, IfErr, None, Some}
 use Rattle.std.proofs.lemmas.List.{append-nil}
 use Rattle.std.proofs.lemmas.Result.{IfErr-weaker, IfOk-weaker}
 use Rattle.csv.specs.Reading.{default_config, records, strip_bom}
@@ -14,10 +14,9 @@ use Rattle.rj_strict.specs.Grammar.{Derives, File, Line, lines_text, records_of}
 use Rattle.rj_strict.specs.Reading.{body_of}
 use Rattle.rj_strict.specs.declared.fault.StrictFault.{StrictFault}
 use Rattle.rj_strict.specs.declared.header.Header.TheVariants.{First}
-use Rattle.rj_command.specs.Sides.{IsReading, IsStrictFault, IsStrictTable, IsTable, IsTableBy, IsTableFault, IsTableFaultBy, fault_below, has_lawful_nulls, nulls_of, of_records, of_text, records_in_lines, side_read, side_records, stands, told, told_first, type_fault, types_of}
+use Rattle.rj_command.specs.Sides.{IsReading, IsStrictFault, IsStrictTable, IsTable, IsTableBy, IsTableFault, IsTableFaultBy, fault_below, has_lawful_nulls, nulls_of, of_records, of_text, records_in_lines, side_read, side_records, told, type_fault, types_of}
 use Rattle.rj_fault.specs.Faults.{read_fault}
-use Rattle.rj_types.specs.Columns.{name_fault, types_under}
-use Rattle.rj_types.specs.declared.entry.TypeEntry.{TypeEntry}
+use Rattle.rj_types.specs.Columns.{types_under}
 use Rattle.rj_fault.specs.declared.fault.Fault.{Fault}
 use Rattle.rj_fault.specs.declared.fault.Fault.TheVariants as fault
 use Rattle.rj_fault.specs.declared.fault.Side.{Side}

@@ -1,7 +1,8 @@
 -- What a run writes and counts (SQL-92, 7.5).
-use Rattle.std.specs.Prelude.{◌≡◌, ◌≢◌, ◌⊎◌, true, List, Option, ℕ, ◌^◌, length, map}
+use Rattle.std.specs.Prelude.{◌≡◌, ◌≢◌, ◌⊎◌, true, List, [], None, Option, ℕ, ◌^◌, length, map, Ok, Err}
 use Rattle.std.specs.List.{range_with_len}
 use Rattle.std.specs.Io.KnownBytes.{Appends}
+use Rattle.rj_columns.specs.Names.{name_fault}
 use Rattle.rj_columns.specs.Tables.{TableValue}
 use Rattle.rj_csv_io.specs.Ambiguous.{AreApart, AreClear, IsFirstAmbiguous}
 use Rattle.rj_csv_io.specs.Shown.{table_text}
@@ -10,7 +11,11 @@ use Rattle.rj_condition.specs.declared.bound.BoundJoin.{BoundJoin}
 use Rattle.rj_condition.specs.Splits.{keys_of}
 use Rattle.rj_columns.specs.Contents.{Content}
 use Rattle.rj_radix.specs.Hashes.{mixed, plain}
+use Rattle.rj_settings.specs.declared.choice.Repeated.TheVariants.{Kept}
 use Rattle.rj_engine.specs.Cells.{header_of, view_of}
+use Rattle.rj_engine.specs.Chosen.{chosen_header, chosen_view}
+use Rattle.rj_engine.specs.Naming.{written_names}
+use Rattle.rj_engine.specs.declared.naming.NamingRefused.TheVariants.{NoFreeName}
 use Rattle.rj_engine.specs.Partitioned.{sizes_of}
 use Rattle.rj_engine.specs.Pools.{pieces_of_sizes}
 use Rattle.rj_engine.specs.Results.{joined_of}
@@ -28,9 +33,20 @@ use Rattle.rj_fault.specs.declared.fault.Side.TheVariants as side
 use Rattle.rj_command.specs.Sides.{nulls_of}
 use Rattle.rj_command.specs.declared.join.stats.Stats.{Stats}
 
+-- these are the names that are asked for of the columns that are chosen: each is lawful, and none is like another one, where repeated ones
+-- are renamed
+pub record AreNames (q : Request) (join : BoundJoin) (l r : TableValue) (names : List (List ℕ)) : Type 0 where
+  pub written : written_names q.choice.repeated (chosen_header q.choice join l r) ≡ Ok names
+  pub many : length names ≡ length (chosen_header q.choice join l r)
+  pub lawful : q.choice.repeated ≢ Kept → name_fault [] names ≡ None
+
 -- the text of the joined table of two tables by a bound join
 abbrev pub joined_text : List ℕ → BoundJoin → TableValue → TableValue → List ℕ
 joined_text null join l r = table_text null (header_of join l r) (view_of join l r).cells
+
+-- the text of what is chosen of it, under these names; where nothing is chosen, that is the text of the joined table (`plain_text`)
+abbrev pub chosen_text : Request → List (List ℕ) → BoundJoin → TableValue → TableValue → List ℕ
+chosen_text q names join l r = table_text q.out_null.now names (chosen_view q.choice join l r).cells
 
 -- read strictly, rows have no cell that isn't null and is written as null is
 abbrev pub IsToldApart : Strictness → List ℕ → List (List Content) → Type 0
@@ -68,23 +84,29 @@ pub record IsCounted (value : List Content → ℕ) (q : Request) (l r : TableVa
   pub pieces : stats.pieces ≡ pieces_of_sizes q.settings.piece (map (λ p. p.left) stats.partitions.items) (map (λ p. p.right) stats.partitions.items)
   pub tells_pieces : stats.tells_pieces ≡ q.tells_pieces
 
--- the text of the operands' joined table was written behind what the writer had been told, and this is counted of it
+-- the text of what is chosen of the operands' joined table was written behind what the writer had been told, and this is counted of it
 abbrev pub WritesTables : (List Content → ℕ) → Request → Operands → Option (List ℕ) → Option (List ℕ) → Stats → Type 0
 WritesTables value q o before after stats =
-    IsCounted value q o.left o.right o.join stats × IsExpected q o.join o.left o.right × IsToldApart q.strict q.out_null.now (view_of o.join o.left o.right).cells
-    × Appends before after (joined_text q.out_null.now o.join o.left o.right)
+    IsCounted value q o.left o.right o.join stats × IsExpected q o.join o.left o.right × IsToldApart q.strict q.out_null.now (chosen_view q.choice o.join o.left o.right).cells
+    × ((names : List (List ℕ)) × AreNames q o.join o.left o.right names × Appends before after (chosen_text q names o.join o.left o.right))
 
--- the joined table of the operands has a cell that can't be told from null, and this fault tells the first one
-abbrev pub HasNullFault : Request → Operands → Fault → Type 0
-HasNullFault q o f = IsNullFault q.strict q.out_null.now (view_of o.join o.left o.right).cells f
+-- a column that is chosen is to be renamed and has no free name, and this fault tells the first one
+abbrev pub IsNameFault : Request → BoundJoin → TableValue → TableValue → Fault → Type 0
+IsNameFault q join l r f = (column : ℕ) × (f ≡ fault.NoFreeName column) × (written_names q.choice.repeated (chosen_header q.choice join l r) ≡ Err (NoFreeName column))
 
--- why operands' joined table isn't written: want of memory, that the writer failed, that the table isn't as expected, or that it is and
--- has such a cell
+-- what is told of a joined table before what is chosen of it is written: that, then that it isn't as expected, then a cell that can't be
+-- told from null
+abbrev pub IsResultFault : Request → BoundJoin → TableValue → TableValue → Fault → Type 0
+IsResultFault q join l r f =
+    IsNameFault q join l r f
+    ⊎ (((names : List (List ℕ)) × AreNames q join l r names)
+    × (IsUnexpected q join l r f ⊎ (IsExpected q join l r × IsNullFault q.strict q.out_null.now (chosen_view q.choice join l r).cells f)))
+
+-- why operands' joined table isn't written: that, want of memory, or that the writer failed
 abbrev pub IsUnwritten : Request → Operands → Fault → Type 0
-IsUnwritten q o f =
-    (f ≡ fault.Memory) ⊎ ((f ≡ fault.WriteDevice) ⊎ (IsUnexpected q o.join o.left o.right f ⊎ (IsExpected q o.join o.left o.right × HasNullFault q o f)))
+IsUnwritten q o f = (f ≡ fault.Memory) ⊎ ((f ≡ fault.WriteDevice) ⊎ IsResultFault q o.join o.left o.right f)
 
--- the text of the joined table of what the bytes denote, and what is counted of it
+-- the text of what is chosen of the joined table of what the bytes denote, and what is counted of that table
 pub record IsJoined (left right : List ℕ) (q : Request) (stats : Stats) (text : List ℕ) : Type 0 where
   pub l : TableValue
   pub r : TableValue
@@ -92,34 +114,26 @@ pub record IsJoined (left right : List ℕ) (q : Request) (stats : Stats) (text 
   pub operands : AreOperands left right q l r join
   pub counts : IsCounted (hash_value q.hash) q l r join stats
   pub expected : IsExpected q join l r
-  pub told_apart : IsToldApart q.strict q.out_null.now (view_of join l r).cells
-  pub shown : text ≡ joined_text q.out_null.now join l r
+  pub told_apart : IsToldApart q.strict q.out_null.now (chosen_view q.choice join l r).cells
+  pub names : List (List ℕ)
+  pub named : AreNames q join l r names
+  pub shown : text ≡ chosen_text q names join l r
 
--- the text of the joined table of what the bytes denote was written behind what the writer had been told
+-- that text was written behind what the writer had been told
 abbrev pub WritesJoined : List ℕ → List ℕ → Request → Option (List ℕ) → Option (List ℕ) → Stats → Type 0
 WritesJoined left right q before after stats = (text : List ℕ) × IsJoined left right q stats text × Appends before after text
 
--- the bytes denote two tables, whose joined table isn't as expected
-pub record IsFirstUnexpected (left right : List ℕ) (q : Request) (f : Fault) : Type 0 where
+-- the bytes denote two tables, of whose joined table this is told
+pub record IsFirstResultFault (left right : List ℕ) (q : Request) (f : Fault) : Type 0 where
   pub l : TableValue
   pub r : TableValue
   pub join : BoundJoin
   pub operands : AreOperands left right q l r join
-  pub told : IsUnexpected q join l r f
-
--- the bytes denote two tables, whose joined table is as expected and has a cell that can't be told from null
-pub record IsFirstNullFault (left right : List ℕ) (q : Request) (f : Fault) : Type 0 where
-  pub l : TableValue
-  pub r : TableValue
-  pub join : BoundJoin
-  pub operands : AreOperands left right q l r join
-  pub expected : IsExpected q join l r
-  pub told : IsNullFault q.strict q.out_null.now (view_of join l r).cells f
+  pub told : IsResultFault q join l r f
 
 -- the fault of a run: but for want of memory and a failed writer, it is the first one of the operands, or of their joined table
 abbrev pub IsRunFault : List ℕ → List ℕ → Request → Fault → Type 0
-IsRunFault left right q f =
-    f ≢ fault.Memory → f ≢ fault.WriteDevice → IsFirstFault left right q f ⊎ (IsFirstUnexpected left right q f ⊎ IsFirstNullFault left right q f)
+IsRunFault left right q f = f ≢ fault.Memory → f ≢ fault.WriteDevice → IsFirstFault left right q f ⊎ IsFirstResultFault left right q f
 
 -- the bytes denote two tables, and the clause a join of them
 abbrev pub HasOperands : List ℕ → List ℕ → Request → Type 0

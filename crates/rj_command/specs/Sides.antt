@@ -8,7 +8,6 @@ use Rattle.rj_columns.specs.declared.refused.BuildRefused.TheVariants as build
 use Rattle.rj_csv_io.specs.Tables.{are_null_texts, is_null_text, records_read}
 use Rattle.rj_csv_io.specs.Typed.{null_texts}
 use Rattle.rj_csv_io.specs.declared.refused.ReadRefused.{ReadRefused}
-use Rattle.rj_csv_io.specs.declared.refused.ReadRefused.TheVariants as read
 use Rattle.rj_strict.specs.Faults.{AreAbove, HasFault, row_at}
 use Rattle.rj_strict.specs.Grammar.{Derives, File, Line, records_of}
 use Rattle.rj_strict.specs.Reading.{body_of}

@@ -2,6 +2,8 @@
 
 mod counting;
 mod expected;
+mod laws;
+mod naming;
 mod nulls;
 mod operands;
 mod running;
@@ -10,6 +12,7 @@ mod strict;
 mod types;
 
 pub use self::counting::{Counts, count};
+pub use self::laws::plain_text;
 pub use self::operands::bind_clause;
 pub use self::running::{run, run_owned};
 pub use self::stats::{PartitionRows, Stats};

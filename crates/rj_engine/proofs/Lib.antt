@@ -25,3 +25,6 @@ pub mod ShardMerges
 pub mod ShardFacts
 pub mod OnceFacts
 pub mod Distinct
+pub mod NamingFacts
+pub mod KeyOrder
+pub mod ChosenFacts

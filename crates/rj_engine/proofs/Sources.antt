@@ -30,7 +30,7 @@ All-range P a (suc n) h =
     let first : a < a + suc n = omega arith in
     All-cons P a (range_with_len (a + 1) n) (h a first) (All-range P (a + 1) n (λ i l. let low : i < a + suc n = omega arith in h i low))
 
-All-flat_range : {X : Type 0} (P : X → Type 0) (f : ℕ → List X) (a n : ℕ) → ((i : ℕ) → i < a + n → All P (f i)) → All P (flat_map f (range_with_len a n))
+pub All-flat_range : {X : Type 0} (P : X → Type 0) (f : ℕ → List X) (a n : ℕ) → ((i : ℕ) → i < a + n → All P (f i)) → All P (flat_map f (range_with_len a n))
 All-flat_range P f a zero h = All-nil P
 All-flat_range P f a (suc n) h =
     let first : a < a + suc n = omega arith in

@@ -10,3 +10,5 @@ pub mod Pools
 pub mod Shards
 pub mod Once
 pub mod Expected
+pub mod Naming
+pub mod Chosen

@@ -2,6 +2,8 @@
 #![tactic(auto)]
 
 mod cells;
+mod choices;
+mod choosing;
 mod closes;
 mod collecting;
 mod dealing;
@@ -9,6 +11,7 @@ mod expected;
 mod gathering;
 mod joined;
 mod marks;
+mod naming;
 mod nested_loops;
 mod once;
 mod origin;
@@ -20,15 +23,19 @@ mod sizes;
 mod view;
 mod working;
 
+pub use choices::{chosen_names_are_lawful, left_order, plain_choice};
 pub use closes::nothing_after_close;
 pub use expected::is_as_expected;
 pub use gathering::gather;
 pub use joined::{Joined, JoinedRow, Rows};
 pub use marks::unmatched;
+pub use naming::{NamingRefused, header_names_are_lawful, written_names, written_names_are_lawful};
 pub use nested_loops::nested_loop;
 pub use once::keyed_rows_stand_once;
 pub use partitions::run_join;
-pub use rj_settings::{Expectation, Matching, Settings};
+pub use rj_settings::{
+    Choice, ColumnChoice, Expectation, Matching, Repeated, RowKinds, RowOrder, Settings,
+};
 pub use rj_workers::{Gate, Open, Place};
 pub use shards::{rows_stand_once, shard_is_part, shard_of_row, shards_merge};
-pub use view::{View, header};
+pub use view::{View, chosen_header, header};

@@ -1,11 +1,13 @@
 //! Where each column of a joined table comes from.
 
-ghost use Rattle.std.specs.Prelude.{◌≡◌, ◌++◌, ◌∷◌, [], IfOk, OnOk, if◌then◌else◌, map};
+ghost use Rattle.std.specs.Prelude.{◌≡◌, ◌++◌, ◌∷◌, [], IfOk, OnOk, filter, if◌then◌else◌, map};
 ghost use Rattle.std.specs.List.{list_any};
 ghost use Rattle.rj_condition.specs.Joins.{pairs_of};
+ghost use Rattle.rj_engine.specs.Chosen.{is_of_columns};
 ghost use Rattle.rj_engine.specs.Origins.{is_column, other_lefts, other_rights, origins_of};
 ghost use Rattle.rj_engine.specs.declared.origin.Origin.TheVariants as origin;
 
+use rj_settings::ColumnChoice;
 use std::alloc::{AllocError, Global};
 
 /// Where a column of a joined table comes from: a pair of join columns, the left one first, or one column of one
@@ -31,6 +33,34 @@ pub(crate) fn origins(
     add_pairs(&mut found, partners)?;
     add_lefts(&mut found, partners)?;
     add_rights(&mut found, partners, right_columns)?;
+    Ok(found)
+}
+
+// Whether a column is written: a coalesced one stands for both tables.
+fn is_of_columns(columns: ColumnChoice, origin: Origin) -> bool
+    ensures { result ≡ is_of_columns columns origin }
+{
+    match (columns, origin) {
+        (ColumnChoice::All, _) => true,
+        (_, Origin::Coalesced(_, _)) => true,
+        (ColumnChoice::Left, Origin::Left(_)) => true,
+        (ColumnChoice::Left, Origin::Right(_)) => false,
+        (ColumnChoice::Right, Origin::Left(_)) => false,
+        (ColumnChoice::Right, Origin::Right(_)) => true,
+    }
+}
+
+/// Those columns of a joined table that are written, in their order.
+pub(crate) fn chosen_origins(
+    alloc: Global,
+    partners: &[Option<usize>],
+    right_columns: usize,
+    columns: ColumnChoice,
+) -> Result<Vec<Origin>, AllocError>
+    ensures { IfOk result (λ v. v.items ≡ filter (is_of_columns columns) (origins_of partners.now right_columns)) }
+{
+    let mut found = origins(alloc, partners, right_columns)?;
+    found.retain(|origin| is_of_columns(columns, *origin));
     Ok(found)
 }
 

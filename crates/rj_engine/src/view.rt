@@ -1,17 +1,20 @@
 //! The header and the cells of a joined table, lent by its two tables.
 
-ghost use Rattle.std.specs.Prelude.{◌≡◌, ◌<◌, map, length, true, Some, slice_get, IfOk, All};
+ghost use Rattle.std.specs.Prelude.{◌≡◌, ◌<◌, ◌++◌, map, length, true, Some, slice_get, IfOk, OnOk, All};
 ghost use Rattle.rj_columns.specs.Contents.{content_of};
 ghost use Rattle.rj_condition.specs.Fits.{fits};
 ghost use Rattle.rj_engine.specs.Results.{joined_of};
+ghost use Rattle.rj_engine.specs.Chosen.{chosen_header, chosen_view};
 ghost use Rattle.rj_engine.specs.Cells.{header_of, view_of, columns_of, name_of, joined_cell, left_cell, right_cell};
-ghost use Rattle.rj_engine.specs.Cells.{scale_of, shown_scale, IsScaledWithin, IsLeftRow, IsRightRow, IsMemberOf, IsColumnOf};
+ghost use Rattle.rj_engine.specs.Cells.{members_rows, scale_of, shown_scale, IsScaledWithin, IsLeftRow, IsRightRow, IsMemberOf, IsColumnOf};
 
 use crate::cells::{add_coalesced, add_left, add_right};
-use crate::joined::{Joined, JoinedRow};
-use crate::origin::{Origin, origins};
+use crate::choosing::{choose_rows, count_of, row_at};
+use crate::joined::{Joined, JoinedRow, Members};
+use crate::origin::{Origin, chosen_origins, origins};
 use rj_columns::{Cell, ColumnType, RowSource, Table, coalesce, in_scale};
 use rj_condition::BoundJoin;
+use rj_settings::Choice;
 use std::alloc::{AllocError, Global};
 use std::marker::Model;
 
@@ -20,6 +23,8 @@ pub struct View<'a> {
     left: &'a Table,
     right: &'a Table,
     joined: &'a Joined,
+    // The members that are shown, where they aren't all of the joined table in its order.
+    chosen: Option<Vec<JoinedRow>>,
     origins: Vec<Origin>,
     // The scale of each column that is coalesced.
     scales: Vec<u8>,
@@ -28,16 +33,16 @@ pub struct View<'a> {
 impl<'a> Model for View<'a> {
     ghost use Rattle.std.specs.Prelude.{◌≡◌, map, length, All};
     ghost use Rattle.rj_engine.specs.Cells.{ViewValue, joined_cells, shown_scale, IsMemberOf, IsColumnOf};
-    ghost use Rattle.rj_engine.specs.Join.{rows_in};
+    ghost use Rattle.rj_engine.specs.Chosen.{shown_rows};
 
     ghost Value = { ViewValue };
 
     ghost view = { λ a. record {
-      cells = map (joined_cells a.left.now a.right.now a.origins.items) (rows_in a.joined.now.members);
+      cells = map (joined_cells a.left.now a.right.now a.origins.items) (shown_rows a.chosen a.joined.now.members);
       width = length a.origins.items;
     } };
 
-    ghost invariant = { λ a. All (IsMemberOf a.left.now a.right.now) (rows_in a.joined.now.members) × All (IsColumnOf a.left.now a.right.now) a.origins.items
+    ghost invariant = { λ a. All (IsMemberOf a.left.now a.right.now) (shown_rows a.chosen a.joined.now.members) × All (IsColumnOf a.left.now a.right.now) a.origins.items
         × (a.scales.items ≡ map (shown_scale a.left.now a.right.now) a.origins.items) };
 }
 
@@ -47,6 +52,7 @@ impl<'a> Drop for View<'a> {
             left: _,
             right: _,
             joined: _,
+            chosen: _,
             origins: _,
             scales: _,
         } = self;
@@ -76,6 +82,38 @@ impl<'a> View<'a> {
             left,
             right,
             joined,
+            chosen: None,
+            origins,
+            scales,
+        })
+    }
+
+    /// The rows of a joined table of these tables by this join, which was bound to them: those that are chosen, with the
+    /// columns that are chosen. Names aren't heeded. Where not all rows are chosen in their own order, a row takes 12 bytes.
+    ///
+    /// # Errors
+    ///
+    /// Refuses only for want of memory.
+    pub fn choose(
+        alloc: Global,
+        left: &'a Table,
+        right: &'a Table,
+        join: &BoundJoin,
+        joined: &'a Joined,
+        choice: &Choice<'_>,
+    ) -> Result<View<'a>, AllocError>
+        requires bound { fits join.now left.now.types right.now.types ≡ true }
+        requires joined { joined.now.members ≡ joined_of join.now left.now right.now }
+        ensures { IfOk result (λ v. v ≡ chosen_view choice.now join.now left.now right.now) }
+    {
+        let chosen = choose_rows(alloc, joined, left.rows() as u32, choice)?;
+        let origins = chosen_origins(alloc, join.partners(), right.columns(), choice.columns)?;
+        let scales = scales_of(alloc, left, right, &origins)?;
+        Ok(View {
+            left,
+            right,
+            joined,
+            chosen,
             origins,
             scales,
         })
@@ -88,7 +126,7 @@ impl<'a> RowSource for View<'a> {
     ghost width = { λ v. v.width };
 
     fn rows(&self) -> u64 {
-        self.joined.len() as u64
+        count_of(&self.chosen, self.joined) as u64
     }
 
     fn columns(&self) -> usize {
@@ -96,7 +134,7 @@ impl<'a> RowSource for View<'a> {
     }
 
     fn cell(&self, row: u64, col: usize) -> Cell<'_> {
-        let member = self.joined.row(row as usize);
+        let member = row_at(&self.chosen, self.joined, row as usize);
         cell_at(
             self.left,
             self.right,
@@ -113,20 +151,37 @@ impl<'a> RowSource for View<'a> {
         from: u64,
         to: u64,
     ) -> Result<(), AllocError> {
-        let members = self.joined.members(from as usize, to as usize);
-        match self.origins[col] {
-            Origin::Coalesced(a, b) => add_coalesced(
-                cells,
-                self.left,
-                a,
-                self.right,
-                b,
-                members,
-                self.scales[col],
-            ),
-            Origin::Left(a) => add_left(cells, self.left, a, members),
-            Origin::Right(b) => add_right(cells, self.right, b, members),
+        let (from, to) = (from as usize, to as usize);
+        let (origin, scale) = (self.origins[col], self.scales[col]);
+        match &self.chosen {
+            Some(rows) => add_chosen(cells, self.left, self.right, &rows[from..to], origin, scale),
+            None => {
+                let members = self.joined.members(from, to);
+                add_members(cells, self.left, self.right, members, origin, scale)
+            }
         }
+    }
+}
+
+// Adds the cells of members that follow each other in a column that is given in this scale.
+fn add_members<'s>(
+    cells: &mut Vec<Cell<'s>>,
+    left: &'s Table,
+    right: &'s Table,
+    members: Members<'_>,
+    origin: Origin,
+    scale: u8,
+) -> Result<(), AllocError>
+    requires rows { All (IsMemberOf left.now right.now) (members_rows members) }
+    requires column { IsColumnOf left.now right.now origin }
+    requires scale { scale ≡ shown_scale left.now right.now origin }
+    ensures { OnOk result (map content_of cells.new.items
+        ≡ map content_of cells.old.items ++ map (λ row. joined_cell left.now right.now row origin) (members_rows members.entry)) }
+{
+    match origin {
+        Origin::Coalesced(a, b) => add_coalesced(cells, left, a, right, b, members, scale),
+        Origin::Left(a) => add_left(cells, left, a, members),
+        Origin::Right(b) => add_right(cells, right, b, members),
     }
 }
 
@@ -153,6 +208,26 @@ fn cell_at<'a>(
         Origin::Left(a) => cell_of_left(left, row, a),
         Origin::Right(b) => cell_of_right(right, row, b),
     }
+}
+
+// Adds the cells of these members in a column that is given in this scale.
+fn add_chosen<'s>(
+    cells: &mut Vec<Cell<'s>>,
+    left: &'s Table,
+    right: &'s Table,
+    rows: &[JoinedRow],
+    origin: Origin,
+    scale: u8,
+) -> Result<(), AllocError>
+    requires rows { All (IsMemberOf left.now right.now) rows.now }
+    requires column { IsColumnOf left.now right.now origin }
+    requires scale { scale ≡ shown_scale left.now right.now origin }
+    ensures { OnOk result (map content_of cells.new.items ≡ map content_of cells.old.items ++ map (λ row. joined_cell left.now right.now row origin) rows.now) }
+{
+    for row in rows {
+        cells.push(cell_at(left, right, *row, origin, scale))?;
+    }
+    Ok(())
 }
 
 // The cell of the left row, null where that is missing.
@@ -243,6 +318,26 @@ pub fn header<'a>(
     ensures { IfOk result (λ v. map (λ n. n.now) v.items ≡ header_of join.now left.now right.now) }
 {
     let columns = origins(alloc, join.partners(), right.columns())?;
+    let names = names_of(alloc, left, right, &columns)?;
+    Ok(names)
+}
+
+/// The names of those columns that are chosen of the joined table of these tables by this join, which was bound to them.
+///
+/// # Errors
+///
+/// Refuses only for want of memory.
+pub fn chosen_header<'a>(
+    alloc: Global,
+    left: &'a Table,
+    right: &'a Table,
+    join: &BoundJoin,
+    choice: &Choice<'_>,
+) -> Result<Vec<&'a str>, AllocError>
+    requires { fits join.now left.now.types right.now.types ≡ true }
+    ensures { IfOk result (λ v. map (λ n. n.now) v.items ≡ chosen_header choice.now join.now left.now right.now) }
+{
+    let columns = chosen_origins(alloc, join.partners(), right.columns(), choice.columns)?;
     let names = names_of(alloc, left, right, &columns)?;
     Ok(names)
 }

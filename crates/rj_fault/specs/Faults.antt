@@ -76,6 +76,7 @@ status_of (fault.EmptyLine side row) = 3
 status_of (fault.CutShort side row) = 3
 status_of (fault.TypeName side name) = 3
 status_of (fault.AmbiguousNull row column) = 3
+status_of (fault.NoFreeName column) = 3
 status_of (fault.Syntax byte) = 4
 status_of fault.TooDeep = 4
 status_of fault.UnknownColumn = 4

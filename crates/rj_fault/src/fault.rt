@@ -139,6 +139,10 @@ pub enum Fault {
     /// result, counted from 1.
     #[error("radixjoin: E28 AmbiguousNull row {0} column {1}")]
     AmbiguousNull(u64, u64),
+    /// The name of a column of the result stands before it already, and there is no free name in its place; the column is that of the
+    /// result, counted from 1.
+    #[error("radixjoin: E31 NoFreeName column {0}")]
+    NoFreeName(u64),
     /// Both tables are to be read from standard input.
     #[error("radixjoin: only one of --left and --right can be standard input")]
     TwoStandardInputs,
@@ -231,7 +235,8 @@ impl Fault {
             | Fault::EmptyLine(_, _)
             | Fault::CutShort(_, _)
             | Fault::TypeName(_, _)
-            | Fault::AmbiguousNull(_, _) => 3,
+            | Fault::AmbiguousNull(_, _)
+            | Fault::NoFreeName(_) => 3,
             Fault::Syntax(_)
             | Fault::TooDeep
             | Fault::UnknownColumn

@@ -3,6 +3,7 @@
 mod gates;
 mod hashed;
 mod joins;
+mod naming;
 mod once;
 mod parts;
 mod shards;

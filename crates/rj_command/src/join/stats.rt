@@ -17,7 +17,7 @@ pub struct PartitionRows {
 }
 
 /// What a join counts. The text is what `--stats` prints, without its last line end: a line for each partition, and
-/// then one that counts the rows written, and where `--piece` was given one that counts the pieces.
+/// then one that counts the members of the joined table, and where `--piece` was given one that counts the pieces.
 #[derive(Drop)]
 pub struct Stats {
     /// The rows of each partition, in the order of the partitions.

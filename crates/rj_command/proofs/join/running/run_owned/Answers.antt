@@ -1,4 +1,5 @@
-use Rattle.rj_command.proofs.RunFacts.{joined_of_operands, no_other}
+use Rattle.std.proofs.Common.{rules}
+use Rattle.rj_command.proofs.RunFacts.{joined_of_operands, no_other, of_operands}
 use Rattle.rj_command.proofs.join.running.run_owned.Goals as goal
 
 pub returns-clause-joined : goal.returns-clause-joined
@@ -11,3 +12,6 @@ pub returns-clause-failed : goal.returns-clause-failed
 returns-clause-failed g c = λ failed.
     let operands = c.in_ok-operands.operands in
     (operands.left, operands.right, operands.join, c.in_ok-operands.ensures.operands)
+
+pub returns-in_err-operands-clause-fault : goal.returns-in_err-operands-clause-fault
+returns-in_err-operands-clause-fault g c = of_operands c.args.left.items c.args.right.items c.args.request.now c.from_residual.result c.in_err-operands.field-0.0 (search rules) c.in_err-operands.ensures.fault

@@ -1,4 +1,5 @@
-use Rattle.std.proofs.Common.{◌∙◌, ◌^◌, refl, ap, ap₂, sym, subst, map, length, ℕ, List, Bor}
+use Rattle.std.proofs.Common.{◌∙◌, ◌^◌, refl, ap, ap₂, sym, subst, map, length, ℕ, List, Bor, String, Global}
+use Rattle.std.specs.Prelude.{string_bytes}
 use Rattle.std.specs.List.{range_with_len}
 use Rattle.std.specs.Io.KnownBytes.{Appends}
 use Rattle.std.proofs.lemmas.List.FromFn.{length-map-range_with_len}
@@ -8,7 +9,8 @@ use Rattle.rj_engine.specs.Join.{JoinedValue, Outcome}
 use Rattle.rj_engine.specs.Partitioned.{rows_of_partition}
 use Rattle.rj_engine.specs.Pools.{pieces_of_sizes}
 use Rattle.std.proofs.lemmas.List.{length-map}
-use Rattle.rj_engine.specs.Cells.{ViewValue, columns_of, header_of, name_of}
+use Rattle.rj_engine.specs.Cells.{ViewValue, name_of}
+use Rattle.rj_engine.specs.Chosen.{chosen_columns}
 use Rattle.std.proofs.lemmas.Bool.{and_parts}
 use Rattle.rj_csv_io.specs.Ambiguous.{AreApart}
 use Rattle.rj_command.specs.Runs.{IsToldApart}
@@ -21,17 +23,19 @@ tell_apart-requires-clause-apart g c = λ both.
     let r = c.args.operands.now.right in
     let null = c.args.request.now.out_null.now in
     let sides = and_parts _ _ both in
-    subst (λ (v : ViewValue). AreApart null v.cells) (sym c.in_ok-view.ensures) (view-apart null l r (c.requires.apart.0 sides.0) (c.requires.apart.1 sides.1) c.args.operands.now.join)
+    subst (λ (v : ViewValue). AreApart null v.cells) (sym c.in_ok-view.ensures) (view-apart null l r (c.requires.apart.0 sides.0) (c.requires.apart.1 sides.1) c.args.request.now.choice c.args.operands.now.join)
 
 pub write_rows_in_parts-requires-clause-header : goal.write_rows_in_parts-requires-clause-header
 write_rows_in_parts-requires-clause-header g c κs within =
     let l = c.args.operands.now.left in
     let r = c.args.operands.now.right in
     let join = c.args.operands.now.join in
+    let header = c.in_ok-header.header.items in
     let names = c.in_ok-names.names.items in
-    ap length c.as_slice.ensures.value
-    ∙ (sym (length-map names (λ (n : Bor (List ℕ)). n.now))
-    ∙ (ap length c.in_ok-names.ensures ∙ (length-map (columns_of join r) (name_of l r) ∙ sym (ap (λ (v : ViewValue). v.width) c.in_ok-view.ensures))))
+    ap length c.as_slice-2.ensures.value
+    ∙ (sym (length-map header (λ (n : Bor (List ℕ)). n.now))
+    ∙ (ap length c.in_ok-header.ensures ∙ (ap (λ (ns : List (String Global)). length (map string_bytes ns)) c.as_slice.ensures.value
+    ∙ (c.in_ok-names.ensures.names.many ∙ (length-map (chosen_columns c.args.request.now.choice join r) (name_of l r) ∙ sym (ap (λ (v : ViewValue). v.width) c.in_ok-view.ensures))))))
 
 pub returns-clause-ok : goal.returns-clause-ok
 returns-clause-ok g c =
@@ -45,9 +49,12 @@ returns-clause-ok g c =
     let forgot = c.forget_delivered.ensures in
     let rows = c.in_ok-partitions.ensures in
     let many = ap length joined.left_sizes ∙ length-map-range_with_len (λ p. length (rows_of_partition value bits l (map (λ (k : ℕ × ℕ). k.0) (keys_of join)) p)) 0 (2 ^ bits) in
-    let names = ap (map (λ (n : Bor (List ℕ)). n.now)) c.as_slice.ensures.value ∙ c.in_ok-names.ensures in
+    let names = map string_bytes c.in_ok-names.names.items in
+    let header =
+    ap (map (λ (n : Bor (List ℕ)). n.now)) c.as_slice-2.ensures.value
+    ∙ (c.in_ok-header.ensures ∙ ap (map string_bytes) c.as_slice.ensures.value) in
     let text =
-    ap (λ header. table_text null header c.in_ok-view.view.cells) names ∙ ap (λ (v : ViewValue). table_text null (header_of join l r) v.cells) c.in_ok-view.ensures in
+    ap (λ header. table_text null header c.in_ok-view.view.cells) header ∙ ap (λ (v : ViewValue). table_text null names v.cells) c.in_ok-view.ensures in
     let Writes : List ℕ → Type 0 = λ t. Appends (g.O.Output.told c.args.writer.now) (g.O.Output.told c.write_rows_in_parts.new.output) t in (
       record {
         pairs = c.pairs.ensures ∙ (ap (λ (o : Outcome). length o.members.pairs) forgot ∙ ap (λ (m : JoinedValue). length m.pairs) joined.members);
@@ -65,5 +72,5 @@ returns-clause-ok g c =
       },
       c.in_ok-refuse_unexpected.ensures.expected,
       subst (λ (v : ViewValue). IsToldApart c.args.request.now.strict null v.cells) c.in_ok-view.ensures c.in_ok-tell_apart.ensures.clear,
-      subst Writes text c.in_ok-write_rows_in_parts.ensures.ok,
+      (names, c.in_ok-names.ensures.names, subst Writes text c.in_ok-write_rows_in_parts.ensures.ok),
     )

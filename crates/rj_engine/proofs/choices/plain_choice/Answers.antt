@@ -1,0 +1,8 @@
+use Rattle.rj_engine.proofs.ChosenFacts.{plain_header, plain_view}
+use Rattle.rj_engine.proofs.choices.plain_choice.Goals as goal
+
+pub returns-clause-header : goal.returns-clause-header
+returns-clause-header c = plain_header
+
+pub returns-clause-view : goal.returns-clause-view
+returns-clause-view c = plain_view

@@ -1,0 +1,218 @@
+//! The names under which the columns of a joined table are written.
+
+ghost use Rattle.std.specs.Prelude.{◌≡◌, ◌≢◌, ◌<◌, ◌++◌, [], ◌∷◌, All, IfErr, IfOk, List, OnOk, Err, None, Ok, false, length, map, option_map, slice_index_or, string_bytes, take, true, ℕ};
+ghost use Rattle.std.specs.Str.{str_eq_ignore_ascii_case};
+ghost use Rattle.rj_columns.specs.Names.{is_name, name_fault};
+ghost use Rattle.rj_columns.specs.Tables.{TableValue};
+ghost use Rattle.rj_condition.specs.Fits.{fits};
+ghost use Rattle.rj_condition.specs.declared.bound.BoundJoin.{BoundJoin};
+ghost use Rattle.rj_settings.specs.declared.choice.Repeated.{Repeated};
+ghost use Rattle.rj_engine.specs.Cells.{header_of};
+ghost use Rattle.rj_engine.specs.Naming.{HasLawfulNames, free_name, is_among, is_free, next_name, renamed, with_mark, written_names};
+
+use rj_settings::Repeated;
+use std::alloc::{AllocError, Global};
+
+const MAX_NAME: usize = 128;
+
+const MAX_MARKS: usize = 128;
+
+/// Why a header has no names to be written.
+#[derive(Clone, Copy, Debug, PartialEq, Eq)]
+pub enum NamingRefused {
+    /// The name of this column, counted from 1, stands before it already, and with each number of marks it is longer than
+    /// 128 bytes or like another name.
+    NoFreeName(u64),
+    /// A growth was refused.
+    Memory,
+}
+
+impl From<AllocError> for NamingRefused {
+    ghost use Rattle.rj_engine.specs.declared.naming.NamingRefused.TheVariants.{Memory};
+
+    ghost from_gives = { λ _ e. e ≡ Memory };
+
+    fn from(_error: AllocError) -> NamingRefused {
+        NamingRefused::Memory
+    }
+}
+
+// Whether two names are alike, ASCII case ignored.
+fn are_alike(name: &str, other: &str) -> bool
+    ensures { result ≡ str_eq_ignore_ascii_case name.now other.now }
+{
+    name.eq_ignore_ascii_case(other)
+}
+
+// Whether a name of the header is this one, ASCII case ignored.
+fn is_among(names: &[&str], name: &str) -> bool
+    ensures { result ≡ is_among (map (λ n. n.now) names.now) name.now }
+{
+    for other in names {
+        if are_alike(name, other) {
+            return true;
+        }
+    }
+    false
+}
+
+// Whether a name that was written is this one, ASCII case ignored.
+fn is_written(names: &[String], name: &str) -> bool
+    ensures { result ≡ is_among (map string_bytes names.now) name.now }
+{
+    for other in names {
+        if are_alike(name, other.as_str()) {
+            return true;
+        }
+    }
+    false
+}
+
+// Whether a text can be the name of a column.
+fn is_name(text: &str) -> bool
+    ensures { result ≡ is_name text.now }
+{
+    !text.is_empty() && text.len() <= MAX_NAME
+}
+
+// Whether this is a name that can still be written.
+fn is_free(header: &[&str], written: &[String], name: &str) -> bool
+    ensures { result ≡ is_free (map (λ n. n.now) header.now) (map string_bytes written.now) name.now }
+{
+    is_name(name) && !is_among(header, name) && !is_written(written, name)
+}
+
+// The name with one mark more.
+fn with_mark(alloc: Global, name: &str, repeated: Repeated<'_>) -> Result<String, AllocError>
+    ensures { IfOk result (λ s. string_bytes s ≡ with_mark repeated.entry name.now) }
+{
+    match repeated {
+        Repeated::Kept => String::from_str(alloc, name),
+        Repeated::Qualified => joined_texts(alloc, "R.", name),
+        Repeated::Suffixed(suffix) => joined_texts(alloc, name, suffix),
+    }
+}
+
+// One text behind another.
+fn joined_texts(alloc: Global, first: &str, second: &str) -> Result<String, AllocError>
+    ensures { IfOk result (λ s. string_bytes s ≡ first.now ++ second.now) }
+{
+    let mut text = String::from_str(alloc, first)?;
+    text.push_str(second)?;
+    Ok(text)
+}
+
+// The first free one of the name with one mark, with two, and so on.
+fn free_name(
+    alloc: Global,
+    header: &[&str],
+    written: &[String],
+    name: &str,
+    repeated: Repeated<'_>,
+) -> Result<Option<String>, AllocError>
+    ensures { IfOk result (λ o. option_map string_bytes o ≡ free_name repeated.entry (map (λ n. n.now) header.now) (map string_bytes written.now) name.now) }
+{
+    let mut marked = String::from_str(alloc, name)?;
+    for _marks in 0..MAX_MARKS {
+        marked = with_mark(alloc, marked.as_str(), repeated)?;
+        if is_free(header, written, marked.as_str()) {
+            return Ok(Some(marked));
+        }
+    }
+    Ok(None)
+}
+
+// The name that is written behind those that were: the header's own one, or a free one where it stands before already.
+fn next_name(
+    alloc: Global,
+    header: &[&str],
+    written: &[String],
+    repeated: Repeated<'_>,
+) -> Result<Option<String>, AllocError>
+    requires { length written.now < length header.now }
+    ensures { IfOk result (λ o. option_map string_bytes o ≡ next_name repeated.entry (map (λ n. n.now) header.now) (map string_bytes written.now)
+        (slice_index_or (map (λ n. n.now) header.now) (length written.now) [])) }
+{
+    let column = written.len();
+    let name = header[column];
+    if is_among(&header[..column], name) {
+        return free_name(alloc, header, written, name, repeated);
+    }
+    Ok(Some(String::from_str(alloc, name)?))
+}
+
+// Adds a name behind those that were written.
+fn add_name(written: &mut Vec<String>, name: String) -> Result<(), AllocError>
+    ensures { OnOk result (written.new.items ≡ written.old.items ++ name ∷ []) }
+{
+    written.push(name)?;
+    Ok(())
+}
+
+// The header's names, each repeated one under a free name.
+fn renamed(
+    alloc: Global,
+    header: &[&str],
+    repeated: Repeated<'_>,
+) -> Result<Vec<String>, NamingRefused>
+    ensures names { IfOk result (λ v. renamed repeated.entry (map (λ n. n.now) header.now) ≡ Ok (map string_bytes v.items)) }
+    ensures fault { IfErr result (λ e. e ≢ NamingRefused.Memory → renamed repeated.entry (map (λ n. n.now) header.now) ≡ Err e) }
+{
+    let mut written = Vec::with_capacity(alloc, header.len())?;
+    for column in 0..header.len() {
+        match next_name(alloc, header, written.as_slice(), repeated)? {
+            Some(name) => add_name(&mut written, name)?,
+            None => return Err(NamingRefused::NoFreeName(column as u64 + 1)),
+        }
+    }
+    Ok(written)
+}
+
+// The header's names as they are.
+fn own_names(alloc: Global, header: &[&str]) -> Result<Vec<String>, AllocError>
+    ensures { IfOk result (λ v. map string_bytes v.items ≡ map (λ n. n.now) header.now) }
+{
+    let mut names = Vec::with_capacity(alloc, header.len())?;
+    for name in header {
+        names.push(String::from_str(alloc, name)?)?;
+    }
+    Ok(names)
+}
+
+/// The names under which the columns of a header are written, from left to right. A name that stands before already, ASCII
+/// case ignored, is written as it is, or with marks: its table's letter and a point before it, or a suffix behind it, once or
+/// as often as it takes until no other name is like it. A header's names have 1 to 128 bytes, and so have those written.
+///
+/// # Errors
+///
+/// `NoFreeName` with the first column whose name is repeated and has no such name of at most 128 bytes. `Memory` only where a
+/// growth was refused.
+pub fn written_names(
+    alloc: Global,
+    header: &[&str],
+    repeated: Repeated<'_>,
+) -> Result<Vec<String>, NamingRefused>
+    ensures names { IfOk result (λ v. written_names repeated.entry (map (λ n. n.now) header.now) ≡ Ok (map string_bytes v.items)) }
+    ensures fault { IfErr result (λ e. e ≢ NamingRefused.Memory → written_names repeated.entry (map (λ n. n.now) header.now) ≡ Err e) }
+{
+    match repeated {
+        Repeated::Kept => Ok(own_names(alloc, header)?),
+        Repeated::Qualified | Repeated::Suffixed(_) => renamed(alloc, header, repeated),
+    }
+}
+
+/// The names that are written where repeated ones are renamed are those of a table: a file with them as its header is never
+/// refused for its names. They are as many as the header's, and a name that doesn't stand before already is as it was.
+pub fn written_names_are_lawful()
+    ensures many { (repeated : Repeated) (header names : List (List ℕ)) → written_names repeated header ≡ Ok names → length names ≡ length header }
+    ensures lawful { (repeated : Repeated) (header names : List (List ℕ)) → repeated ≢ Repeated.Kept → All (λ n. is_name n ≡ true) header
+        → written_names repeated header ≡ Ok names → name_fault [] names ≡ None }
+    ensures own { (repeated : Repeated) (header names : List (List ℕ)) (column : ℕ) → written_names repeated header ≡ Ok names → column < length header
+        → is_among (take column header) (slice_index_or header column []) ≡ false → slice_index_or names column [] ≡ slice_index_or header column [] }
+{}
+
+/// The names of a joined table's columns are lawful, each of them, where those of its two tables are.
+pub fn header_names_are_lawful()
+    ensures { (join : BoundJoin) (l r : TableValue) → fits join l.types r.types ≡ true → HasLawfulNames l → HasLawfulNames r
+        → All (λ n. is_name n ≡ true) (header_of join l r) }
+{}
