@@ -72,7 +72,6 @@ OPTIONS_OF = {
         "expect": Word(("one-to-one", "many-to-one", "one-to-many"), None),
         "max-rows": Number(0, 4_294_967_295, math.inf),
         "count": FLAG,
-        "report": FLAG,
         "columns": Word(("all", "left", "right"), "all"),
     },
     "arrivals": {"partition": Number(0, 1023), "senders": Number(1, 128), "block": Number(1, 65536), "gaps": FLAG},

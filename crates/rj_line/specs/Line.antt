@@ -146,7 +146,6 @@ pub record IsLineOf (words : List Text) (l : Line) : Type 0 where
   pub explain : l.explain ≡ is_true (word_of option_words words (codes "explain"))
   pub output : option_map (λ s. s.now) l.output ≡ word_of option_words words (codes "output")
   pub count : l.count ≡ is_true (word_of option_words words (codes "count"))
-  pub report : l.report ≡ is_true (word_of option_words words (codes "report"))
 
 -- both type lists are such lists
 abbrev pub GiveTypes : (Text → Option Text) → Type 0

@@ -34,8 +34,6 @@ pub struct Line<'a> {
     pub output: Option<&'a str>,
     /// Whether the numbers of rows are asked for in place of the rows.
     pub count: bool,
-    /// Whether a report on the tables and the join is asked for.
-    pub report: bool,
 }
 
 // The fault of an error of `clap`'s.
@@ -195,6 +193,5 @@ pub fn read_line<'a>(alloc: Global, words: &'a [&'a str]) -> Result<Line<'a>, Fa
         explain: is_given(&matches, "explain"),
         output: matches.get_str("output"),
         count: is_given(&matches, "count"),
-        report: is_given(&matches, "report"),
     })
 }

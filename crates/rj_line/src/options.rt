@@ -38,7 +38,7 @@ pub(crate) struct LineOption {
 // The bits of the hash that a pass partitions by.
 const BITS: Takes = Takes::Number(0, 10);
 
-const OPTIONS: [LineOption; 30] = [
+const OPTIONS: [LineOption; 29] = [
     LineOption {
         name: "left",
         takes: Takes::Required,
@@ -186,11 +186,6 @@ const OPTIONS: [LineOption; 30] = [
         name: "count",
         takes: Takes::Nothing,
         help: "Print in place of the result how many rows of each kind it has",
-    },
-    LineOption {
-        name: "report",
-        takes: Takes::Nothing,
-        help: "Print on standard error how many rows, nulls and repeated keys the tables have, and what came of them",
     },
 ];
 
