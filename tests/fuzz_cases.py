@@ -55,6 +55,8 @@ if scaled.ARE_TOLD:
 WORDS = [of for of in CELLS if of != "num(18,18)"]
 
 SCRIPT_PIECES = [b" ", b"  ", b"\n", b"\r\n", b"\r", b"0", b"1", b"-1", b"+1", b"x", b"close", b"rows", b" rows 1", b"\xff", b"4294967295", b"4294967296", b"18446744073709551615", b"18446744073709551616", b"000000000000000000000000001"]
+# Lists of kinds of rows; left rows that are in a pair are refused with other columns than the left ones.
+ROWS = [b"pairs", b"lone-left", b"lone-right", b"lone-right,pairs", b"lone-left,lone-right", b"matched-left", b"matched-left,lone-left", b"lone-right,matched-left"]
 LINE_PIECES = [b"-", b"--", b"=", b"--left", b"--help", b"-h", b"--stats", b"--gaps", b"--null=", b"--bits1", b"--workers=64", b"--block", b"--lanes=4", b"--capacity", b"--retries=3", b"--bits2", b"--hash", b"mixed", b"plain", b"--piece=1", b"1048577", b"--version", b"-V", b"11", b"10", b"", b"\xff", b"int", b",", b"text", b" ", b"a", b"--join", b"0", b"--partition=1024", b"-1"]
 
 
@@ -144,6 +146,7 @@ class Cases:
             rows = [[self.source.choice(CELLS[one][:6]) for one in of] for _ in range(self.source.randrange(20))]
             files[side] = b"".join(b",".join(row) + b"\n" for row in [names, *rows])
         options = [b"--stats", b"--bits1=%d" % self.source.randrange(11), b"--bits2=%d" % self.source.randrange(11), b"--hash=" + self.source.choice([b"plain", b"mixed"]), b"--piece=%d" % self.source.choice([1, 2, 3, 7, 65536]), b"--workers=%d" % self.source.randrange(1, 4)]
+        options += [b"--order=left", b"--rows=" + self.source.choice(ROWS), b"--columns=" + self.source.choice([b"left", b"left", b"right"])]
         options = self.source.sample(options, self.source.randrange(len(options) + 1))
         words = self.request([b"left", b"right"], types, self.clauses.lawful(types), self.source.choice(NULLS), options)
         return Case("joins", "radixjoin", words, files, self.folder)

@@ -1,6 +1,7 @@
 use Rattle.std.proofs.Common.{◌≡◌, ◌∙◌, List, Ok, ap, subst, sym, ℕ}
 use Rattle.std.specs.Prelude.{Result}
 use Rattle.rj_csv_io.specs.Shown.{table_text}
+use Rattle.rj_engine.specs.Chosen.{chosen_header}
 use Rattle.rj_engine.specs.Naming.{written_names}
 use Rattle.rj_engine.specs.declared.naming.NamingRefused.{NamingRefused}
 use Rattle.rj_settings.specs.declared.choice.Repeated.{Repeated}
@@ -14,5 +15,6 @@ pub returns : goal.returns
 returns c = λ q join l r names plain kept are.
     let header = c.plain_choice.ensures.header q.choice join l r plain in
     let view = c.plain_choice.ensures.view q.choice join l r plain in
-    let own = as_they_are _ names (subst (λ (repeated : Repeated). written_names repeated _ ≡ Ok names) kept are.written) ∙ header in
+    let chosen = chosen_header q.choice join l r in
+    let own = as_they_are chosen names (subst (λ (repeated : Repeated). written_names repeated chosen ≡ Ok names) kept are.written) ∙ header in
     λ t. table_text q.out_null.now (own t) (view t).cells
