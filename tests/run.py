@@ -48,6 +48,7 @@ PARTS = (
     "options",
     "citations",
     "ends",
+    "output_file",
     "streams",
     "comparisons",
 )

@@ -9,10 +9,10 @@ use std::os::unix::fs::MetadataExt;
 // What the system shows of the files that standard input reads and that standard output writes.
 const STANDARD_INPUT: &str = "/proc/self/fd/0";
 
-const STANDARD_OUTPUT: &str = "/proc/self/fd/1";
+pub(crate) const STANDARD_OUTPUT: &str = "/proc/self/fd/1";
 
-/// Whether the name of a file stands for standard input.
-pub(crate) fn is_standard_input(name: &str) -> bool {
+/// Whether the name of a file stands for standard input, or of an output for standard output.
+pub(crate) fn is_standard_stream(name: &str) -> bool {
     name == "-"
 }
 
@@ -25,14 +25,19 @@ fn told_of<R: Files>(rt: &R, name: &str) -> Result<Option<Metadata>, Fault> {
     }
 }
 
-/// Refuses a table whose file is the one that standard output writes, as far as the system tells.
-pub(crate) fn refuse_output<R: Files>(rt: &R, name: &str, side: Side) -> Result<(), Fault> {
-    let input = if is_standard_input(name) {
+/// Refuses a table whose file is the one that is written, as far as the system tells.
+pub(crate) fn refuse_output<R: Files>(
+    rt: &R,
+    output: &str,
+    name: &str,
+    side: Side,
+) -> Result<(), Fault> {
+    let input = if is_standard_stream(name) {
         STANDARD_INPUT
     } else {
         name
     };
-    let (Some(output), Some(input)) = (told_of(rt, STANDARD_OUTPUT)?, told_of(rt, input)?) else {
+    let (Some(output), Some(input)) = (told_of(rt, output)?, told_of(rt, input)?) else {
         return Ok(());
     };
     if output.is_file() && output.dev() == input.dev() && output.ino() == input.ino() {
@@ -83,7 +88,7 @@ pub(crate) fn read_table<R: Files + Input + AllocGlobal>(
     name: &str,
     side: Side,
 ) -> Result<Vec<u8>, Fault> {
-    if is_standard_input(name) {
+    if is_standard_stream(name) {
         read_standard_input(rt, side)
     } else {
         read_file(rt, name, side)

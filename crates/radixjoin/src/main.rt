@@ -1,35 +1,105 @@
-//! The program `radixjoin`: joins two tables read from CSV files, and writes the joined table as CSV on standard output; or prints
-//! the types that the cells of a file suggest. Statistics and faults go to standard error.
+//! The program `radixjoin`: joins two tables read from CSV files, and writes the joined table as CSV on standard output
+//! or in a file; or prints the types that the cells of a file suggest. Statistics and faults go to standard error.
 #![tactic(auto)]
 
 mod inputs;
 mod lists;
+mod output;
 mod suggesting;
 
-use crate::inputs::{is_standard_input, read_table, refuse_output};
+use crate::inputs::{STANDARD_OUTPUT, is_standard_stream, read_table, refuse_output};
 use crate::lists::read_lists;
+use crate::output::Draft;
 use crate::suggesting::suggest;
-use rj_command::{Line, Open, count, read_line, run_owned};
+use rj_command::{Line, Open, Stats, count, read_line, run_owned};
 use rj_csv_io::CountedWriter;
 use rj_fault::{Fault, Side, read_words, tell, texts_of};
 use std::env::Env;
 use std::fs::Files;
-use std::io;
+use std::io::{self, Write};
 use std::process::ExitCode;
 use std::sync::Wait;
 use std::thread::Threads;
 use std::time::Clock;
 
-// Refuses two tables that can't be read, before anything of them is.
-fn refuse_inputs<R: Files>(rt: &R, line: &Line<'_>) -> Result<(), Fault> {
-    if is_standard_input(line.left) && is_standard_input(line.right) {
-        return Err(Fault::TwoStandardInputs);
+// The file that the result is written to, or none where that is standard output.
+fn output_of<'a>(line: &Line<'a>) -> Option<&'a str> {
+    match line.output {
+        Some(name) if !is_standard_stream(name) => Some(name),
+        _ => None,
     }
-    refuse_output(rt, line.left, Side::Left)?;
-    refuse_output(rt, line.right, Side::Right)
 }
 
-// Reads the words of a join and both tables, left first, and writes the joined table.
+// Refuses two tables that can't be read, before anything of them is.
+fn refuse_inputs<R: Files>(rt: &R, line: &Line<'_>) -> Result<(), Fault> {
+    if is_standard_stream(line.left) && is_standard_stream(line.right) {
+        return Err(Fault::TwoStandardInputs);
+    }
+    let output = output_of(line).unwrap_or(STANDARD_OUTPUT);
+    refuse_output(rt, output, line.left, Side::Left)?;
+    refuse_output(rt, output, line.right, Side::Right)
+}
+
+// Reads both tables, left first, and writes the joined table. The writer is given back where that is done.
+fn write_joined<R: Files + Input + AllocGlobal + Threads + Wait + Clock + Sync, W: Write + Drop>(
+    rt: &R,
+    line: &Line<'_>,
+    writer: W,
+) -> Result<(Stats, W), Fault> {
+    let left = read_table(rt, line.left, Side::Left)?;
+    let right = read_table(rt, line.right, Side::Right)?;
+    let mut writer = CountedWriter::new(writer);
+    let stats = run_owned(
+        rt,
+        rt.alloc(),
+        left,
+        right,
+        &line.request,
+        &Open,
+        &mut writer,
+    )?;
+    Ok((stats, writer.into_inner()))
+}
+
+// Does this with a file, which has the whole joined table in the end, or what it had before.
+fn write_file<R: Files + Input + AllocGlobal + Threads + Wait + Clock + Sync>(
+    rt: &R,
+    line: &Line<'_>,
+    name: &str,
+) -> Result<Stats, Fault> {
+    let (draft, file) = Draft::open(rt, name)?;
+    match write_joined(rt, line, file) {
+        Ok((stats, file)) => {
+            draft.finish(rt, file)?;
+            Ok(stats)
+        }
+        Err(fault) => {
+            draft.discard(rt);
+            Err(fault)
+        }
+    }
+}
+
+// Reads both tables, left first, and writes how many rows of each kind their joined table has on standard output.
+fn write_counts<R: Files + Input + AllocGlobal + Print + Threads + Wait + Clock + Sync>(
+    rt: &R,
+    line: &Line<'_>,
+) -> Result<(), Fault> {
+    let left = read_table(rt, line.left, Side::Left)?;
+    let right = read_table(rt, line.right, Side::Right)?;
+    let mut writer = CountedWriter::new(io::writer(rt));
+    count(
+        rt,
+        rt.alloc(),
+        left,
+        right,
+        &line.request,
+        &Open,
+        &mut writer,
+    )
+}
+
+// Reads the words of a join, and writes the joined table.
 fn join<R: Files + Input + AllocGlobal + Print + Eprint + Threads + Wait + Clock + Sync>(
     rt: &R,
     words: Vec<String>,
@@ -39,13 +109,16 @@ fn join<R: Files + Input + AllocGlobal + Print + Eprint + Threads + Wait + Clock
     let texts = texts_of(alloc, words.as_slice())?;
     let line = read_line(alloc, texts.as_slice())?;
     refuse_inputs(rt, &line)?;
-    let left = read_table(rt, line.left, Side::Left)?;
-    let right = read_table(rt, line.right, Side::Right)?;
-    let mut writer = CountedWriter::new(io::writer(rt));
     if line.count {
-        return count(rt, alloc, left, right, &line.request, &Open, &mut writer);
+        return write_counts(rt, &line);
     }
-    let stats = run_owned(rt, alloc, left, right, &line.request, &Open, &mut writer)?;
+    let stats = match output_of(&line) {
+        Some(name) => write_file(rt, &line, name)?,
+        None => {
+            let (stats, _writer) = write_joined(rt, &line, io::writer(rt))?;
+            stats
+        }
+    };
     if line.stats {
         let _ = eprintln!(rt; "{stats}");
     }

@@ -1,6 +1,6 @@
 //! `radixjoin --suggest-types FILE`: prints a list of types that the cells of a file suggest.
 
-use crate::inputs::{read_table, refuse_output};
+use crate::inputs::{STANDARD_OUTPUT, read_table, refuse_output};
 use clap::error::ErrorKind;
 use clap::{Arg, ArgAction, ArgMatches, Command, Error};
 use rj_csv_io::{CountedWriter, Output};
@@ -48,7 +48,7 @@ pub(crate) fn suggest<R: Files + Input + AllocGlobal + Print>(
 ) -> Result<(), Fault> {
     let matches = matches_of(rt.alloc(), words)?;
     let name = matches.get_str("FILE").unwrap_or("");
-    refuse_output(rt, name, Side::Left)?;
+    refuse_output(rt, STANDARD_OUTPUT, name, Side::Left)?;
     let bytes = read_table(rt, name, Side::Left)?;
     let null = matches.get_str("null").unwrap_or("");
     let list = suggest_types(rt.alloc(), bytes.as_slice(), &[null])?;
