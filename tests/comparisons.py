@@ -90,10 +90,10 @@ def sqlite_rows(left, right, join):
     return rows_of(ran.stdout.decode())
 
 
-def faults_of(left, right, join, with_sqlite, with_reference=True):
+def faults_of(left, right, join, with_sqlite, with_reference=True, options=()):
     """Runs a join everywhere, and says what differs."""
     with harness.folder() as name:
-        ran = run_join(left, right, join, pathlib.Path(name))
+        ran = run_join(left, right, join, pathlib.Path(name), options)
     if ran.status != 0 or ran.stderr:
         return [f"{join.clause}: status {ran.status}: {ran.stderr!r}"]
     header, *rows = rows_of(ran.stdout.decode())
@@ -129,6 +129,46 @@ def random_decimals(tally, with_sqlite):
         tally.check(f"random decimals {n}: {join.clause}", faults_of(left, right, join, with_sqlite))
 
 
+def random_bounds(source, left, right):
+    """A conjunct that bounds a column by columns of the other side, or looks so: in either order, strictly or not, with a
+    literal, with texts, negated, within OR, or where nulls meet."""
+    columns = {side: [("column", side, i) for i, kind in enumerate(table.types) if kind != "text"] for side, table in (("L", left), ("R", right))}
+    here, there = source.choice([("L", "R"), ("R", "L")])
+    column, bounds = source.choice(columns[here]), [source.choice(columns[there]) for _ in range(2)]
+    shape = source.randrange(10)
+    if shape < 3:
+        return ("compare", source.choice(["<", "<=", ">", ">="]), *source.sample([column, bounds[0]], 2))
+    if shape < 6:
+        return ("between", column, *bounds, source.random() < 0.1)
+    if shape == 6:
+        return ("between", column, *source.sample([bounds[0], ("literal", source.choice([-1, 0, 2]))], 2), False)
+    if shape == 7:
+        return ("between", bounds[0], column, source.choice(columns["L"] + columns["R"]), False)
+    if shape == 8:
+        meet = [("null", column, False), ("null", bounds[0], False)]
+        return ("or", source.sample([("compare", "=", *source.sample([column, bounds[0]], 2)), ("and", source.sample(meet, 2))], 2))
+    return reference.random_condition(source, left, right, 1)
+
+
+def random_bands(tally, with_sqlite):
+    """Joins without a key whose clause bounds a column by columns of the other side: bounds that are equal, reversed or null,
+    columns that are all null, and rows that are in no pair, with one worker and with several."""
+    source = random.Random("radixjoin: random bands")
+    kinds = ["int", "int", "num(2,0)", "num(4,1)", "num(5,2)", "num(18,2)"]
+    for n in range(CASES):
+        types = [[source.choice(kinds), "text", source.choice(kinds)], [source.choice(kinds), source.choice(kinds), "text"]]
+        left = reference.random_table(source, ["a", "t", "b"], types[0], source.choice([1, 8, 30]))
+        right = reference.random_table(source, ["b", "c", "t"], types[1], source.choice([1, 8, 30]))
+        if source.random() < 0.1:
+            left.rows = [[None, *row[1:]] for row in left.rows]
+        conjuncts = [random_bounds(source, left, right) for _ in range(source.choice([1, 1, 2, 3]))]
+        condition = conjuncts[0] if len(conjuncts) == 1 else ("and", conjuncts)
+        kind = source.choice(["INNER", "LEFT", "RIGHT", "FULL"])
+        join = reference.Join(f"{kind} JOIN ON {reference.spelled(condition, left, right)}", kind, condition=condition)
+        options = source.choice([(), ("--workers=3",), ("--workers=2", "--piece=2"), ("--piece=1",)])
+        tally.check(f"random band {n}: {join.clause}", faults_of(left, right, join, with_sqlite, options=options))
+
+
 def large_tables(tally, with_sqlite):
     """Two files of 10,000 rows with quoted fields and nulls."""
     source = random.Random("radixjoin: 10,000 rows")
@@ -153,4 +193,5 @@ def run_all(tally):
         print("sqlite3 is not installed: compared with the plain nested loop alone")
     random_tables(tally, with_sqlite)
     random_decimals(tally, with_sqlite)
+    random_bands(tally, with_sqlite)
     large_tables(tally, with_sqlite)

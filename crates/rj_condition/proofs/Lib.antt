@@ -18,6 +18,7 @@ pub mod SplitFacts
 pub mod PartnerFacts
 pub mod SplitFits
 pub mod KeyColumns
+pub mod BandFacts
 pub mod Turns
 pub mod Behind
 pub mod Sound

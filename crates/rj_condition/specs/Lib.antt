@@ -13,6 +13,7 @@ pub mod Tokens
 pub mod Lexing
 pub mod Scanning
 pub mod Parts
+pub mod Bands
 pub mod Grammar
 pub mod Reading
 pub mod Nesting

@@ -2,6 +2,7 @@
 //! condition at two rows, and its split into keys and remainder.
 #![tactic(auto)]
 
+mod band;
 mod binding;
 mod bound;
 mod clauses;
@@ -27,6 +28,7 @@ mod truth;
 mod typing;
 mod word;
 
+pub use band::Band;
 pub use binding::bind;
 pub use bound::BoundJoin;
 pub use lexer::quoted;

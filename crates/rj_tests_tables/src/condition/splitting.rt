@@ -6,7 +6,7 @@ ghost use Rattle.rj_condition.specs.Parts.{split_fits};
 
 use crate::condition::samples::{INT, Sample, join_of, tables};
 use rj_columns::{Cell, Table};
-use rj_condition::{BoundJoin, Split, split};
+use rj_condition::{Band, BoundJoin, Split, split};
 use std::alloc::{AllocError, Global};
 
 // Whether the remainder is as true as a join at a left row and each right row.
@@ -172,4 +172,67 @@ fn keys_and_remainders(rt: HostRuntime) {
         first_wrong(rt.alloc(), LEFTS, RIGHTS, KEYS_AND_RESTS.as_slice()),
         ""
     );
+}
+
+// Whether the remainder of a clause has this band.
+fn has_band(alloc: Global, clause: &str, band: Option<Band>, left: &Table, right: &Table) -> bool {
+    match join_of(alloc, clause, left, right) {
+        Ok(join) => match split(alloc, &join) {
+            Ok(parts) => parts.remainder.band() == band,
+            Err(_) => false,
+        },
+        Err(_) => false,
+    }
+}
+
+// The first clause of the cases that has another band; empty where there is none.
+fn first_banded_otherwise<'a>(alloc: Global, cases: &[(&'a str, Option<Band>)]) -> &'a str {
+    match tables(alloc, LEFTS, RIGHTS) {
+        Some((left, right)) => {
+            for case in cases {
+                if !has_band(alloc, case.0, case.1, &left, &right) {
+                    return case.0;
+                }
+            }
+            ""
+        }
+        None => "the tables",
+    }
+}
+
+const BANDS: [(&str, Option<Band>); 5] = [
+    (
+        "JOIN ON L.a BETWEEN R.a AND R.b",
+        Some(Band {
+            of_left: true,
+            column: 0,
+            low: Some(0),
+            high: Some(1),
+        }),
+    ),
+    (
+        "JOIN ON R.b > L.a AND L.b IS NOT NULL",
+        Some(Band {
+            of_left: true,
+            column: 0,
+            low: None,
+            high: Some(1),
+        }),
+    ),
+    (
+        "JOIN ON R.a >= L.a AND R.a < L.b",
+        Some(Band {
+            of_left: false,
+            column: 0,
+            low: Some(0),
+            high: Some(1),
+        }),
+    ),
+    ("JOIN ON L.a NOT BETWEEN R.a AND R.b", None),
+    ("JOIN ON L.a < R.a OR L.b < R.b", None),
+];
+
+#[test]
+fn bands_of_clauses(rt: HostRuntime) {
+    assert_eq!(rt; first_banded_otherwise(rt.alloc(), BANDS.as_slice()), "");
 }
