@@ -10,6 +10,7 @@ complete -c radixjoin -l left-null -x -d 'Text that stands for null in the left 
 complete -c radixjoin -l right-null -x -d 'Text that stands for null in the right file'
 complete -c radixjoin -l out-null -x -d 'Text that is written for null'
 complete -c radixjoin -l strict -x -a 'on full' -d 'Refuse files that are not of RFC 4180'
+complete -c radixjoin -l explain -d 'Tell where a fault is and what stands there'
 complete -c radixjoin -l stats -d 'Tell how many rows were joined and written'
 complete -c radixjoin -l workers -x -d 'Threads that scan, and as many that join, 1 to 64'
 complete -c radixjoin -l bits1 -x -d 'Bits of the hash that name a partition, 0 to 10'

@@ -2,16 +2,18 @@
 //! the types that the cells of a file suggest. Statistics and faults go to standard error.
 #![tactic(auto)]
 
+mod explaining;
 mod inputs;
 mod lists;
 mod suggesting;
 
-use crate::inputs::{is_standard_input, read_table, refuse_output};
+use crate::explaining::{Ended, join_explained, read_side, read_words_of_line, tell_ended};
+use crate::inputs::{is_standard_input, refuse_output};
 use crate::lists::read_lists;
 use crate::suggesting::suggest;
-use rj_command::{Line, Open, read_line, run_owned};
+use rj_command::{Line, Open, run_owned};
 use rj_csv_io::CountedWriter;
-use rj_fault::{Fault, Side, read_words, tell, texts_of};
+use rj_fault::{Fault, Side, read_words, texts_of};
 use std::env::Env;
 use std::fs::Files;
 use std::io;
@@ -33,16 +35,20 @@ fn refuse_inputs<R: Files>(rt: &R, line: &Line<'_>) -> Result<(), Fault> {
 fn join<R: Files + Input + AllocGlobal + Print + Eprint + Threads + Wait + Clock + Sync>(
     rt: &R,
     words: Vec<String>,
-) -> Result<(), Fault> {
+) -> Result<(), Ended> {
     let alloc = rt.alloc();
     let words = read_lists(rt, words)?;
     let texts = texts_of(alloc, words.as_slice())?;
-    let line = read_line(alloc, texts.as_slice())?;
+    let line = read_words_of_line(alloc, texts.as_slice())?;
     refuse_inputs(rt, &line)?;
-    let left = read_table(rt, line.left, Side::Left)?;
-    let right = read_table(rt, line.right, Side::Right)?;
+    let left = read_side(rt, &line, Side::Left)?;
+    let right = read_side(rt, &line, Side::Right)?;
     let mut writer = CountedWriter::new(io::writer(rt));
-    let stats = run_owned(rt, alloc, left, right, &line.request, &Open, &mut writer)?;
+    let stats = if line.explain {
+        join_explained(rt, left, right, &line, &mut writer)?
+    } else {
+        run_owned(rt, alloc, left, right, &line.request, &Open, &mut writer)?
+    };
     if line.stats {
         let _ = eprintln!(rt; "{stats}");
     }
@@ -60,13 +66,14 @@ fn words_to_suggest(words: &[String]) -> Option<&[String]> {
 // Reads the command line, and does what it asks for.
 fn run<R: Env + Files + Input + AllocGlobal + Print + Eprint + Threads + Wait + Clock + Sync>(
     rt: &R,
-) -> Result<(), Fault> {
+) -> Result<(), Ended> {
     let Some(words) = read_words(rt)? else {
-        return Err(Fault::NotText);
+        return Err(Ended::from(Fault::NotText));
     };
     if let Some(behind) = words_to_suggest(words.as_slice()) {
         let texts = texts_of(rt.alloc(), behind)?;
-        return suggest(rt, texts.as_slice());
+        suggest(rt, texts.as_slice())?;
+        return Ok(());
     }
     join(rt, words)
 }
@@ -74,6 +81,6 @@ fn run<R: Env + Files + Input + AllocGlobal + Print + Eprint + Threads + Wait + 
 fn main(rt: HostRuntime) -> ExitCode {
     match run(&rt) {
         Ok(()) => ExitCode::SUCCESS,
-        Err(fault) => ExitCode::from(tell(&rt, &fault)),
+        Err(ended) => ExitCode::from(tell_ended(&rt, &ended)),
     }
 }
