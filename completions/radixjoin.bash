@@ -1,6 +1,6 @@
 # Completion of radixjoin for bash: options that were not given yet, files, and the words of --hash and --strict.
 _radixjoin() {
-    local options="--left --right --left-types --right-types --join --null --left-null --right-null --out-null --strict --explain --stats --workers
+    local options="--left --right --left-types --right-types --join --null --left-null --right-null --out-null --strict --stats --output --explain --workers
         --bits1 --bits2 --hash --piece --block --capacity --lanes --retries --help --version"
     local word=${COMP_WORDS[COMP_CWORD]} before=${COMP_WORDS[COMP_CWORD - 1]}
     # `--left=a` is three words here: --left, = and a.
@@ -19,7 +19,7 @@ _radixjoin() {
     fi
     COMPREPLY=()
     case $before in
-        --left | --right | --suggest-types)
+        --left | --right | --output | --suggest-types)
             compopt -o filenames 2>/dev/null
             mapfile -t COMPREPLY < <(compgen -f -- "$word")
             ;;

@@ -57,6 +57,8 @@ OPTIONS_OF = {
         "retries": Number(0, 3, 1),
         "piece": Number(1, 1_048_576, 65_536),
         "stats": FLAG,
+        "explain": FLAG,
+        "output": TEXT,
     },
     "arrivals": {"partition": Number(0, 1023), "senders": Number(1, 128), "block": Number(1, 65536), "gaps": FLAG},
 }

@@ -23,9 +23,8 @@ use Rattle.clap.specs.declared.parser.matches.Found.{Found}
 use Rattle.clap.specs.declared.parser.matches.MatchedArg.{MatchedArg}
 use Rattle.clap.proofs.WalkLemmas.{list_any-map}
 use Rattle.clap.proofs.CallerLemmas.{added_plain, entry_by_id, same_rules_by_id}
-use Rattle.rj_line.specs.Line.{IsHashName, IsNumberIn, IsStrictName}
+use Rattle.rj_line.specs.Line.{IsNameOf, IsNumberIn, IsStrictName}
 use Rattle.rj_line.specs.Options.{OptionWords, IsBare, IsChain}
-use Rattle.rj_line.specs.declared.request.Hash.TheVariants as hash
 use Rattle.rj_line.proofs.ChainFacts.{all_distinct, all_fit, are_distinct, fits_option, rule_at}
 
 no_value : {X : Type 0} (x : X) → None ≡ Some x → ⊥
@@ -176,21 +175,43 @@ among a b texts t are is =
     by_first true e any = inl (sym ((bytes_eq-Decides a t).0 e))
     by_first false e any = by_second (bytes_eq b t) refl any
 
-named : (texts : List (Bor Text)) (t : Text) → map (λ w. w.now) texts ≡ codes "plain" ∷ codes "mixed" ∷ [] → list_any (λ name. bytes_eq name.now t) texts ≡ true → IsHashName (Some t)
-named texts t are is = elim (among (codes "plain") (codes "mixed") texts t are is) [ inl e ↦ (hash.Plain, e) | inr e ↦ (hash.Mixed, e) ]
+abbrev first_text : List Text → Text
+first_text [] = []
+first_text (t ∷ ts) = t
 
--- the word of a rule of a chain that takes the names of hashes is one of them in each parse
-pub hash_given : (start command : Command) (rules : List Rule) (m : ArgMatches) → IsBare start → IsChain start rules command
-    → list_all fits_option rules ≡ true → are_distinct rules ≡ true → (k : ℕ) → k < length rules → (h : OptionWords)
-    → (slice_index_or rules k (new_rule [])).parser ≡ Some (parser.Names h.hashes) → (slice_index_or rules k (new_rule [])).ignore_case ≡ false → IsParsedFrom command m
-    → IsHashName (first_value (found_of m) (slice_index_or rules k (new_rule [])).id)
-hash_given start command rules m bare chain fits distinct k lt h is case p =
-    read _ (λ t first. subst (λ (b : Bool). Accepts b (parser.Names h.hashes) t) case
-    (value_given start command rules m bare chain fits distinct k lt (parser.Names h.hashes) is p t first)) _ refl
+abbrev further_texts : List Text → List Text
+further_texts [] = []
+further_texts (t ∷ ts) = ts
+
+abbrev has_none : List Text → Bool
+has_none [] = true
+has_none (t ∷ ts) = false
+
+-- a text that is among the names of these things is the name of one
+name_of_one : {X : Type 0} (name : X → Text) (xs : List X) (texts : List (Bor Text)) (t : Text) → map (λ (w : Bor Text). w.now) texts ≡ map name xs
+    → list_any (λ n. bytes_eq n.now t) texts ≡ true → (x : X) × (t ≡ name x)
+name_of_one name xs [] t are is = absurd (true≢false (sym is))
+name_of_one name [] (w ∷ texts) t are is = absurd (true≢false (sym (ap has_none are)))
+name_of_one {X} name (x ∷ xs) (w ∷ texts) t are is = by (bytes_eq w.now t) refl (λ any. name_of_one name xs texts t (ap further_texts are) any) is
   where
-    read : (id : Text) → ((t : Text) → first_value (found_of m) id ≡ Some t → Accepts false (parser.Names h.hashes) t) → (o : Option Text) → first_value (found_of m) id ≡ o → IsHashName o
+    by : (b : Bool) → bytes_eq w.now t ≡ b → (list_any (λ n. bytes_eq n.now t) texts ≡ true → (x : X) × (t ≡ name x))
+        → (b || list_any (λ n. bytes_eq n.now t) texts) ≡ true → (x : X) × (t ≡ name x)
+    by true e further any = (x, sym ((bytes_eq-Decides w.now t).0 e) ∙ ap first_text are)
+    by false e further any = further any
+
+-- the word of a rule of a chain that takes the names of these things is one of them in each parse
+pub name_given : (start command : Command) (rules : List Rule) (m : ArgMatches) → IsBare start → IsChain start rules command
+    → list_all fits_option rules ≡ true → are_distinct rules ≡ true → {X : Type 0} (name : X → Text) (xs : List X) (names : Bor (List (Bor Text)))
+    → map (λ (w : Bor Text). w.now) names.now ≡ map name xs → (k : ℕ) → k < length rules
+    → (slice_index_or rules k (new_rule [])).parser ≡ Some (parser.Names names) → (slice_index_or rules k (new_rule [])).ignore_case ≡ false → IsParsedFrom command m
+    → IsNameOf name (first_value (found_of m) (slice_index_or rules k (new_rule [])).id)
+name_given start command rules m bare chain fits distinct {X} name xs names are k lt is case p =
+    read _ (λ t first. subst (λ (b : Bool). Accepts b (parser.Names names) t) case
+    (value_given start command rules m bare chain fits distinct k lt (parser.Names names) is p t first)) _ refl
+  where
+    read : (id : Text) → ((t : Text) → first_value (found_of m) id ≡ Some t → Accepts false (parser.Names names) t) → (o : Option Text) → first_value (found_of m) id ≡ o → IsNameOf name o
     read id f None e = tt
-    read id f (Some t) e = named h.hashes.now t h.are_hashes (f t e)
+    read id f (Some t) e = name_of_one name xs names.now t are (f t e)
 
 -- and so is that of the option that says how strictly files are read
 pub strict_given : (start command : Command) (rules : List Rule) (m : ArgMatches) → IsBare start → IsChain start rules command

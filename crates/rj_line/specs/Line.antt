@@ -13,6 +13,7 @@ use Rattle.rj_fault.specs.declared.fault.Side.TheVariants as side
 use Rattle.rj_line.specs.declared.line.Line.{Line}
 use Rattle.rj_line.specs.declared.request.Hash.{Hash}
 use Rattle.rj_line.specs.declared.request.Hash.TheVariants as hash
+use Rattle.rj_line.specs.declared.request.Request.{Request}
 use Rattle.rj_line.specs.declared.request.Strictness.{Strictness}
 use Rattle.rj_line.specs.declared.request.Strictness.TheVariants as strictness
 use Rattle.rj_line.specs.Options.{OptionWords, line_app}
@@ -37,8 +38,8 @@ nulls_or [] null = null ∷ []
 nulls_or (text ∷ texts) null = text ∷ texts
 
 -- the text that stands for null where nothing else is said
-abbrev pub null_word : OptionWords → List Text → Text
-null_word h words = unwrap_or (word_of h words (codes "null")) []
+abbrev pub null_word : (Text → Option Text) → Text
+null_word word = unwrap_or (word (codes "null")) []
 
 -- the text is a numeral of this number, where a sign may stand first
 abbrev pub Spells : Text → ℕ → Type 0
@@ -71,15 +72,15 @@ abbrev pub hash_name : Hash → Text
 hash_name hash.Plain = codes "plain"
 hash_name hash.Mixed = codes "mixed"
 
--- the hash that an option's value names, or another one where it has none
-abbrev pub IsHashOr : Hash → Option Text → Hash → Type 0
-IsHashOr other None h = h ≡ other
-IsHashOr other (Some text) h = text ≡ hash_name h
+-- what an option's value names, or another one where it has none
+abbrev pub IsNamedOr : {X : Type 0} → (X → Text) → X → Option Text → X → Type 0
+IsNamedOr name other None x = x ≡ other
+IsNamedOr name other (Some text) x = text ≡ name x
 
--- an option's value, where it has one, is the name of a hash
-abbrev pub IsHashName : Option Text → Type 0
-IsHashName None = Unit {0}
-IsHashName (Some text) = (h : Hash) × (text ≡ hash_name h)
+-- an option's value, where it has one, is the name of something
+abbrev pub IsNameOf : {X : Type 0} → (X → Text) → Option Text → Type 0
+IsNameOf name None = Unit {0}
+IsNameOf {X} name (Some text) = (x : X) × (text ≡ name x)
 
 -- how strictly an option's value says that files are read, `Off` where it has none
 abbrev pub IsStrictness : Option Text → Strictness → Type 0
@@ -106,65 +107,54 @@ GivesTypes word types = (text : Text) × (word ≡ Some text) × IsTypeList text
 abbrev pub GivesNoTypes : Option Text → Type 0
 GivesNoTypes word = (text : Text) × (word ≡ Some text) × ((types : List TypeEntry) → IsTypeList text types → ⊥)
 
+-- what the values of the options ask of two tables: each is the one given or the default
+pub record IsRequestOf (word : Text → Option Text) (texts : Text → List Text) (r : Request) : Type 0 where
+  pub left_types : GivesTypes (word (codes "left-types")) r.left_types.items
+  pub right_types : GivesTypes (word (codes "right-types")) r.right_types.items
+  pub join : word (codes "join") ≡ Some r.clause.now
+  pub left_nulls : null_texts r.left_nulls.items ≡ nulls_or (texts (codes "left-null")) (null_word word)
+  pub right_nulls : null_texts r.right_nulls.items ≡ nulls_or (texts (codes "right-null")) (null_word word)
+  pub few_nulls : (length r.left_nulls.items ≤ 4) × (length r.right_nulls.items ≤ 4)
+  pub out_null : r.out_null.now ≡ unwrap_or (word (codes "out-null")) (null_word word)
+  pub strict : IsStrictness (word (codes "strict")) r.strict
+  pub settings : AreSettings word r.settings
+  pub hash : IsNamedOr hash_name hash.Plain (word (codes "hash")) r.hash
+  pub tells_pieces : r.tells_pieces ≡ is_some (word (codes "piece"))
+
 -- `clap` has no fault to tell, each option that is required is given, and each value is the one given or the default
 pub record IsLineOf (words : List Text) (l : Line) : Type 0 where
   pub option_words : OptionWords
   pub accepted : fault_of (line_app option_words) words ≡ []
   pub left : word_of option_words words (codes "left") ≡ Some l.left.now
   pub right : word_of option_words words (codes "right") ≡ Some l.right.now
-  pub left_types : GivesTypes (word_of option_words words (codes "left-types")) l.request.left_types.items
-  pub right_types : GivesTypes (word_of option_words words (codes "right-types")) l.request.right_types.items
-  pub join : word_of option_words words (codes "join") ≡ Some l.request.clause.now
-  pub left_nulls : null_texts l.request.left_nulls.items ≡ nulls_or (words_of option_words words (codes "left-null")) (null_word option_words words)
-  pub right_nulls : null_texts l.request.right_nulls.items ≡ nulls_or (words_of option_words words (codes "right-null")) (null_word option_words words)
-  pub few_nulls : (length l.request.left_nulls.items ≤ 4) × (length l.request.right_nulls.items ≤ 4)
-  pub out_null : l.request.out_null.now ≡ unwrap_or (word_of option_words words (codes "out-null")) (null_word option_words words)
-  pub strict : IsStrictness (word_of option_words words (codes "strict")) l.request.strict
-  pub settings : AreSettings (word_of option_words words) l.request.settings
-  pub hash : IsHashOr hash.Plain (word_of option_words words (codes "hash")) l.request.hash
-  pub tells_pieces : l.request.tells_pieces ≡ is_some (word_of option_words words (codes "piece"))
+  pub request : IsRequestOf (word_of option_words words) (words_of option_words words) l.request
   pub stats : l.stats ≡ is_true (word_of option_words words (codes "stats"))
+  pub explain : l.explain ≡ is_true (word_of option_words words (codes "explain"))
+  pub output : option_map (λ s. s.now) l.output ≡ word_of option_words words (codes "output")
 
--- `clap` has no fault to tell, and the left list is no type list
-pub record IsBadLeftList (words : List Text) : Type 0 where
-  pub option_words : OptionWords
-  pub accepted : fault_of (line_app option_words) words ≡ []
-  pub left_types : GivesNoTypes (word_of option_words words (codes "left-types"))
+-- both type lists are such lists
+abbrev pub GiveTypes : (Text → Option Text) → Type 0
+GiveTypes word =
+    ((types : List TypeEntry) × GivesTypes (word (codes "left-types")) types)
+    × ((types : List TypeEntry) × GivesTypes (word (codes "right-types")) types)
 
--- the left list is a type list, and the right one is none
-pub record IsBadRightList (words : List Text) : Type 0 where
-  pub option_words : OptionWords
-  pub accepted : fault_of (line_app option_words) words ≡ []
-  pub left_types : (types : List TypeEntry) × GivesTypes (word_of option_words words (codes "left-types")) types
-  pub right_types : GivesNoTypes (word_of option_words words (codes "right-types"))
+-- why the values of the options ask for nothing that can be done: a bad type list on the left, then one on the right, then too many
+-- null texts on the left, then on the right; or want of memory
+abbrev pub IsRequestFault : (Text → Option Text) → (Text → List Text) → Fault → Type 0
+IsRequestFault word texts (fault.BadTypeList side.Left) = GivesNoTypes (word (codes "left-types"))
+IsRequestFault word texts (fault.BadTypeList side.Right) =
+    ((types : List TypeEntry) × GivesTypes (word (codes "left-types")) types) × GivesNoTypes (word (codes "right-types"))
+IsRequestFault word texts (fault.TooManyNulls side.Left) = GiveTypes word × (4 < length (texts (codes "left-null")))
+IsRequestFault word texts (fault.TooManyNulls side.Right) =
+    GiveTypes word × (length (texts (codes "left-null")) ≤ 4) × (4 < length (texts (codes "right-null")))
+IsRequestFault word texts fault.Memory = Unit {0}
+IsRequestFault word texts _ = ⊥
 
--- both lists are type lists, and the left table is given more than four null texts
-pub record HasManyLeftNulls (words : List Text) : Type 0 where
-  pub option_words : OptionWords
-  pub accepted : fault_of (line_app option_words) words ≡ []
-  pub left_types : (types : List TypeEntry) × GivesTypes (word_of option_words words (codes "left-types")) types
-  pub right_types : (types : List TypeEntry) × GivesTypes (word_of option_words words (codes "right-types")) types
-  pub many : 4 < length (words_of option_words words (codes "left-null"))
-
--- the same with the right table, and the left one is given no more than four
-pub record HasManyRightNulls (words : List Text) : Type 0 where
-  pub option_words : OptionWords
-  pub accepted : fault_of (line_app option_words) words ≡ []
-  pub left_types : (types : List TypeEntry) × GivesTypes (word_of option_words words (codes "left-types")) types
-  pub right_types : (types : List TypeEntry) × GivesTypes (word_of option_words words (codes "right-types")) types
-  pub few : length (words_of option_words words (codes "left-null")) ≤ 4
-  pub many : 4 < length (words_of option_words words (codes "right-null"))
-
--- a fault of `clap`'s, then a bad type list on the left, then one on the right, then too many null texts on the left, then on the
--- right; or want of memory
+-- a fault of `clap`'s; or where it has none to tell, one of the values; or want of memory
 abbrev pub IsLineFault : List Text → Fault → Type 0
 IsLineFault words (fault.CommandLine e) = (h : OptionWords) × IsAmong (kind_of e) (fault_of (line_app h) words)
-IsLineFault words (fault.BadTypeList side.Left) = IsBadLeftList words
-IsLineFault words (fault.BadTypeList side.Right) = IsBadRightList words
-IsLineFault words (fault.TooManyNulls side.Left) = HasManyLeftNulls words
-IsLineFault words (fault.TooManyNulls side.Right) = HasManyRightNulls words
 IsLineFault words fault.Memory = Unit {0}
-IsLineFault words _ = ⊥
+IsLineFault words f = (h : OptionWords) × (fault_of (line_app h) words ≡ []) × IsRequestFault (word_of h words) (words_of h words) f
 
 -- the numbers that are given are in their limits
 pub record AreNumbersIn (word : Text → Option Text) : Type 0 where
@@ -177,7 +167,17 @@ pub record AreNumbersIn (word : Text → Option Text) : Type 0 where
   pub retries : IsNumberIn 0 3 (word (codes "retries"))
   pub piece : IsNumberIn 1 1048576 (word (codes "piece"))
 
--- the matches of the words, with each option that is required, each number in its limits, and the names of a hash and of a strict reading
+-- the values that a request is read from: those that must be given are, each number is in its limits, and each word is one of its
+-- option's
+pub record HasValues (word : Text → Option Text) : Type 0 where
+  pub left_types : is_some (word (codes "left-types")) ≡ true
+  pub right_types : is_some (word (codes "right-types")) ≡ true
+  pub join : is_some (word (codes "join")) ≡ true
+  pub numbers : AreNumbersIn word
+  pub hash : IsNameOf hash_name (word (codes "hash"))
+  pub strict : IsStrictName (word (codes "strict"))
+
+-- the matches of the words, with the names of both files, and the values that a request is read from
 pub record IsParseOf (words : List Text) (m : ArgMatches) : Type 0 where
   pub option_words : OptionWords
   pub accepted : fault_of (line_app option_words) words ≡ []
@@ -185,9 +185,4 @@ pub record IsParseOf (words : List Text) (m : ArgMatches) : Type 0 where
   pub texts : (name : Text) → texts_found (found_of m) name ≡ words_of option_words words name
   pub left : is_some (first_value (found_of m) (codes "left")) ≡ true
   pub right : is_some (first_value (found_of m) (codes "right")) ≡ true
-  pub left_types : is_some (first_value (found_of m) (codes "left-types")) ≡ true
-  pub right_types : is_some (first_value (found_of m) (codes "right-types")) ≡ true
-  pub join : is_some (first_value (found_of m) (codes "join")) ≡ true
-  pub numbers : AreNumbersIn (first_value (found_of m))
-  pub hash : IsHashName (first_value (found_of m) (codes "hash"))
-  pub strict : IsStrictName (first_value (found_of m) (codes "strict"))
+  pub asked : HasValues (first_value (found_of m))

@@ -69,6 +69,8 @@ option_rules h =
     ∷ rule_for (codes "retries") (takes.Number 0 3)
     ∷ rule_for (codes "piece") (takes.Number 1 1048576)
     ∷ rule_for (codes "stats") takes.Nothing
+    ∷ rule_for (codes "explain") takes.Nothing
+    ∷ rule_for (codes "output") takes.Text
     ∷ []
 
 -- a command with these rules more

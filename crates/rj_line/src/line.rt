@@ -2,7 +2,7 @@
 
 ghost use Rattle.std.specs.Prelude.{◌≡◌, ◌⊎◌, ◌-◌, ◌^◌, IfOk, IfErr, Some, codes, is_some, map, true};
 ghost use Rattle.clap.specs.Words.{first_value, found_of, kind_of};
-ghost use Rattle.rj_line.specs.Line.{AreNumbersIn, AreSettings, IsHashName, IsHashOr, IsLineFault, IsLineOf, IsNumberIn, IsNumberOr, IsParseOf, IsStrictName, IsStrictness, is_true};
+ghost use Rattle.rj_line.specs.Line.{AreNumbersIn, AreSettings, HasValues, IsLineFault, IsLineOf, IsNameOf, IsNamedOr, IsNumberIn, IsNumberOr, IsParseOf, IsRequestFault, IsRequestOf, IsStrictName, IsStrictness, hash_name, is_true, texts_found};
 
 use crate::nulls::read_nulls;
 use crate::options::line_command;
@@ -25,6 +25,10 @@ pub struct Line<'a> {
     pub request: Request<'a>,
     /// Whether the statistics are asked for.
     pub stats: bool,
+    /// Whether a fault is explained by further lines.
+    pub explain: bool,
+    /// The name of the file that the result is written to, in place of standard output.
+    pub output: Option<&'a str>,
 }
 
 // The fault of an error of `clap`'s.
@@ -92,8 +96,8 @@ fn settings_of(matches: &ArgMatches<'_>) -> Settings
 
 // The hash that is named, or the plain one where none is.
 fn hash_of(matches: &ArgMatches<'_>) -> Hash
-    requires { IsHashName (first_value (found_of matches.now) (codes "hash")) }
-    ensures { IsHashOr Hash.Plain (first_value (found_of matches.now) (codes "hash")) result }
+    requires { IsNameOf hash_name (first_value (found_of matches.now) (codes "hash")) }
+    ensures { IsNamedOr hash_name Hash.Plain (first_value (found_of matches.now) (codes "hash")) result }
 {
     match matches.get_str("hash") {
         Some("mixed") => Hash::Mixed,
@@ -123,6 +127,37 @@ fn is_given(matches: &ArgMatches<'_>, name: &str) -> bool
     }
 }
 
+// What the values of the options ask of two tables.
+fn request_of<'a>(alloc: Global, matches: &ArgMatches<'a>) -> Result<Request<'a>, Fault>
+    requires { HasValues (first_value (found_of matches.now)) }
+    ensures request { IfOk result (IsRequestOf (first_value (found_of matches.now)) (texts_found (found_of matches.now))) }
+    ensures fault { IfErr result (IsRequestFault (first_value (found_of matches.now)) (texts_found (found_of matches.now))) }
+{
+    let left_types = read_types(alloc, given(matches, "left-types"), Side::Left)?;
+    let right_types = read_types(alloc, given(matches, "right-types"), Side::Right)?;
+    let null = matches.get_str("null").unwrap_or("");
+    let left_nulls = match read_nulls(alloc, matches, "left-null", null, Side::Left) {
+        Ok(nulls) => nulls,
+        Err(fault) => return Err(fault),
+    };
+    let right_nulls = match read_nulls(alloc, matches, "right-null", null, Side::Right) {
+        Ok(nulls) => nulls,
+        Err(fault) => return Err(fault),
+    };
+    Ok(Request {
+        left_types,
+        right_types,
+        left_nulls,
+        right_nulls,
+        out_null: matches.get_str("out-null").unwrap_or(null),
+        strict: strictness_of(matches),
+        clause: given(matches, "join"),
+        settings: settings_of(matches),
+        hash: hash_of(matches),
+        tells_pieces: matches.get_str("piece").is_some(),
+    })
+}
+
 /// Reads the words after the program's name.
 ///
 /// # Errors
@@ -135,32 +170,16 @@ pub fn read_line<'a>(alloc: Global, words: &'a [&'a str]) -> Result<Line<'a>, Fa
     ensures fault { IfErr result (IsLineFault (map (λ w. w.now) words.entry.now)) }
 {
     let matches = parse_words(alloc, words)?;
-    let left_types = read_types(alloc, given(&matches, "left-types"), Side::Left)?;
-    let right_types = read_types(alloc, given(&matches, "right-types"), Side::Right)?;
-    let null = matches.get_str("null").unwrap_or("");
-    let left_nulls = match read_nulls(alloc, &matches, "left-null", null, Side::Left) {
-        Ok(nulls) => nulls,
-        Err(fault) => return Err(fault),
-    };
-    let right_nulls = match read_nulls(alloc, &matches, "right-null", null, Side::Right) {
-        Ok(nulls) => nulls,
+    let request = match request_of(alloc, &matches) {
+        Ok(request) => request,
         Err(fault) => return Err(fault),
     };
     Ok(Line {
         left: given(&matches, "left"),
         right: given(&matches, "right"),
-        request: Request {
-            left_types,
-            right_types,
-            left_nulls,
-            right_nulls,
-            out_null: matches.get_str("out-null").unwrap_or(null),
-            strict: strictness_of(&matches),
-            clause: given(&matches, "join"),
-            settings: settings_of(&matches),
-            hash: hash_of(&matches),
-            tells_pieces: matches.get_str("piece").is_some(),
-        },
+        request,
         stats: is_given(&matches, "stats"),
+        explain: is_given(&matches, "explain"),
+        output: matches.get_str("output"),
     })
 }

@@ -38,7 +38,7 @@ pub(crate) struct LineOption {
 // The bits of the hash that a pass partitions by.
 const BITS: Takes = Takes::Number(0, 10);
 
-const OPTIONS: [LineOption; 20] = [
+const OPTIONS: [LineOption; 22] = [
     LineOption {
         name: "left",
         takes: Takes::Required,
@@ -139,6 +139,16 @@ const OPTIONS: [LineOption; 20] = [
         takes: Takes::Nothing,
         help: "Print on standard error how many rows each partition had, how many rows of each kind were written, \
             and where --piece is given how many pieces were joined",
+    },
+    LineOption {
+        name: "explain",
+        takes: Takes::Nothing,
+        help: "Print behind the line of a fault where it is, what stands there and what may have been meant",
+    },
+    LineOption {
+        name: "output",
+        takes: Takes::Text,
+        help: "File that gets the whole result at the end, or nothing [default: standard output]",
     },
 ];
 

@@ -1,4 +1,4 @@
-use Rattle.std.proofs.Common.{◌≡◌, ◌∙◌, ap, refl, sym, subst, inl, inr, true, lit<, List, [], Option, unwrap_or, Bor, map}
+use Rattle.std.proofs.Common.{◌≡◌, ◌∙◌, ap, refl, sym, subst, inl, inr, true, lit<, List, [], ◌∷◌, Option, unwrap_or, Bor, map}
 use Rattle.clap.specs.Words.{App, IsAmong, Text, all_of, fault_of, first_of, found_of, kind_of, is_simple, is_simple_and_free, matches_of}
 use Rattle.clap.proofs.OnLiterals.{clap_on_literals}
 use Rattle.clap.proofs.WalkLemmas.{first_value-rows, raw_values-rows}
@@ -6,7 +6,9 @@ use Rattle.rj_line.specs.Line.{IsLineFault}
 use Rattle.rj_fault.specs.declared.fault.Fault.TheVariants as fault
 use Rattle.rj_line.specs.Options.{OptionWords, line_app, option_rules}
 use Rattle.rj_line.proofs.ChainFacts.{wanted_given}
-use Rattle.rj_line.proofs.NumberFacts.{hash_given, number_given, strict_given}
+use Rattle.rj_line.specs.Line.{hash_name}
+use Rattle.rj_line.specs.declared.request.Hash.TheVariants as hash
+use Rattle.rj_line.proofs.NumberFacts.{name_given, number_given, strict_given}
 use Rattle.rj_line.proofs.line.parse_words.Goals as goal
 
 simple : (h : OptionWords) → is_simple (line_app h) ≡ true
@@ -27,6 +29,7 @@ returns-in-Ok-try_get_matches_from-clause-ok c =
     let rows = (got.matches (ap is_simple command.app ∙ simple h)).0 ∙ ap (λ (a : App). matches_of a words) command.app in
     let given = wanted_given command.start c.in-Ok.command (option_rules h) m command.bare command.chain refl refl in
     let number = number_given command.start c.in-Ok.command (option_rules h) m command.bare command.chain refl refl in
+    let named = name_given command.start c.in-Ok.command (option_rules h) m command.bare command.chain refl refl in
     record {
       option_words = h;
       accepted = ap (λ (a : App). fault_of a words) (sym command.app) ∙ got.kinds (ap is_simple_and_free command.app ∙ free h);
@@ -34,21 +37,23 @@ returns-in-Ok-try_get_matches_from-clause-ok c =
       texts = λ name. ap (λ (o : Option (List Text)). unwrap_or o []) (raw_values-rows (found_of m) name ∙ ap (all_of name) rows);
       left = given 0 (lit< tt) refl got.parsed;
       right = given 1 (lit< tt) refl got.parsed;
-      left_types = given 2 (lit< tt) refl got.parsed;
-      right_types = given 3 (lit< tt) refl got.parsed;
-      join = given 4 (lit< tt) refl got.parsed;
-      numbers = record {
-        bits1 = number 10 0 10 (lit< tt) refl got.parsed;
-        bits2 = number 11 0 10 (lit< tt) refl got.parsed;
-        workers = number 13 1 64 (lit< tt) refl got.parsed;
-        block = number 14 1 65536 (lit< tt) refl got.parsed;
-        capacity = number 15 1 4096 (lit< tt) refl got.parsed;
-        lanes = number 16 1 4 (lit< tt) refl got.parsed;
-        retries = number 17 0 3 (lit< tt) refl got.parsed;
-        piece = number 18 1 1048576 (lit< tt) refl got.parsed;
+      asked = record {
+        left_types = given 2 (lit< tt) refl got.parsed;
+        right_types = given 3 (lit< tt) refl got.parsed;
+        join = given 4 (lit< tt) refl got.parsed;
+        numbers = record {
+          bits1 = number 10 0 10 (lit< tt) refl got.parsed;
+          bits2 = number 11 0 10 (lit< tt) refl got.parsed;
+          workers = number 13 1 64 (lit< tt) refl got.parsed;
+          block = number 14 1 65536 (lit< tt) refl got.parsed;
+          capacity = number 15 1 4096 (lit< tt) refl got.parsed;
+          lanes = number 16 1 4 (lit< tt) refl got.parsed;
+          retries = number 17 0 3 (lit< tt) refl got.parsed;
+          piece = number 18 1 1048576 (lit< tt) refl got.parsed;
+        };
+        hash = named hash_name (hash.Plain ∷ hash.Mixed ∷ []) h.hashes h.are_hashes 12 (lit< tt) refl refl got.parsed;
+        strict = strict_given command.start c.in-Ok.command (option_rules h) m command.bare command.chain refl refl 9 (lit< tt) h refl refl got.parsed;
       };
-      hash = hash_given command.start c.in-Ok.command (option_rules h) m command.bare command.chain refl refl 12 (lit< tt) h refl refl got.parsed;
-      strict = strict_given command.start c.in-Ok.command (option_rules h) m command.bare command.chain refl refl 9 (lit< tt) h refl refl got.parsed;
     }
 
 pub returns-in-Err-clause-fault : goal.returns-in-Err-clause-fault

@@ -1,0 +1,65 @@
+use Rattle.std.proofs.Common.{◌≡◌, ◌∙◌, ap, length, refl, sym, [], Option, Some, None, unwrap_or, codes, is_some, option_map, rules, Bor}
+use Rattle.std.proofs.lemmas.List.{length-map}
+use Rattle.clap.specs.Words.{Text, first_value, found_of}
+use Rattle.rj_line.specs.Line.{nulls_or, texts_found}
+use Rattle.rj_line.proofs.LineFacts.{few_given, left_list_fault, left_nulls_fault, right_list_fault, right_nulls_fault}
+use Rattle.rj_line.proofs.line.request_of.Goals as goal
+
+-- the value of an option, or its default
+value-or : (v : Option Text) (o : Option (Bor Text)) (u d : Bor Text) (n : Text) → option_map (λ s. s.now) o ≡ v → u ≡ unwrap_or o d → d.now ≡ n → u.now ≡ unwrap_or v n
+value-or v o u d n is got default = ap (λ (s : Bor Text). s.now) got ∙ (shown o ∙ ap (λ x. unwrap_or x n) is)
+  where
+    shown : (o : Option (Bor Text)) → (unwrap_or o d).now ≡ unwrap_or (option_map (λ s. s.now) o) n
+    shown None = default
+    shown (Some x) = refl
+
+-- an option has a value where its text is found
+same-given : (v : Option Text) (o : Option (Bor Text)) → option_map (λ s. s.now) o ≡ v → is_some o ≡ is_some v
+same-given v None is = ap is_some is
+same-given v (Some x) is = ap is_some is
+
+pub returns-clause-request : goal.returns-clause-request
+returns-clause-request c =
+    let null = value-or _ c.get_str.result c.unwrap_or-null.result _ [] c.get_str.ensures c.unwrap_or-null.ensures refl in
+    record {
+      left_types = (c.given.result.now, c.given.ensures, c.in_ok-left_types.ensures.types);
+      right_types = (c.given-2.result.now, c.given-2.ensures, c.in_ok-right_types.ensures.types);
+      join = c.given-3.ensures;
+      left_nulls = c.in-Ok.ensures.texts ∙ ap (nulls_or _) null;
+      right_nulls = c.in-Ok-read_nulls.ensures.texts ∙ ap (nulls_or _) null;
+      few_nulls = (c.in-Ok.ensures.few, c.in-Ok-read_nulls.ensures.few);
+      out_null = value-or _ c.get_str-2.result c.unwrap_or.result c.unwrap_or-null.result _ c.get_str-2.ensures c.unwrap_or.ensures null;
+      strict = c.strictness_of.ensures;
+      settings = c.settings_of.ensures;
+      hash = c.hash_of.ensures;
+      tells_pieces = c.is_some.ensures ∙ same-given _ c.get_str-3.result c.get_str-3.ensures;
+    }
+
+pub returns-in-Err-clause-fault : goal.returns-in-Err-clause-fault
+returns-in-Err-clause-fault c =
+    left_nulls_fault (first_value (found_of c.args.matches.now)) (texts_found (found_of c.args.matches.now)) c.in-Err.fault (
+      (c.in_ok-left_types.left_types.items, (c.given.result.now, c.given.ensures, c.in_ok-left_types.ensures.types)),
+      (c.in_ok-right_types.right_types.items, (c.given-2.result.now, c.given-2.ensures, c.in_ok-right_types.ensures.types)),
+    ) c.in-Err.ensures.fault
+
+pub returns-in-Err-read_nulls-clause-fault : goal.returns-in-Err-read_nulls-clause-fault
+returns-in-Err-read_nulls-clause-fault c =
+    let own = texts_found (found_of c.args.matches.now) (codes "left-null") in
+    let count : length c.in-Ok.nulls.items ≡ length (nulls_or own c.unwrap_or-null.result.now) =
+    sym (length-map c.in-Ok.nulls.items (λ (n : Bor Text). n.now)) ∙ ap length c.in-Ok.ensures.texts in
+    right_nulls_fault (first_value (found_of c.args.matches.now)) (texts_found (found_of c.args.matches.now)) c.in-Err-read_nulls.fault (
+      (c.in_ok-left_types.left_types.items, (c.given.result.now, c.given.ensures, c.in_ok-left_types.ensures.types)),
+      (c.in_ok-right_types.right_types.items, (c.given-2.result.now, c.given-2.ensures, c.in_ok-right_types.ensures.types)),
+    ) (few_given own c.unwrap_or-null.result.now _ count c.in-Ok.ensures.few) c.in-Err-read_nulls.ensures.fault
+
+pub returns-in_err-left_types-clause-fault : goal.returns-in_err-left_types-clause-fault
+returns-in_err-left_types-clause-fault c =
+    let told = left_list_fault (first_value (found_of c.args.matches.now)) (texts_found (found_of c.args.matches.now)) c.given.result.now
+    c.in_err-left_types.field-0.0 c.given.ensures c.in_err-left_types.ensures.fault in
+    search (rules, told)
+
+pub returns-in_err-right_types-clause-fault : goal.returns-in_err-right_types-clause-fault
+returns-in_err-right_types-clause-fault c =
+    let told = right_list_fault (first_value (found_of c.args.matches.now)) (texts_found (found_of c.args.matches.now)) c.given.result.now c.given-2.result.now
+    c.in_ok-left_types.left_types.items c.in_err-right_types.field-0.0 c.given.ensures c.in_ok-left_types.ensures.types c.given-2.ensures c.in_err-right_types.ensures.fault in
+    search (rules, told)
