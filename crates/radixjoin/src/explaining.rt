@@ -167,7 +167,9 @@ pub(crate) fn read_side<R: Files + Input + AllocGlobal>(
 // What is told of want of memory in a join of two files.
 fn memory_lines(alloc: Global, left: &[u8], right: &[u8]) -> Result<String, AllocError> {
     let (left, right) = (left.len(), right.len());
-    format!(in alloc; "  while tables of {left} and {right} bytes were joined; with what is written that takes about four times as many\n")
+    format!(in alloc;
+        "  while tables of {left} and {right} bytes were joined; with what is written that takes about four times as many\n"
+    )
 }
 
 /// Joins two tables, and writes the joined table.

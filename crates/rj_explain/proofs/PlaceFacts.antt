@@ -118,7 +118,7 @@ stands-first text = record { before = []; state = st.StartRecord; reached = reac
 pub stands-more : (text : List ℕ) (row at size : ℕ) → StandsAt text row at → EndsFirst (drop at text) size → StandsAt text (row + 1) (at + size)
 stands-more text row at size h e =
     let next : next_record default_config h.state [] [] (drop at text) ≡ Some (e.0, e.1, drop size (drop at text)) =
-        between-reads h.state (drop at text) h.between ∙ e.3 in
+    between-reads h.state (drop at text) h.between ∙ e.3 in
     let more = reached-more st.StartRecord text h.before h.state (drop at text) (e.0, e.1, drop size (drop at text)) h.reached next in
     let size-more = length-append h.before (e.0 ∷ []) in
     record {

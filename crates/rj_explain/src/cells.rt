@@ -85,5 +85,5 @@ pub(crate) fn ragged_lines(
         return Ok(String::new(alloc));
     };
     let (line, fields, names) = (row.line, row.record.columns(), header.record.columns());
-    format!(in alloc; "  line {line} of the file: its fields are {fields}, the names of the header {names}\n")
+    format!(in alloc; "  line {line} of the file: {fields} fields under {names} names\n")
 }

@@ -57,7 +57,9 @@ fn unknown_anywhere(
         bytes: wanted.as_bytes(),
     };
     let (left, right) = (NamesOf { table: left }, NamesOf { table: right });
-    format!(in alloc; "  {wanted} at byte {at} of the clause; left has {left}; right has {right}{meant}\n")
+    format!(in alloc;
+        "  {wanted} at byte {at} of the clause; left has {left}; right has {right}{meant}\n"
+    )
 }
 
 // What is told of a name that the table of its qualifier doesn't have.
@@ -101,7 +103,9 @@ fn unknown(
                     bytes: qualifier.as_str().as_bytes(),
                 },
             );
-            format!(in alloc; "  {name} at byte {at} of the clause stands behind {qualifier}, which is neither L nor R\n")
+            format!(in alloc;
+                "  {name} at byte {at} of the clause stands behind {qualifier}, which is neither L nor R\n"
+            )
         }
     }
 }
@@ -131,7 +135,9 @@ pub(crate) fn name_lines(alloc: Global, inputs: &Inputs<'_, '_>) -> Result<Strin
     match found.refused {
         BindRefused::UnknownColumn => unknown(alloc, &found, &left, &right),
         BindRefused::AmbiguousColumn => {
-            format!(in alloc; "  {name} at byte {at} of the clause; both tables have it: L or R and a point before it say which is meant\n")
+            format!(in alloc;
+                "  {name} at byte {at} of the clause; both tables have it: write L. or R. before it\n"
+            )
         }
         BindRefused::RepeatedUsing => {
             format!(in alloc; "  {name} at byte {at} of the clause; the column is named before\n")

@@ -13,18 +13,43 @@ use std::alloc::{AllocError, Global};
 fn grammar_place(fault: &Fault) -> Option<(Side, u64, u64, &'static str)> {
     match *fault {
         Fault::OpenQuote(side, row, column) => {
-            Some((side, row, column, "no quote closes the field that one opens here"))
+            Some((
+                side,
+                row,
+                column,
+                "no quote closes the field that one opens here",
+            ))
         }
         Fault::AfterQuote(side, row, column) => {
-            Some((side, row, column, "more than a comma or a line end stands behind the closing quote"))
+            Some((
+                side,
+                row,
+                column,
+                "more than a comma or a line end stands behind the closing quote",
+            ))
         }
         Fault::BareQuote(side, row, column) => {
-            Some((side, row, column, "a quote stands within a field that doesn't begin with one"))
+            Some((
+                side,
+                row,
+                column,
+                "a quote stands within a field that doesn't begin with one",
+            ))
         }
         Fault::BareReturn(side, row, column) => {
-            Some((side, row, column, "no line feed follows the carriage return behind the field"))
+            Some((
+                side,
+                row,
+                column,
+                "no line feed follows the carriage return behind the field",
+            ))
         }
-        Fault::EmptyLine(side, row) => Some((side, row, 0, "it is empty, under more than one name")),
+        Fault::EmptyLine(side, row) => Some((
+            side,
+            row,
+            0,
+            "it is empty, under more than one name",
+        )),
         Fault::CutShort(side, row) => Some((side, row, 0, "it has no line end")),
         _ => None,
     }

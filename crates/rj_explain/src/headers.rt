@@ -75,7 +75,7 @@ pub(crate) fn repeated_name_lines(
         return Ok(String::new(alloc));
     };
     let (name, other) = (Shown { bytes: name }, Shown { bytes: other });
-    format!(in alloc; "  {name} is the name of column {first} too, which is {other}\n")
+    format!(in alloc; "  {name} is the name of column {first} too, {other}\n")
 }
 
 fn are_places(entries: &[TypeEntry]) -> bool {
@@ -117,7 +117,9 @@ fn separator_line(alloc: Global, names: &[&[u8]]) -> Result<String, AllocError> 
     } else {
         return Ok(String::new(alloc));
     };
-    format!(in alloc; "  the one name has {separator} in it: fields are separated by commas, and perhaps not in this file\n")
+    format!(in alloc;
+        "  the one name has {separator} in it: fields are separated by commas, and perhaps not in this file\n"
+    )
 }
 
 /// What is told of a header that has more or fewer names than there are types: both counts, and the first name without a type.
@@ -141,9 +143,11 @@ pub(crate) fn type_count_lines(
     match first_untyped(alloc, entries, names.as_slice())? {
         Some(bytes) => {
             let name = Shown { bytes };
-            format!(in alloc; "  names {count}, types {types}; the first name without a type is {name}\n{separator}")
+            format!(in alloc;
+                "  {count} names, {types} types; the first without a type is {name}\n{separator}"
+            )
         }
-        None => format!(in alloc; "  names {count}, types {types}\n{separator}"),
+        None => format!(in alloc; "  {count} names, {types} types\n{separator}"),
     }
 }
 

@@ -46,7 +46,10 @@ fn why_no_numeric(numbers: &str) -> &'static str {
             None => return "a number is written num(p,s), as num(9,2)",
         },
     };
-    match (precision.parse::<u64>(), scale.strip_suffix(')').unwrap_or(scale).parse::<u64>()) {
+    match (
+        precision.parse::<u64>(),
+        scale.strip_suffix(')').unwrap_or(scale).parse::<u64>(),
+    ) {
         (Ok(precision), _) if precision == 0 || precision > 18 => "p is 1 to 18",
         (Ok(precision), Ok(scale)) if scale > precision => "s is 0 to p",
         _ => "a number is written num(p,s), as num(9,2), without blanks",
@@ -82,6 +85,8 @@ pub fn explain_list(alloc: Global, list: &str) -> Result<String, AllocError> {
             };
             format!(in alloc; "  {entry}: {why}\n")
         }
-        None => format!(in alloc; "  a name stands before each type or before none, and * before one at most\n"),
+        None => format!(in alloc;
+            "  a name stands before each type or before none, and * before one at most\n"
+        ),
     }
 }

@@ -63,7 +63,11 @@ fn behind(standing: Standing, byte: u8) -> Standing
         Standing::Field => behind_start(byte),
         Standing::Inside => behind_plain(byte),
         Standing::Open => {
-            if byte == b'"' { Standing::Closed } else { Standing::Open }
+            if byte == b'"' {
+                Standing::Closed
+            } else {
+                Standing::Open
+            }
         }
         Standing::Closed => {
             if byte == b'"' {

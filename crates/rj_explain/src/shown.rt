@@ -1,8 +1,7 @@
 //! How bytes of a file and types are shown.
 
 use rj_columns::ColumnType;
-use std::fmt;
-use std::str;
+use std::{fmt, str};
 
 // How many bytes are shown of a text.
 const MOST: usize = 60;

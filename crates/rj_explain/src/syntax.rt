@@ -71,7 +71,11 @@ fn is_name_byte(byte: u8) -> bool {
 
 // How many bytes the token takes that a text begins with.
 fn token_len(text: &str) -> usize {
-    let word = text.as_bytes().iter().take_while(|b| is_name_byte(**b)).count();
+    let word = text
+        .as_bytes()
+        .iter()
+        .take_while(|b| is_name_byte(**b))
+        .count();
     match text.chars().next() {
         Some(first) if word == 0 => first.len_utf8(),
         _ => word,
@@ -80,7 +84,10 @@ fn token_len(text: &str) -> usize {
 
 // The part of a clause round a byte, and under it a mark at that byte.
 fn marked(alloc: Global, clause: &str, byte: usize) -> Result<String, AllocError> {
-    let (mut shown, mut mark) = (String::from_str(alloc, "  ")?, String::from_str(alloc, "  ")?);
+    let (mut shown, mut mark) = (
+        String::from_str(alloc, "  ")?,
+        String::from_str(alloc, "  ")?,
+    );
     for (at, c) in clause.char_indices() {
         if at + 50 < byte || at > byte + 30 {
             continue;

@@ -61,4 +61,4 @@ returns-else-ends_at_end-clause-record c =
     let none : drop c.loop-at.at text ≡ [] = ap (λ (n : ℕ). drop n text) last ∙ drop-length text in
     let so = c.loop-at.invariant in
     so.2 ∙ (ap (λ (ys : List ℕ). next_record default_config (state_of c.loop-at.standing) so.0 so.1 ys) none
-        ∙ ends-none (state_of c.loop-at.standing) so.0 so.1 (sym c.ends_at_end.ensures ∙ c.if-ends_at_end.false))
+    ∙ ends-none (state_of c.loop-at.standing) so.0 so.1 (sym c.ends_at_end.ensures ∙ c.if-ends_at_end.false))
