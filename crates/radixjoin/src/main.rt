@@ -2,18 +2,20 @@
 //! or in a file; or prints the types that the cells of a file suggest. Statistics and faults go to standard error.
 #![tactic(auto)]
 
+mod explaining;
 mod inputs;
 mod lists;
 mod output;
 mod suggesting;
 
-use crate::inputs::{STANDARD_OUTPUT, is_standard_stream, read_table, refuse_output};
+use crate::explaining::{Ended, join_explained, read_side, read_words_of_line, tell_ended};
+use crate::inputs::{STANDARD_OUTPUT, is_standard_stream, refuse_output};
 use crate::lists::read_lists;
 use crate::output::Draft;
 use crate::suggesting::suggest;
-use rj_command::{Line, Open, Stats, count, read_line, run_owned};
+use rj_command::{Line, Open, Stats, count, run_owned};
 use rj_csv_io::CountedWriter;
-use rj_fault::{Fault, Side, read_words, tell, texts_of};
+use rj_fault::{Fault, Side, read_words, texts_of};
 use std::env::Env;
 use std::fs::Files;
 use std::io::{self, Write};
@@ -45,19 +47,16 @@ fn write_joined<R: Files + Input + AllocGlobal + Threads + Wait + Clock + Sync, 
     rt: &R,
     line: &Line<'_>,
     writer: W,
-) -> Result<(Stats, W), Fault> {
-    let left = read_table(rt, line.left, Side::Left)?;
-    let right = read_table(rt, line.right, Side::Right)?;
+) -> Result<(Stats, W), Ended> {
+    let left = read_side(rt, line, Side::Left)?;
+    let right = read_side(rt, line, Side::Right)?;
     let mut writer = CountedWriter::new(writer);
-    let stats = run_owned(
-        rt,
-        rt.alloc(),
-        left,
-        right,
-        &line.request,
-        &Open,
-        &mut writer,
-    )?;
+    let stats = if line.explain {
+        join_explained(rt, left, right, line, &mut writer)?
+    } else {
+        let (alloc, request) = (rt.alloc(), &line.request);
+        run_owned(rt, alloc, left, right, request, &Open, &mut writer)?
+    };
     Ok((stats, writer.into_inner()))
 }
 
@@ -66,16 +65,16 @@ fn write_file<R: Files + Input + AllocGlobal + Threads + Wait + Clock + Sync>(
     rt: &R,
     line: &Line<'_>,
     name: &str,
-) -> Result<Stats, Fault> {
+) -> Result<Stats, Ended> {
     let (draft, file) = Draft::open(rt, name)?;
     match write_joined(rt, line, file) {
         Ok((stats, file)) => {
             draft.finish(rt, file)?;
             Ok(stats)
         }
-        Err(fault) => {
+        Err(ended) => {
             draft.discard(rt);
-            Err(fault)
+            Err(ended)
         }
     }
 }
@@ -84,30 +83,24 @@ fn write_file<R: Files + Input + AllocGlobal + Threads + Wait + Clock + Sync>(
 fn write_counts<R: Files + Input + AllocGlobal + Print + Threads + Wait + Clock + Sync>(
     rt: &R,
     line: &Line<'_>,
-) -> Result<(), Fault> {
-    let left = read_table(rt, line.left, Side::Left)?;
-    let right = read_table(rt, line.right, Side::Right)?;
+) -> Result<(), Ended> {
+    let left = read_side(rt, line, Side::Left)?;
+    let right = read_side(rt, line, Side::Right)?;
     let mut writer = CountedWriter::new(io::writer(rt));
-    count(
-        rt,
-        rt.alloc(),
-        left,
-        right,
-        &line.request,
-        &Open,
-        &mut writer,
-    )
+    let (alloc, request) = (rt.alloc(), &line.request);
+    count(rt, alloc, left, right, request, &Open, &mut writer)?;
+    Ok(())
 }
 
 // Reads the words of a join, and writes the joined table.
 fn join<R: Files + Input + AllocGlobal + Print + Eprint + Threads + Wait + Clock + Sync>(
     rt: &R,
     words: Vec<String>,
-) -> Result<(), Fault> {
+) -> Result<(), Ended> {
     let alloc = rt.alloc();
     let words = read_lists(rt, words)?;
     let texts = texts_of(alloc, words.as_slice())?;
-    let line = read_line(alloc, texts.as_slice())?;
+    let line = read_words_of_line(alloc, texts.as_slice())?;
     refuse_inputs(rt, &line)?;
     if line.count {
         return write_counts(rt, &line);
@@ -136,13 +129,14 @@ fn words_to_suggest(words: &[String]) -> Option<&[String]> {
 // Reads the command line, and does what it asks for.
 fn run<R: Env + Files + Input + AllocGlobal + Print + Eprint + Threads + Wait + Clock + Sync>(
     rt: &R,
-) -> Result<(), Fault> {
+) -> Result<(), Ended> {
     let Some(words) = read_words(rt)? else {
-        return Err(Fault::NotText);
+        return Err(Ended::from(Fault::NotText));
     };
     if let Some(behind) = words_to_suggest(words.as_slice()) {
         let texts = texts_of(rt.alloc(), behind)?;
-        return suggest(rt, texts.as_slice());
+        suggest(rt, texts.as_slice())?;
+        return Ok(());
     }
     join(rt, words)
 }
@@ -150,6 +144,6 @@ fn run<R: Env + Files + Input + AllocGlobal + Print + Eprint + Threads + Wait + 
 fn main(rt: HostRuntime) -> ExitCode {
     match run(&rt) {
         Ok(()) => ExitCode::SUCCESS,
-        Err(fault) => ExitCode::from(tell(&rt, &fault)),
+        Err(ended) => ExitCode::from(tell_ended(&rt, &ended)),
     }
 }

@@ -1,5 +1,5 @@
 -- Each token is found, and a text has one list of tokens.
-use Rattle.std.proofs.Common.{◌≡◌, ◌≢◌, inl, inr, ℕ, ℤ, suc, ◌+◌, ◌<◌, ◌≤◌, ◌&&◌, List, [], ◌∷◌, ◌++◌, Bool, true, false, cond, take, drop, length, length-append, Some, None, refl, sym, ap, ◌∙◌, subst, arith, append_assoc, get_or}
+use Rattle.std.proofs.Common.{◌≡◌, ◌≢◌, inl, inr, ℕ, ℤ, suc, ◌+◌, ◌-◌, ◌<◌, ◌≤◌, ◌&&◌, List, [], ◌∷◌, ◌++◌, Bool, true, false, cond, take, drop, length, length-append, Some, None, refl, sym, ap, ◌∙◌, subst, arith, append_assoc, get_or}
 use Rattle.std.specs.Prelude.{◌==◌, ◌||◌, nat_lt, FitsSigned}
 use Rattle.std.specs.Int.{w64}
 use Rattle.std.specs.Char.{is_ascii_alphabetic, is_ascii_digit}
@@ -16,6 +16,8 @@ use Rattle.rj_condition.specs.declared.token.Token.{Token}
 use Rattle.rj_condition.specs.declared.token.Token.TheVariants as token
 use Rattle.rj_condition.specs.Tokens.{is_blank, is_name_byte, begins, begins_fraction, doubled, in_quotes, sign_text, IsIdentifier, IsNamed, IsDecimal, IsSpelled, EndsSign, Ends, IsToken}
 use Rattle.rj_condition.specs.Lexing.{Lexes, nothing, blank, next, unreadable}
+use Rattle.rj_condition.specs.Refusals.{BeginAt}
+use Rattle.rj_condition.specs.Refusals as refusals
 use Rattle.rj_condition.specs.Scanning.{quoted, text_at, delimited_at, word_at, named, number_len, is_sign_of_number, is_integer, judged, as_integer, decimal_parts, with_rest, judged_decimal, fraction_at, as_decimal, number_behind, number_at, less_at, greater_at, mark_of, sign_at, as_sign, begins_number, token_at}
 use Rattle.rj_condition.proofs.Runs.{run_is}
 use Rattle.rj_condition.proofs.Words.{keyword_word, name_word, take_seam}
@@ -278,6 +280,19 @@ token_step rest more t ts e l = next rest t more ts (token_sound rest (t, more) 
 
 pub end_step : (rest after : List ℕ) (b : ℕ) → rest ≡ b ∷ after → is_blank b ≡ false → token_at rest ≡ None → Lexes rest (token.Unreadable ∷ [])
 end_step rest after b e h n = subst (λ z. Lexes z (token.Unreadable ∷ [])) (sym e) (unreadable b after h (none_here b after (ap token_at (sym e) ∙ n)))
+
+-- the same, with the bytes at which tokens begin
+pub blank_begun : (text rest after : List ℕ) (b : ℕ) (ts : List Token) (starts : List ℕ) → rest ≡ b ∷ after → is_blank b ≡ true → BeginAt text after ts starts
+    → BeginAt text rest ts starts
+blank_begun text rest after b ts starts e h l = subst (λ z. BeginAt text z ts starts) (sym e) (refusals.blank b after ts starts h l)
+
+pub token_begun : (text rest more : List ℕ) (t : Token) (ts : List Token) (starts : List ℕ) → token_at rest ≡ Some (t, more) → BeginAt text more ts starts
+    → BeginAt text rest (t ∷ ts) ((length text - length rest) ∷ starts)
+token_begun text rest more t ts starts e l = refusals.next rest t more ts starts (token_sound rest (t, more) e) l
+
+pub nothing_begun : (text rest : List ℕ) → length rest ≡ 0 → BeginAt text rest [] []
+nothing_begun text [] e = refusals.nothing
+nothing_begun text (b ∷ rest) e = absurd (omega arith)
 
 pub none_after : {A : Type 0} (xs : List A) → xs ++ [] ≡ xs
 none_after [] = refl

@@ -13,6 +13,7 @@ pub mod Integers
 pub mod DecimalParts
 pub mod TokenLaws
 pub mod Lexemes
+pub mod RefusalFacts
 pub mod FlatFacts
 pub mod SplitFacts
 pub mod PartnerFacts

@@ -18,3 +18,4 @@ pub mod Grammar
 pub mod Reading
 pub mod Nesting
 pub mod Clauses
+pub mod Refusals

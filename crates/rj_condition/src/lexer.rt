@@ -7,6 +7,7 @@ ghost use Rattle.std.specs.Str.Parse.{without_leading_sign};
 ghost use Rattle.rj_condition.specs.Tokens.{is_blank, is_name_byte, begins, begins_fraction, spells};
 ghost use Rattle.rj_condition.specs.Lexing.{Lexes};
 ghost use Rattle.rj_condition.specs.Decimals as decimals;
+ghost use Rattle.rj_condition.specs.Refusals.{BeginAt};
 ghost use Rattle.rj_condition.specs.Scanning as scanning;
 
 use crate::decimal::DecimalLiteral;
@@ -441,7 +442,8 @@ fn next_token(alloc: Global, text: &str) -> Result<Option<(Token, &str)>, AllocE
 /// It fails only where memory is refused.
 pub fn lex(alloc: Global, text: &str) -> Result<Lexed, AllocError>
     requires { length text.now ≤ 65536 }
-    ensures { IfOk result (λ l. Lexes text.now l.tokens) }
+    ensures tokens { IfOk result (λ l. Lexes text.now l.tokens) }
+    ensures starts { IfOk result (λ l. BeginAt text.now text.now l.tokens l.starts.items) }
 {
     let mut tokens = Items::new(alloc);
     let mut starts = Vec::new(alloc);

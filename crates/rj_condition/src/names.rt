@@ -124,8 +124,8 @@ fn in_right(column: Option<usize>) -> Result<BoundOperand, BindRefused>
     }
 }
 
-// The column that the name means, perhaps qualified by its table's name.
-fn resolve_column(
+/// The column that the name means, perhaps qualified by its table's name.
+pub(crate) fn resolve_column(
     qualifier: Option<&Name>,
     name: &Name,
     left: &Table,

@@ -1,0 +1,9 @@
+use Rattle.std.proofs.Common.{◌≤◌, length}
+use Rattle.rj_explain.specs.Places.{StandsAt}
+use Rattle.rj_explain.proofs.places.place_of_row.Given as goal
+
+abbrev pub invariant-loop-above : goal.invariant-loop-above
+invariant-loop-above l = record {
+  within : l.at ≤ length l.text;
+  stands : StandsAt l.text l._above l.at;
+}

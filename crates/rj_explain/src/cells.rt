@@ -1,0 +1,89 @@
+//! Rows and cells that can't be read.
+
+use crate::inputs::{Inputs, text_of};
+use crate::row::{Row, field_at, find_row};
+use crate::shown::{Shown, TypeWord};
+use rj_columns::ColumnType;
+use rj_fault::Side;
+use rj_types::types_under;
+use std::alloc::{AllocError, Global};
+
+// The type of a header's column, counted from 1.
+fn kind_at(
+    alloc: Global,
+    inputs: &Inputs<'_, '_>,
+    side: Side,
+    header: &Row,
+    column: u64,
+) -> Result<Option<ColumnType>, AllocError> {
+    let names = header.record.names(alloc)?;
+    let kinds = types_under(alloc, inputs.types(side), names.as_slice())?;
+    match kinds.get((column as usize).saturating_sub(1)) {
+        Some(kind) => Ok(Some(*kind)),
+        None => Ok(None),
+    }
+}
+
+// The line that tells a cell, and that it isn't what its column's type asks for.
+fn cell_line(
+    alloc: Global,
+    row: &Row,
+    name: &[u8],
+    value: &[u8],
+    kind: ColumnType,
+) -> Result<String, AllocError> {
+    let (line, name, value) = (row.line, Shown { bytes: name }, Shown { bytes: value });
+    if kind == ColumnType::Text {
+        return format!(in alloc; "  line {line} of the file, column {name}: {value} is no UTF-8\n");
+    }
+    let kind = TypeWord { kind };
+    format!(in alloc; "  line {line} of the file, column {name}: {value} is no {kind}\n")
+}
+
+/// What is told of a cell that isn't of its column's type: the line of its row, the column's name, the cell and the type.
+///
+/// # Errors
+///
+/// It fails only where memory is refused.
+pub(crate) fn cell_lines(
+    alloc: Global,
+    inputs: &Inputs<'_, '_>,
+    side: Side,
+    row: u64,
+    column: u64,
+) -> Result<String, AllocError> {
+    let quoted = inputs.quoted_text(alloc, side)?;
+    let text = text_of(&quoted, inputs.file(side));
+    let (Some(header), Some(row)) = (find_row(alloc, text, 0)?, find_row(alloc, text, row)?) else {
+        return Ok(String::new(alloc));
+    };
+    let Some(kind) = kind_at(alloc, inputs, side, &header, column)? else {
+        return Ok(String::new(alloc));
+    };
+    let name = field_at(alloc, &header.record, column)?;
+    let value = field_at(alloc, &row.record, column)?;
+    match (name, value) {
+        (Some(name), Some(value)) => cell_line(alloc, &row, name, value, kind),
+        _ => Ok(String::new(alloc)),
+    }
+}
+
+/// What is told of a row whose length isn't the header's: its line, and both lengths.
+///
+/// # Errors
+///
+/// It fails only where memory is refused.
+pub(crate) fn ragged_lines(
+    alloc: Global,
+    inputs: &Inputs<'_, '_>,
+    side: Side,
+    row: u64,
+) -> Result<String, AllocError> {
+    let quoted = inputs.quoted_text(alloc, side)?;
+    let text = text_of(&quoted, inputs.file(side));
+    let (Some(header), Some(row)) = (find_row(alloc, text, 0)?, find_row(alloc, text, row)?) else {
+        return Ok(String::new(alloc));
+    };
+    let (line, fields, names) = (row.line, row.record.columns(), header.record.columns());
+    format!(in alloc; "  line {line} of the file: {fields} fields under {names} names\n")
+}

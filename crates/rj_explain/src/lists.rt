@@ -1,0 +1,92 @@
+//! Texts that are no type list.
+
+use crate::shown::Shown;
+use rj_types::read_list;
+use std::alloc::{AllocError, Global};
+
+// How many bytes of a list stand before its first comma that is in neither quotes nor parentheses.
+fn entry_len(list: &[u8]) -> usize {
+    let (mut quoted, mut nested) = (false, false);
+    for i in 0..list.len() {
+        match list[i] {
+            b'"' => quoted = !quoted,
+            b'(' if !quoted => nested = true,
+            b')' if !quoted => nested = false,
+            b',' if !quoted && !nested => return i,
+            _ => {}
+        }
+    }
+    list.len()
+}
+
+// The first entry that is none by itself.
+fn bad_entry(alloc: Global, list: &str) -> Result<Option<&str>, AllocError> {
+    let mut left = list;
+    for _turn in 0..list.len() + 1 {
+        let Some((entry, behind)) = left.split_at_checked(entry_len(left.as_bytes())) else {
+            return Ok(None);
+        };
+        if read_list(alloc, entry)?.is_none() {
+            return Ok(Some(entry));
+        }
+        match behind.strip_prefix(',') {
+            Some(more) => left = more,
+            None => return Ok(None),
+        }
+    }
+    Ok(None)
+}
+
+// What a numeric type's precision and scale have to be, of which this is the text.
+fn why_no_numeric(numbers: &str) -> &'static str {
+    let (precision, scale) = match numbers.split_once(',') {
+        Some(pair) => pair,
+        None => match numbers.split_once(':') {
+            Some(pair) => pair,
+            None => return "a number is written num(p,s), as num(9,2)",
+        },
+    };
+    match (
+        precision.parse::<u64>(),
+        scale.strip_suffix(')').unwrap_or(scale).parse::<u64>(),
+    ) {
+        (Ok(precision), _) if precision == 0 || precision > 18 => "p is 1 to 18",
+        (Ok(precision), Ok(scale)) if scale > precision => "s is 0 to p",
+        _ => "a number is written num(p,s), as num(9,2), without blanks",
+    }
+}
+
+// Why an entry is none.
+fn why_no_entry(entry: &str) -> &'static str {
+    let word = match entry.rsplit_once('=') {
+        Some((_, word)) => word,
+        None => entry,
+    };
+    match word.strip_prefix("num(") {
+        Some(numbers) => why_no_numeric(numbers),
+        None => match word.strip_prefix("num:") {
+            Some(numbers) => why_no_numeric(numbers),
+            None => "a type is int, num(p,s) or text, and a name before it stands before =",
+        },
+    }
+}
+
+/// What is told of a text that is no type list: the first entry that is none, and what it has to be.
+///
+/// # Errors
+///
+/// It fails only where memory is refused.
+pub fn explain_list(alloc: Global, list: &str) -> Result<String, AllocError> {
+    match bad_entry(alloc, list)? {
+        Some(entry) => {
+            let why = why_no_entry(entry);
+            let entry = Shown {
+                bytes: entry.as_bytes(),
+            };
+            format!(in alloc; "  {entry}: {why}\n")
+        }
+        None => format!(in alloc;
+            "  a name stands before each type or before none, and * before one at most\n"
+        ),
+    }
+}

@@ -1,0 +1,129 @@
+//! Where a text stops being a clause.
+
+use crate::inputs::Inputs;
+use crate::shown::Shown;
+use rj_condition::{ParseRefused, parse};
+use std::alloc::{AllocError, Global};
+
+// What may stand in a clause, and what it is called.
+const WORDS: [(&str, &str); 25] = [
+    ("a", "a column"),
+    ("1", "a literal"),
+    ("=", "a comparison"),
+    ("(", "("),
+    (")", ")"),
+    (",", "a comma"),
+    ("CROSS", "CROSS"),
+    ("NATURAL", "NATURAL"),
+    ("INNER", "INNER"),
+    ("LEFT", "LEFT"),
+    ("RIGHT", "RIGHT"),
+    ("FULL", "FULL"),
+    ("OUTER", "OUTER"),
+    ("JOIN", "JOIN"),
+    ("ON", "ON"),
+    ("USING", "USING"),
+    ("NOT", "NOT"),
+    ("AND", "AND"),
+    ("OR", "OR"),
+    ("IS", "IS"),
+    ("IN", "IN"),
+    ("BETWEEN", "BETWEEN"),
+    ("NULL", "NULL"),
+    ("TRUE", "TRUE"),
+    ("UNKNOWN", "UNKNOWN"),
+];
+
+// Whether a clause may begin with a text and then this word.
+fn may_follow(alloc: Global, text: &str, word: &str) -> Result<bool, AllocError> {
+    let tried = format!(in alloc; "{text} {word}")?;
+    match parse(alloc, tried.as_str()) {
+        Ok(_) => Ok(true),
+        Err(ParseRefused::Syntax(byte)) => Ok(byte >= tried.len() as u64),
+        Err(ParseRefused::Memory) => Err(AllocError),
+        Err(_) => Ok(false),
+    }
+}
+
+// What may stand behind a text that a clause begins with.
+fn wanted(alloc: Global, text: &str) -> Result<String, AllocError> {
+    let mut list = String::new(alloc);
+    for (word, called) in &WORDS {
+        if may_follow(alloc, text, *word)? {
+            if !list.is_empty() {
+                list.push_str(" or ")?;
+            }
+            list.push_str(*called)?;
+        }
+    }
+    if parse(alloc, text).is_ok() {
+        if !list.is_empty() {
+            list.push_str(" or ")?;
+        }
+        list.push_str("the end")?;
+    }
+    Ok(list)
+}
+
+fn is_name_byte(byte: u8) -> bool {
+    byte.is_ascii_alphanumeric() || byte == b'_'
+}
+
+// How many bytes the token takes that a text begins with.
+fn token_len(text: &str) -> usize {
+    let word = text
+        .as_bytes()
+        .iter()
+        .take_while(|b| is_name_byte(**b))
+        .count();
+    match text.chars().next() {
+        Some(first) if word == 0 => first.len_utf8(),
+        _ => word,
+    }
+}
+
+// The part of a clause round a byte, and under it a mark at that byte.
+fn marked(alloc: Global, clause: &str, byte: usize) -> Result<String, AllocError> {
+    let (mut shown, mut mark) = (
+        String::from_str(alloc, "  ")?,
+        String::from_str(alloc, "  ")?,
+    );
+    for (at, c) in clause.char_indices() {
+        if at + 50 < byte || at > byte + 30 {
+            continue;
+        }
+        shown.push(if c.is_ascii_control() { ' ' } else { c })?;
+        if at < byte {
+            mark.push(' ')?;
+        }
+    }
+    format!(in alloc; "{shown}\n{mark}^\n")
+}
+
+/// What is told of a text that stops being a clause at a byte: what stands there, what might stand there, and the text with a mark.
+///
+/// # Errors
+///
+/// It fails only where memory is refused.
+pub(crate) fn syntax_lines(
+    alloc: Global,
+    inputs: &Inputs<'_, '_>,
+    byte: u64,
+) -> Result<String, AllocError> {
+    let clause = inputs.request.clause;
+    let Some((before, behind)) = clause.split_at_checked(byte as usize) else {
+        return Ok(String::new(alloc));
+    };
+    let wanted = wanted(alloc, before)?;
+    let marked = marked(alloc, clause, byte as usize)?;
+    if behind.is_empty() {
+        return format!(in alloc; "  found the end, wanted {wanted}\n{marked}");
+    }
+    let Some((token, _)) = behind.split_at_checked(token_len(behind)) else {
+        return Ok(marked);
+    };
+    let found = Shown {
+        bytes: token.as_bytes(),
+    };
+    format!(in alloc; "  found {found}, wanted {wanted}\n{marked}")
+}
