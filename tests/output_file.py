@@ -16,6 +16,7 @@ JOINED, NOBODY, WORDS, run, two_files = ends.JOINED, ends.NOBODY, ends.WORDS, en
 BEFORE = b"what stood there before\n"
 UNWRITTEN = b"radixjoin: E20 WriteDevice\n"
 NAME = "out.csv"
+ROWS = 60_000
 
 
 def names_in(folder):
@@ -227,9 +228,9 @@ def folders_without_permission(folder):
 
 def large(folder):
     """The words of a join of many rows, and its result."""
-    rows = [b"%d,a text that makes the row longer %d\n" % (at, at * 7) for at in range(60_000)]
+    rows = [b"%d,a text that makes the row longer %d\n" % (at, at * 7) for at in range(ROWS)]
     (folder / "left.csv").write_bytes(b"id,name\n" + b"".join(rows))
-    (folder / "right.csv").write_bytes(b"id,city\n" + b"".join(b"%d,%d\n" % (at, at + 1) for at in range(60_000)))
+    (folder / "right.csv").write_bytes(b"id,city\n" + b"".join(b"%d,%d\n" % (at, at + 1) for at in range(ROWS)))
     words = ["--left", "left.csv", "--right", "right.csv", *WORDS]
     return words, run("radixjoin", words, folder).stdout
 
@@ -250,7 +251,8 @@ def disk(place, size):
 def full_disks(folder):
     """On a disk without room for the result what stood there stays, and with room the result is whole."""
     words, joined = large(folder)
-    for size in (4, 512, 2_048, 8_192):
+    for share, fits in ((0.02, False), (0.5, False), (0.9, False), (2, True)):
+        size = max(4, int(len(joined) * share / 1024))
         place = folder / f"disk-{size}"
         with disk(place, size) as mounted:
             if not mounted:
@@ -258,7 +260,6 @@ def full_disks(folder):
                 return
             written = Written(place, b"x")
             ran = run("radixjoin", [*words, "--output", place / NAME], folder)
-            fits = size == 8_192
             yield f"a disk of {size} KiB", written.faults(ran, joined, b"" if fits else UNWRITTEN, 0 if fits else 6)
 
 
