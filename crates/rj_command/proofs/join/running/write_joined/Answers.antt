@@ -1,4 +1,4 @@
-use Rattle.std.proofs.Common.{◌∙◌, ◌^◌, refl, ap, ap₂, sym, subst, map, length, ℕ, List, Bor, String, Global}
+use Rattle.std.proofs.Common.{◌∙◌, ◌^◌, refl, ap, ap₂, sym, subst, map, length, ℕ, List, Bor, String, Global, rules, inl, inr}
 use Rattle.std.specs.Prelude.{string_bytes}
 use Rattle.std.specs.List.{range_with_len}
 use Rattle.std.specs.Io.KnownBytes.{Appends}
@@ -13,7 +13,8 @@ use Rattle.rj_engine.specs.Cells.{ViewValue, name_of}
 use Rattle.rj_engine.specs.Chosen.{chosen_columns}
 use Rattle.std.proofs.lemmas.Bool.{and_parts}
 use Rattle.rj_csv_io.specs.Ambiguous.{AreApart}
-use Rattle.rj_command.specs.Runs.{IsToldApart}
+use Rattle.rj_command.specs.Runs.{IsToldApart, IsUnwritten}
+use Rattle.rj_command.proofs.RunFacts.{of_fault}
 use Rattle.rj_command.proofs.ApartFacts.{view-apart}
 use Rattle.rj_command.proofs.join.running.write_joined.Goals as goal
 
@@ -74,3 +75,12 @@ returns-clause-ok g c =
       subst (λ (v : ViewValue). IsToldApart c.args.request.now.strict null v.cells) c.in_ok-view.ensures c.in_ok-tell_apart.ensures.clear,
       (names, c.in_ok-names.ensures.names, subst Writes text c.in_ok-write_rows_in_parts.ensures.ok),
     )
+
+pub returns-in_err-refuse_unexpected-clause-fault : goal.returns-in_err-refuse_unexpected-clause-fault
+returns-in_err-refuse_unexpected-clause-fault g c =
+    let names = map string_bytes c.in_ok-names.names.items in
+    of_fault (IsUnwritten c.args.request.now c.args.operands.now) c.from_residual-in_err-refuse_unexpected.result c.in_err-refuse_unexpected.field-0.0 (search rules)
+    (elim c.in_err-refuse_unexpected.ensures.fault [
+      | inl is ↦ inl is
+      | inr told ↦ inr (inr (inr ((names, c.in_ok-names.ensures.names), inl told)))
+    ])
