@@ -1,5 +1,7 @@
 //! `--explain`: what is told of a fault behind its own line.
 
+ghost use Rattle.std.specs.Prelude.{◌<◌, ◌-◌, ◌^◌};
+
 use crate::inputs::{is_standard_stream, read_table};
 use rj_command::{Line, Open, Stats, read_line, run};
 use rj_csv_io::{CountedWriter, Output};
@@ -187,6 +189,7 @@ pub(crate) fn join_explained<R, O>(
 where
     R: AllocGlobal + Threads + Wait + Clock + Sync,
     O: Output,
+    requires { O.count writer.old < 2 ^ 64 - 1 }
 {
     let alloc = rt.alloc();
     let (left, right) = (left.as_slice(), right.as_slice());
