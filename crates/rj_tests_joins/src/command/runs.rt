@@ -87,14 +87,13 @@ fn called<R: Threads + Wait + Clock + Sync, G: Gate + Sync, O: Output>(
     run_owned(rt, alloc, left, right, request, gate, writer)
 }
 
-// What a run writes, with these words behind the others, and the line of its fault, if it has one.
-fn written<'a, R: Threads + Wait + Clock + Sync>(
+// What a run writes, and the line of its fault, if it has one.
+fn written<R: Threads + Wait + Clock + Sync>(
     rt: &R,
     alloc: Global,
-    asked: &Asked<'a>,
-    further: &[&'a str],
+    asked: &Asked<'_>,
 ) -> Result<(Vec<u8>, String), Fail> {
-    let words = words_of(alloc, asked, further)?;
+    let words = words_of(alloc, asked, [].as_slice())?;
     let line = read_line(alloc, words.as_slice())?;
     let mut writer = CountedWriter::new(Vec::new(alloc));
     let fault = match called(rt, alloc, asked, &line.request, &Open, &mut writer) {
@@ -114,7 +113,7 @@ fn writes<R: Threads + Wait + Clock + Sync>(
     for owned in [false, true] {
         let mut asked = asked;
         asked.owned = owned;
-        let (bytes, fault) = written(rt, alloc, &asked, [].as_slice())?;
+        let (bytes, fault) = written(rt, alloc, &asked)?;
         if bytes.as_slice() != text || !fault.is_empty() {
             return Ok(false);
         }
@@ -132,7 +131,7 @@ fn tells<R: Threads + Wait + Clock + Sync>(
     for owned in [false, true] {
         let mut asked = asked;
         asked.owned = owned;
-        let (bytes, fault) = written(rt, alloc, &asked, [].as_slice())?;
+        let (bytes, fault) = written(rt, alloc, &asked)?;
         if !bytes.is_empty() || fault.as_str() != line {
             return Ok(false);
         }
@@ -155,33 +154,6 @@ fn joined_tables_are_written(rt: HostRuntime) -> Result<(), Fail> {
         ",,5,lima\n",
     );
     assert!(rt; writes(&rt, alloc, full, wanted.as_bytes())?);
-    Ok(())
-}
-
-// Whether a full join of the people and the cities writes this text, where these words choose of it.
-fn writes_chosen<'a, R: Threads + Wait + Clock + Sync>(
-    rt: &R,
-    alloc: Global,
-    further: &[&'a str],
-    text: &[u8],
-) -> Result<bool, Fail> {
-    let asked = ask("FULL JOIN USING (id)");
-    let (bytes, fault) = written(rt, alloc, &asked, further)?;
-    Ok(bytes.as_slice() == text && fault.is_empty())
-}
-
-#[test]
-fn chosen_rows_and_columns_are_written(rt: HostRuntime) -> Result<(), Fail> {
-    let alloc = rt.alloc();
-    let ordered = b"id,name,city\n1,ann,\n2,bob,oslo\n3,cy,\n4,,rome\n5,,lima\n";
-    assert!(rt; writes_chosen(&rt, alloc, ["--order=left"].as_slice(), ordered)?);
-    let anti = ["--rows=lone-left", "--columns=left"];
-    assert!(rt; writes_chosen(&rt, alloc, anti.as_slice(), b"id,name\n1,ann\n3,cy\n")?);
-    let semi = ["--rows=matched-left", "--columns=left"];
-    assert!(rt; writes_chosen(&rt, alloc, semi.as_slice(), b"id,name\n2,bob\n")?);
-    let right = ["--rows=pairs,lone-right", "--columns=right"];
-    let text = b"id,city\n2,oslo\n4,rome\n5,lima\n";
-    assert!(rt; writes_chosen(&rt, alloc, right.as_slice(), text)?);
     Ok(())
 }
 
