@@ -5,6 +5,7 @@ pub mod Grouped
 pub mod Partitioning
 pub mod Same
 pub mod Rising
+pub mod RangeFacts
 pub mod Parts
 pub mod Sources
 pub mod Scaled

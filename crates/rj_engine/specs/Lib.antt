@@ -5,6 +5,7 @@ pub mod Results
 pub mod Origins
 pub mod Cells
 pub mod Partitioned
+pub mod Ranges
 pub mod Stripes
 pub mod Pools
 pub mod Shards

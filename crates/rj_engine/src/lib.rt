@@ -17,6 +17,7 @@ mod once;
 mod origin;
 mod partitions;
 mod pieces;
+mod ranges;
 mod scattering;
 mod shards;
 mod sizes;
