@@ -1,5 +1,6 @@
 """Checks that what the documents cite exists: links and their anchors, paths and lines, the names of calls, definitions and tests and the
-files that they are said to stand in, options and crates; and that numbers which several places tell are the same."""
+files that they are said to stand in, options and crates; that numbers which several places tell are the same, those of limits and
+sizes as the sources have them; and that types of one name are told apart."""
 import re
 import subprocess
 
@@ -43,6 +44,28 @@ TOLD = {
     "a clause": "bytes",
     "nesting": "deep|parentheses",
 }
+# Sizes that pages tell: the page, what stands there with the number, what the number counts, and the constant that has it.
+FIGURES = (
+    ("docs/architecture.md", rf"nor do fewer than ({NUMBER}) rows", 1, "rj_csv_io/src/write_in_parts.rt", "LEAST_ROWS"),
+    ("docs/architecture.md", rf"list of texts of up to ({NUMBER}) rows", 1, "rj_csv_io/src/range.rt", "TEXT_ROWS"),
+    ("docs/architecture.md", rf"block of written rows \| up to ({NUMBER}) rows", 1, "rj_csv_io/src/block.rt", "BLOCK_ROWS"),
+    ("docs/DECISIONS.md", rf"A part has at least ({NUMBER}) KiB", 1 << 10, "rj_csv_io/src/read_parts.rt", "LEAST_PART"),
+    ("docs/DECISIONS.md", rf"a share of the written rows at least ({NUMBER}) rows", 1, "rj_csv_io/src/write_in_parts.rt", "LEAST_ROWS"),
+    ("docs/DECISIONS.md", rf"Rows are written in blocks of ({NUMBER}) rows", 1, "rj_csv_io/src/block.rt", "BLOCK_ROWS"),
+    ("docs/DECISIONS.md", rf"no more than ({NUMBER}) GiB at once", 1 << 30, "rj_csv_io/src/range.rt", "MOST_ROOM"),
+    ("docs/DECISIONS.md", rf"list of texts of up to ({NUMBER}) rows", 1, "rj_csv_io/src/range.rt", "TEXT_ROWS"),
+    ("docs/DECISIONS.md", rf"line feeds of the file's first ({NUMBER}) KiB", 1 << 10, "rj_csv_io/src/header.rt", "SAMPLE"),
+    ("docs/DECISIONS.md", rf"Rows are hashed in blocks of ({NUMBER}),", 1, "rj_radix/src/routing.rt", "BLOCK"),
+    ("docs/DECISIONS.md", rf"Rows are hashed in blocks of ({NUMBER}),", 1, "rj_hashjoin/src/hashing.rt", "BLOCK"),
+    ("docs/DECISIONS.md", rf"sleeps, ({NUMBER}) to (?:{NUMBER}) microseconds", 1, "rj_workers/src/pause.rt", "SHORTEST"),
+    ("docs/DECISIONS.md", rf"sleeps, (?:{NUMBER}) to ({NUMBER}) microseconds", 1, "rj_workers/src/pause.rt", "LONGEST"),
+    ("docs/DECISIONS.md", rf"`shards` reads ({NUMBER}) MiB at a time", 1 << 20, "shards/src/dividing.rt", "BLOCK"),
+    ("docs/specification.md", rf"A and B are at most ({NUMBER}) and places", 1, "shards/src/dividing.rt", "MOST"),
+    ("docs/specification.md", rf"without NAME where that has more than ({NUMBER}) bytes", 1, "radixjoin/src/output.rt", "LONGEST"),
+    ("docs/specification.md", rf"of more than ({NUMBER}) bytes the first ones", 1, "rj_explain/src/shown.rt", "MOST"),
+    ("docs/specification.md", rf"another text of 1 to ({NUMBER}) bytes", 1, "rj_line/src/choosing.rt", "LONGEST_SUFFIX"),
+    ("docs/specification.md", rf"would have more than ({NUMBER}) bytes before it is like no other", 1, "rj_engine/src/naming.rt", "MAX_NAME"),
+)
 # What is said of memory, wherever it is said.
 MEMORY = r"about\s+(\w+)\s+times\s+the\s+size\s+of\s+(?:the|its)\s+two\s+(?:files|parts)"
 
@@ -222,6 +245,47 @@ def untold_limits(page):
             yield f"{thing}: {limit_of(thing)} isn't told"
 
 
+def value_of(file, constant):
+    """The value of a constant of the sources, such as `16384`, `65_536` or `8 << 20`."""
+    found = re.search(rf"\b{constant}: \w+ = (\w+)(?: << (\d+))?;", (harness.ROOT / "crates" / file).read_text())
+    return number_of(found[1]) << int(found[2] or 0)
+
+
+def figure_faults(page):
+    """Where a page tells another size than the sources have."""
+    text = (harness.ROOT / page).read_text()
+    for _, pattern, unit, file, constant in (figure for figure in FIGURES if figure[0] == page):
+        told = [number_of(number) * unit for number in re.findall(pattern, text)]
+        if set(told) != {value_of(file, constant)}:
+            yield f"{told or 'nothing'} is told, and {constant} of {file} is {value_of(file, constant)}"
+
+
+def declared_types(files):
+    """The files of each type and definition of a type, by its name, within `crates/`; those of tests aside."""
+    found = {}
+    for name in files:
+        is_source = re.fullmatch(r"crates/(?!rj_tests_)\w+/src/.*\.rt", name)
+        if is_source or re.fullmatch(r"crates/(?!rj_tests_)\w+/specs/.*\.antt", name):
+            kinds = r"(?:pub(?:\([^)]*\))? )?(?:struct|enum|trait)" if is_source else r" *(?:pub )?(?:data|record)"
+            for known in re.findall(rf"^{kinds} (\w+)", (harness.ROOT / name).read_text(), re.MULTILINE):
+                found.setdefault(known, set()).add(name.removeprefix("crates/"))
+    return found
+
+
+def type_faults(text, files):
+    """Where the table of types of one name differs from the sources: which there are, and in which crates; files, where a crate has
+    two."""
+    told = dict(re.findall(r"^\| `(\w+)` \| (.*) \|$", text.partition("\n### Types of one name\n")[2].partition("\n## ")[0], re.MULTILINE))
+    shared = {name: places for name, places in declared_types(files).items() if len(places) > 1}
+    yield from (f"{name} is one type, and is told as several" for name in sorted(set(told) - set(shared)))
+    for name, places in sorted(shared.items()):
+        crates = [place.split("/")[0] for place in places]
+        wanted = {place if crates.count(place.split("/")[0]) > 1 else place.split("/")[0] for place in places}
+        found = {token for token in re.findall(r"`([^`]+)`", told.get(name, "")) if token.split("/")[0] in listed_crates()}
+        if found != wanted:
+            yield f"{name}: it stands in {', '.join(sorted(wanted))}, and {', '.join(sorted(found)) or 'nothing'} is told"
+
+
 def library_faults(text):
     """Where the libraries that a page tells to be trusted differ from those that crates.txt names beside the repository's own crates."""
     listed = listed_crates()
@@ -248,12 +312,13 @@ def agreement_faults(what, pattern, pages):
         yield f"{what}: {', '.join(f'{page} tells {sorted(found)}' for page, found in told.items())}"
 
 
-def check_agreement(tally):
+def check_agreement(tally, files):
     """What several places tell of one thing."""
     docs = {name: (harness.ROOT / "docs" / f"{name}.md").read_text() for name in ("specification", "architecture", "changing", "proved", "DECISIONS")}
     tally.check("docs/specification.md: definitions", list(definition_faults(docs["specification"])))
     tally.check("docs/specification.md: limits", list(limit_faults(docs["specification"])))
     tally.check("docs/architecture.md: crates", list(crate_faults(docs["architecture"])))
+    tally.check("docs/architecture.md: types of one name", list(type_faults(docs["architecture"], files)))
     tally.check("docs/changing.md: files of names", list(place_faults(docs["changing"])))
     tally.check("docs/proved.md: libraries", list(library_faults(docs["proved"])))
     tally.check("docs/DECISIONS.md: numbers", list(number_faults(docs["DECISIONS"])))
@@ -262,6 +327,8 @@ def check_agreement(tally):
     tally.check("memory", list(agreement_faults("memory", MEMORY, pages)))
     for page in ("README.md", "docs/faults.md", "man/radixjoin.1"):
         tally.check(f"{page}: limits", list(untold_limits(page)))
+    for page in sorted({figure[0] for figure in FIGURES}):
+        tally.check(f"{page}: sizes", list(figure_faults(page)))
 
 
 def run_all(tally):
@@ -279,4 +346,4 @@ def run_all(tally):
         tally.check(f"{page}: options", list(option_faults(prose, options)))
         crates = set(re.findall(r"\brj_\w+", text)) - set(listed_crates())
         tally.check(f"{page}: crates", [f"there is no crate {name}" for name in sorted(crates)])
-    check_agreement(tally)
+    check_agreement(tally, files)

@@ -22,8 +22,8 @@ class Option:
         words = re.search(r"\[possible values: ([^\]]*)\]", text)
         self.words = words[1].split(", ") if words else []
         limits = re.search(r"\b(\d[\d,]*) to (\d[\d,]*)", text)
-        default = re.search(r"\[default: (\w+)\]", text)
-        self.numbers = [number.replace(",", "") for number in [*(limits.groups() if limits else ()), *(default.groups() if default else ())]]
+        default = re.search(r"\[default: ([\w,-]+)\]", text)
+        self.numbers = [number.replace(",", "") for number in (limits.groups() if limits else ())] + (default[1].split(",") if default else [])
 
 
 def options_of(program):

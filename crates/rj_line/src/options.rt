@@ -137,8 +137,8 @@ const OPTIONS: [LineOption; 29] = [
     LineOption {
         name: "stats",
         takes: Takes::Nothing,
-        help: "Print on standard error how many rows each partition had, how many rows of each kind were written, \
-            and where --piece is given how many pieces were joined",
+        help: "Print on standard error how many rows each partition had, how many pairs and rows in no pair \
+            the joined table has, and where --piece is given how many pieces were joined",
     },
     LineOption {
         name: "explain",
@@ -180,12 +180,12 @@ const OPTIONS: [LineOption; 29] = [
     LineOption {
         name: "max-rows",
         takes: Takes::Number(0, 4_294_967_295),
-        help: "Write nothing where the result has more rows (E30), 0 to 4294967295",
+        help: "Write nothing where the joined table has more rows (E30), 0 to 4294967295",
     },
     LineOption {
         name: "count",
         takes: Takes::Nothing,
-        help: "Print in place of the result how many rows of each kind it has",
+        help: "Print in place of the rows how many pairs and rows in no pair the joined table has",
     },
 ];
 
