@@ -183,8 +183,11 @@ def crate_faults(text):
 
 
 def unnamed_faults(files):
-    """The crates that a crate stands on by crates.txt, and that none of its sources, definitions and proofs names."""
+    """The crates that a crate stands on by crates.txt, and that none of its sources, definitions and proofs names; those of tests
+    aside."""
     for crate, below in listed_crates().items():
+        if crate.startswith("rj_tests_"):
+            continue
         own = [name for name in files if re.match(rf"crates/{crate}/(?:src|specs|proofs)/", name)]
         words = set(re.findall(r"\w+", "\n".join((harness.ROOT / name).read_text() for name in own)))
         yield from (f"{crate} stands on {name}, and doesn't name it" for name in sorted(below - words))
