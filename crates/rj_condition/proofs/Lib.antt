@@ -20,6 +20,7 @@ pub mod PartnerFacts
 pub mod SplitFits
 pub mod KeyColumns
 pub mod BandFacts
+pub mod NullSafeFacts
 pub mod Turns
 pub mod Behind
 pub mod Sound

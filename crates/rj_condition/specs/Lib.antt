@@ -14,6 +14,7 @@ pub mod Lexing
 pub mod Scanning
 pub mod Parts
 pub mod Bands
+pub mod NullSafe
 pub mod Grammar
 pub mod Reading
 pub mod Nesting

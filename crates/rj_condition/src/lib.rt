@@ -13,6 +13,7 @@ mod joining;
 mod lexer;
 mod names;
 mod nesting;
+mod null_safe;
 mod parsing;
 mod partners;
 mod parts;
