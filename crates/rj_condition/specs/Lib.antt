@@ -19,3 +19,4 @@ pub mod Reading
 pub mod Nesting
 pub mod Clauses
 pub mod Refusals
+pub mod Mismatches

@@ -12,3 +12,4 @@ pub mod Once
 pub mod Expected
 pub mod Naming
 pub mod Chosen
+pub mod Violations
