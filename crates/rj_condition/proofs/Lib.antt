@@ -14,6 +14,7 @@ pub mod DecimalParts
 pub mod TokenLaws
 pub mod Lexemes
 pub mod RefusalFacts
+pub mod MismatchFacts
 pub mod FlatFacts
 pub mod SplitFacts
 pub mod PartnerFacts

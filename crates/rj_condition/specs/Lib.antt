@@ -20,3 +20,4 @@ pub mod Reading
 pub mod Nesting
 pub mod Clauses
 pub mod Refusals
+pub mod Mismatches

@@ -13,3 +13,4 @@ pub mod Once
 pub mod Expected
 pub mod Naming
 pub mod Chosen
+pub mod Violations

@@ -22,6 +22,7 @@ mod scattering;
 mod shards;
 mod sizes;
 mod view;
+mod violations;
 mod working;
 
 pub use choices::{chosen_names_are_lawful, left_order, plain_choice};
@@ -40,3 +41,4 @@ pub use rj_settings::{
 pub use rj_workers::{Gate, Open, Place};
 pub use shards::{rows_stand_once, shard_is_part, shard_of_row, shards_merge};
 pub use view::{View, chosen_header, header};
+pub use violations::{Violation, first_violation};
