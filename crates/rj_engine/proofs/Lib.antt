@@ -28,3 +28,4 @@ pub mod Distinct
 pub mod NamingFacts
 pub mod KeyOrder
 pub mod ChosenFacts
+pub mod GroupFacts

@@ -12,3 +12,5 @@ pub mod Once
 pub mod Expected
 pub mod Naming
 pub mod Chosen
+pub mod KeyGroups
+pub mod Reports
