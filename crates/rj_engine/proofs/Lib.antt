@@ -30,3 +30,4 @@ pub mod NamingFacts
 pub mod KeyOrder
 pub mod ChosenFacts
 pub mod Repeats
+pub mod GroupFacts

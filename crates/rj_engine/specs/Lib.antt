@@ -14,3 +14,5 @@ pub mod Expected
 pub mod Naming
 pub mod Chosen
 pub mod Violations
+pub mod KeyGroups
+pub mod Reports
