@@ -49,9 +49,9 @@ fn placed_row(
     columns: Columns,
     how: MergeOptions<'_>,
 ) -> Result<Placed<Fields>, MergeRefused>
-    ensures row { IfOk result (λ p. read_row how columns input row before (fields_of fields.now) ≡ Ok p) }
+    ensures row { IfOk result (λ p. read_row how.entry columns input row before (fields_of fields.now) ≡ Ok p) }
     ensures rises { IfOk result (λ p. IsAbove before p.place) }
-    ensures fault { IfErr result (λ e. is_outside e ≡ false → read_row how columns input row before (fields_of fields.now) ≡ Err e) }
+    ensures fault { IfErr result (λ e. is_outside e ≡ false → read_row how.entry columns input row before (fields_of fields.now) ≡ Err e) }
 {
     if fields.len() != columns.width {
         return Err(MergeRefused::RaggedRow(input, row));
@@ -94,7 +94,7 @@ impl<'n, R: Read + Drop> TextSource<'n, R> {
         input: u32,
     ) -> TextSource<'n, R>
         ensures tells { IsBetween R.remaining reader.value → input_tells R.remaining result }
-        ensures reading { input_reading R.remaining result ≡ read_rows how columns input 0 None (records_remaining R.remaining reader.value) }
+        ensures reading { input_reading R.remaining result ≡ read_rows how.entry columns input 0 None (records_remaining R.remaining reader.value) }
     {
         TextSource {
             alloc,
