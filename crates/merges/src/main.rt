@@ -26,7 +26,9 @@ fn line_command<'a>(alloc: Global) -> Result<Command<'a>, AllocError> {
         .value_name("ORDER")
         .action(ArgAction::Set)
         .value_parser(["pairs", "left"].as_slice())
-        .help("Order of the rows, in each file and in what is written: pairs before rows in no pair, or each left row at its place [default: pairs]");
+        .help(
+            "Order of the rows, in each file and in what is written: pairs before rows in no pair, or each left row at its place [default: pairs]",
+        );
     let files = Arg::new(alloc, "files")
         .value_name("FILE")
         .num_args(1..)
