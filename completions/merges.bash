@@ -1,6 +1,6 @@
-# Completion of merges for bash: options that were not given yet, and files.
+# Completion of merges for bash: options that were not given yet, files, and the words of --order.
 _merges() {
-    local options="--null --help --version"
+    local options="--null --order --help --version"
     local word=${COMP_WORDS[COMP_CWORD]} before=${COMP_WORDS[COMP_CWORD - 1]}
     # `--null=a` is three words here: --null, = and a.
     if [[ $word == = ]]; then
@@ -11,6 +11,8 @@ _merges() {
     COMPREPLY=()
     if [[ $before == --null ]]; then
         return
+    elif [[ $before == --order ]]; then
+        mapfile -t COMPREPLY < <(compgen -W "pairs left" -- "$word")
     elif [[ $word == -* ]]; then
         local option left=
         for option in $options; do

@@ -1,5 +1,6 @@
-# Completion of merges for fish: options and files.
+# Completion of merges for fish: options, files, and the words of --order.
 complete -c merges -F
 complete -c merges -l null -x -d 'Text that stands for null'
+complete -c merges -l order -x -a 'pairs left' -d 'Order of the rows'
 complete -c merges -s h -l help -d 'Print help'
 complete -c merges -s V -l version -d 'Print the version'

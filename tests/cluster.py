@@ -148,6 +148,10 @@ def run_large(cluster, tally):
             ran = ended(started(cluster, words, folder, *more))
             tally.check(f"cluster: 200,000 by 50,000 rows, {' '.join(more)}", faults_of_run(ran, folder, known, wanted))
             (folder / "out.csv").unlink(missing_ok=True)
+        by_left = [*words, "--order", "left"]
+        ran = ended(started(cluster, by_left, folder, "--parts", "8"))
+        tally.check("cluster: 200,000 by 50,000 rows, each left row at its place", faults_of_run(ran, folder, known, harness.run([harness.program("radixjoin"), *by_left], folder)))
+        (folder / "out.csv").unlink(missing_ok=True)
         running = started(cluster, words, folder, "--parts", "64", "--ranges", "12")
         was_killed = kill_one(cluster, folder)
         faults = faults_of_run(ended(running), folder, known, wanted)

@@ -125,7 +125,7 @@ def run_random(seed, tally):
         (folder / "left.csv").write_bytes(f"{mark}k,n,a{end}{random_rows(pick, rows, end)}".encode())
         (folder / "right.csv").write_bytes(f"k,m,b{end}{random_rows(pick, pick.randrange(60), end)}".encode())
         types = ["--left-types", "int,int,text", "--right-types", "num(9,2),int,text"]
-        words = ["--left", "left.csv", "--right", "right.csv", *types, "--join", pick.choice(CLAUSES)]
+        words = ["--left", "left.csv", "--right", "right.csv", *types, "--join", pick.choice(CLAUSES), *pick.choice(([], ["--order=left"]))]
         words = placed_in(words, folder)
         wanted = harness.run([harness.program("radixjoin"), *words], folder)
         for parts, ranges in ((1, 1), (2, 5), (7, 3), (64, 40)):
@@ -214,7 +214,7 @@ def run_shards_alone(tally):
             tally.check(f"shards: {more}", faults)
 
 
-# Inputs of `merges`, and how it ends: its status, and what it writes or tells.
+# Inputs of `merges`, and how it ends: its status, and what it writes or tells; and its options.
 MERGES = (
     ("two inputs", ["left_place,a,right_place\n0,x,5\n1,y,\n", "left_place,a,right_place\n0,z,7\n,w,2\n"], 0, b"a\nx\nz\ny\nw\n"),
     ("no rows", ["a,left_place,right_place\n"], 0, b"a\n"),
@@ -228,19 +228,24 @@ MERGES = (
     ("both places null", ["left_place,right_place,a\n,,y\n"], 3, None),
     ("not in order", ["left_place,right_place,a\n1,1,y\n1,0,z\n"], 3, None),
     ("a place twice", ["left_place,right_place,a\n1,1,y\n", "left_place,right_place,a\n1,1,z\n"], 3, None),
+    ("pairs first, by name", ["left_place,right_place,a\n1,1,y\n0,,x\n"], 0, b"a\ny\nx\n", "--order=pairs"),
+    ("each left row at its place", ["left_place,a,right_place\n0,x,\n2,z,9\n,w,2\n", "left_place,a,right_place\n1,y,5\n3,u,\n,v,0\n"], 0, b"a\nx\ny\nz\nu\nv\nw\n", "--order", "left"),
+    ("pairs first, where each left row is to be at its place", ["left_place,right_place,a\n1,1,y\n0,,x\n"], 3, None, "--order=left"),
+    ("a lone left row twice", ["left_place,right_place,a\n1,,y\n", "left_place,right_place,a\n1,,z\n"], 3, None, "--order=left"),
+    ("an order that is none", ["left_place,right_place,a\n"], 2, None, "--order=right"),
 )
 
 
 def run_merges_alone(tally):
     """What `merges` writes of small inputs, or how it ends."""
-    for name, texts, status, written in MERGES:
+    for name, texts, status, written, *options in MERGES:
         with harness.folder() as place:
             folder = pathlib.Path(place)
             for number, text in enumerate(texts):
                 (folder / f"{number}.csv").write_bytes(text.encode())
-            ran = harness.run([harness.program("merges"), *(f"{number}.csv" for number in range(len(texts)))], folder)
+            ran = harness.run([harness.program("merges"), *options, *(f"{number}.csv" for number in range(len(texts)))], folder)
             faults = harness.differences(ran, written, b"" if status == 0 else None, status)
-            if status and not ran.stderr.startswith(b"merges: "):
+            if status == 3 and not ran.stderr.startswith(b"merges: "):
                 faults.append(f"it tells {harness.shorten(ran.stderr)}")
             tally.check(f"merges: {name}", faults)
 

@@ -29,6 +29,10 @@ CASES = (
     ("null texts by side", LEFT, RIGHT, INT_TEXT, ON_K, BY_SIDE),
     ("null texts by side, and what is written", LEFT, RIGHT, INT_TEXT, ON_K, [*BY_SIDE, "--out-null=*"]),
     ("strictly", LEFT, RIGHT, INT_TEXT, ON_K, [*BY_SIDE, "--out-null=*", "--strict=full"]),
+    ("each left row at its place", LEFT, RIGHT, INT_TEXT, ON_K, ["--right-null=-", "--order=left"]),
+    ("each left row at its place, and such kinds of rows", LEFT, RIGHT, INT_TEXT, ON_K, ["--right-null=-", "--order", "left", "--rows", "lone-left,lone-right"]),
+    ("each left row at its place, and a cell that is written as null is", LEFT, RIGHT, INT_TEXT, ON_K, [*BY_SIDE, "--out-null=y", "--strict", "--order=left"]),
+    ("an order that is none", LEFT, RIGHT, INT_TEXT, ON_K, ["--order=right"]),
     ("a left cell that is written as null is", LEFT, RIGHT, INT_TEXT, ON_K, [*BY_SIDE, "--out-null=-", "--strict"]),
     ("a right cell that is written as null is", LEFT, RIGHT, INT_TEXT, ON_K, [*BY_SIDE, "--out-null=NULL", "--strict=full"]),
     ("such a cell in the last row", LEFT, RIGHT, INT_TEXT, ON_K, [*BY_SIDE, "--out-null=y", "--strict"]),
@@ -117,7 +121,7 @@ def run_random(seed, tally):
             (folder / f"{side}.csv").write_text(f"k,{column},n\n" + "".join(lines))
             words += [f"--{side}={folder}/{side}.csv", f"--{side}-types={pick.choice(('int,text,int', 'k=int,n=int,*=text'))}", *(f"--{side}-null={text}" for text in nulls)]
         clause = pick.choice(("JOIN USING (k)", "LEFT JOIN ON L.k = R.k", "FULL JOIN USING (k)", "RIGHT JOIN ON L.k = R.k AND L.n < R.n", "FULL JOIN ON a = b AND L.k < 9"))
-        words += [f"--join={clause}", f"--out-null={rare}", *pick.choice(([], ["--strict"], ["--strict"], ["--strict=full"]))]
+        words += [f"--join={clause}", f"--out-null={rare}", *pick.choice(([], ["--strict"], ["--strict"], ["--strict=full"])), *pick.choice(([], ["--order=left"]))]
         return both(folder, words, tally, f"random null texts {seed}", ((pick.choice((1, 3, 16)), pick.choice((1, 4))),)).status
 
 

@@ -70,7 +70,8 @@ def words_of(pick, folder):
             path.mkdir()
         words += [f"--{side}={path}", f"--{side}-types={types_of(pick, f'{side} types' in wrong, side, folder)}"]
     strict = pick.choice((["--strict"], ["--strict=full"])) if "strict" in wrong or "cells" in wrong else pick.choice(([], [], ["--strict"]))
-    return [*words, f"--join={pick.choice(CLAUSES if 'clause' in wrong else GOOD_CLAUSES)}", *nulls_of(pick, "nulls" in wrong), *strict]
+    order = pick.choice(([], [], ["--order=left"]))
+    return [*words, f"--join={pick.choice(CLAUSES if 'clause' in wrong else GOOD_CLAUSES)}", *nulls_of(pick, "nulls" in wrong), *strict, *order]
 
 
 def run_order(seed, tally):

@@ -44,10 +44,10 @@ if TYPE_CHECKING:
     from distributed import Client
 
 # The options that go to `radixjoin` alone, as they are.
-OF_ONE_JOIN = ("workers", "bits1", "bits2", "hash", "block", "capacity", "lanes", "retries", "piece", "rows")
-# The options of `radixjoin` that a join in shards has no other value of than this one: the merge goes by the places of the pairs
-# and of the lone rows of both sides, which have to stand in the joined shards.
-OF_WHOLE_TABLES = {"order": "pairs", "columns": "all"}
+OF_ONE_JOIN = ("workers", "bits1", "bits2", "hash", "block", "capacity", "lanes", "retries", "piece", "rows", "order")
+# The options of `radixjoin` that a join in shards has no other value of than this one: the merge goes by the places of the rows of
+# both sides, whose columns have to stand in the joined shards.
+OF_WHOLE_TABLES = {"columns": "all"}
 SIDES = ("left", "right")
 # The options that may be given again.
 SEVERAL = ("--left-null", "--right-null")
@@ -114,7 +114,7 @@ def read_line(words: Sequence[str]) -> argparse.Namespace:
         line.error(f"--{name} is from {least} to {most}")
     for option, only in OF_WHOLE_TABLES.items():
         if getattr(asked, option) not in (None, only):
-            line.error(f"--{option}: a join in shards writes all columns, in the order of the pairs and then of the lone rows")
+            line.error(f"--{option}: a join in shards writes all columns")
     return asked
 
 
@@ -170,6 +170,7 @@ class Job:
         self.is_apart = bool(asked.strict) and any(self.out_null not in (nulls[side] or [null]) for side in SIDES)
         self.strict = [f"--strict={asked.strict}"] if asked.strict else []
         self.parts = asked.parts
+        self.order = asked.order or "pairs"
         self.one_join = [f"--{option}={getattr(asked, option)}" for option in OF_ONE_JOIN if getattr(asked, option) is not None]
         self.memory = asked.memory and asked.memory << 20
         self.scratch = scratch
@@ -374,19 +375,19 @@ def ambiguous_cell(job: Job, part: int) -> Tuple[Place, int]:
     """Where the first cell of a shard that isn't null and is written as null is stands: the place of its row, and its column in
     the joined table."""
     row, column = map(int, Path(job.place(f"joined-{part:04}"), "ambiguous").read_text().split())
-    return place_of_row(job.joined(part), row), column_in_whole(job.joined(part), column)
+    return place_of_row(job.joined(part), row, job.order), column_in_whole(job.joined(part), column)
 
 
 def count_before(job: Job, part: int, place: Place) -> int:
     """How many rows of a joined shard stand before a place."""
-    return rows_before(job.joined(part), place)
+    return rows_before(job.joined(part), place, job.order)
 
 
 def merge_shards(job: Job) -> None:
     """Merges the joined shards into the joined table."""
     try:
         with made(job.out, job.half) as new, open(new, "wb") as output:
-            job.run("merges", [f"--null={job.out_null}", *map(job.joined, range(job.parts))], output)
+            job.run("merges", [f"--null={job.out_null}", f"--order={job.order}", *map(job.joined, range(job.parts))], output)
             os.fsync(output.fileno())
     except OSError as error:
         raise unwritten(job.out, error.strerror) from None

@@ -1,7 +1,7 @@
 """Rows of joined shards by their places, which say where they stand in the joined table."""
 from __future__ import annotations
 
-from itertools import chain, islice, takewhile
+from itertools import chain, islice, repeat, takewhile
 from typing import Iterator, Tuple
 
 from .text import blocks, fields_in, split_header
@@ -9,18 +9,18 @@ from .text import blocks, fields_in, split_header
 # The names of the columns of places.
 LEFT, RIGHT = "left_place", "right_place"
 # Where a row stands: its kind, and its places. Pairs come first, by their left, then their right place, then lone left and
-# lone right rows.
+# lone right rows. In the order of the left rows lone ones stand among the pairs.
 Place = Tuple[int, int, int]
 
 
-def place_of(left: str, right: str) -> Place:
-    """Where the row with these fields stands. A null is no number."""
+def place_of(left: str, right: str, order: str) -> Place:
+    """Where the row with these fields stands in this order. A null is no number."""
     if left.isdigit():
-        return (0, int(left), int(right)) if right.isdigit() else (1, int(left), 0)
+        return (0, int(left), int(right)) if right.isdigit() else (0 if order == "left" else 1, int(left), 0)
     return 2, int(right), 0
 
 
-def places(path: str) -> Iterator[Place]:
+def places(path: str, order: str) -> Iterator[Place]:
     """Where the rows of a joined shard stand. They rise."""
     with open(path, "rb") as file:
         pieces = blocks(file)
@@ -28,17 +28,17 @@ def places(path: str) -> Iterator[Place]:
         width, left, right = len(names), names.index(LEFT), names.index(RIGHT)
         for block in chain([rest], pieces):
             fields = fields_in(block) if block else []
-            yield from map(place_of, fields[left::width], fields[right::width])
+            yield from map(place_of, fields[left::width], fields[right::width], repeat(order))
 
 
-def place_of_row(path: str, row: int) -> Place:
+def place_of_row(path: str, row: int, order: str) -> Place:
     """Where a row of a joined shard stands, counted from 1."""
-    return next(islice(places(path), row - 1, None))
+    return next(islice(places(path, order), row - 1, None))
 
 
-def rows_before(path: str, place: Place) -> int:
+def rows_before(path: str, place: Place, order: str) -> int:
     """How many rows of a joined shard stand before a place."""
-    return sum(1 for _ in takewhile(lambda it: it < place, places(path)))
+    return sum(1 for _ in takewhile(lambda it: it < place, places(path, order)))
 
 
 def column_in_whole(path: str, column: int) -> int:

@@ -14,7 +14,7 @@ impl fmt::Display for At {
     fn fmt<W: fmt::Write>(&self, f: &mut fmt::Formatter<W>) -> fmt::Result {
         match self.0 {
             Place::Pair(left, right) => write!(f, "left {left} right {right}"),
-            Place::LoneLeft(left) => write!(f, "left {left}"),
+            Place::LoneAmongPairs(left) | Place::LoneLeft(left) => write!(f, "left {left}"),
             Place::LoneRight(right) => write!(f, "right {right}"),
         }
     }

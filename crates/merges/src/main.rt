@@ -5,10 +5,10 @@
 mod failure;
 
 use crate::failure::Failure;
-use clap::{Arg, ArgAction, Command};
+use clap::{Arg, ArgAction, ArgMatches, Command};
 use rj_csv_io::{CountedWriter, is_lawful_null};
 use rj_fault::{VERSION, read_words, tell, texts_of};
-use rj_merge::{Patient, merge_texts};
+use rj_merge::{MergeOptions, Patient, RowOrder, merge_texts};
 use std::alloc::{AllocError, Global};
 use std::env::Env;
 use std::fs::{self, Files};
@@ -21,6 +21,14 @@ fn line_command<'a>(alloc: Global) -> Result<Command<'a>, AllocError> {
         .value_name("TEXT")
         .action(ArgAction::Set)
         .help("Text of a field that is null [default: an empty field]");
+    let order = Arg::new(alloc, "order")
+        .long("order")
+        .value_name("ORDER")
+        .action(ArgAction::Set)
+        .value_parser(["pairs", "left"].as_slice())
+        .help(
+            "Order of the rows, in each file and in what is written: pairs before rows in no pair, or each left row at its place [default: pairs]",
+        );
     let files = Arg::new(alloc, "files")
         .value_name("FILE")
         .num_args(1..)
@@ -31,7 +39,16 @@ fn line_command<'a>(alloc: Global) -> Result<Command<'a>, AllocError> {
         .version(VERSION)
         .no_binary_name(true)
         .arg(null)?
+        .arg(order)?
         .arg(files)
+}
+
+// The order that is named, or pairs first where none is.
+fn order_of(matches: &ArgMatches<'_>) -> RowOrder {
+    match matches.get_str("order") {
+        Some("left") => RowOrder::LeftFirst,
+        _ => RowOrder::PairsFirst,
+    }
 }
 
 // Opens the files, in order.
@@ -60,6 +77,7 @@ where
 fn merge_files<R: Files + AllocGlobal + Print>(
     rt: &R,
     null: &str,
+    order: RowOrder,
     files: &[&str],
 ) -> Result<(), Failure>
 where
@@ -73,7 +91,11 @@ where
         return Err(Failure::FileCount);
     }
     let mut output = CountedWriter::new(io::writer(rt));
-    match merge_texts(rt.alloc(), inputs, null, &mut output) {
+    let how = MergeOptions {
+        null: null.as_bytes(),
+        order,
+    };
+    match merge_texts(rt.alloc(), inputs, how, &mut output) {
         Ok(()) => Ok(()),
         Err(refused) => Err(Failure::of(rt.alloc(), files, refused)),
     }
@@ -94,7 +116,7 @@ where
     };
     let null = matches.get_str("null").unwrap_or("");
     let files = matches.get_strs("files").unwrap_or(&[]);
-    merge_files(rt, null, files)
+    merge_files(rt, null, order_of(&matches), files)
 }
 
 // Reads the command line, and merges.

@@ -103,6 +103,8 @@ fn lines_of_places(rt: HostRuntime) {
     assert!(rt; is_fault(alloc, pair, "merges: E26 RepeatedPlace left 3 right 5", 3));
     let left = MergeRefused::RepeatedPlace(Place::LoneLeft(4));
     assert!(rt; is_fault(alloc, left, "merges: E26 RepeatedPlace left 4", 3));
+    let among = MergeRefused::RepeatedPlace(Place::LoneAmongPairs(4));
+    assert!(rt; is_fault(alloc, among, "merges: E26 RepeatedPlace left 4", 3));
     let right = MergeRefused::RepeatedPlace(Place::LoneRight(0));
     assert!(rt; is_fault(alloc, right, "merges: E26 RepeatedPlace right 0", 3));
 }

@@ -9,6 +9,7 @@ use Rattle.csv.specs.Writing.{default_writer, row_text}
 use Rattle.rj_csv_io.specs.Shown.{rows_text}
 use Rattle.rj_merge.specs.declared.columns.Columns.{Columns}
 use Rattle.rj_merge.specs.declared.input.TextSource.{TextSource}
+use Rattle.rj_merge.specs.declared.options.MergeOptions.{MergeOptions}
 use Rattle.rj_merge.specs.declared.place.Place.{Place}
 use Rattle.rj_merge.specs.declared.place.Placed.{Placed}
 use Rattle.rj_merge.specs.declared.refused.MergeRefused.{MergeRefused}
@@ -22,18 +23,18 @@ use Rattle.rj_merge.specs.Texts.{others}
 use Rattle.rj_merge.specs.Wholes.{HasTwice, IsMerge}
 use Rattle.rj_merge.proofs.WrittenFacts.{under-header}
 
-module _ {R : Type 0} (known : R → Option (List ℕ)) (null : List ℕ) (texts : List (List ℕ)) (sources : List (TextSource R)) (given : readings null texts ≡ map (input_reading known) sources) where
-  rows_given : rows_of_readings (readings null texts) ≡ rows_of_inputs (input_reading known) sources
+module _ {R : Type 0} (known : R → Option (List ℕ)) (how : MergeOptions) (texts : List (List ℕ)) (sources : List (TextSource R)) (given : readings how texts ≡ map (input_reading known) sources) where
+  rows_given : rows_of_readings (readings how texts) ≡ rows_of_inputs (input_reading known) sources
   rows_given = ap rows_of_readings given ∙ flat_map-map (λ (r : Reading (List (List ℕ))). r.rows) (input_reading known) sources
 
-  faults_given : faults_of_readings (readings null texts) ≡ faults_of_inputs (input_reading known) sources
+  faults_given : faults_of_readings (readings how texts) ≡ faults_of_inputs (input_reading known) sources
   faults_given = ap faults_of_readings given ∙ flat_map-map (λ (r : Reading (List (List ℕ))). option_to_list r.fault) (input_reading known) sources
 
-  lists_given : map (λ (r : Reading (List (List ℕ))). r.rows) (readings null texts) ≡ map (λ s. (input_reading known s).rows) sources
+  lists_given : map (λ (r : Reading (List (List ℕ))). r.rows) (readings how texts) ≡ map (λ s. (input_reading known s).rows) sources
   lists_given = ap (map (λ (r : Reading (List (List ℕ))). r.rows)) given ∙ map-map (λ (r : Reading (List (List ℕ))). r.rows) (input_reading known) sources
 
   pub merged : (columns : Columns) (first names : List (List ℕ)) (rows : List (Placed (List (List ℕ)))) → first ≡ first_header texts → place_columns first ≡ Some columns → names ≡ others columns first
-      → IsMerge (map (λ s. (input_reading known s).rows) sources) rows → IsMergedText null texts (row_text default_writer names ++ records_text rows)
+      → IsMerge (map (λ s. (input_reading known s).rows) sources) rows → IsMergedText how texts (row_text default_writer names ++ records_text rows)
   merged columns first names rows is places named merge = record {
     columns = columns;
     rows = rows;
@@ -42,11 +43,11 @@ module _ {R : Type 0} (known : R → Option (List ℕ)) (null : List ℕ) (texts
     shown = under-header names rows ∙ ap (λ (h : List (List ℕ)). rows_text (h ∷ map (λ p. p.row) rows)) (named ∙ ap (others columns) is);
   }
 
-  pub faultless : faults_of_inputs (input_reading known) sources ≡ [] → HaveNoFault null texts
+  pub faultless : faults_of_inputs (input_reading known) sources ≡ [] → HaveNoFault how texts
   faultless none = faults_given ∙ none
 
   pub fault_of_texts : (e : MergeRefused)
-      → Contains (faults_of_inputs (input_reading known) sources) e ⊎ ((place : Place) × (e ≡ refused.RepeatedPlace place) × HasTwice (rows_of_inputs (input_reading known) sources) place) → IsFaultOfTexts null texts e
+      → Contains (faults_of_inputs (input_reading known) sources) e ⊎ ((place : Place) × (e ≡ refused.RepeatedPlace place) × HasTwice (rows_of_inputs (input_reading known) sources) place) → IsFaultOfTexts how texts e
   fault_of_texts e fault = ⊎_elim
       (λ f. inl (subst (λ l. Contains l e) (sym faults_given) f))
       (λ r. inr (r.0, r.1, subst (λ l. HasTwice l r.0) (sym rows_given) r.2))

@@ -12,6 +12,7 @@ use Rattle.std.proofs.lemmas.List.Elements.{All-cons, All-nil, All-push, Contain
 use Rattle.rj_csv_io.specs.Cuts.{records_in}
 use Rattle.rj_merge.specs.declared.columns.Columns.{Columns}
 use Rattle.rj_merge.specs.declared.input.TextSource.{TextSource}
+use Rattle.rj_merge.specs.declared.options.MergeOptions.{MergeOptions}
 use Rattle.rj_merge.specs.declared.refused.MergeRefused.{MergeRefused}
 use Rattle.rj_merge.specs.declared.refused.MergeRefused.TheVariants as refused
 use Rattle.rj_merge.specs.Headers.{place_columns}
@@ -21,27 +22,27 @@ use Rattle.rj_merge.specs.Texts.{read_rows}
 use Rattle.rj_merge.proofs.HeadFacts.{fault_first}
 
 -- what a text gives that has no record, or a header that is the first one's or not
-module _ (null : List ℕ) (first : List (List ℕ)) (input : ℕ) where
-  pub of-none : (records : List (List (List ℕ))) → records ≡ [] → (reading_of_records null first input records).fault ≡ Some (refused.NoHeader input)
+module _ (how : MergeOptions) (first : List (List ℕ)) (input : ℕ) where
+  pub of-none : (records : List (List (List ℕ))) → records ≡ [] → (reading_of_records how first input records).fault ≡ Some (refused.NoHeader input)
   of-none records e = rw e refl
 
   pub of-header : (records more : List (List (List ℕ))) (header : List (List ℕ)) (columns : Columns) → records ≡ header ∷ more → pointwise bytes_eq header first ≡ true
-      → place_columns first ≡ Some columns → reading_of_records null first input records ≡ read_rows null columns input 0 None more
+      → place_columns first ≡ Some columns → reading_of_records how first input records ≡ read_rows how columns input 0 None more
   of-header records more header columns e same places = rw (e, same, places) refl
 
   pub of-other : (records more : List (List (List ℕ))) (header : List (List ℕ)) → records ≡ header ∷ more → pointwise bytes_eq header first ≡ false
-      → (reading_of_records null first input records).fault ≡ Some (refused.OtherHeader input)
+      → (reading_of_records how first input records).fault ≡ Some (refused.OtherHeader input)
   of-other records more header e other = rw (e, other) refl
 
 -- what the first text gives, whose header has the columns of the places or hasn't
 own_header : (header : List (List ℕ)) → pointwise bytes_eq header header ≡ true
 own_header header = (pointwise_decides (λ x y. let d = bytes_eq-Decides x y in (d.0, d.1)) header header).1 refl
 
-module _ (null : List ℕ) (input : ℕ) (records more : List (List (List ℕ))) (header : List (List ℕ)) (is : records ≡ header ∷ more) where
-  pub of-first : (columns : Columns) → place_columns header ≡ Some columns → reading_of_records null (first_record records) input records ≡ read_rows null columns input 0 None more
+module _ (how : MergeOptions) (input : ℕ) (records more : List (List (List ℕ))) (header : List (List ℕ)) (is : records ≡ header ∷ more) where
+  pub of-first : (columns : Columns) → place_columns header ≡ Some columns → reading_of_records how (first_record records) input records ≡ read_rows how columns input 0 None more
   of-first columns places = rw (is, own_header header, places) refl
 
-  pub of-unplaced : place_columns header ≡ None → (reading_of_records null (first_record records) input records).fault ≡ Some (refused.NoPlaces input)
+  pub of-unplaced : place_columns header ≡ None → (reading_of_records how (first_record records) input records).fault ≡ Some (refused.NoPlaces input)
   of-unplaced places = rw (is, own_header header, places) refl
 
 -- a fault of the first of readings, or of one behind others
@@ -54,14 +55,14 @@ later_fault before more e c =
     (Contains-append_right (faults_of_readings before) (faults_of_readings more) e c)
 
 -- these inputs were opened, the last of which has this number, and those are left
-pub record HasOpened {R : Type 0} (known : R → Option (List ℕ)) (null : List ℕ) (texts : List (List ℕ)) (names : List (List ℕ)) (sources : List (TextSource R)) (input : ℕ) (left : List R) : Type 0 where
+pub record HasOpened {R : Type 0} (known : R → Option (List ℕ)) (how : MergeOptions) (texts : List (List ℕ)) (names : List (List ℕ)) (sources : List (TextSource R)) (input : ℕ) (left : List R) : Type 0 where
   pub rest : List (List ℕ)
   pub tell : map known left ≡ map Some rest
   pub header : names ≡ first_header texts
-  pub given : readings null texts ≡ map (input_reading known) sources ++ readings_from null names (input + 1) rest
+  pub given : readings how texts ≡ map (input_reading known) sources ++ readings_from how names (input + 1) rest
   pub tells : All (input_tells known) sources
 
-module _ {R : Type 0} (known : R → Option (List ℕ)) (null : List ℕ) where
+module _ {R : Type 0} (known : R → Option (List ℕ)) (how : MergeOptions) where
   -- the text of the input at hand, and those behind it
   pub record Heard (texts : List (List ℕ)) (x : R) (left : List R) : Type 0 where
     pub text : List ℕ
@@ -81,12 +82,12 @@ module _ {R : Type 0} (known : R → Option (List ℕ)) (null : List ℕ) where
 
     -- the first input was opened, or has a fault
     pub opened-first : (names : List (List ℕ)) (s : TextSource R) → ((text : List ℕ) → known x ≡ Some text → names ≡ first_record (records_in text))
-        → ((text : List ℕ) → known x ≡ Some text → input_tells known s × (input_reading known s ≡ reading_of null (first_record (records_in text)) 1 text))
-        → HasOpened known null texts names (s ∷ []) 1 left
+        → ((text : List ℕ) → known x ≡ Some text → input_tells known s × (input_reading known s ≡ reading_of how (first_record (records_in text)) 1 text))
+        → HasOpened known how texts names (s ∷ []) 1 left
     unfolding readings_from
     opened-first names s header given = by_text from_first
       where
-        by_text : Heard texts x left → HasOpened known null texts names (s ∷ []) 1 left
+        by_text : Heard texts x left → HasOpened known how texts names (s ∷ []) 1 left
         by_text h =
             let named = header h.text h.here in
             let gives = given h.text h.here in
@@ -95,65 +96,65 @@ module _ {R : Type 0} (known : R → Option (List ℕ)) (null : List ℕ) where
               rest = h.rest;
               tell = h.later;
               header = named ∙ sym of_first;
-              given = ap (readings null) h.texts_are
-                  ∙ (λ t. sym gives.1 t ∷ readings_from null (sym named t) 2 h.rest);
+              given = ap (readings how) h.texts_are
+                  ∙ (λ t. sym gives.1 t ∷ readings_from how (sym named t) 2 h.rest);
               tells = All-cons (input_tells known) s [] gives.0 (All-nil (input_tells known));
             }
 
-    pub fault-first : (e : MergeRefused) → ((text : List ℕ) → known x ≡ Some text → (reading_of null (first_record (records_in text)) 1 text).fault ≡ Some e)
-        → Contains (faults_of_readings (readings null texts)) e
+    pub fault-first : (e : MergeRefused) → ((text : List ℕ) → known x ≡ Some text → (reading_of how (first_record (records_in text)) 1 text).fault ≡ Some e)
+        → Contains (faults_of_readings (readings how texts)) e
     unfolding readings_from
     fault-first e fault = by_text from_first
       where
-        by_text : Heard texts x left → Contains (faults_of_readings (readings null texts)) e
+        by_text : Heard texts x left → Contains (faults_of_readings (readings how texts)) e
         by_text h =
             let names = first_record (records_in h.text) in
-            subst (λ l. Contains (faults_of_readings (readings null l)) e) (sym h.texts_are) (first_fault (reading_of null names 1 h.text) (readings_from null names 2 h.rest) e (fault h.text h.here))
+            subst (λ l. Contains (faults_of_readings (readings how l)) e) (sym h.texts_are) (first_fault (reading_of how names 1 h.text) (readings_from how names 2 h.rest) e (fault h.text h.here))
 
-  module _ (texts : List (List ℕ)) (names : List (List ℕ)) (sources : List (TextSource R)) (input : ℕ) (left more : List R) (x : R) (h : HasOpened known null texts names sources input left) (is : left ≡ x ∷ more) where
+  module _ (texts : List (List ℕ)) (names : List (List ℕ)) (sources : List (TextSource R)) (input : ℕ) (left more : List R) (x : R) (h : HasOpened known how texts names sources input left) (is : left ≡ x ∷ more) where
     from_next : Heard h.rest x more
     from_next = heard h.rest x more (subst (λ l. map known l ≡ map Some h.rest) is h.tell)
 
-    given_next : (n : Heard h.rest x more) → readings null texts ≡ map (input_reading known) sources ++ (reading_of null names (input + 1) n.text ∷ readings_from null names (input + 1 + 1) n.rest)
+    given_next : (n : Heard h.rest x more) → readings how texts ≡ map (input_reading known) sources ++ (reading_of how names (input + 1) n.text ∷ readings_from how names (input + 1 + 1) n.rest)
     unfolding readings_from
-    given_next n = h.given ∙ ap (λ l. map (input_reading known) sources ++ readings_from null names (input + 1) l) n.texts_are
+    given_next n = h.given ∙ ap (λ l. map (input_reading known) sources ++ readings_from how names (input + 1) l) n.texts_are
 
     -- a further input was opened, or has a fault
-    pub opened-next : (s : TextSource R) → ((text : List ℕ) → known x ≡ Some text → input_tells known s × (input_reading known s ≡ reading_of null names (input + 1) text))
-        → HasOpened known null texts names (sources ++ s ∷ []) (input + 1) more
+    pub opened-next : (s : TextSource R) → ((text : List ℕ) → known x ≡ Some text → input_tells known s × (input_reading known s ≡ reading_of how names (input + 1) text))
+        → HasOpened known how texts names (sources ++ s ∷ []) (input + 1) more
     opened-next s given = by_text from_next
       where
-        by_text : Heard h.rest x more → HasOpened known null texts names (sources ++ s ∷ []) (input + 1) more
+        by_text : Heard h.rest x more → HasOpened known how texts names (sources ++ s ∷ []) (input + 1) more
         by_text n =
             let gives = given n.text n.here in
             record {
               rest = n.rest;
               tell = n.later;
               header = h.header;
-              given = given_next n ∙ ap (λ r. map (input_reading known) sources ++ (r ∷ readings_from null names (input + 1 + 1) n.rest)) (sym gives.1)
-                  ∙ (sym (append_assoc (map (input_reading known) sources) (input_reading known s ∷ []) (readings_from null names (input + 1 + 1) n.rest))
-                  ∙ ap (λ l. l ++ readings_from null names (input + 1 + 1) n.rest) (sym (map-append (input_reading known) sources (s ∷ []))));
+              given = given_next n ∙ ap (λ r. map (input_reading known) sources ++ (r ∷ readings_from how names (input + 1 + 1) n.rest)) (sym gives.1)
+                  ∙ (sym (append_assoc (map (input_reading known) sources) (input_reading known s ∷ []) (readings_from how names (input + 1 + 1) n.rest))
+                  ∙ ap (λ l. l ++ readings_from how names (input + 1 + 1) n.rest) (sym (map-append (input_reading known) sources (s ∷ []))));
               tells = All-push (input_tells known) sources s h.tells gives.0;
             }
 
-    pub fault-next : (e : MergeRefused) → ((text : List ℕ) → known x ≡ Some text → (reading_of null names (input + 1) text).fault ≡ Some e)
-        → Contains (faults_of_readings (readings null texts)) e
+    pub fault-next : (e : MergeRefused) → ((text : List ℕ) → known x ≡ Some text → (reading_of how names (input + 1) text).fault ≡ Some e)
+        → Contains (faults_of_readings (readings how texts)) e
     fault-next e fault = by_text from_next
       where
-        by_text : Heard h.rest x more → Contains (faults_of_readings (readings null texts)) e
+        by_text : Heard h.rest x more → Contains (faults_of_readings (readings how texts)) e
         by_text n =
-            let reading = reading_of null names (input + 1) n.text in
-            let behind = readings_from null names (input + 1 + 1) n.rest in
+            let reading = reading_of how names (input + 1) n.text in
+            let behind = readings_from how names (input + 1 + 1) n.rest in
             subst (λ l. Contains (faults_of_readings l) e) (sym (given_next n)) (later_fault (map (input_reading known) sources) (reading ∷ behind) e (first_fault reading behind e (fault n.text n.here)))
 
   -- all inputs were opened
-  pub opened-all : (texts : List (List ℕ)) (names : List (List ℕ)) (sources : List (TextSource R)) (input : ℕ) (left : List R) → HasOpened known null texts names sources input left → left ≡ []
-      → readings null texts ≡ map (input_reading known) sources
+  pub opened-all : (texts : List (List ℕ)) (names : List (List ℕ)) (sources : List (TextSource R)) (input : ℕ) (left : List R) → HasOpened known how texts names sources input left → left ≡ []
+      → readings how texts ≡ map (input_reading known) sources
   unfolding readings_from
   opened-all texts names sources input left h none = by_rest h.rest (sym (ap (map known) none) ∙ h.tell) h.given
     where
-      by_rest : (rest : List (List ℕ)) → [] ≡ map Some rest → readings null texts ≡ map (input_reading known) sources ++ readings_from null names (input + 1) rest
-          → readings null texts ≡ map (input_reading known) sources
+      by_rest : (rest : List (List ℕ)) → [] ≡ map Some rest → readings how texts ≡ map (input_reading known) sources ++ readings_from how names (input + 1) rest
+          → readings how texts ≡ map (input_reading known) sources
       by_rest [] e given = given ∙ append-nil (map (input_reading known) sources)
       by_rest (text ∷ rest) e given = absurd (cc)
 

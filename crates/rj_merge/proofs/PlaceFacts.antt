@@ -6,8 +6,8 @@ use Rattle.std.specs.Ordering.{is_eq, is_lt, nat_cmp, ordering_reverse, ordering
 use Rattle.std.specs.declared.cmp.Ordering.{Ordering}
 use Rattle.std.specs.declared.cmp.Ordering.TheVariants.{Less, Equal, Greater}
 use Rattle.rj_merge.specs.declared.place.Place.{Place}
-use Rattle.rj_merge.specs.declared.place.Place.TheVariants.{Pair, LoneLeft, LoneRight}
-use Rattle.rj_merge.specs.Places.{IsAbove, IsNotBelow, class, first_number, place_order, place_total, second_number}
+use Rattle.rj_merge.specs.declared.place.Place.TheVariants.{Pair, LoneAmongPairs, LoneLeft, LoneRight}
+use Rattle.rj_merge.specs.Places.{IsAbove, IsNotBelow, behind_pairs, class, first_number, place_order, place_total, second_number}
 
 -- an order that is not Less and not Equal, turned, is Less
 turned : (r : Ordering) → is_lt r ≡ false → is_eq (ordering_reverse r) ≡ false → ordering_reverse r ≡ Less
@@ -48,18 +48,29 @@ then_second Greater s e = absurd (false≢true e)
 
 -- places that compare as equal are one
 pub same_place : (p q : Place) → is_eq (place_order p q) ≡ true → p ≡ q
-same_place p q e = by_numbers p q
+same_place p q e =
+    let behind_class = then_second (nat_cmp (class p) (class q)) _ e in
+    let behind_first = then_second (nat_cmp (first_number p) (first_number q)) _ behind_class in
+    by_numbers p q
     (same_number (class p) (class q) (then_first (nat_cmp (class p) (class q)) _ e))
-    (same_number (first_number p) (first_number q) (then_first (nat_cmp (first_number p) (first_number q)) _ (then_second (nat_cmp (class p) (class q)) _ e)))
-    (same_number (second_number p) (second_number q) (then_second (nat_cmp (first_number p) (first_number q)) _ (then_second (nat_cmp (class p) (class q)) _ e)))
+    (same_number (first_number p) (first_number q) (then_first (nat_cmp (first_number p) (first_number q)) _ behind_class))
+    (same_number (behind_pairs p) (behind_pairs q) (then_first (nat_cmp (behind_pairs p) (behind_pairs q)) _ behind_first))
+    (same_number (second_number p) (second_number q) (then_second (nat_cmp (behind_pairs p) (behind_pairs q)) _ behind_first))
   where
-    by_numbers : (p q : Place) → class p ≡ class q → first_number p ≡ first_number q → second_number p ≡ second_number q → p ≡ q
-    by_numbers (Pair i j) (Pair k l) c f s = λ t. Pair (f t) (s t)
-    by_numbers (Pair i j) (LoneLeft k) c f s = absurd (omega arith)
-    by_numbers (Pair i j) (LoneRight l) c f s = absurd (omega arith)
-    by_numbers (LoneLeft i) (Pair k l) c f s = absurd (omega arith)
-    by_numbers (LoneLeft i) (LoneLeft k) c f s = ap LoneLeft f
-    by_numbers (LoneLeft i) (LoneRight l) c f s = absurd (omega arith)
-    by_numbers (LoneRight j) (Pair k l) c f s = absurd (omega arith)
-    by_numbers (LoneRight j) (LoneLeft k) c f s = absurd (omega arith)
-    by_numbers (LoneRight j) (LoneRight l) c f s = ap LoneRight f
+    by_numbers : (p q : Place) → class p ≡ class q → first_number p ≡ first_number q → behind_pairs p ≡ behind_pairs q → second_number p ≡ second_number q → p ≡ q
+    by_numbers (Pair i j) (Pair k l) c f b s = λ t. Pair (f t) (s t)
+    by_numbers (Pair i j) (LoneAmongPairs k) c f b s = absurd (omega arith)
+    by_numbers (Pair i j) (LoneLeft k) c f b s = absurd (omega arith)
+    by_numbers (Pair i j) (LoneRight l) c f b s = absurd (omega arith)
+    by_numbers (LoneAmongPairs i) (Pair k l) c f b s = absurd (omega arith)
+    by_numbers (LoneAmongPairs i) (LoneAmongPairs k) c f b s = ap LoneAmongPairs f
+    by_numbers (LoneAmongPairs i) (LoneLeft k) c f b s = absurd (omega arith)
+    by_numbers (LoneAmongPairs i) (LoneRight l) c f b s = absurd (omega arith)
+    by_numbers (LoneLeft i) (Pair k l) c f b s = absurd (omega arith)
+    by_numbers (LoneLeft i) (LoneAmongPairs k) c f b s = absurd (omega arith)
+    by_numbers (LoneLeft i) (LoneLeft k) c f b s = ap LoneLeft f
+    by_numbers (LoneLeft i) (LoneRight l) c f b s = absurd (omega arith)
+    by_numbers (LoneRight j) (Pair k l) c f b s = absurd (omega arith)
+    by_numbers (LoneRight j) (LoneAmongPairs k) c f b s = absurd (omega arith)
+    by_numbers (LoneRight j) (LoneLeft k) c f b s = absurd (omega arith)
+    by_numbers (LoneRight j) (LoneRight l) c f b s = ap LoneRight f

@@ -9,6 +9,7 @@ use Rattle.csv.specs.declared.reader.Trim.TheVariants as trim
 use Rattle.rj_csv_io.specs.Remaining.{IsBetween, records_remaining}
 use Rattle.rj_csv_io.proofs.RemainingFacts.{read-more, read-none}
 use Rattle.rj_merge.specs.declared.columns.Columns.{Columns}
+use Rattle.rj_merge.specs.declared.options.MergeOptions.{MergeOptions}
 use Rattle.rj_merge.specs.declared.place.Place.{Place}
 use Rattle.rj_merge.specs.declared.place.Placed.{Placed}
 use Rattle.rj_merge.specs.declared.refused.MergeRefused.{MergeRefused}
@@ -43,40 +44,40 @@ pub read-next : {R : Type 0} (known : R → Option (List ℕ)) (a b : Reader R) 
 read-next known a b true f h reads first = read-more known a b true f h refl reads first
 read-next known a b false f h reads first = read-none known a b false f h refl reads
 
-module _ (null : List ℕ) (columns : Columns) (input before : ℕ) (last : Option Place) where
+module _ (how : MergeOptions) (columns : Columns) (input before : ℕ) (last : Option Place) where
   -- no record, a record that is a row, and one that has a fault
-  pub rows-end : read_rows null columns input before last [] ≡ record { rows = []; fault = None }
+  pub rows-end : read_rows how columns input before last [] ≡ record { rows = []; fault = None }
   unfolding read_rows
   rows-end = refl
 
-  pub rows-step : (r : List (List ℕ)) (records : List (List (List ℕ))) (p : Placed (List (List ℕ))) → read_row null columns input (before + 1) last r ≡ Ok p
-      → (let more = read_rows null columns input (before + 1) (Some p.place) records in read_rows null columns input before last (r ∷ records) ≡ record { rows = p ∷ more.rows; fault = more.fault })
+  pub rows-step : (r : List (List ℕ)) (records : List (List (List ℕ))) (p : Placed (List (List ℕ))) → read_row how columns input (before + 1) last r ≡ Ok p
+      → (let more = read_rows how columns input (before + 1) (Some p.place) records in read_rows how columns input before last (r ∷ records) ≡ record { rows = p ∷ more.rows; fault = more.fault })
   unfolding read_rows
   rows-step r records p e = rw e refl
 
-  pub rows-fault : (r : List (List ℕ)) (records : List (List (List ℕ))) (e : MergeRefused) → read_row null columns input (before + 1) last r ≡ Err e
-      → read_rows null columns input before last (r ∷ records) ≡ record { rows = []; fault = Some e }
+  pub rows-fault : (r : List (List ℕ)) (records : List (List (List ℕ))) (e : MergeRefused) → read_row how columns input (before + 1) last r ≡ Err e
+      → read_rows how columns input before last (r ∷ records) ≡ record { rows = []; fault = Some e }
   unfolding read_rows
   rows-fault r records e h = rw h refl
 
 -- what an input gives, where the records that remain to it have no first one, one that is a row, or one that has a fault
-pub gives-end : (null : List ℕ) (columns : Columns) (input before : ℕ) (last : Option Place) (records : List (List (List ℕ))) → records ≡ []
-    → ((read_rows null columns input before last records).rows ≡ []) × ((read_rows null columns input before last records).fault ≡ None)
-gives-end null columns input before last records e =
-    let end = rows-end null columns input before last in
+pub gives-end : (how : MergeOptions) (columns : Columns) (input before : ℕ) (last : Option Place) (records : List (List (List ℕ))) → records ≡ []
+    → ((read_rows how columns input before last records).rows ≡ []) × ((read_rows how columns input before last records).fault ≡ None)
+gives-end how columns input before last records e =
+    let end = rows-end how columns input before last in
     rw e (ap (λ (x : Reading (List (List ℕ))). x.rows) end, ap (λ (x : Reading (List (List ℕ))). x.fault) end)
 
-pub gives-row : (null : List ℕ) (columns : Columns) (input before row : ℕ) (last : Option Place) (r : List (List ℕ)) (records more : List (List (List ℕ))) (p : Placed (List (List ℕ)))
-    → records ≡ r ∷ more → row ≡ before + 1 → read_row null columns input row last r ≡ Ok p
-    → ((read_rows null columns input before last records).rows ≡ p ∷ (read_rows null columns input row (Some p.place) more).rows)
-    × ((read_rows null columns input before last records).fault ≡ (read_rows null columns input row (Some p.place) more).fault)
-gives-row null columns input before row last r records more p e n h =
-    let step = rows-step null columns input before last r more p (rw n at h) in
+pub gives-row : (how : MergeOptions) (columns : Columns) (input before row : ℕ) (last : Option Place) (r : List (List ℕ)) (records more : List (List (List ℕ))) (p : Placed (List (List ℕ)))
+    → records ≡ r ∷ more → row ≡ before + 1 → read_row how columns input row last r ≡ Ok p
+    → ((read_rows how columns input before last records).rows ≡ p ∷ (read_rows how columns input row (Some p.place) more).rows)
+    × ((read_rows how columns input before last records).fault ≡ (read_rows how columns input row (Some p.place) more).fault)
+gives-row how columns input before row last r records more p e n h =
+    let step = rows-step how columns input before last r more p (rw n at h) in
     rw (e, n) (ap (λ (x : Reading (List (List ℕ))). x.rows) step, ap (λ (x : Reading (List (List ℕ))). x.fault) step)
 
-pub gives-fault : (null : List ℕ) (columns : Columns) (input before row : ℕ) (last : Option Place) (r : List (List ℕ)) (records more : List (List (List ℕ))) (f : MergeRefused)
-    → records ≡ r ∷ more → row ≡ before + 1 → read_row null columns input row last r ≡ Err f
-    → ((read_rows null columns input before last records).rows ≡ []) × ((read_rows null columns input before last records).fault ≡ Some f)
-gives-fault null columns input before row last r records more f e n h =
-    let step = rows-fault null columns input before last r more f (rw n at h) in
+pub gives-fault : (how : MergeOptions) (columns : Columns) (input before row : ℕ) (last : Option Place) (r : List (List ℕ)) (records more : List (List (List ℕ))) (f : MergeRefused)
+    → records ≡ r ∷ more → row ≡ before + 1 → read_row how columns input row last r ≡ Err f
+    → ((read_rows how columns input before last records).rows ≡ []) × ((read_rows how columns input before last records).fault ≡ Some f)
+gives-fault how columns input before row last r records more f e n h =
+    let step = rows-fault how columns input before last r more f (rw n at h) in
     rw e (ap (λ (x : Reading (List (List ℕ))). x.rows) step, ap (λ (x : Reading (List (List ℕ))). x.fault) step)

@@ -8,6 +8,7 @@ use Rattle.rj_csv_io.specs.Cuts.{records_in}
 use Rattle.rj_csv_io.specs.Remaining.{IsBetween, records_remaining}
 use Rattle.rj_merge.specs.declared.columns.Columns.{Columns}
 use Rattle.rj_merge.specs.declared.input.TextSource.{TextSource}
+use Rattle.rj_merge.specs.declared.options.MergeOptions.{MergeOptions}
 use Rattle.rj_merge.specs.declared.place.Placed.{Placed}
 use Rattle.rj_merge.specs.declared.refused.MergeRefused.{MergeRefused}
 use Rattle.rj_merge.specs.declared.refused.MergeRefused.TheVariants as refused
@@ -22,31 +23,31 @@ input_tells known s = s.ended ≡ false → IsBetween known s.reader.value
 -- what it still gives
 abbrev pub input_reading : {R : Type 0} → (R → Option (List ℕ)) → TextSource R → Reading (List (List ℕ))
 input_reading known s =
-    if s.ended then record { rows = []; fault = None } else read_rows s.null.now s.columns s.input s.row s.last (records_remaining known s.reader.value)
+    if s.ended then record { rows = []; fault = None } else read_rows s.how s.columns s.input s.row s.last (records_remaining known s.reader.value)
 
 -- no rows, and this fault
 abbrev pub only_fault : MergeRefused → Reading (List (List ℕ))
 only_fault e = record { rows = []; fault = Some e }
 
 -- the rows of the records under a header, where it has the columns of the places
-abbrev pub under_header : List ℕ → ℕ → Option Columns → List (List (List ℕ)) → Reading (List (List ℕ))
-under_header null input None records = only_fault (refused.NoPlaces input)
-under_header null input (Some columns) records = read_rows null columns input 0 None records
+abbrev pub under_header : MergeOptions → ℕ → Option Columns → List (List (List ℕ)) → Reading (List (List ℕ))
+under_header how input None records = only_fault (refused.NoPlaces input)
+under_header how input (Some columns) records = read_rows how columns input 0 None records
 
 -- what records give, the first of which has to be the header of the first input
-abbrev pub reading_of_records : List ℕ → List (List ℕ) → ℕ → List (List (List ℕ)) → Reading (List (List ℕ))
-reading_of_records null first input [] = only_fault (refused.NoHeader input)
-reading_of_records null first input (header ∷ records) =
-    if pointwise bytes_eq header first then under_header null input (place_columns first) records else only_fault (refused.OtherHeader input)
+abbrev pub reading_of_records : MergeOptions → List (List ℕ) → ℕ → List (List (List ℕ)) → Reading (List (List ℕ))
+reading_of_records how first input [] = only_fault (refused.NoHeader input)
+reading_of_records how first input (header ∷ records) =
+    if pointwise bytes_eq header first then under_header how input (place_columns first) records else only_fault (refused.OtherHeader input)
 
 -- what a text gives, where this is the header of the first input
-abbrev pub reading_of : List ℕ → List (List ℕ) → ℕ → List ℕ → Reading (List (List ℕ))
-reading_of null first input text = reading_of_records null first input (records_in text)
+abbrev pub reading_of : MergeOptions → List (List ℕ) → ℕ → List ℕ → Reading (List (List ℕ))
+reading_of how first input text = reading_of_records how first input (records_in text)
 
 -- what texts give, whose inputs count from this number on
-unfoldable pub readings_from : List ℕ → List (List ℕ) → ℕ → List (List ℕ) → List (Reading (List (List ℕ)))
-readings_from null first input [] = []
-readings_from null first input (text ∷ texts) = reading_of null first input text ∷ readings_from null first (input + 1) texts
+unfoldable pub readings_from : MergeOptions → List (List ℕ) → ℕ → List (List ℕ) → List (Reading (List (List ℕ)))
+readings_from how first input [] = []
+readings_from how first input (text ∷ texts) = reading_of how first input text ∷ readings_from how first (input + 1) texts
 
 -- the first of records, or no fields where there is none
 abbrev pub first_record : List (List (List ℕ)) → List (List ℕ)
@@ -59,8 +60,8 @@ first_header [] = []
 first_header (text ∷ texts) = first_record (records_in text)
 
 -- what texts give, each as an input of its own, counted from 1
-abbrev pub readings : List ℕ → List (List ℕ) → List (Reading (List (List ℕ)))
-readings null texts = readings_from null (first_header texts) 1 texts
+abbrev pub readings : MergeOptions → List (List ℕ) → List (Reading (List (List ℕ)))
+readings how texts = readings_from how (first_header texts) 1 texts
 
 -- the rows that readings have, list by list and all of them, and their faults
 abbrev pub rows_of_readings : {T : Type 0} → List (Reading T) → List (Placed T)

@@ -11,6 +11,7 @@ ghost use Rattle.rj_merge.specs.Texts.{read_row, read_rows};
 use crate::columns::Columns;
 use crate::fields::Fields;
 use crate::number::{read_place, stands_above};
+use crate::options::MergeOptions;
 use crate::place::{Place, Placed};
 use crate::refused::MergeRefused;
 use crate::source::Source;
@@ -46,16 +47,16 @@ fn placed_row(
     before: Option<Place>,
     fields: &ByteRecord,
     columns: Columns,
-    null: &[u8],
+    how: MergeOptions<'_>,
 ) -> Result<Placed<Fields>, MergeRefused>
-    ensures row { IfOk result (λ p. read_row null.now columns input row before (fields_of fields.now) ≡ Ok p) }
+    ensures row { IfOk result (λ p. read_row how.entry columns input row before (fields_of fields.now) ≡ Ok p) }
     ensures rises { IfOk result (λ p. IsAbove before p.place) }
-    ensures fault { IfErr result (λ e. is_outside e ≡ false → read_row null.now columns input row before (fields_of fields.now) ≡ Err e) }
+    ensures fault { IfErr result (λ e. is_outside e ≡ false → read_row how.entry columns input row before (fields_of fields.now) ≡ Err e) }
 {
     if fields.len() != columns.width {
         return Err(MergeRefused::RaggedRow(input, row));
     }
-    let place = match read_place(input, row, fields, columns, null) {
+    let place = match read_place(input, row, fields, columns, how) {
         Ok(place) => place,
         Err(e) => return Err(e),
     };
@@ -76,7 +77,7 @@ pub(crate) struct TextSource<'n, R: Read + Drop> {
     reader: Box<Reader<R>>,
     fields: ByteRecord,
     columns: Columns,
-    null: &'n [u8],
+    how: MergeOptions<'n>,
     input: u32,
     row: u64,
     last: Option<Place>,
@@ -89,18 +90,18 @@ impl<'n, R: Read + Drop> TextSource<'n, R> {
         alloc: Global,
         reader: Box<Reader<R>>,
         columns: Columns,
-        null: &'n [u8],
+        how: MergeOptions<'n>,
         input: u32,
     ) -> TextSource<'n, R>
         ensures tells { IsBetween R.remaining reader.value → input_tells R.remaining result }
-        ensures reading { input_reading R.remaining result ≡ read_rows null.now columns input 0 None (records_remaining R.remaining reader.value) }
+        ensures reading { input_reading R.remaining result ≡ read_rows how.entry columns input 0 None (records_remaining R.remaining reader.value) }
     {
         TextSource {
             alloc,
             reader,
             fields: ByteRecord::new(alloc),
             columns,
-            null,
+            how,
             input,
             row: 0,
             last: None,
@@ -140,7 +141,7 @@ impl<'n, R: Read + Drop> Source for TextSource<'n, R> {
             self.last,
             &self.fields,
             self.columns,
-            self.null,
+            self.how,
         ) {
             Ok(placed) => {
                 self.row = row;

@@ -4,12 +4,15 @@ ghost use Rattle.std.specs.Prelude.{◌≡◌, [], None, Some, if◌then◌else�
 ghost use Rattle.std.specs.Str.{all_ascii_digits};
 ghost use Rattle.std.specs.Str.Parse.{digits_value};
 ghost use Rattle.csv.specs.Records.{fields_of};
+ghost use Rattle.rj_merge.specs.Places.{lone_left_place};
 ghost use Rattle.rj_merge.specs.Texts.{is_above, is_number, number_of, place_in, place_of};
 
 use crate::columns::Columns;
+use crate::options::MergeOptions;
 use crate::place::Place;
 use crate::refused::MergeRefused;
 use csv::ByteRecord;
+use rj_settings::RowOrder;
 use std::str;
 
 fn are_digits(field: &[u8]) -> bool
@@ -52,18 +55,29 @@ fn told_number(field: &[u8], null: &[u8]) -> Option<Option<u64>>
     }
 }
 
+// The place of a left row in no pair.
+fn lone_left(order: RowOrder, left: u64) -> Place
+    ensures { result ≡ lone_left_place order left }
+{
+    match order {
+        RowOrder::PairsFirst => Place::LoneLeft(left),
+        RowOrder::LeftFirst => Place::LoneAmongPairs(left),
+    }
+}
+
 // The place that two numbers tell.
 fn place_at(
+    order: RowOrder,
     input: u32,
     row: u64,
     left: Option<Option<u64>>,
     right: Option<Option<u64>>,
 ) -> Result<Place, MergeRefused>
-    ensures { result ≡ place_of input row left right }
+    ensures { result ≡ place_of order input row left right }
 {
     match (left, right) {
         (Some(Some(left)), Some(Some(right))) => Ok(Place::Pair(left, right)),
-        (Some(Some(left)), Some(None)) => Ok(Place::LoneLeft(left)),
+        (Some(Some(left)), Some(None)) => Ok(lone_left(order, left)),
         (Some(None), Some(Some(right))) => Ok(Place::LoneRight(right)),
         (Some(None), Some(None)) => Err(MergeRefused::NoPlace(input, row)),
         (None, _) => Err(MergeRefused::BadPlace(input, row)),
@@ -87,13 +101,13 @@ pub(crate) fn read_place(
     row: u64,
     fields: &ByteRecord,
     columns: Columns,
-    null: &[u8],
+    how: MergeOptions<'_>,
 ) -> Result<Place, MergeRefused>
-    ensures { result ≡ place_in null.now columns input row (fields_of fields.now) }
+    ensures { result ≡ place_in how.entry columns input row (fields_of fields.now) }
 {
-    let left = number_at(fields, columns.left, null);
-    let right = number_at(fields, columns.right, null);
-    place_at(input, row, left, right)
+    let left = number_at(fields, columns.left, how.null);
+    let right = number_at(fields, columns.right, how.null);
+    place_at(how.order, input, row, left, right)
 }
 
 /// Whether a place stands above another one, if there is that one.

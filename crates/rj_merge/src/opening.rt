@@ -10,6 +10,7 @@ ghost use Rattle.rj_merge.specs.Sources.{is_outside};
 
 use crate::header::{Header, are_same, columns_of};
 use crate::input::{TextSource, next_record};
+use crate::options::MergeOptions;
 use crate::refused::MergeRefused;
 use csv::{ByteRecord, Reader, ReaderBuilder};
 use std::alloc::Global;
@@ -64,14 +65,14 @@ struct First<'n, R: Read + Drop> {
 fn open_first<'n, R: Read + Drop>(
     alloc: Global,
     source: R,
-    null: &'n [u8],
+    how: MergeOptions<'n>,
 ) -> Result<First<'n, R>, MergeRefused>
     ensures places { IfOk result (λ f. place_columns (fields_of f.header.names) ≡ Some f.header.columns) }
     ensures header { IfOk result (λ f. (text : List ℕ) → R.remaining source ≡ Some text → fields_of f.header.names ≡ first_record (records_in text)) }
     ensures input { IfOk result (λ f. (text : List ℕ) → R.remaining source ≡ Some text → input_tells R.remaining f.source
-        × (input_reading R.remaining f.source ≡ reading_of null.now (first_record (records_in text)) 1 text)) }
+        × (input_reading R.remaining f.source ≡ reading_of how.entry (first_record (records_in text)) 1 text)) }
     ensures fault { IfErr result (λ e. is_outside e ≡ false → (text : List ℕ) → R.remaining source ≡ Some text
-        → (reading_of null.now (first_record (records_in text)) 1 text).fault ≡ Some e) }
+        → (reading_of how.entry (first_record (records_in text)) 1 text).fault ≡ Some e) }
 {
     let Begun { header, reader } = match begin(alloc, 1, source) {
         Ok(begun) => begun,
@@ -84,7 +85,7 @@ fn open_first<'n, R: Read + Drop>(
         names: header,
         columns,
     };
-    let source = TextSource::new(alloc, reader, columns, null, 1);
+    let source = TextSource::new(alloc, reader, columns, how, 1);
     Ok(First { header, source })
 }
 
@@ -94,13 +95,13 @@ fn open_next<'n, R: Read + Drop>(
     input: u32,
     source: R,
     first: &Header,
-    null: &'n [u8],
+    how: MergeOptions<'n>,
 ) -> Result<TextSource<'n, R>, MergeRefused>
     requires { place_columns (fields_of first.now.names) ≡ Some first.now.columns }
     ensures input { IfOk result (λ s. (text : List ℕ) → R.remaining source ≡ Some text → input_tells R.remaining s
-        × (input_reading R.remaining s ≡ reading_of null.now (fields_of first.now.names) input text)) }
+        × (input_reading R.remaining s ≡ reading_of how.entry (fields_of first.now.names) input text)) }
     ensures fault { IfErr result (λ e. is_outside e ≡ false → (text : List ℕ) → R.remaining source ≡ Some text
-        → (reading_of null.now (fields_of first.now.names) input text).fault ≡ Some e) }
+        → (reading_of how.entry (fields_of first.now.names) input text).fault ≡ Some e) }
 {
     let Begun { header, reader } = match begin(alloc, input, source) {
         Ok(begun) => begun,
@@ -109,7 +110,7 @@ fn open_next<'n, R: Read + Drop>(
     if !are_same(&header, &first.names) {
         return Err(MergeRefused::OtherHeader(input));
     }
-    Ok(TextSource::new(alloc, reader, first.columns, null, input))
+    Ok(TextSource::new(alloc, reader, first.columns, how, input))
 }
 
 /// Inputs whose headers were read, and the header that all of them have.
@@ -127,7 +128,7 @@ pub(crate) struct Opened<'n, R: Read + Drop> {
 pub(crate) fn open_all<'n, R: Read + Drop>(
     alloc: Global,
     inputs: Vec<R>,
-    null: &'n [u8],
+    how: MergeOptions<'n>,
 ) -> Result<Opened<'n, R>, MergeRefused>
     requires some { 0 < vec_len inputs }
     requires count { vec_len inputs < 2 ^ 32 }
@@ -137,15 +138,15 @@ pub(crate) fn open_all<'n, R: Read + Drop>(
     ensures tells { IfOk result (λ o. (texts : List (List ℕ)) → map R.remaining inputs.items ≡ map Some texts
         → All (input_tells R.remaining) o.sources.items) }
     ensures readings { IfOk result (λ o. (texts : List (List ℕ)) → map R.remaining inputs.items ≡ map Some texts
-        → readings null.now texts ≡ map (input_reading R.remaining) o.sources.items) }
+        → readings how.entry texts ≡ map (input_reading R.remaining) o.sources.items) }
     ensures fault { IfErr result (λ e. is_outside e ≡ false → (texts : List (List ℕ)) → map R.remaining inputs.items ≡ map Some texts
-        → Contains (faults_of_readings (readings null.now texts)) e) }
+        → Contains (faults_of_readings (readings how.entry texts)) e) }
 {
     let mut left = inputs.into_iter();
     let Some(first) = left.next() else {
         unreachable!()
     };
-    let First { header, source } = match open_first(alloc, first, null) {
+    let First { header, source } = match open_first(alloc, first, how) {
         Ok(first) => first,
         Err(e) => return Err(e),
     };
@@ -156,7 +157,7 @@ pub(crate) fn open_all<'n, R: Read + Drop>(
     let mut input = 1;
     'inputs: while let Some(next) = left.next() {
         input += 1;
-        let source = match open_next(alloc, input, next, &header, null) {
+        let source = match open_next(alloc, input, next, &header, how) {
             Ok(source) => source,
             Err(e) => return Err(e),
         };

@@ -5,30 +5,34 @@ ghost use Rattle.std.proofs.Common.{rules};
 ghost use Rattle.std.specs.Cmp.{eq_by_cmp_equiv, partial_equiv_from_equiv, partial_order_from_own_ties};
 ghost use Rattle.std.specs.Cmp.Rules.{comparing};
 ghost use Rattle.std.specs.Ordering.{as_partial_cmp, eq_by_cmp};
-ghost use Rattle.rj_merge.specs.Places.{class, first_number, place_order, place_total, second_number};
+ghost use Rattle.rj_merge.specs.Places.{behind_pairs, class, first_number, place_order, place_total, second_number};
 
 use std::cmp::Ordering;
 
 /// The place of a row in a joined table: the numbers of its rows in the left and the right table. Pairs come first, by left,
-/// then right number; then lone left rows, and then lone right rows, by number.
+/// then right number; then lone left rows, and then lone right rows, by number. Where each left row stands at its place, lone
+/// left rows come among the pairs, by number.
 #[derive(Clone, Copy, Debug)]
 pub enum Place {
     /// A left row with a right row.
     Pair(u64, u64),
-    /// A left row in no pair.
+    /// A left row in no pair, among the pairs.
+    LoneAmongPairs(u64),
+    /// A left row in no pair, behind the pairs.
     LoneLeft(u64),
     /// A right row in no pair.
     LoneRight(u64),
 }
 
-// What places are compared by: their class, then their numbers.
-fn rank(place: &Place) -> (u8, u64, u64)
-    ensures { result ≡ (class place.now, first_number place.now, second_number place.now) }
+// What places are compared by: their class, then the number of their left row, and of a pair that of its right one.
+fn rank(place: &Place) -> (u8, u64, u8, u64)
+    ensures { result ≡ (class place.now, first_number place.now, behind_pairs place.now, second_number place.now) }
 {
     match *place {
-        Place::Pair(left, right) => (0, left, right),
-        Place::LoneLeft(left) => (1, left, 0),
-        Place::LoneRight(right) => (2, right, 0),
+        Place::Pair(left, right) => (0, left, 0, right),
+        Place::LoneAmongPairs(left) => (0, left, 1, 0),
+        Place::LoneLeft(left) => (1, left, 0, 0),
+        Place::LoneRight(right) => (2, right, 0, 0),
     }
 }
 
@@ -49,7 +53,7 @@ impl Ord for Place {
 impl PartialOrd for Place {
     ghost partial_cmp = { as_partial_cmp place_order };
 
-    ghost laws = { partial_order_from_own_ties (Prim.search (comparing, rules)) (Prim.search (comparing, rules)) };
+    ghost laws = { partial_order_from_own_ties (Prim.search (comparing, place_total, rules)) (Prim.search (comparing, rules)) };
 
     fn partial_cmp(&self, other: &Place) -> Option<Ordering> {
         Some(self.cmp(other))
@@ -57,7 +61,7 @@ impl PartialOrd for Place {
 }
 
 impl Eq for Place {
-    ghost laws = { Prim.search (comparing, rules) };
+    ghost laws = { eq_by_cmp_equiv place_total };
 }
 
 impl PartialEq for Place {

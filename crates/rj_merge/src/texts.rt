@@ -17,6 +17,7 @@ use crate::fields::Fields;
 use crate::input::TextSource;
 use crate::merge::Merge;
 use crate::opening::{Opened, open_all};
+use crate::options::MergeOptions;
 use crate::refused::{MergeRefused, MergeTextsRefused};
 use csv::Writer;
 use rj_csv_io::Output;
@@ -61,8 +62,8 @@ fn put_rows<'n, R: Read + Drop, O: Output>(
 }
 
 /// Merges texts of placed rows, and puts the merge on the output: their header and their rows in order, without the two
-/// columns of the places, as csv's default writer writes records, block by block. A field of a place that is the null text
-/// tells no number.
+/// columns of the places, as csv's default writer writes records, block by block. The options say in which order rows stand,
+/// and which field of a place tells no number.
 ///
 /// It holds a block and one row of each text.
 ///
@@ -73,21 +74,21 @@ fn put_rows<'n, R: Read + Drop, O: Output>(
 pub fn merge_texts<R: Read + Drop, O: Output>(
     alloc: Global,
     inputs: Vec<R>,
-    null: &str,
+    how: MergeOptions<'_>,
     output: &mut O,
 ) -> Result<(), MergeTextsRefused>
     requires some { 0 < vec_len inputs }
     requires count { vec_len inputs < 2 ^ 32 }
     requires failures { O.count output.old < 2 ^ 64 - 1 }
     ensures merge { OnOk result ((texts : List (List ℕ)) → map R.remaining inputs.items ≡ map Some texts
-        → (text : List ℕ) × IsMergedText null.now texts text × Appends (O.told output.old) (O.told output.new) text) }
-    ensures faults { OnOk result ((texts : List (List ℕ)) → map R.remaining inputs.items ≡ map Some texts → HaveNoFault null.now texts) }
+        → (text : List ℕ) × IsMergedText how.entry texts text × Appends (O.told output.old) (O.told output.new) text) }
+    ensures faults { OnOk result ((texts : List (List ℕ)) → map R.remaining inputs.items ≡ map Some texts → HaveNoFault how.entry texts) }
     ensures fault { (e : MergeRefused) → result ≡ Err (MergeTextsRefused.Merge e) → is_outside e ≡ false
-        → (texts : List (List ℕ)) → map R.remaining inputs.items ≡ map Some texts → IsFaultOfTexts null.now texts e }
+        → (texts : List (List ℕ)) → map R.remaining inputs.items ≡ map Some texts → IsFaultOfTexts how.entry texts e }
     ensures device { result ≡ Err MergeTextsRefused.WriteDevice → O.count output.new ≡ O.count output.old + 1 }
     ensures kept { result ≢ Err MergeTextsRefused.WriteDevice → O.count output.new ≡ O.count output.old }
 {
-    let Opened { header, sources } = match open_all(alloc, inputs, null.as_bytes()) {
+    let Opened { header, sources } = match open_all(alloc, inputs, how) {
         Ok(opened) => opened,
         Err(e) => return Err(MergeTextsRefused::Merge(e)),
     };

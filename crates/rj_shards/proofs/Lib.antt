@@ -1,5 +1,7 @@
 pub mod Apart
+pub mod Extended
 pub mod Found
+pub mod LeftOrder
 pub mod Meeting
 pub mod Own
 pub mod Renumbered

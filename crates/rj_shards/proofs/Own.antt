@@ -13,7 +13,7 @@ use Rattle.rj_shards.specs.Rows.{member_back}
 abbrev pub IsPairBelow : ℕ → ℕ → ℕ × ℕ → Type 0
 IsPairBelow m n p = (p.0 < m) × (p.1 < n)
 
-range_all : (P : ℕ → Type 0) (a n : ℕ) → ((i : ℕ) → a ≤ i → i < a + n → P i) → All P (range_with_len a n)
+pub range_all : (P : ℕ → Type 0) (a n : ℕ) → ((i : ℕ) → a ≤ i → i < a + n → P i) → All P (range_with_len a n)
 range_all P a zero each = All-nil P
 range_all P a (suc n) each = All-cons P a (range_with_len (a + 1) n) (each a (omega arith) (omega arith)) (range_all P (a + 1) n (λ i low high. each i (omega arith) (omega arith)))
 

@@ -4,8 +4,9 @@ use Rattle.std.specs.List.{filter, flat_map, range_with_len}
 use Rattle.std.specs.declared.cmp.Ordering.TheVariants.{Less}
 use Rattle.std.specs.Ordering.{nat_cmp, ordering_then}
 use Rattle.std.proofs.lemmas.Bool.Decides.{nat_tests}
+use Rattle.rj_settings.specs.declared.choice.RowOrder.TheVariants.{PairsFirst}
 use Rattle.rj_merge.specs.declared.place.Place.{Place}
-use Rattle.rj_merge.specs.declared.place.Place.TheVariants.{Pair, LoneLeft, LoneRight}
+use Rattle.rj_merge.specs.declared.place.Place.TheVariants.{Pair, LoneAmongPairs, LoneLeft, LoneRight}
 use Rattle.rj_merge.specs.declared.place.Placed.{Placed}
 use Rattle.rj_merge.specs.Places.{place_order}
 use Rattle.rj_merge.specs.Wholes.{RisesFrom}
@@ -29,7 +30,7 @@ module _ {X : Type 0} (place : X → Place) where
   AreBelow [] ys = Unit {0}
   AreBelow (x ∷ xs) ys = IsBelow (place x) ys × AreBelow xs ys
 
-  below_append : (p : Place) (xs ys : List X) → IsBelow p xs → IsBelow p ys → IsBelow p (xs ++ ys)
+  pub below_append : (p : Place) (xs ys : List X) → IsBelow p xs → IsBelow p ys → IsBelow p (xs ++ ys)
   below_append p [] ys h i = i
   below_append p (x ∷ xs) ys h i = (h.0, below_append p xs ys h.1 i)
 
@@ -124,7 +125,7 @@ module _ (place : ℕ → Place) (up : (a b : ℕ) → a < b → place_order (pl
   range_below p a zero h = tt
   range_below p a (suc n) h = (up p a h, range_below p (a + 1) n (omega (arith, h)))
 
-  range_rises : (a n : ℕ) → Rise place (range_with_len a n)
+  pub range_rises : (a n : ℕ) → Rise place (range_with_len a n)
   range_rises a zero = tt
   range_rises a (suc n) = (range_below a (a + 1) n (omega arith), range_rises (a + 1) n)
 
@@ -139,40 +140,43 @@ module _ (place : ℕ → Place) (up : (a b : ℕ) → a < b → place_order (pl
 pub left_up : (a b : ℕ) → a < b → place_order (LoneLeft a) (LoneLeft b) ≡ Less
 left_up a b h = before_first a b 0 0 h
 
+pub among_up : (a b : ℕ) → a < b → place_order (LoneAmongPairs a) (LoneAmongPairs b) ≡ Less
+among_up a b h = before_first a b 0 0 h
+
 pub right_up : (a b : ℕ) → a < b → place_order (LoneRight a) (LoneRight b) ≡ Less
 right_up a b h = before_first a b 0 0 h
 
 -- kept pairs stand before lone left rows, and both before lone right rows
-lefts_above : (i j : ℕ) (xs : List ℕ) → IsBelow place_of (Pair i j) (map (λ k. LeftOnly k) xs)
+lefts_above : (i j : ℕ) (xs : List ℕ) → IsBelow (place_of PairsFirst) (Pair i j) (map (λ k. LeftOnly k) xs)
 lefts_above i j [] = tt
 lefts_above i j (x ∷ xs) = (refl, lefts_above i j xs)
 
-rights_above : (i j : ℕ) (ys : List ℕ) → IsBelow place_of (Pair i j) (map (λ k. RightOnly k) ys)
+rights_above : (i j : ℕ) (ys : List ℕ) → IsBelow (place_of PairsFirst) (Pair i j) (map (λ k. RightOnly k) ys)
 rights_above i j [] = tt
 rights_above i j (y ∷ ys) = (refl, rights_above i j ys)
 
-rights_above_left : (i : ℕ) (ys : List ℕ) → IsBelow place_of (LoneLeft i) (map (λ k. RightOnly k) ys)
+rights_above_left : (i : ℕ) (ys : List ℕ) → IsBelow (place_of PairsFirst) (LoneLeft i) (map (λ k. RightOnly k) ys)
 rights_above_left i [] = tt
 rights_above_left i (y ∷ ys) = (refl, rights_above_left i ys)
 
-pairs_below_lefts : (ps : List (ℕ × ℕ)) (xs : List ℕ) → AreBelow place_of (map (λ p. Both p.0 p.1) ps) (map (λ i. LeftOnly i) xs)
+pairs_below_lefts : (ps : List (ℕ × ℕ)) (xs : List ℕ) → AreBelow (place_of PairsFirst) (map (λ p. Both p.0 p.1) ps) (map (λ i. LeftOnly i) xs)
 pairs_below_lefts [] xs = tt
 pairs_below_lefts (p ∷ ps) xs = (lefts_above p.0 p.1 xs, pairs_below_lefts ps xs)
 
-lefts_below : (xs ys : List ℕ) → AreBelow place_of (map (λ i. LeftOnly i) xs) (map (λ j. RightOnly j) ys)
+lefts_below : (xs ys : List ℕ) → AreBelow (place_of PairsFirst) (map (λ i. LeftOnly i) xs) (map (λ j. RightOnly j) ys)
 lefts_below [] ys = tt
 lefts_below (x ∷ xs) ys = (rights_above_left x ys, lefts_below xs ys)
 
-both_below : (ps : List (ℕ × ℕ)) (xs ys : List ℕ) → AreBelow place_of (map (λ p. Both p.0 p.1) ps ++ map (λ i. LeftOnly i) xs) (map (λ j. RightOnly j) ys)
+both_below : (ps : List (ℕ × ℕ)) (xs ys : List ℕ) → AreBelow (place_of PairsFirst) (map (λ p. Both p.0 p.1) ps ++ map (λ i. LeftOnly i) xs) (map (λ j. RightOnly j) ys)
 both_below [] xs ys = lefts_below xs ys
 both_below (p ∷ ps) xs ys = (rights_above p.0 p.1 ys, both_below ps xs ys)
 
 -- members rise, where each kind of them does
-pub members_rise : (v : JoinedValue) → Rise pair_place v.pairs → Rise (λ i. LoneLeft i) v.lone_left → Rise (λ j. LoneRight j) v.lone_right → Rise place_of (rows_in v)
+pub members_rise : (v : JoinedValue) → Rise pair_place v.pairs → Rise (λ i. LoneLeft i) v.lone_left → Rise (λ j. LoneRight j) v.lone_right → Rise (place_of PairsFirst) (rows_in v)
 unfolding rows_in
 members_rise v h i j =
-    rise_append place_of (map (λ p. Both p.0 p.1) v.pairs ++ map (λ i. LeftOnly i) v.lone_left) (map (λ j. RightOnly j) v.lone_right)
-    (rise_append place_of (map (λ p. Both p.0 p.1) v.pairs) (map (λ i. LeftOnly i) v.lone_left)
-    (rise_map place_of (λ p. Both p.0 p.1) v.pairs h) (rise_map place_of (λ i. LeftOnly i) v.lone_left i) (pairs_below_lefts v.pairs v.lone_left))
-    (rise_map place_of (λ j. RightOnly j) v.lone_right j)
+    rise_append (place_of PairsFirst) (map (λ p. Both p.0 p.1) v.pairs ++ map (λ i. LeftOnly i) v.lone_left) (map (λ j. RightOnly j) v.lone_right)
+    (rise_append (place_of PairsFirst) (map (λ p. Both p.0 p.1) v.pairs) (map (λ i. LeftOnly i) v.lone_left)
+    (rise_map (place_of PairsFirst) (λ p. Both p.0 p.1) v.pairs h) (rise_map (place_of PairsFirst) (λ i. LeftOnly i) v.lone_left i) (pairs_below_lefts v.pairs v.lone_left))
+    (rise_map (place_of PairsFirst) (λ j. RightOnly j) v.lone_right j)
     (both_below v.pairs v.lone_left v.lone_right)

@@ -1,17 +1,23 @@
 -- What shards give is merged to the rows of the whole, and each shard's rows rise.
-use Rattle.std.proofs.Common.{◌≡◌, ℕ, ◌<◌, ◌==◌, List, [], length, map, slice_index_or, None, refl, ap, sym, subst, ◌∙◌, All}
-use Rattle.std.specs.List.{flat_map, range_with_len}
+use Rattle.std.proofs.Common.{◌≡◌, ℕ, ◌<◌, ◌==◌, true, List, [], ◌∷◌, length, map, slice_index_or, None, refl, ap, sym, subst, ◌∙◌, All}
+use Rattle.std.specs.List.{filter, flat_map, range_with_len}
 use Rattle.std.specs.List.Sorted.{IsPermutation}
 use Rattle.std.proofs.lemmas.List.{get_or-map, length-map}
-use Rattle.std.proofs.lemmas.List.Elements.{All-map}
+use Rattle.std.proofs.lemmas.List.Elements.{All-map, All-weaker}
 use Rattle.std.proofs.lemmas.List.Folds.{flat_map-map}
-use Rattle.std.proofs.lemmas.List.Sorted.{IsPermutation-map}
+use Rattle.std.proofs.lemmas.List.Sorted.{All-permutation, IsPermutation-append, IsPermutation-map, IsPermutation-refl, IsPermutation-sym, IsPermutation-trans}
 use Rattle.rj_columns.specs.Contents.{Content, nothing}
 use Rattle.rj_columns.specs.Scales.{coalesced, in_scale}
 use Rattle.rj_columns.specs.Tables.{TableValue, cell_of}
+use Rattle.rj_settings.specs.declared.choice.Choice.{Choice}
+use Rattle.rj_settings.specs.declared.choice.ColumnChoice.{ColumnChoice}
+use Rattle.rj_settings.specs.declared.choice.ColumnChoice.TheVariants as column_choice
+use Rattle.rj_settings.specs.declared.choice.RowOrder.{RowOrder}
+use Rattle.rj_settings.specs.declared.choice.RowOrder.TheVariants.{LeftFirst, PairsFirst}
 use Rattle.rj_condition.specs.Joins.{keeps, kind_of_join}
 use Rattle.rj_condition.specs.declared.bound.BoundJoin.{BoundJoin}
-use Rattle.rj_engine.specs.Cells.{coalesced_scale, columns_of, joined_cell, joined_cells, left_cell, right_cell, view_of}
+use Rattle.rj_engine.specs.Cells.{IsMemberOf, coalesced_scale, columns_of, joined_cell, joined_cells, left_cell, right_cell, view_of}
+use Rattle.rj_engine.specs.Chosen.{are_all_columns, are_all_rows, by_left_row, chosen_columns, chosen_view, in_order, is_of_columns, rows_of_kinds}
 use Rattle.rj_engine.specs.Join.{JoinedValue, adds_left, adds_right, rows_in}
 use Rattle.rj_engine.specs.Results.{joined_of, kept_pairs, result_of}
 use Rattle.rj_engine.specs.Shards.{AreMerged, IsLawful, joined_at, joined_shard, joined_shards, left_shard, members_in, places, right_shard, rows_at}
@@ -19,13 +25,19 @@ use Rattle.rj_engine.specs.declared.joined.JoinedRow.{JoinedRow}
 use Rattle.rj_engine.specs.declared.joined.JoinedRow.TheVariants.{Both, LeftOnly, RightOnly}
 use Rattle.rj_engine.specs.declared.origin.Origin.{Origin}
 use Rattle.rj_engine.specs.declared.origin.Origin.TheVariants.{Coalesced, Left, Right}
+use Rattle.rj_engine.proofs.ChosenFacts.{all_rows as all_rows_of}
+use Rattle.rj_engine.proofs.Sources.{members-there}
 use Rattle.rj_merge.specs.Wholes.{IsMerge, RisesFrom}
-use Rattle.rj_merge.specs.declared.place.Place.TheVariants.{LoneLeft, LoneRight}
+use Rattle.rj_merge.specs.declared.place.Place.{Place}
+use Rattle.rj_merge.specs.declared.place.Place.TheVariants.{LoneAmongPairs, LoneLeft, LoneRight}
 use Rattle.rj_merge.specs.declared.place.Placed.{Placed}
+use Rattle.rj_shards.specs.Renumbered.{Rises, renumbered_place}
 use Rattle.rj_shards.specs.Rows.{AreShards, member_back, place_of, placed, placed_at, placed_rows, placed_shard, placed_shards}
 use Rattle.rj_shards.proofs.Together.{map_of_all, members_merged}
 use Rattle.rj_shards.proofs.Own.{Agree, AreBelow, added_below, own_as_back, pairs_below, map_map}
-use Rattle.rj_shards.proofs.Rising.{Rise, added_rise, left_up, members_rise, pair_place, pairs_rise, right_up, rise_filter, rise_map, rises_from}
+use Rattle.rj_shards.proofs.Extended.{IsWithin, extended, extended_up, placed_back, rise_as, rise_kept}
+use Rattle.rj_shards.proofs.LeftOrder.{left_rows_rise}
+use Rattle.rj_shards.proofs.Rising.{Rise, added_rise, among_up, left_up, members_rise, pair_place, pairs_rise, right_up, rise_map, rises_from}
 
 -- a cell is in the table of the rows at some places what it is in the table that they are from
 cell_at : (t : TableValue) (rows : List ℕ) (i col : ℕ) → i < length rows → cell_of (rows_at t rows) i col ≡ cell_of t (slice_index_or rows i 0) col
@@ -57,24 +69,57 @@ module _ (join : BoundJoin) (l r : TableValue) where
   pub lefts_rise : Rise (λ i. LoneLeft i) (joined_of join l r).lone_left
   lefts_rise = added_rise (λ i. LoneLeft i) left_up (adds_left (kind_of_join join)) (map (λ p. p.0) (kept_pairs join l r)) (length l.rows)
 
+  pub among_rise : Rise (λ i. LoneAmongPairs i) (joined_of join l r).lone_left
+  among_rise = added_rise (λ i. LoneAmongPairs i) among_up (adds_left (kind_of_join join)) (map (λ p. p.0) (kept_pairs join l r)) (length l.rows)
+
   pub rights_rise : Rise (λ j. LoneRight j) (joined_of join l r).lone_right
   rights_rise = added_rise (λ j. LoneRight j) right_up (adds_right (kind_of_join join)) (map (λ p. p.1) (kept_pairs join l r)) (length r.rows)
 
-module _ {T : Type 0} (text : List Content → T) (join : BoundJoin) (l r : TableValue) where
+  -- in each order
+  pub ordered_rise : (order : RowOrder) → Rise (place_of order) (in_order order (length l.rows) (result_of join l r))
+  ordered_rise PairsFirst = members_rise (joined_of join l r) kept_rise lefts_rise rights_rise
+  ordered_rise LeftFirst = left_rows_rise (length l.rows) (joined_of join l r) kept_rise among_rise rights_rise
+
+-- the law that the order of the left rows has the same members
+abbrev pub LeftOrder : Type 0
+LeftOrder = (join : BoundJoin) (l r : TableValue) → IsPermutation (result_of join l r) (by_left_row (length l.rows) (result_of join l r))
+
+-- so each order has them
+module _ (law : LeftOrder) (join : BoundJoin) (l r : TableValue) where
+  ordered_same : (order : RowOrder) → IsPermutation (result_of join l r) (in_order order (length l.rows) (result_of join l r))
+  ordered_same PairsFirst = IsPermutation-refl (result_of join l r)
+  ordered_same LeftFirst = law join l r
+
+  ordered_within : (order : RowOrder) → All (IsWithin (length l.rows) (length r.rows)) (in_order order (length l.rows) (result_of join l r))
+  ordered_within order =
+      All-permutation (IsWithin (length l.rows) (length r.rows)) (result_of join l r) (in_order order (length l.rows) (result_of join l r)) (ordered_same order)
+      (All-weaker (IsMemberOf l r) (IsWithin (length l.rows) (length r.rows)) is_within (result_of join l r) (members-there join l r))
+    where
+      is_within : (row : JoinedRow) → IsMemberOf l r row → IsWithin (length l.rows) (length r.rows) row
+      is_within (Both i j) h = h
+      is_within (LeftOnly i) h = h.0
+      is_within (RightOnly j) h = h.1
+
+-- lists that are made of each element, with the same elements each
+flat_each : {A B : Type 0} (f g : A → List B) → ((a : A) → IsPermutation (f a) (g a)) → (xs : List A) → IsPermutation (flat_map f xs) (flat_map g xs)
+flat_each f g each [] = IsPermutation-refl []
+flat_each f g each (x ∷ xs) = IsPermutation-append (f x) (g x) (flat_map f xs) (flat_map g xs) (each x) (flat_each f g each xs)
+
+module _ {T : Type 0} (order : RowOrder) (text : List Content → T) (join : BoundJoin) (l r : TableValue) where
   -- a member's row, at its place
   abbrev pub row_of : JoinedRow → Placed T
-  row_of m = record { place = place_of m; row = text (joined_cells l r (columns_of join r) m) }
+  row_of m = record { place = place_of order m; row = text (joined_cells l r (columns_of join r) m) }
 
   -- a join of the rows at some places
   module _ (lefts rights : List ℕ) where
     abbrev own_row : JoinedRow → Placed T
-    own_row m = record { place = place_of (member_back lefts rights m); row = text (joined_cells (rows_at l lefts) (rows_at r rights) (columns_of join r) m) }
+    own_row m = record { place = place_of order (member_back lefts rights m); row = text (joined_cells (rows_at l lefts) (rows_at r rights) (columns_of join r) m) }
 
     same_row : (own : JoinedRow) → ((col : ℕ) → left_cell (rows_at l lefts) own col ≡ left_cell l (member_back lefts rights own) col)
         → ((col : ℕ) → right_cell (rows_at r rights) own col ≡ right_cell r (member_back lefts rights own) col) → own_row own ≡ row_of (member_back lefts rights own)
     same_row own left right =
         let cells = cells_same l r lefts rights own (member_back lefts rights own) left right (columns_of join r) in
-        λ t. record { place = place_of (member_back lefts rights own); row = text (cells t) }
+        λ t. record { place = place_of order (member_back lefts rights own); row = text (cells t) }
 
     agree : Agree lefts rights own_row row_of
     agree = record {
@@ -83,53 +128,77 @@ module _ {T : Type 0} (text : List Content → T) (join : BoundJoin) (l r : Tabl
       right = λ j high. same_row (RightOnly j) (λ col. refl) (λ col. cell_at r rights j col high);
     }
 
-    -- it gives the rows of its members with their row numbers mapped back
-    pub placed_back : placed_at text join l r lefts rights ≡ map row_of (rows_in (joined_at join l r lefts rights))
-    placed_back =
+    many_left : length (rows_at l lefts).rows ≡ length lefts
+    many_left = length-map lefts (λ row. slice_index_or l.rows row [])
+
+    many_right : length (rows_at r rights).rows ≡ length rights
+    many_right = length-map rights (λ row. slice_index_or r.rows row [])
+
+    -- its rows are those of its members with their row numbers mapped back
+    own_back : map own_row (result_of join (rows_at l lefts) (rows_at r rights)) ≡ map row_of (rows_in (joined_at join l r lefts rights))
+    own_back =
         let inner = joined_of join (rows_at l lefts) (rows_at r rights) in
-        let many : length (rows_at l lefts).rows ≡ length lefts = length-map lefts (λ row. slice_index_or l.rows row []) in
-        let many' : length (rows_at r rights).rows ≡ length rights = length-map rights (λ row. slice_index_or r.rows row []) in
         let low : AreBelow (length lefts) (length rights) inner =
-        subst (λ n. AreBelow (length lefts) n inner) many' (subst (λ m. AreBelow m (length (rows_at r rights).rows) inner) many (below join (rows_at l lefts) (rows_at r rights))) in
+        subst (λ n. AreBelow (length lefts) n inner) many_right (subst (λ m. AreBelow m (length (rows_at r rights).rows) inner) many_left (below join (rows_at l lefts) (rows_at r rights))) in
         own_as_back lefts rights own_row row_of agree inner low
+
+    -- and it gives these in its order
+    placed_members : LeftOrder → IsPermutation (placed_at order text join l r lefts rights) (map row_of (rows_in (joined_at join l r lefts rights)))
+    placed_members law =
+        let rows = result_of join (rows_at l lefts) (rows_at r rights) in
+        let ordered = in_order order (length (rows_at l lefts).rows) rows in
+        subst (IsPermutation (placed_at order text join l r lefts rights)) own_back
+        (IsPermutation-map own_row ordered rows (IsPermutation-sym rows ordered (ordered_same law join (rows_at l lefts) (rows_at r rights) order)))
+
+    -- where the numbers of the rows rise, so does what it gives
+    placed_rises : LeftOrder → (m n : ℕ) → Rises (extended lefts m) → Rises (extended rights n) → RisesFrom None (placed_at order text join l r lefts rights)
+    placed_rises law m n left_up right_up =
+        let left = rows_at l lefts in
+        let right = rows_at r rights in
+        let rows = in_order order (length left.rows) (result_of join left right) in
+        let within : All (IsWithin (length lefts) (length rights)) rows =
+        subst (λ b. All (IsWithin (length lefts) b) rows) many_right (subst (λ a. All (IsWithin a (length right.rows)) rows) many_left (ordered_within law join left right order)) in
+        let back : JoinedRow → Place = λ row. place_of order (member_back lefts rights row) in
+        let moved : JoinedRow → Place = λ row. renumbered_place (extended lefts m) (extended rights n) (place_of order row) in
+        let rise : Rise back rows =
+        rise_as (IsWithin (length lefts) (length rights)) moved back (placed_back lefts rights m n order) rows within
+        (rise_kept (place_of order) (extended lefts m) (extended rights n) left_up right_up rows (ordered_rise join left right order)) in
+        rises_from (map own_row rows) (rise_map (λ (row : Placed T). row.place) own_row rows rise)
 
   abbrev of_shard : (List Content → ℕ) → ℕ → ℕ → JoinedValue
   of_shard value count s = joined_shard value count join l r s
 
-  shard_back : (value : List Content → ℕ) (count s : ℕ) → placed_shard text value count join l r s ≡ map row_of (rows_in (of_shard value count s))
-  shard_back value count s = placed_back (places (left_shard value count join l) l s) (places (right_shard value count join r) r s)
-
-  all_back : (value : List Content → ℕ) (count : ℕ) → flat_map (λ rows. rows) (placed_shards text value count join l r) ≡ map row_of (flat_map rows_in (joined_shards value count join l r))
-  all_back value count =
+  all_back : LeftOrder → (value : List Content → ℕ) (count : ℕ)
+      → IsPermutation (flat_map (λ rows. rows) (placed_shards order text value count join l r)) (map row_of (flat_map rows_in (joined_shards value count join l r)))
+  all_back law value count =
       let range = range_with_len 0 count in
-      flat_map-map (λ rows. rows) (placed_shard text value count join l r) range
-      ∙ ((λ t. flat_map (λ s. shard_back value count s t) range)
-      ∙ (sym (flat_map-map (λ v. map row_of (rows_in v)) (of_shard value count) range)
-      ∙ map_of_all row_of (joined_shards value count join l r)))
+      let members : ℕ → List (Placed T) = λ s. map row_of (rows_in (of_shard value count s)) in
+      let own = placed_shard order text value count join l r in
+      subst (λ rows. IsPermutation rows (map row_of (flat_map rows_in (joined_shards value count join l r)))) (sym (flat_map-map (λ rows. rows) own range))
+      (subst (IsPermutation (flat_map own range)) (sym (flat_map-map (λ v. map row_of (rows_in v)) (of_shard value count) range) ∙ map_of_all row_of (joined_shards value count join l r))
+      (flat_each own members (λ s. placed_members (places (left_shard value count join l) l s) (places (right_shard value count join r) r s) law) range))
 
   -- where the members of the whole are merged of those of the shards, so are the rows
-  all_rows : (value : List Content → ℕ) (count : ℕ) → AreMerged (joined_shards value count join l r) (joined_of join l r)
-      → IsPermutation (flat_map (λ rows. rows) (placed_shards text value count join l r)) (placed_rows text join l r)
-  all_rows value count m =
-      subst (λ rows. IsPermutation rows (placed_rows text join l r)) (sym (all_back value count))
-      (IsPermutation-map row_of (flat_map rows_in (joined_shards value count join l r)) (result_of join l r) (members_merged (joined_shards value count join l r) (joined_of join l r) m))
+  all_rows : LeftOrder → (value : List Content → ℕ) (count : ℕ) → AreMerged (joined_shards value count join l r) (joined_of join l r)
+      → IsPermutation (flat_map (λ rows. rows) (placed_shards order text value count join l r)) (placed_rows order text join l r)
+  all_rows law value count m =
+      let given = flat_map (λ rows. rows) (placed_shards order text value count join l r) in
+      let members = flat_map rows_in (joined_shards value count join l r) in
+      let whole = result_of join l r in
+      let ordered = in_order order (length l.rows) whole in
+      IsPermutation-trans given (map row_of members) (map row_of ordered) (all_back law value count)
+      (IsPermutation-map row_of members ordered
+      (IsPermutation-trans members whole ordered (members_merged (joined_shards value count join l r) (joined_of join l r) m) (ordered_same law join l r order)))
 
-  pub whole_rises : Rise (λ (row : Placed T). row.place) (placed_rows text join l r)
-  whole_rises = rise_map (λ (row : Placed T). row.place) row_of (result_of join l r) (members_rise (joined_of join l r) (kept_rise join l r) (lefts_rise join l r) (rights_rise join l r))
+  pub whole_rises : Rise (λ (row : Placed T). row.place) (placed_rows order text join l r)
+  whole_rises = rise_map (λ (row : Placed T). row.place) row_of (in_order order (length l.rows) (result_of join l r)) (ordered_rise join l r order)
 
-  -- the rows of a shard rise, where it has of the joined table what stands in it
-  shard_rises : (value : List Content → ℕ) (count s : ℕ) → of_shard value count s ≡ members_in (left_shard value count join l) (right_shard value count join r) s (joined_of join l r)
-      → RisesFrom None (placed_shard text value count join l r s)
-  shard_rises value count s part =
+  shard_rises : LeftOrder → (value : List Content → ℕ) (count s : ℕ) → RisesFrom None (placed_shard order text value count join l r s)
+  shard_rises law value count s =
       let left = left_shard value count join l in
       let right = right_shard value count join r in
-      let whole = joined_of join l r in
-      let own : Rise place_of (rows_in (members_in left right s whole)) = members_rise (members_in left right s whole)
-      (rise_filter pair_place (λ p. left p.0 == s) whole.pairs (kept_rise join l r))
-      (rise_filter (λ i. LoneLeft i) (λ i. left i == s) whole.lone_left (lefts_rise join l r))
-      (rise_filter (λ j. LoneRight j) (λ j. right j == s) whole.lone_right (rights_rise join l r)) in
-      let back : Rise place_of (rows_in (of_shard value count s)) = subst (λ v. Rise place_of (rows_in v)) (sym part) own in
-      subst (RisesFrom None) (sym (shard_back value count s)) (rises_from (map row_of (rows_in (of_shard value count s))) (rise_map (λ (row : Placed T). row.place) row_of (rows_in (of_shard value count s)) back))
+      placed_rises (places left l s) (places right r s) law (length l.rows) (length r.rows)
+      (extended_up (λ row. left row == s) (length l.rows)) (extended_up (λ row. right row == s) (length r.rows))
 
 -- the law that each member of a joined table is one of its shards, and that each shard has those that stand in it
 abbrev pub ShardsMerge : Type 0
@@ -139,28 +208,50 @@ abbrev pub ShardIsPart : Type 0
 ShardIsPart = (value : List Content → ℕ) → IsLawful value → (count : ℕ) (join : BoundJoin) (l r : TableValue) (s : ℕ)
     → joined_shard value count join l r s ≡ members_in (left_shard value count join l) (right_shard value count join r) s (joined_of join l r)
 
-module _ {T : Type 0} (text : List Content → T) (join : BoundJoin) (l r : TableValue) (lists : List (List (Placed T))) (shards : AreShards text join l r lists) where
-  pub rows_of_all : ShardsMerge → IsPermutation (flat_map (λ rows. rows) lists) (placed_rows text join l r)
-  rows_of_all law =
-      subst (λ ls. IsPermutation (flat_map (λ (rows : List (Placed T)). rows) ls) (placed_rows text join l r)) (sym shards.are)
-      (all_rows text join l r shards.value shards.count (law shards.value shards.lawful shards.count join l r shards.some))
+module _ {T : Type 0} (order : RowOrder) (text : List Content → T) (join : BoundJoin) (l r : TableValue) (lists : List (List (Placed T))) (shards : AreShards order text join l r lists) where
+  pub rows_of_all : ShardsMerge → LeftOrder → IsPermutation (flat_map (λ rows. rows) lists) (placed_rows order text join l r)
+  rows_of_all law by_left =
+      subst (λ ls. IsPermutation (flat_map (λ (rows : List (Placed T)). rows) ls) (placed_rows order text join l r)) (sym shards.are)
+      (all_rows order text join l r by_left shards.value shards.count (law shards.value shards.lawful shards.count join l r shards.some))
 
-  pub whole_merged : ShardsMerge → IsMerge lists (placed_rows text join l r)
-  whole_merged law = record {
-    all = rows_of_all law;
-    rises = rises_from (placed_rows text join l r) (whole_rises text join l r);
+  pub whole_merged : ShardsMerge → LeftOrder → IsMerge lists (placed_rows order text join l r)
+  whole_merged law by_left = record {
+    all = rows_of_all law by_left;
+    rises = rises_from (placed_rows order text join l r) (whole_rises order text join l r);
   }
 
-  pub all_rise : ShardIsPart → All (RisesFrom None) lists
-  all_rise law =
-      let shard = placed_shard text shards.value shards.count join l r in
+  pub all_rise : LeftOrder → All (RisesFrom None) lists
+  all_rise by_left =
+      let shard = placed_shard order text shards.value shards.count join l r in
       subst (λ (ls : List (List (Placed T))). All (RisesFrom None) ls) (sym shards.are)
       (All-map (RisesFrom None) shard (range_with_len 0 shards.count)
-      (λ k d low. let s = slice_index_or (range_with_len 0 shards.count) k d in shard_rises text join l r shards.value shards.count s (law shards.value shards.lawful shards.count join l r s)))
+      (λ k d low. shard_rises order text join l r by_left shards.value shards.count (slice_index_or (range_with_len 0 shards.count) k d)))
+
+-- where all columns are chosen, none is left out
+kept_origins : (os : List Origin) → filter (is_of_columns column_choice.All) os ≡ os
+kept_origins [] = refl
+kept_origins (o ∷ os) = ap (λ rest. o ∷ rest) (kept_origins os)
+
+all_origins : (c : ColumnChoice) (os : List Origin) → are_all_columns c ≡ true → filter (is_of_columns c) os ≡ os
+all_origins column_choice.All os h = kept_origins os
+all_origins column_choice.Left os h = cc
+all_origins column_choice.Right os h = cc
 
 -- rows without their places
 module _ {T : Type 0} (text : List Content → T) (join : BoundJoin) (l r : TableValue) (back : JoinedRow → JoinedRow) where
-  pub shown : map (λ (p : Placed T). p.row) (placed text join l r back) ≡ map text (view_of join l r).cells
-  shown =
-      let row : JoinedRow → Placed T = λ m. record { place = place_of (back m); row = text (joined_cells l r (columns_of join r) m) } in
-      map_map (λ (p : Placed T). p.row) row (result_of join l r) ∙ sym (map_map text (joined_cells l r (columns_of join r)) (result_of join l r))
+  rows_shown : (order : RowOrder)
+      → map (λ (p : Placed T). p.row) (placed order text join l r back) ≡ map text (map (joined_cells l r (columns_of join r)) (in_order order (length l.rows) (result_of join l r)))
+  rows_shown order =
+      let row : JoinedRow → Placed T = λ m. record { place = place_of order (back m); row = text (joined_cells l r (columns_of join r) m) } in
+      let rows = in_order order (length l.rows) (result_of join l r) in
+      map_map (λ (p : Placed T). p.row) row rows ∙ sym (map_map text (joined_cells l r (columns_of join r)) rows)
+
+  pub shown : map (λ (p : Placed T). p.row) (placed PairsFirst text join l r back) ≡ map text (view_of join l r).cells
+  shown = rows_shown PairsFirst
+
+  pub shown_as_chosen : (choice : Choice) → are_all_rows choice.rows PairsFirst ≡ true → are_all_columns choice.columns ≡ true
+      → map (λ (p : Placed T). p.row) (placed choice.order text join l r back) ≡ map text (chosen_view choice join l r).cells
+  shown_as_chosen choice all columns =
+      let rows : rows_of_kinds choice.rows (length l.rows) (joined_of join l r) ≡ result_of join l r = all_rows_of choice.rows PairsFirst (length l.rows) (joined_of join l r) all in
+      let origins : chosen_columns choice join r ≡ columns_of join r = all_origins choice.columns (columns_of join r) columns in
+      rows_shown choice.order ∙ sym (λ t. map text (map (joined_cells l r (origins t)) (in_order choice.order (length l.rows) (rows t))))

@@ -1,7 +1,7 @@
 -- Rows of two tables that are numbered by places which rise, in place of 0, 1, 2 and so on.
 use Rattle.std.specs.Prelude.{ℕ, ◌<◌, List, map}
 use Rattle.rj_merge.specs.declared.place.Place.{Place}
-use Rattle.rj_merge.specs.declared.place.Place.TheVariants.{Pair, LoneLeft, LoneRight}
+use Rattle.rj_merge.specs.declared.place.Place.TheVariants.{Pair, LoneAmongPairs, LoneLeft, LoneRight}
 use Rattle.rj_merge.specs.declared.place.Placed.{Placed}
 
 -- later rows have greater numbers
@@ -11,6 +11,7 @@ Rises number = (i j : ℕ) → i < j → number i < number j
 -- a place by the new numbers of left and right rows
 abbrev pub renumbered_place : (ℕ → ℕ) → (ℕ → ℕ) → Place → Place
 renumbered_place left right (Pair i j) = Pair (left i) (right j)
+renumbered_place left right (LoneAmongPairs i) = LoneAmongPairs (left i)
 renumbered_place left right (LoneLeft i) = LoneLeft (left i)
 renumbered_place left right (LoneRight j) = LoneRight (right j)
 

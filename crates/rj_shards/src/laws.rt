@@ -1,11 +1,15 @@
 //! Laws: each of these functions does nothing, and its contract is a fact about all joins in shards.
 
-ghost use Rattle.std.specs.Prelude.{◌≡◌, ℕ, All, List, None, map};
+ghost use Rattle.std.specs.Prelude.{◌≡◌, ℕ, true, All, List, None, map};
 ghost use Rattle.std.specs.List.{flat_map};
 ghost use Rattle.rj_columns.specs.Contents.{Content};
 ghost use Rattle.rj_columns.specs.Tables.{TableValue};
+ghost use Rattle.rj_settings.specs.declared.choice.Choice.{Choice};
+ghost use Rattle.rj_settings.specs.declared.choice.RowOrder.{RowOrder};
+ghost use Rattle.rj_settings.specs.declared.choice.RowOrder.TheVariants.{PairsFirst};
 ghost use Rattle.rj_condition.specs.declared.bound.BoundJoin.{BoundJoin};
 ghost use Rattle.rj_engine.specs.Cells.{view_of};
+ghost use Rattle.rj_engine.specs.Chosen.{are_all_columns, are_all_rows, chosen_view};
 ghost use Rattle.rj_engine.specs.Results.{kept_pairs};
 ghost use Rattle.rj_engine.specs.Shards.{IsLawful, left_shard, right_shard};
 ghost use Rattle.rj_engine.specs.declared.joined.JoinedRow.{JoinedRow};
@@ -15,7 +19,7 @@ ghost use Rattle.rj_merge.specs.declared.place.Placed.{Placed};
 ghost use Rattle.rj_shards.specs.Renumbered.{Rises, all_renumbered};
 ghost use Rattle.rj_shards.specs.Rows.{AreShards, placed, placed_rows};
 
-use rj_engine::{shard_is_part, shards_merge};
+use rj_engine::{left_order, shard_is_part, shards_merge};
 use rj_merge::one_merge;
 
 /// The rows of a kept pair have one shard, by the key columns of the join and each lawful hash, whatever the number of shards.
@@ -27,24 +31,25 @@ pub fn kept_rows_meet()
 }
 
 /// The rows of the joined table of two tables are the merge of the rows that its shards give, each shard joined as two tables
-/// of their own; and whatever is that merge is these rows. This holds for each kind of join, each lawful hash, each number of
-/// shards, and whatever is written of a row's cells.
+/// of their own; and whatever is that merge is these rows. This holds for each order of the rows, if the shards have the same,
+/// each kind of join, each lawful hash, each number of shards, and whatever is written of a row's cells.
 pub fn shards_merge_to_whole<T>()
-    ensures merge { (text : List Content → T) (join : BoundJoin) (l r : TableValue) (lists : List (List (Placed T)))
-        → AreShards text join l r lists → IsMerge lists (placed_rows text join l r) }
-    ensures only { (text : List Content → T) (join : BoundJoin) (l r : TableValue) (lists : List (List (Placed T)))
-        → AreShards text join l r lists → (rows : List (Placed T)) → IsMerge lists rows → rows ≡ placed_rows text join l r }
+    ensures merge { (order : RowOrder) (text : List Content → T) (join : BoundJoin) (l r : TableValue) (lists : List (List (Placed T)))
+        → AreShards order text join l r lists → IsMerge lists (placed_rows order text join l r) }
+    ensures only { (order : RowOrder) (text : List Content → T) (join : BoundJoin) (l r : TableValue) (lists : List (List (Placed T)))
+        → AreShards order text join l r lists → (rows : List (Placed T)) → IsMerge lists rows → rows ≡ placed_rows order text join l r }
 {
     shards_merge();
+    left_order();
     one_merge::<T>();
 }
 
 /// The same where the rows of both tables are numbered otherwise than 0, 1, 2 and so on, if the numbers rise, as the bytes do at
 /// which the rows stand in a file: what is the merge of the shards by these places is the joined table's rows, in its order.
 pub fn renumbered_shards_merge_to_whole<T>()
-    ensures { (text : List Content → T) (join : BoundJoin) (l r : TableValue) (lists : List (List (Placed T)))
-        → AreShards text join l r lists → (left right : ℕ → ℕ) → Rises left → Rises right → (rows : List (Placed T))
-        → IsMerge (map (all_renumbered left right) lists) rows → rows ≡ all_renumbered left right (placed_rows text join l r) }
+    ensures { (order : RowOrder) (text : List Content → T) (join : BoundJoin) (l r : TableValue) (lists : List (List (Placed T)))
+        → AreShards order text join l r lists → (left right : ℕ → ℕ) → Rises left → Rises right → (rows : List (Placed T))
+        → IsMerge (map (all_renumbered left right) lists) rows → rows ≡ all_renumbered left right (placed_rows order text join l r) }
 {
     shards_merge_to_whole::<T>();
     one_merge::<T>();
@@ -52,23 +57,27 @@ pub fn renumbered_shards_merge_to_whole<T>()
 
 /// The rows that a shard gives stand each above the one before it, so that the shard is an input of a merge as it is.
 pub fn shards_rise<T>()
-    ensures { (text : List Content → T) (join : BoundJoin) (l r : TableValue) (lists : List (List (Placed T)))
-        → AreShards text join l r lists → All (RisesFrom None) lists }
+    ensures { (order : RowOrder) (text : List Content → T) (join : BoundJoin) (l r : TableValue) (lists : List (List (Placed T)))
+        → AreShards order text join l r lists → All (RisesFrom None) lists }
 {
-    shard_is_part();
+    left_order();
 }
 
 /// No two rows of all shards have one place.
 pub fn no_place_twice<T>()
-    ensures { (text : List Content → T) (join : BoundJoin) (l r : TableValue) (lists : List (List (Placed T)))
-        → AreShards text join l r lists → (place : Place) → HasTwice (flat_map (λ l. l) lists) place → ⊥ }
+    ensures { (order : RowOrder) (text : List Content → T) (join : BoundJoin) (l r : TableValue) (lists : List (List (Placed T)))
+        → AreShards order text join l r lists → (place : Place) → HasTwice (flat_map (λ l. l) lists) place → ⊥ }
 {
     shards_merge();
+    left_order();
 }
 
 /// Without their places, the rows of a joined table, be it of a shard or of the whole, are what is written of the rows of cells
-/// that a `View` of it shows, in their order.
+/// that a `View` of it shows, in their order: of all of it in its own order, or in the one that is chosen.
 pub fn rows_are_shown<T>()
-    ensures { (text : List Content → T) (join : BoundJoin) (l r : TableValue) (back : JoinedRow → JoinedRow)
-        → map (λ (p : Placed T). p.row) (placed text join l r back) ≡ map text (view_of join l r).cells }
+    ensures own { (text : List Content → T) (join : BoundJoin) (l r : TableValue) (back : JoinedRow → JoinedRow)
+        → map (λ (p : Placed T). p.row) (placed PairsFirst text join l r back) ≡ map text (view_of join l r).cells }
+    ensures chosen { (choice : Choice) (text : List Content → T) (join : BoundJoin) (l r : TableValue) (back : JoinedRow → JoinedRow)
+        → are_all_rows choice.rows PairsFirst ≡ true → are_all_columns choice.columns ≡ true
+        → map (λ (p : Placed T). p.row) (placed choice.order text join l r back) ≡ map text (chosen_view choice join l r).cells }
 {}

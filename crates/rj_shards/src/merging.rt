@@ -3,6 +3,7 @@
 ghost use Rattle.std.specs.Prelude.{◌≡◌, ◌⊎◌, All, Contains, IfErr, IfOk, List, OnOk, [], false, map};
 ghost use Rattle.rj_columns.specs.Contents.{Content};
 ghost use Rattle.rj_columns.specs.Tables.{TableValue};
+ghost use Rattle.rj_settings.specs.declared.choice.RowOrder.{RowOrder};
 ghost use Rattle.rj_condition.specs.declared.bound.BoundJoin.{BoundJoin};
 ghost use Rattle.rj_merge.specs.declared.place.Place.{Place};
 ghost use Rattle.rj_merge.specs.Merging.{faults_of_inputs, rows_of_inputs};
@@ -14,7 +15,7 @@ use crate::laws::{no_place_twice, shards_merge_to_whole};
 use rj_merge::{MergeRefused, Placed, Source, merge_all};
 use std::alloc::Global;
 
-/// The rows of a joined table, of inputs that give its shards. Of other inputs it gives the merge.
+/// The rows of a joined table, of inputs that give its shards in one of its orders. Of other inputs it gives the merge.
 ///
 /// # Errors
 ///
@@ -24,12 +25,12 @@ pub fn merge_shards<S: Source>(
     alloc: Global,
     inputs: Vec<S>,
 ) -> Result<Vec<Placed<S::Row>>, MergeRefused>
-    ensures whole { IfOk result (λ v. All S.tells inputs.items → (text : List Content → S.Row) (join : BoundJoin) (l r : TableValue)
-        → AreShards text join l r (map (λ s. (S.reading s).rows) inputs.items) → v.items ≡ placed_rows text join l r) }
+    ensures whole { IfOk result (λ v. All S.tells inputs.items → (order : RowOrder) (text : List Content → S.Row) (join : BoundJoin) (l r : TableValue)
+        → AreShards order text join l r (map (λ s. (S.reading s).rows) inputs.items) → v.items ≡ placed_rows order text join l r) }
     ensures merge { IfOk result (λ v. All S.tells inputs.items → IsMerge (map (λ s. (S.reading s).rows) inputs.items) v.items) }
     ensures faults { OnOk result (All S.tells inputs.items → faults_of_inputs S.reading inputs.items ≡ []) }
-    ensures fault { IfErr result (λ e. is_outside e ≡ false → All S.tells inputs.items → (text : List Content → S.Row) (join : BoundJoin) (l r : TableValue)
-        → AreShards text join l r (map (λ s. (S.reading s).rows) inputs.items) → Contains (faults_of_inputs S.reading inputs.items) e) }
+    ensures fault { IfErr result (λ e. is_outside e ≡ false → All S.tells inputs.items → (order : RowOrder) (text : List Content → S.Row) (join : BoundJoin) (l r : TableValue)
+        → AreShards order text join l r (map (λ s. (S.reading s).rows) inputs.items) → Contains (faults_of_inputs S.reading inputs.items) e) }
     ensures other { IfErr result (λ e. is_outside e ≡ false → All S.tells inputs.items → Contains (faults_of_inputs S.reading inputs.items) e
         ⊎ ((place : Place) × (e ≡ MergeRefused.RepeatedPlace place) × HasTwice (rows_of_inputs S.reading inputs.items) place)) }
 {

@@ -1,7 +1,9 @@
 //! Texts of placed rows that are merged, with merges written by hand, and each of their faults.
 
 use rj_csv_io::{CountedWriter, Output};
-use rj_merge::{MergeRefused, MergeTextsRefused, Patient, Place, merge_texts};
+use rj_merge::{
+    MergeOptions, MergeRefused, MergeTextsRefused, Patient, Place, RowOrder, merge_texts,
+};
 use std::alloc::Global;
 use std::fmt::Write as Format;
 use std::io;
@@ -12,32 +14,44 @@ use std::test::Fail;
 fn merge_inputs<R: Read + Drop>(
     alloc: Global,
     inputs: Vec<R>,
-    null: &str,
+    how: MergeOptions<'_>,
 ) -> Result<Vec<u8>, MergeTextsRefused> {
     if inputs.is_empty() || inputs.len() > 1000 {
         return Err(MergeTextsRefused::Merge(MergeRefused::Memory));
     }
     let mut output = CountedWriter::new(Vec::new(alloc));
-    match merge_texts(alloc, inputs, null, &mut output) {
+    match merge_texts(alloc, inputs, how, &mut output) {
         Ok(()) => Ok(output.into_inner()),
         Err(e) => Err(e),
     }
 }
 
+// Pairs first, and this null text.
+fn pairs_first(null: &str) -> MergeOptions<'_> {
+    MergeOptions {
+        null: null.as_bytes(),
+        order: RowOrder::PairsFirst,
+    }
+}
+
 // The merge of texts, or why there is none.
-fn merge_of(alloc: Global, texts: &[&str], null: &str) -> Result<Vec<u8>, MergeTextsRefused> {
+fn merge_of(
+    alloc: Global,
+    texts: &[&str],
+    how: MergeOptions<'_>,
+) -> Result<Vec<u8>, MergeTextsRefused> {
     let mut inputs = Vec::new(alloc);
     for text in texts {
         if inputs.push(text.as_bytes()).is_err() {
             return Err(MergeTextsRefused::Merge(MergeRefused::Memory));
         }
     }
-    merge_inputs(alloc, inputs, null)
+    merge_inputs(alloc, inputs, how)
 }
 
 // Whether texts with an empty null text have this merge.
 fn is_merge(alloc: Global, texts: &[&str], want: &str) -> Result<bool, MergeTextsRefused> {
-    match merge_of(alloc, texts, "") {
+    match merge_of(alloc, texts, pairs_first("")) {
         Ok(merge) => Ok(merge.as_slice() == want.as_bytes()),
         Err(e) => Err(e),
     }
@@ -45,7 +59,7 @@ fn is_merge(alloc: Global, texts: &[&str], want: &str) -> Result<bool, MergeText
 
 // The fault of texts with an empty null text, or none.
 fn fault_of(alloc: Global, texts: &[&str]) -> Option<MergeRefused> {
-    match merge_of(alloc, texts, "") {
+    match merge_of(alloc, texts, pairs_first("")) {
         Err(MergeTextsRefused::Merge(e)) => Some(e),
         _ => None,
     }
@@ -82,9 +96,37 @@ fn one_text_and_texts_without_rows(rt: HostRuntime) -> Result<(), Fail> {
 #[test]
 fn a_null_text(rt: HostRuntime) -> Result<(), Fail> {
     let text = "left_place,right_place,v\n3,NULL,a\nNULL,2,NULL\n";
-    let merge = merge_of(rt.alloc(), &[text], "NULL")?;
+    let merge = merge_of(rt.alloc(), &[text], pairs_first("NULL"))?;
     assert!(rt; merge.as_slice() == b"v\na\nNULL\n".as_slice());
     assert!(rt; fault_of(rt.alloc(), &[text]) == Some(MergeRefused::BadPlace(1, 1)));
+    Ok(())
+}
+
+// The same with each left row at its place.
+fn left_first(alloc: Global, texts: &[&str]) -> Result<Vec<u8>, MergeTextsRefused> {
+    let how = MergeOptions {
+        null: b"".as_slice(),
+        order: RowOrder::LeftFirst,
+    };
+    merge_of(alloc, texts, how)
+}
+
+#[test]
+fn each_left_row_at_its_place(rt: HostRuntime) -> Result<(), Fail> {
+    let alloc = rt.alloc();
+    let first = "left_place,right_place,v\n0,,a\n2,1,d\n2,3,f\n,7,i\n";
+    let second = "left_place,right_place,v\n1,9,b\n2,0,c\n2,2,e\n3,,g\n,5,h\n";
+    let merge = left_first(alloc, &[first, second])?;
+    assert!(rt; merge.as_slice() == b"v\na\nb\nc\nd\ne\nf\ng\nh\ni\n".as_slice());
+    let falls = left_first(alloc, &["left_place,right_place\n1,1\n0,\n"]).map(|_| ());
+    let refused = MergeTextsRefused::Merge(MergeRefused::NotInOrder(1, 2));
+    assert_eq!(rt; falls, Err(refused));
+    let twice = "left_place,right_place\n4,\n";
+    let repeated = MergeTextsRefused::Merge(MergeRefused::RepeatedPlace(Place::LoneAmongPairs(4)));
+    assert_eq!(rt;
+        left_first(alloc, &[twice, twice]).map(|_| ()),
+        Err(repeated)
+    );
     Ok(())
 }
 
@@ -200,9 +242,9 @@ fn patient(text: &str, fails: bool) -> Patient<Halting<'_>> {
 fn patient_readers(rt: HostRuntime) -> Result<(), Fail> {
     let alloc = rt.alloc();
     let whole = vec![in alloc; patient(SECOND, false), patient(FIRST, false)]?;
-    assert!(rt; merge_inputs(alloc, whole, "")?.as_slice() == BOTH.as_bytes());
+    assert!(rt; merge_inputs(alloc, whole, pairs_first(""))?.as_slice() == BOTH.as_bytes());
     let fails = vec![in alloc; patient(SECOND, false), patient(FIRST, true)]?;
-    let refused = merge_inputs(alloc, fails, "").map(|_| ());
+    let refused = merge_inputs(alloc, fails, pairs_first("")).map(|_| ());
     let device = MergeTextsRefused::Merge(MergeRefused::ReadDevice(2));
     assert_eq!(rt; refused, Err(device));
     Ok(())
@@ -213,7 +255,7 @@ fn an_output_that_takes_nothing(rt: HostRuntime) -> Result<(), Fail> {
     let alloc = rt.alloc();
     let inputs = vec![in alloc; FIRST.as_bytes()]?;
     let mut output = CountedWriter::new(Full);
-    let refused = merge_texts(alloc, inputs, "", &mut output);
+    let refused = merge_texts(alloc, inputs, pairs_first(""), &mut output);
     assert_eq!(rt; refused, Err(MergeTextsRefused::WriteDevice));
     assert_eq!(rt; output.failures(), 1);
     Ok(())

@@ -8,7 +8,7 @@ abbrev pub invariant-inputs : goal.invariant-inputs
 invariant-inputs g l = record {
   count : l.input + into_iter_len l.left < 2 ^ 32;
   opened : (texts : List (List ℕ)) → map g.R.Read.remaining l.fn.inputs.items ≡ map Some texts
-      → HasOpened g.R.Read.remaining l.null texts (fields_of l.header.names) l.sources.items l.input (into_iter_items l.left);
+      → HasOpened g.R.Read.remaining l.how texts (fields_of l.header.names) l.sources.items l.input (into_iter_items l.left);
 }
 
 abbrev pub decreases-inputs : goal.decreases-inputs

@@ -5,5 +5,5 @@ use Rattle.rj_shards.proofs.laws.no_place_twice.Goals as goal
 use Rattle.rj_shards.specs.Rows.{placed_rows}
 
 pub returns : goal.returns
-returns g c = λ text join l r lists shards place.
-    not_twice (flat_map (λ rows. rows) lists) (placed_rows text join l r) (rows_of_all text join l r lists shards c.shards_merge.ensures.merge) (whole_rises text join l r) place
+returns g c = λ order text join l r lists shards place.
+    not_twice (flat_map (λ rows. rows) lists) (placed_rows order text join l r) (rows_of_all order text join l r lists shards c.shards_merge.ensures.merge c.left_order.ensures.members) (whole_rises order text join l r) place
