@@ -76,7 +76,7 @@ told-more start text row a b told t write = record {
 pub told-all : (start : Option (List ℕ)) (text : List ℕ) (block : Writer (Vec ℕ Global)) (told : Option (List ℕ)) → Appends start told text → HasWritten block [] [] → IsTold start text block told
 told-all start text block told got written = record { put = text; kept = []; whole = sym (append-nil text); got = got; written = written }
 
-rows_text-append : (xs ys : List (List (List ℕ))) → rows_text (xs ++ ys) ≡ rows_text xs ++ rows_text ys
+pub rows_text-append : (xs ys : List (List (List ℕ))) → rows_text (xs ++ ys) ≡ rows_text xs ++ rows_text ys
 unfolding rows_text
 rows_text-append [] ys = refl
 rows_text-append (x ∷ xs) ys = ap (λ t. row_text default_writer x ++ t) (rows_text-append xs ys) ∙ sym (append_assoc (row_text default_writer x) (rows_text xs) (rows_text ys))
@@ -95,6 +95,13 @@ records-more text rows row =
     append_assoc text (records_text rows) (row_text default_writer row.row)
     ∙ ap (λ t. text ++ t) (sym (ap rows_text (map-append (λ (p : Placed (List (List ℕ))). p.row) rows (row ∷ [])) ∙ rows_text-append (map (λ p. p.row) rows) (row.row ∷ []) ∙ ap (λ t. records_text rows ++ t) (rows_text-one row.row)))
 
-pub under-header : (header : List (List ℕ)) (rows : List (Placed (List (List ℕ)))) → row_text default_writer header ++ records_text rows ≡ rows_text (header ∷ map (λ p. p.row) rows)
+pub under-head : (head : List (List (List ℕ))) (rows : List (Placed (List (List ℕ)))) → rows_text head ++ records_text rows ≡ rows_text (head ++ map (λ p. p.row) rows)
+under-head head rows = sym (rows_text-append head (map (λ p. p.row) rows))
+
+-- the text of one row, and of none
+pub one-row : (header : List (List ℕ)) → row_text default_writer header ≡ rows_text (header ∷ [])
+one-row header = sym (rows_text-one header)
+
+pub no-row : rows_text [] ≡ []
 unfolding rows_text
-under-header header rows = refl
+no-row = refl
