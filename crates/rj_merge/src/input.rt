@@ -49,10 +49,10 @@ fn place_of_row(
     columns: Columns,
     how: MergeOptions<'_>,
 ) -> Result<Place, MergeRefused>
-    ensures row { IfOk result (λ p. read_row how columns input row before (fields_of fields.now)
+    ensures row { IfOk result (λ p. read_row how.entry columns input row before (fields_of fields.now)
         ≡ Ok record { place = p; row = others columns (fields_of fields.now) }) }
     ensures rises { IfOk result (λ p. IsAbove before p) }
-    ensures fault { IfErr result (λ e. read_row how columns input row before (fields_of fields.now) ≡ Err e) }
+    ensures fault { IfErr result (λ e. read_row how.entry columns input row before (fields_of fields.now) ≡ Err e) }
 {
     if fields.len() != columns.width {
         return Err(MergeRefused::RaggedRow(input, row));
@@ -93,7 +93,7 @@ impl<'n, R: Read + Drop> TextSource<'n, R> {
     ) -> TextSource<'n, R>
         ensures tells { IsBetween R.remaining reader.value → input_tells R.remaining result }
         ensures reading { input_reading R.remaining result
-            ≡ reading_within how (read_rows how columns input 0 None (records_remaining R.remaining reader.value)) }
+            ≡ reading_within how.entry (read_rows how.entry columns input 0 None (records_remaining R.remaining reader.value)) }
     {
         TextSource {
             alloc,
@@ -107,9 +107,7 @@ impl<'n, R: Read + Drop> TextSource<'n, R> {
             ended: false,
         }
     }
-}
 
-impl<'n, R: Read + Drop> TextSource<'n, R> {
     // Reads the next row, whose fields then stand in `fields`, and gives its place; or `None` behind the last one.
     fn next_place(&mut self) -> Result<Option<Place>, MergeRefused>
         ensures tells { OnOk result (input_tells R.remaining self.old → input_tells R.remaining self.new) }

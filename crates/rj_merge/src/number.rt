@@ -103,7 +103,7 @@ pub(crate) fn read_place(
     columns: Columns,
     how: MergeOptions<'_>,
 ) -> Result<Place, MergeRefused>
-    ensures { result ≡ place_in how columns input row (fields_of fields.now) }
+    ensures { result ≡ place_in how.entry columns input row (fields_of fields.now) }
 {
     let left = number_at(fields, columns.left, how.null);
     let right = number_at(fields, columns.right, how.null);

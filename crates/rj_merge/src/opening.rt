@@ -70,9 +70,9 @@ fn open_first<'n, R: Read + Drop>(
     ensures places { IfOk result (λ f. place_columns (fields_of f.header.names) ≡ Some f.header.columns) }
     ensures header { IfOk result (λ f. (text : List ℕ) → R.remaining source ≡ Some text → fields_of f.header.names ≡ first_record (records_in text)) }
     ensures input { IfOk result (λ f. (text : List ℕ) → R.remaining source ≡ Some text → input_tells R.remaining f.source
-        × (input_reading R.remaining f.source ≡ reading_of how (first_record (records_in text)) 1 text)) }
+        × (input_reading R.remaining f.source ≡ reading_of how.entry (first_record (records_in text)) 1 text)) }
     ensures fault { IfErr result (λ e. is_outside e ≡ false → (text : List ℕ) → R.remaining source ≡ Some text
-        → (reading_of how (first_record (records_in text)) 1 text).fault ≡ Some e) }
+        → (reading_of how.entry (first_record (records_in text)) 1 text).fault ≡ Some e) }
 {
     let Begun { header, reader } = match begin(alloc, 1, source) {
         Ok(begun) => begun,
@@ -99,9 +99,9 @@ fn open_next<'n, R: Read + Drop>(
 ) -> Result<TextSource<'n, R>, MergeRefused>
     requires { place_columns (fields_of first.now.names) ≡ Some first.now.columns }
     ensures input { IfOk result (λ s. (text : List ℕ) → R.remaining source ≡ Some text → input_tells R.remaining s
-        × (input_reading R.remaining s ≡ reading_of how (fields_of first.now.names) input text)) }
+        × (input_reading R.remaining s ≡ reading_of how.entry (fields_of first.now.names) input text)) }
     ensures fault { IfErr result (λ e. is_outside e ≡ false → (text : List ℕ) → R.remaining source ≡ Some text
-        → (reading_of how (fields_of first.now.names) input text).fault ≡ Some e) }
+        → (reading_of how.entry (fields_of first.now.names) input text).fault ≡ Some e) }
 {
     let Begun { header, reader } = match begin(alloc, input, source) {
         Ok(begun) => begun,
@@ -138,9 +138,9 @@ pub(crate) fn open_all<'n, R: Read + Drop>(
     ensures tells { IfOk result (λ o. (texts : List (List ℕ)) → map R.remaining inputs.items ≡ map Some texts
         → All (input_tells R.remaining) o.sources.items) }
     ensures readings { IfOk result (λ o. (texts : List (List ℕ)) → map R.remaining inputs.items ≡ map Some texts
-        → readings how texts ≡ map (input_reading R.remaining) o.sources.items) }
+        → readings how.entry texts ≡ map (input_reading R.remaining) o.sources.items) }
     ensures fault { IfErr result (λ e. is_outside e ≡ false → (texts : List (List ℕ)) → map R.remaining inputs.items ≡ map Some texts
-        → Contains (faults_of_readings (readings how texts)) e) }
+        → Contains (faults_of_readings (readings how.entry texts)) e) }
 {
     let mut left = inputs.into_iter();
     let Some(first) = left.next() else {

@@ -53,7 +53,7 @@ impl Ord for Place {
 impl PartialOrd for Place {
     ghost partial_cmp = { as_partial_cmp place_order };
 
-    ghost laws = { partial_order_from_own_ties (Prim.search (comparing, rules)) (Prim.search (comparing, rules)) };
+    ghost laws = { partial_order_from_own_ties (Prim.search (comparing, place_total, rules)) (Prim.search (comparing, rules)) };
 
     fn partial_cmp(&self, other: &Place) -> Option<Ordering> {
         Some(self.cmp(other))
@@ -61,7 +61,7 @@ impl PartialOrd for Place {
 }
 
 impl Eq for Place {
-    ghost laws = { Prim.search (comparing, rules) };
+    ghost laws = { eq_by_cmp_equiv place_total };
 }
 
 impl PartialEq for Place {

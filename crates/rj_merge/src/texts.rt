@@ -104,10 +104,10 @@ pub fn merge_texts<R: Read + Drop, O: Output>(
     requires count { vec_len inputs < 2 ^ 32 }
     requires failures { O.count output.old < 2 ^ 64 - 1 }
     ensures merge { OnOk result ((texts : List (List ℕ)) → map R.remaining inputs.items ≡ map Some texts
-        → (text : List ℕ) × IsMergedText how texts text × Appends (O.told output.old) (O.told output.new) text) }
-    ensures faults { OnOk result ((texts : List (List ℕ)) → map R.remaining inputs.items ≡ map Some texts → HaveNoFault how texts) }
+        → (text : List ℕ) × IsMergedText how.entry texts text × Appends (O.told output.old) (O.told output.new) text) }
+    ensures faults { OnOk result ((texts : List (List ℕ)) → map R.remaining inputs.items ≡ map Some texts → HaveNoFault how.entry texts) }
     ensures fault { (e : MergeRefused) → result ≡ Err (MergeTextsRefused.Merge e) → is_outside e ≡ false
-        → (texts : List (List ℕ)) → map R.remaining inputs.items ≡ map Some texts → IsFaultOfTexts how texts e }
+        → (texts : List (List ℕ)) → map R.remaining inputs.items ≡ map Some texts → IsFaultOfTexts how.entry texts e }
     ensures device { result ≡ Err MergeTextsRefused.WriteDevice → O.count output.new ≡ O.count output.old + 1 }
     ensures kept { result ≢ Err MergeTextsRefused.WriteDevice → O.count output.new ≡ O.count output.old }
 {
