@@ -56,8 +56,9 @@ def placed_in(words, folder):
 
 
 def faults_of(words, folder, parts, ranges, wanted):
-    """How the joined parts differ from what `radixjoin` wrote. A clause without a key is refused."""
-    ran = joined([*words, "--parts", str(parts)], folder, ranges)
+    """How the joined parts differ from what `radixjoin` wrote, merged in as many ranges as the files are divided in. A clause without a
+    key is refused."""
+    ran = joined([*words, "--parts", str(parts), "--merges", str(ranges)], folder, ranges)
     if ran.stderr == NO_KEY.encode() + b"\n":
         # (before the rows are read)
         return [] if ran.status == 4 and wanted.status in (0, 3) else [f"refused for want of a key, where radixjoin ends by {wanted.status}"]

@@ -91,7 +91,7 @@ def read_line(words: Sequence[str]) -> argparse.Namespace:
     line.add_argument("--out", required=True, metavar="FILE", help="file of the joined table; it is there when the whole table is")
     line.add_argument("--parts", type=int, default=16, metavar="N", help="shards that the tables are divided into, 1 to 1024 [default: 16]")
     line.add_argument("--ranges", type=int, metavar="N", help="ranges of a file that are divided side by side [default: one a process]")
-    line.add_argument("--merges", type=int, metavar="N", help="ranges of the joined table that are merged side by side, by its left rows [default: one a process]")
+    line.add_argument("--merges", type=int, metavar="N", help="ranges of the joined table that are merged side by side, by its left rows, 1 to 1024 [default: 1]")
     line.add_argument("--scratch", metavar="FOLDER", help="folder for what is half made, which every process can write [default: that of --out]")
     line.add_argument("--programs", metavar="FOLDER", help="folder of radixjoin, shards and merges [default: this tree's, or those on the PATH]")
     line.add_argument("--memory", type=int, metavar="MIB", help="address space that each program may take, in MiB [default: no limit]")
@@ -660,7 +660,7 @@ def run_in(asked: argparse.Namespace, cluster: contextlib.AbstractContextManager
     """Joins as asked by the processes of a cluster, in a scratch folder that is removed at the end."""
     folder = str(Path(asked.scratch or Path(asked.out).resolve().parent).resolve())
     with scratch_in(folder) as scratch, cluster as it:
-        run(Job(asked, scratch), it, asked.ranges or it.processes(), asked.merges or it.processes())
+        run(Job(asked, scratch), it, asked.ranges or it.processes(), asked.merges or 1)
 
 
 def join(
