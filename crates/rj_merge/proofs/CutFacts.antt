@@ -86,20 +86,17 @@ module _ {T : Type 0} where
       → from_rows first rows ≡ from_rows first (rows_before (Some cut) rows) ++ from_rows (Some cut) rows
   unfolding rows_before
   cut_rows first cut before [] up rises = refl
-  cut_rows first cut before (row ∷ rows) up rises = by_cut (is_lt (place_order row.place cut)) refl
+  cut_rows first cut before (row ∷ rows) up rises = by_cut (cut_rows first cut (Some row.place) rows up rises.1) (is_lt (place_order row.place cut)) refl
     where
-      later : from_rows first rows ≡ from_rows first (rows_before (Some cut) rows) ++ from_rows (Some cut) rows
-      later = cut_rows first cut (Some row.place) rows up rises.1
-
-      by_first : (b : Bool) → cond b (row ∷ from_rows first rows) (from_rows first rows)
+      by_first : from_rows first rows ≡ from_rows first (rows_before (Some cut) rows) ++ from_rows (Some cut) rows → (b : Bool) → cond b (row ∷ from_rows first rows) (from_rows first rows)
           ≡ cond b (row ∷ from_rows first (rows_before (Some cut) rows)) (from_rows first (rows_before (Some cut) rows)) ++ from_rows (Some cut) rows
-      by_first true = ap (λ l. row ∷ l) later
-      by_first false = later
+      by_first later true = ap (λ l. row ∷ l) later
+      by_first later false = later
 
-      by_cut : (b : Bool) → is_lt (place_order row.place cut) ≡ b
+      by_cut : from_rows first rows ≡ from_rows first (rows_before (Some cut) rows) ++ from_rows (Some cut) rows → (b : Bool) → is_lt (place_order row.place cut) ≡ b
           → from_rows first (row ∷ rows) ≡ from_rows first (rows_before (Some cut) (row ∷ rows)) ++ from_rows (Some cut) (row ∷ rows)
-      by_cut true e = rw e (by_first (is_from first row.place))
-      by_cut false e =
+      by_cut later true e = rw e (by_first later (is_from first row.place))
+      by_cut later false e =
           let here = above_cut first cut row.place up e in
           let whole = all_from first row.place rows here rises.1 in
           let high : is_from (Some cut) row.place ≡ true = ap not e in
@@ -109,11 +106,11 @@ module _ {T : Type 0} where
   pub below_cut : (cut : Place) (rows : List (Placed T)) → All (λ row. is_lt (place_order row.place cut) ≡ true) (rows_before (Some cut) rows)
   unfolding rows_before
   below_cut cut [] = All-nil (λ (row : Placed T). is_lt (place_order row.place cut) ≡ true)
-  below_cut cut (row ∷ rows) = by_test (is_lt (place_order row.place cut)) refl
+  below_cut cut (row ∷ rows) = by_test (below_cut cut rows) (is_lt (place_order row.place cut)) refl
     where
-      by_test : (b : Bool) → is_lt (place_order row.place cut) ≡ b → All (λ r. is_lt (place_order r.place cut) ≡ true) (rows_before (Some cut) (row ∷ rows))
-      by_test true e = rw e (All-cons (λ (r : Placed T). is_lt (place_order r.place cut) ≡ true) row (rows_before (Some cut) rows) e (below_cut cut rows))
-      by_test false e = rw e (All-nil (λ (r : Placed T). is_lt (place_order r.place cut) ≡ true))
+      by_test : All (λ r. is_lt (place_order r.place cut) ≡ true) (rows_before (Some cut) rows) → (b : Bool) → is_lt (place_order row.place cut) ≡ b → All (λ r. is_lt (place_order r.place cut) ≡ true) (rows_before (Some cut) (row ∷ rows))
+      by_test rest true e = rw e (All-cons (λ (r : Placed T). is_lt (place_order r.place cut) ≡ true) row (rows_before (Some cut) rows) e rest)
+      by_test rest false e = rw e (All-nil (λ (r : Placed T). is_lt (place_order r.place cut) ≡ true))
 
   -- ---- rows below a cut, and rows that aren't, one after the other
 

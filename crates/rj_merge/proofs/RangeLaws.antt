@@ -9,7 +9,7 @@ use Rattle.std.specs.Ordering.{is_lt}
 use Rattle.std.specs.Str.{bytes_eq}
 use mathlib.Core.List.{map-map}
 use Rattle.std.proofs.lemmas.List.{map-append}
-use Rattle.std.proofs.lemmas.List.Elements.{All-append, All-cons, All-filter, All-head, All-nil, All-tail}
+use Rattle.std.proofs.lemmas.List.Elements.{All-append, All-cons, All-filter, All-head, All-nil, All-tail, filter_passes}
 use Rattle.std.proofs.lemmas.List.Folds.{flat_map-map}
 use Rattle.std.proofs.lemmas.List.Sorted.{All-permutation, IsPermutation-append, IsPermutation-append_comm, IsPermutation-append_left, IsPermutation-append_right, IsPermutation-refl, IsPermutation-sym, IsPermutation-trans}
 use Rattle.rj_csv_io.specs.Cuts.{records_in}
@@ -150,15 +150,6 @@ All-flat : {A X : Type 0} (P : X → Type 0) (f : A → List X) → ((a : A) →
 All-flat P f each [] = All-nil P
 All-flat P f each (x ∷ xs) = All-append P (f x) (flat_map f xs) (each x) (All-flat P f each xs)
 
--- what a filter kept passes its test
-passes : {X : Type 0} (test : X → Bool) (xs : List X) → All (λ x. test x ≡ true) (filter test xs)
-passes test [] = All-nil (λ x. test x ≡ true)
-passes test (x ∷ xs) = by_test (test x) refl
-  where
-    by_test : (b : Bool) → test x ≡ b → All (λ y. test y ≡ true) (filter test (x ∷ xs))
-    by_test true e = rw e (All-cons (λ y. test y ≡ true) x (filter test xs) e (passes test xs))
-    by_test false e = rw e (passes test xs)
-
 -- ---- two ranges
 
 module _ (how : MergeOptions) (texts : List (List ℕ)) where
@@ -205,7 +196,7 @@ module _ (how : MergeOptions) (texts : List (List ℕ)) where
         (All-flat (λ (row : Row). is_lt (place_order row.place cut) ≡ true) (rows_in_range from (Some cut))
         (λ r. All-filter (λ (row : Row). is_from from row.place) (λ (row : Row). is_lt (place_order row.place cut) ≡ true) (rows_before (Some cut) r.rows) (below_cut cut r.rows)) raws) in
         let above = All-permutation (λ (row : Row). is_from (Some cut) row.place ≡ true) all_high high high_all
-        (All-flat (λ (row : Row). is_from (Some cut) row.place ≡ true) (rows_in_range (Some cut) None) (λ r. passes (λ (row : Row). is_from (Some cut) row.place) (rows_before None r.rows)) raws) in
+        (All-flat (λ (row : Row). is_from (Some cut) row.place ≡ true) (rows_in_range (Some cut) None) (λ r. filter_passes (λ (row : Row). is_from (Some cut) row.place) (rows_before None r.rows)) raws) in
         record {
           all = subst (λ l. IsPermutation l (low ++ high)) (sym (given from None))
               (IsPermutation-trans (flat_map (rows_in_range from None) raws) (all_low ++ all_high) (low ++ high)
