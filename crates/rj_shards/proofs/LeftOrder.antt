@@ -62,30 +62,28 @@ module _ {X : Type 0} (place : X → Place) (number : X → ℕ) where
 
   below_number : (x : X) (n : ℕ) (ys : List X) → number x ≡ n → IsBelowOwn x ys → IsBelow place (place x) (of_number ys n)
   below_number x n [] is h = tt
-  below_number x n (y ∷ ys) is h = by_test (number y == n) refl
+  below_number x n (y ∷ ys) is h = by_test (below_number x n ys is h.1) (number y == n) refl
     where
-      by_test : (b : Bool) → (number y == n) ≡ b → IsBelow place (place x) (cond b (y ∷ of_number ys n) (of_number ys n))
-      by_test true e = (h.0 (is ∙ sym (is_number (number y) n e)), below_number x n ys is h.1)
-      by_test false e = below_number x n ys is h.1
+      by_test : IsBelow place (place x) (of_number ys n) → (b : Bool) → (number y == n) ≡ b → IsBelow place (place x) (cond b (y ∷ of_number ys n) (of_number ys n))
+      by_test rest true e = (h.0 (is ∙ sym (is_number (number y) n e)), rest)
+      by_test rest false e = rest
 
   number_rises : (n : ℕ) (xs : List X) → RiseOwn xs → Rise place (of_number xs n)
   number_rises n [] h = tt
-  number_rises n (x ∷ xs) h = by_test (number x == n) refl
+  number_rises n (x ∷ xs) h = by_test (number_rises n xs h.1) (number x == n) refl
     where
-      by_test : (b : Bool) → (number x == n) ≡ b → Rise place (cond b (x ∷ of_number xs n) (of_number xs n))
-      by_test true e = (below_number x n xs (is_number (number x) n e) h.0, number_rises n xs h.1)
-      by_test false e = number_rises n xs h.1
+      by_test : Rise place (of_number xs n) → (b : Bool) → (number x == n) ≡ b → Rise place (cond b (x ∷ of_number xs n) (of_number xs n))
+      by_test rest true e = (below_number x n xs (is_number (number x) n e) h.0, rest)
+      by_test rest false e = rest
 
   module _ (m : ℕ) (apart : (x y : X) → number x < number y → number y ≤ m → place_order (place x) (place y) ≡ Less) where
     below_greater : (x : X) (n : ℕ) (ys : List X) → number x < n → n ≤ m → IsBelow place (place x) (of_number ys n)
     below_greater x n [] low within = tt
-    below_greater x n (y ∷ ys) low within = by_test (number y == n) refl
+    below_greater x n (y ∷ ys) low within = by_test (below_greater x n ys low within) (number y == n) refl
       where
-        by_test : (b : Bool) → (number y == n) ≡ b → IsBelow place (place x) (cond b (y ∷ of_number ys n) (of_number ys n))
-        by_test true e =
-            let is = is_number (number y) n e in
-            (apart x y (omega (arith, is, low)) (omega (arith, is, within)), below_greater x n ys low within)
-        by_test false e = below_greater x n ys low within
+        by_test : IsBelow place (place x) (of_number ys n) → (b : Bool) → (number y == n) ≡ b → IsBelow place (place x) (cond b (y ∷ of_number ys n) (of_number ys n))
+        by_test rest true e = let is = is_number (number y) n e in (apart x y (omega (arith, is, low)) (omega (arith, is, within)), rest)
+        by_test rest false e = rest
 
     below_all : (x : X) (ys : List X) (a n : ℕ) → number x < a → a + n ≤ m + 1 → IsBelow place (place x) (flat_map (of_number ys) (range_with_len a n))
     below_all x ys a zero low within = tt
@@ -95,11 +93,12 @@ module _ {X : Type 0} (place : X → Place) (number : X → ℕ) where
 
     number_below : (b : ℕ) (xs ys : List X) (a n : ℕ) → b < a → a + n ≤ m + 1 → AreBelow place (of_number xs b) (flat_map (of_number ys) (range_with_len a n))
     number_below b [] ys a n low within = tt
-    number_below b (x ∷ xs) ys a n low within = by_test (number x == b) refl
+    number_below b (x ∷ xs) ys a n low within = by_test (number_below b xs ys a n low within) (number x == b) refl
       where
-        by_test : (t : Bool) → (number x == b) ≡ t → AreBelow place (cond t (x ∷ of_number xs b) (of_number xs b)) (flat_map (of_number ys) (range_with_len a n))
-        by_test true e = let is = is_number (number x) b e in (below_all x ys a n (omega (arith, is, low)) within, number_below b xs ys a n low within)
-        by_test false e = number_below b xs ys a n low within
+        by_test : AreBelow place (of_number xs b) (flat_map (of_number ys) (range_with_len a n)) → (t : Bool) → (number x == b) ≡ t
+            → AreBelow place (cond t (x ∷ of_number xs b) (of_number xs b)) (flat_map (of_number ys) (range_with_len a n))
+        by_test rest true e = let is = is_number (number x) b e in (below_all x ys a n (omega (arith, is, low)) within, rest)
+        by_test rest false e = rest
 
     pub numbers_rise : (xs : List X) (a n : ℕ) → a + n ≤ m + 1 → RiseOwn xs → Rise place (flat_map (of_number xs) (range_with_len a n))
     numbers_rise xs a zero within h = tt

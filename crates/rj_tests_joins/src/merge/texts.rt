@@ -1,7 +1,9 @@
 //! Texts of placed rows that are merged, with merges written by hand, and each of their faults.
 
 use rj_csv_io::{CountedWriter, Output};
-use rj_merge::{MergeOptions, MergeRefused, MergeTextsRefused, Patient, Place, RowOrder, merge_texts};
+use rj_merge::{
+    MergeOptions, MergeRefused, MergeTextsRefused, Patient, Place, RowOrder, merge_texts,
+};
 use std::alloc::Global;
 use std::fmt::Write as Format;
 use std::io;
@@ -135,7 +137,10 @@ fn each_left_row_at_its_place(rt: HostRuntime) -> Result<(), Fail> {
     assert_eq!(rt; falls, Err(refused));
     let twice = "left_place,right_place\n4,\n";
     let repeated = MergeTextsRefused::Merge(MergeRefused::RepeatedPlace(Place::LoneAmongPairs(4)));
-    assert_eq!(rt; left_first(alloc, &[twice, twice]).map(|_| ()), Err(repeated));
+    assert_eq!(rt;
+        left_first(alloc, &[twice, twice]).map(|_| ()),
+        Err(repeated)
+    );
     Ok(())
 }
 
