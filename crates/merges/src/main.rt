@@ -39,8 +39,16 @@ fn line_command<'a>(alloc: Global) -> Result<Command<'a>, AllocError> {
         .help(
             "Order of the rows, in each file and in what is written: pairs before rows in no pair, or each left row at its place [default: pairs]",
         );
-    let from = bound(alloc, "from", "Left place that the rows begin with, without the header [default: the beginning]");
-    let to = bound(alloc, "to", "Left place that the rows end before [default: the end]");
+    let from = bound(
+        alloc,
+        "from",
+        "Left place that the rows begin with, without the header [default: the beginning]",
+    );
+    let to = bound(
+        alloc,
+        "to",
+        "Left place that the rows end before [default: the end]",
+    );
     let files = Arg::new(alloc, "files")
         .value_name("FILE")
         .num_args(1..)

@@ -56,6 +56,15 @@ less_through p cut q low high = by_order (place_order p q) refl
         absurd (not_less (place_order q cut) high (subst (λ r. place_order r cut ≡ Less) same low))
     by_order Greater e = absurd (not_less (place_order q cut) high (place_total.trans q p cut (place_total.antisymm q p ∙ ap ordering_reverse e) low))
 
+-- a place stands below a cut, if there is that place
+abbrev pub StandsBelow : Option Place → Place → Type 0
+StandsBelow None cut = Unit {0}
+StandsBelow (Some before) cut = place_order before cut ≡ Less
+
+above_before : (before : Option Place) (cut p : Place) → StandsBelow before cut → is_from (Some cut) p ≡ true → IsAbove before p
+above_before None cut p low high = tt
+above_before (Some before) cut p low high = less_through before cut p low (not_below_if (place_order p cut) (not_before p cut high))
+
 module _ {T : Type 0} where
   abbrev from_rows : Option Place → List (Placed T) → List (Placed T)
   from_rows first rows = filter (λ row. is_from first row.place) rows
@@ -113,14 +122,6 @@ module _ {T : Type 0} where
       by_test rest false e = rw e (All-nil (λ (r : Placed T). is_lt (place_order r.place cut) ≡ true))
 
   -- ---- rows below a cut, and rows that aren't, one after the other
-
-  abbrev StandsBelow : Option Place → Place → Type 0
-  StandsBelow None cut = Unit {0}
-  StandsBelow (Some before) cut = place_order before cut ≡ Less
-
-  above_before : (before : Option Place) (cut p : Place) → StandsBelow before cut → is_from (Some cut) p ≡ true → IsAbove before p
-  above_before None cut p low high = tt
-  above_before (Some before) cut p low high = less_through before cut p low (not_below_if (place_order p cut) (not_before p cut high))
 
   rises_behind : (cut : Place) (before : Option Place) (rows : List (Placed T)) → StandsBelow before cut → RisesFrom None rows → All (λ row. is_from (Some cut) row.place ≡ true) rows → RisesFrom before rows
   rises_behind cut before [] low rises high = tt

@@ -76,7 +76,7 @@ module _ (how : MergeOptions) (from to : Option Place) (first : List (List ℕ))
       by_header false columns = fault_within (refused.OtherHeader input)
 
   readings_between : (input : ℕ) (texts : List (List ℕ)) → readings_from (between how from to) first input texts ≡ map (reading_within (between how from to)) (raws_from how first input texts)
-  unfolding readings_from
+  unfolding readings_from raws_from
   readings_between input [] = refl
   readings_between input (text ∷ texts) = λ t. records_between input (records_in text) t ∷ readings_between (input + 1) texts t
 
@@ -124,6 +124,7 @@ module _ (how : MergeOptions) (first : List (List ℕ)) where
       by_header false columns = tt
 
   raws_rise : (input : ℕ) (texts : List (List ℕ)) → All (λ (r : Rows). RisesFrom None r.rows) (raws_from how first input texts)
+  unfolding raws_from
   raws_rise input [] = All-nil (λ (r : Rows). RisesFrom None r.rows)
   raws_rise input (text ∷ texts) = All-cons (λ (r : Rows). RisesFrom None r.rows) (raw_records how first input (records_in text)) (raws_from how first (input + 1) texts) (raw_rises input (records_in text)) (raws_rise (input + 1) texts)
 

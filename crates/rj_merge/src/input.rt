@@ -179,10 +179,10 @@ impl<'n, R: Read + Drop> Source for TextSource<'n, R> {
             if !self.how.is_from(place) {
                 continue;
             }
-            return match Fields::without_place(self.alloc, &self.fields, self.columns) {
-                Ok(row) => Ok(Some(Placed { place, row })),
-                Err(_) => Err(MergeRefused::Memory),
-            };
+            match Fields::without_place(self.alloc, &self.fields, self.columns) {
+                Ok(row) => return Ok(Some(Placed { place, row })),
+                Err(_) => return Err(MergeRefused::Memory),
+            }
         }
         Err(MergeRefused::Memory)
     }

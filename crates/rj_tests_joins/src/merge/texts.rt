@@ -159,7 +159,10 @@ fn ranges_of_left_rows(rt: HostRuntime) -> Result<(), Fail> {
     let none = left_between(alloc, texts.as_slice(), three, one)?;
     assert!(rt; none.is_empty());
     let refused = MergeTextsRefused::Merge(MergeRefused::BadPlace(2, 4));
-    assert_eq!(rt; left_between(alloc, texts.as_slice(), three, None).map(|_| ()), Err(refused));
+    assert_eq!(rt;
+        left_between(alloc, texts.as_slice(), three, None).map(|_| ()),
+        Err(refused)
+    );
     let end = left_between(alloc, &[first], three, None)?;
     assert!(rt; end.as_slice() == b"i\n".as_slice());
     Ok(())
