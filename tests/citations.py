@@ -182,6 +182,17 @@ def crate_faults(text):
     yield from (f"crates.txt has {name}, which isn't told" for name in sorted(set(listed) - told))
 
 
+def unnamed_faults(files):
+    """The crates that a crate stands on by crates.txt, and that none of its sources, definitions and proofs names; those of tests
+    aside."""
+    for crate, below in listed_crates().items():
+        if crate.startswith("rj_tests_"):
+            continue
+        own = [name for name in files if re.match(rf"crates/{crate}/(?:src|specs|proofs)/", name)]
+        words = set(re.findall(r"\w+", "\n".join((harness.ROOT / name).read_text() for name in own)))
+        yield from (f"{crate} stands on {name}, and doesn't name it" for name in sorted(below - words))
+
+
 def place_faults(text):
     """Of `name`, `name` in `FILE`: the names that stand nowhere in the file. A file is in `crates/`, or one of the crate named last."""
     crates, crate = harness.ROOT / "crates", ""
@@ -318,6 +329,7 @@ def check_agreement(tally, files):
     tally.check("docs/specification.md: definitions", list(definition_faults(docs["specification"])))
     tally.check("docs/specification.md: limits", list(limit_faults(docs["specification"])))
     tally.check("docs/architecture.md: crates", list(crate_faults(docs["architecture"])))
+    tally.check("crates.txt: crates that none names", list(unnamed_faults(files)))
     tally.check("docs/architecture.md: types of one name", list(type_faults(docs["architecture"], files)))
     tally.check("docs/changing.md: files of names", list(place_faults(docs["changing"])))
     tally.check("docs/proved.md: libraries", list(library_faults(docs["proved"])))

@@ -169,6 +169,44 @@ def random_bands(tally, with_sqlite):
         tally.check(f"random band {n}: {join.clause}", faults_of(left, right, join, with_sqlite, options=options))
 
 
+def random_meeting(source, left, right):
+    """A conjunct by which the nulls of two columns meet, in any order, or one that looks so: with a further alternative, with
+    nulls of another column, or with a null on one side alone."""
+    is_text = source.random() < 0.4
+    columns = {side: [("column", side, i) for i, kind in enumerate(table.types) if (kind == "text") == is_text] for side, table in (("L", left), ("R", right))}
+    column, partner = source.choice(columns["L"]), source.choice(columns["R"])
+    other = source.choice(columns["R"]) if source.random() < 0.1 else partner
+    equal = ("compare", "=", *source.sample([column, partner], 2))
+    nulls = ("and", source.sample([("null", column, False), ("null", other, source.random() < 0.1)], 2))
+    alternatives = [equal, nulls]
+    if source.random() < 0.1:
+        alternatives.append(reference.random_condition(source, left, right, 0))
+    return ("or", source.sample(alternatives, len(alternatives)))
+
+
+def random_nulls_that_meet(tally, with_sqlite):
+    """Joins without another key whose nulls meet, in one column or in two, beside other conjuncts, of columns with few nulls,
+    with none, and with nulls alone, by one worker and by several."""
+    source = random.Random("radixjoin: random nulls that meet")
+    kinds = ["int", "int", "num(2,0)", "num(4,1)", "num(5,2)", "num(18,2)"]
+    for n in range(CASES):
+        left = reference.random_table(source, ["a", "t", "b"], [source.choice(kinds), "text", source.choice(kinds)], source.choice([1, 8, 30]))
+        right = reference.random_table(source, ["b", "c", "t"], [source.choice(kinds), source.choice(kinds), "text"], source.choice([1, 8, 30]))
+        for table in (left, right):
+            if source.random() < 0.1:
+                table.rows = [[None, *row[1:]] for row in table.rows]
+            if source.random() < 0.1:
+                table.rows = [row for row in table.rows if None not in row]
+        conjuncts = [random_meeting(source, left, right) for _ in range(source.choice([1, 1, 2]))]
+        if source.random() < 0.4:
+            conjuncts.insert(source.randrange(len(conjuncts) + 1), random_bounds(source, left, right))
+        condition = conjuncts[0] if len(conjuncts) == 1 else ("and", conjuncts)
+        kind = source.choice(["INNER", "LEFT", "RIGHT", "FULL"])
+        join = reference.Join(f"{kind} JOIN ON {reference.spelled(condition, left, right)}", kind, condition=condition)
+        options = source.choice([(), ("--workers=3",), ("--workers=2", "--piece=2"), ("--piece=1", "--hash=mixed")])
+        tally.check(f"random nulls that meet {n}: {join.clause}", faults_of(left, right, join, with_sqlite, options=options))
+
+
 def large_tables(tally, with_sqlite):
     """Two files of 10,000 rows with quoted fields and nulls."""
     source = random.Random("radixjoin: 10,000 rows")
@@ -194,4 +232,5 @@ def run_all(tally):
     random_tables(tally, with_sqlite)
     random_decimals(tally, with_sqlite)
     random_bands(tally, with_sqlite)
+    random_nulls_that_meet(tally, with_sqlite)
     large_tables(tally, with_sqlite)

@@ -3,34 +3,15 @@
 import random
 from concurrent.futures import FIRST_COMPLETED, ThreadPoolExecutor, wait
 
-# The part of a check from nothing that further jobs don't make shorter, as measured: first libraries are read, and last what the jobs proved is put
-# together, half of it each.
+# The part of a check from nothing that further jobs don't make shorter, as measured: libraries are read, and what the jobs proved is put together.
 SERIAL = 0.43
 # How many jobs a check has at most, how many plans are tried, and what each job beyond the first adds to a check's memory.
-MOST_JOBS, PLANS, MORE_MEMORY = 4, 2000, 0.6
+MOST_JOBS, PLANS, MORE_MEMORY = 4, 6000, 0.6
 
 
-class Check:
-    """What is left of a check that takes so many seconds of processor time: its steps, each with its seconds and its threads."""
-
-    def __init__(self, seconds, jobs):
-        ends = seconds * SERIAL / 2
-        self.jobs, self.steps = jobs, [[ends, 1], [seconds - 2 * ends, jobs], [ends, 1]]
-
-    @property
-    def threads(self):
-        return self.steps[0][1]
-
-    def after(self, share):
-        """How long its step lasts where each of its threads has this share of a processor."""
-        return self.steps[0][0] / (self.threads * share)
-
-    def work(self, seconds, share):
-        """Takes away what is done in so many seconds. It gives whether the check has ended."""
-        self.steps[0][0] -= seconds * self.threads * share
-        if self.steps[0][0] < 1e-6:
-            self.steps.pop(0)
-        return not self.steps
+def elapsed(seconds, jobs):
+    """How long a check takes that takes so many seconds of processor time."""
+    return seconds * (SERIAL + (1 - SERIAL) / jobs)
 
 
 class Plan:
@@ -45,21 +26,18 @@ class Plan:
         ready = next((it for it in left if below[it] <= proved), None)
         return ready if ready and self.jobs[ready] <= idle and room(ready) else None
 
-    def ends(self, below, seconds, processors):
-        """When each crate ends, on so many processors, which all threads share."""
-        now, left, running, ends = 0.0, list(self.order), {}, {}
+    def ends(self, below, seconds, lanes):
+        """When each crate ends."""
+        now, left, running, ends = 0.0, list(self.order), [], {}
         while left or running:
-            idle = lanes_of(processors) - sum(it.jobs for it in running.values())
+            idle = lanes - sum(self.jobs[name] for _, name in running)
             name = self.next(left, below, ends.keys(), idle, lambda _: True)
             if name:
                 left.remove(name)
-                running[name] = Check(seconds[name], self.jobs[name])
-                continue
-            share = min(1, processors / sum(it.threads for it in running.values()))
-            step = min(it.after(share) for it in running.values())
-            now += step
-            for name in [name for name, it in running.items() if it.work(step, share)]:
-                del running[name]
+                running.append((now + elapsed(seconds[name], self.jobs[name]), name))
+            else:
+                now, name = min(running)
+                running.remove((now, name))
                 ends[name] = now
         return ends
 
@@ -75,11 +53,6 @@ class Plan:
         return Plan(order, jobs)
 
 
-def lanes_of(processors):
-    """How many jobs there are at a time: twice as many as processors, since a check has its jobs at work for half of its time."""
-    return 2 * processors
-
-
 def behind(below, seconds):
     """The seconds of each crate with the longest chain of crates that wait for it."""
     found = {}
@@ -88,23 +61,23 @@ def behind(below, seconds):
     return found
 
 
-def planned(below, seconds, processors):
+def planned(below, seconds, lanes):
     """The best of some thousand plans, each a change of the best one before it. below: for each crate, all that it stands on."""
     chains, chance = behind(below, seconds), random.Random(1)
     best = Plan(sorted(below, key=lambda it: -chains[it]), dict.fromkeys(below, 1))
-    least = max(best.ends(below, seconds, processors).values(), default=0)
+    least = max(best.ends(below, seconds, lanes).values(), default=0)
     for _ in range(PLANS if len(below) > 1 else 0):
-        plan = best.changed(chance, lanes_of(processors))
-        last = max(plan.ends(below, seconds, processors).values())
+        plan = best.changed(chance, lanes)
+        last = max(plan.ends(below, seconds, lanes).values())
         if last <= least:
             best, least = plan, last
     return best
 
 
-def run(plan, below, work, needs, processors, memory):
+def run(plan, below, work, needs, lanes, memory):
     """Calls work(name, jobs) of each crate in a thread, as planned, with no more than this memory where more than one is at work.
     needs: what each takes with one job. It ends early where a work gives false."""
-    left, running, proved, lanes = list(plan.order), {}, set(), lanes_of(processors)
+    left, running, proved = list(plan.order), {}, set()
     with ThreadPoolExecutor(lanes) as pool:
         while left or running:
             taken = sum(needs[it] * (1 + MORE_MEMORY * (plan.jobs[it] - 1)) for it in running.values())

@@ -14,12 +14,14 @@ pub mod DecimalParts
 pub mod TokenLaws
 pub mod Lexemes
 pub mod RefusalFacts
+pub mod MismatchFacts
 pub mod FlatFacts
 pub mod SplitFacts
 pub mod PartnerFacts
 pub mod SplitFits
 pub mod KeyColumns
 pub mod BandFacts
+pub mod NullSafeFacts
 pub mod Turns
 pub mod Behind
 pub mod Sound

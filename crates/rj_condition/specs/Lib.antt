@@ -14,8 +14,10 @@ pub mod Lexing
 pub mod Scanning
 pub mod Parts
 pub mod Bands
+pub mod NullSafe
 pub mod Grammar
 pub mod Reading
 pub mod Nesting
 pub mod Clauses
 pub mod Refusals
+pub mod Mismatches

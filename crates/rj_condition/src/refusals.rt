@@ -29,14 +29,14 @@ pub struct RefusedColumn {
     pub refused: BindRefused,
 }
 
-fn token_at(tokens: &[Token], i: usize) -> Option<&Token>
+pub(crate) fn token_at(tokens: &[Token], i: usize) -> Option<&Token>
     ensures { option_copied result ≡ slice_get tokens.now i }
 {
     tokens.get(i)
 }
 
 // The name that a token is.
-fn name_at(tokens: &[Token], i: usize) -> Option<&Name>
+pub(crate) fn name_at(tokens: &[Token], i: usize) -> Option<&Name>
     ensures { option_copied result ≡ refusals.name_of (slice_get tokens.now i) }
 {
     match token_at(tokens, i) {
@@ -45,7 +45,7 @@ fn name_at(tokens: &[Token], i: usize) -> Option<&Name>
     }
 }
 
-fn is_point_at(tokens: &[Token], i: usize) -> bool
+pub(crate) fn is_point_at(tokens: &[Token], i: usize) -> bool
     ensures { result ≡ refusals.is_point (slice_get tokens.now i) }
 {
     match token_at(tokens, i) {
@@ -74,7 +74,7 @@ fn is_using(token: &Token) -> bool
 }
 
 // Whether the tokens are those of a USING clause.
-fn are_using(tokens: &[Token]) -> bool
+pub(crate) fn are_using(tokens: &[Token]) -> bool
     ensures { result ≡ list_any refusals.is_using tokens.now }
 {
     tokens.iter().any(|token| is_using(token))
@@ -185,7 +185,7 @@ fn qualifier_of(alloc: Global, name: Option<&Name>) -> Result<Option<Word>, Allo
 }
 
 // The byte at which a token begins.
-fn start_at(starts: &[u32], i: usize) -> u64
+pub(crate) fn start_at(starts: &[u32], i: usize) -> u64
     requires { i < length starts.now }
     ensures { slice_get starts.now i ≡ Some result }
 {

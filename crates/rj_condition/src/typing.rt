@@ -46,7 +46,11 @@ fn family_of_literal(literal: &Literal) -> TypeFamily
 }
 
 // The family of an operand over the two tables.
-fn family_of_operand(operand: &BoundOperand, left: &Table, right: &Table) -> Option<TypeFamily>
+pub(crate) fn family_of_operand(
+    operand: &BoundOperand,
+    left: &Table,
+    right: &Table,
+) -> Option<TypeFamily>
     ensures { result ≡ family_of left.now.types right.now.types operand.now }
 {
     match operand {

@@ -2,7 +2,7 @@
 use Rattle.std.proofs.Common.{◌≡◌, ◌<◌, ◌≤◌, ◌+◌, ◌-◌, ℕ, zero, suc, List, [], ◌∷◌, ◌++◌, length, take, drop, get_or, true, false, Bool, refl, sym, ap, arith, inl, inr, ◌∙◌, subst}
 use Rattle.std.specs.Prelude.{if◌then◌else◌, ◌==◌}
 use Rattle.std.proofs.lemmas.Bool.{cases_Bool, eqb-true}
-use Rattle.std.proofs.lemmas.List.{take_more, take_all, get_or-drop, length-drop, take-append-drop, take-take, drop-take}
+use Rattle.std.proofs.lemmas.List.{take_more, take_rest, get_or-drop, take-append-drop, take-take, drop-take}
 use Rattle.rj_csv_io.proofs.CutFacts.{line-closes}
 use Rattle.csv.specs.declared.parser.State.{State}
 use Rattle.csv.specs.declared.parser.State.TheVariants as st
@@ -180,12 +180,8 @@ not-true : (x : Bool) → (x ≡ true → ⊥) → x ≡ false
 not-true true n = absurd (n refl)
 not-true false n = refl
 
--- what a text has left from a place on
-pub rest-drop : (text : List ℕ) (at : ℕ) → take (length text - at) (drop at text) ≡ drop at text
-rest-drop text at = let size = length-drop at text in take_all (length text - at) (drop at text) (omega (arith, size))
-
 pub rest-at : (text : List ℕ) (at k : ℕ) → get_or (take (length text - at) (drop at text)) k 0 ≡ get_or text (at + k) 0
-rest-at text at k = ap (λ t. get_or t k 0) (rest-drop text at) ∙ get_or-drop at text k 0
+rest-at text at k = ap (λ t. get_or t k 0) (take_rest text at) ∙ get_or-drop at text k 0
 
 -- a search that found no quote
 pub no-quote : (text : List ℕ) (at n : ℕ) → ((k : ℕ) → 0 ≤ k → k < n → (get_or (take (length text - at) (drop at text)) k 0 == 34) ≡ true → ⊥)

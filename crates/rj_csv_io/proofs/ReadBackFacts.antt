@@ -29,7 +29,7 @@ use Rattle.rj_csv_io.specs.Cuts.{has_bom}
 use Rattle.rj_csv_io.specs.RoundTrips.{IsHeld, CanReadBack}
 use Rattle.rj_csv_io.specs.Rows.{read_row, read_rows, reading_then}
 use Rattle.rj_csv_io.specs.Shown.{shown, table_text}
-use Rattle.rj_csv_io.specs.Tables.{are_null_texts, of_begun, read_of, read_records}
+use Rattle.rj_csv_io.specs.Tables.{are_null_texts, of_begun, read_of, read_records, records_read}
 use Rattle.rj_csv_io.specs.Typed.{bad_cell, is_int_text, is_null_field, read_cell, read_cells, typed_cell}
 use Rattle.rj_csv_io.proofs.ApartFacts.{cell-apart, read-apart}
 use Rattle.rj_csv_io.proofs.CellBackFacts.{cell-back}
@@ -196,6 +196,35 @@ module _ (nulls : List (List ℕ)) where
               record { few = ltb-false 256 (length header) few; lawful = f; named = eqb-true (length header) (length types) same; same = q }
           | inr other ↦ let no : Err build.TypeCount ≡ Ok start = rw (few, f, other) at e in absurd (cc)
         ]
+
+    -- a table that records read as has cells of its types, which a `Cell` can hold
+    pub rows-told : (all : List (List (List ℕ))) (t : TableValue) → records_read all types nulls ≡ Ok t → All (FitsTypes t.types) t.rows × All (All IsHeld) t.rows
+    rows-told all t e = elim (cases_Bool (are_null_texts nulls)) [
+      | inl lawful ↦ let read : read_records nulls types all ≡ Ok t = rw lawful at e in of_records all read
+      | inr unlawful ↦ let no : Err refused.BadNull ≡ Ok t = rw unlawful at e in absurd (cc)
+    ]
+      where
+        Holds : TableValue → Type 0
+        Holds t = All (FitsTypes t.types) t.rows × All (All IsHeld) t.rows
+
+        under : (header : List (List ℕ)) (rest : List (List (List ℕ))) (begins : Result TableValue BuildRefused) → begun header types ≡ begins
+            → read_records nulls types (header ∷ rest) ≡ Ok t → Holds t
+        under header rest (Err f) b r = let no : Err (of_begun f) ≡ Ok t = rw b at r in absurd (cc)
+        under header rest (Ok start) b r = go (read_rows nulls types [] rest) refl
+          where
+            go : (x : Result (List (List Content)) ReadRefused) → read_rows nulls types [] rest ≡ x → Holds t
+            go (Err x) is = let no : Err x ≡ Ok t = rw (b, is) at r in absurd (cc)
+            go (Ok rows) is =
+                let made : Ok record start { rows = rows } ≡ Ok t = rw (b, is) at r in
+                let begins = begun-parts header start b in
+                let good = rows-good rest [] rows (record { few = omega arith; fits = All-nil (FitsTypes types); held = All-nil (All IsHeld) }) is in
+                let last : record start { rows = rows } ≡ t = cc in
+                let same : record { names = header; types = types; rows = rows } ≡ t = ap (λ (s : TableValue). record s { rows = rows }) begins.same ∙ last in
+                subst Holds same (good.fits, good.held)
+
+        of_records : (all : List (List (List ℕ))) → read_records nulls types all ≡ Ok t → Holds t
+        of_records [] r = absurd (cc)
+        of_records (header ∷ rest) r = under header rest (begun header types) refl r
 
     -- a table that records read as
     abbrev Apart : List (List ℕ) → TableValue → Type 0

@@ -1,8 +1,8 @@
 //! Laws of reading and writing, for the crates above.
 
-ghost use Rattle.std.specs.Prelude.{◌≡◌, List, ℕ, [], true, false, slice_index_or, Ok, Some};
+ghost use Rattle.std.specs.Prelude.{◌≡◌, List, ℕ, [], true, false, slice_index_or, All, Ok, Some};
 ghost use Rattle.rj_columns.specs.Contents.{Content, FitsType};
-ghost use Rattle.rj_columns.specs.Tables.{TableValue};
+ghost use Rattle.rj_columns.specs.Tables.{FitsTypes, TableValue};
 ghost use Rattle.rj_columns.specs.declared.cell.ColumnType.{ColumnType};
 ghost use Rattle.rj_csv_io.specs.Ambiguous.{AreApart, AreClear};
 ghost use Rattle.rj_csv_io.specs.Cuts.{has_bom};
@@ -64,6 +64,12 @@ pub fn read_tables_read_back_by_others()
         → ((text : List ℕ) → is_null_field nulls text ≡ true → AreApart text t.rows)
         → has_bom (table_text null t.names t.rows) ≡ false
         → read_of (table_text null t.names t.rows) types nulls ≡ Ok t }
+{}
+
+/// A table that was read has cells of its types, and each is one that a `Cell` can hold.
+pub fn read_tables_hold_their_types()
+    ensures { (records : List (List (List ℕ))) (types : List ColumnType) (nulls : List (List ℕ)) (t : TableValue)
+        → records_read records types nulls ≡ Ok t → All (FitsTypes t.types) t.rows × All (All IsHeld) t.rows }
 {}
 
 /// The text of a table begins with a byte order mark only where its first name does.

@@ -34,7 +34,8 @@ pub use filling::read_up_to;
 pub use input::{CountedReader, Input, read_all};
 pub use laws::{
     cells_read_back, mark_is_of_the_first_name, null_texts_read_as_null, read_cells_read_back,
-    read_tables_read_back, read_tables_read_back_by_others, tables_read_back, told_apart,
+    read_tables_hold_their_types, read_tables_read_back, read_tables_read_back_by_others,
+    tables_read_back, told_apart,
 };
 pub use null_text::{are_lawful_nulls, is_lawful_null};
 pub use output::{CountedWriter, Failed, Output};

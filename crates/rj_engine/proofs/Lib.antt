@@ -5,6 +5,7 @@ pub mod Grouped
 pub mod Partitioning
 pub mod Same
 pub mod Rising
+pub mod RangeFacts
 pub mod Parts
 pub mod Sources
 pub mod Scaled
@@ -28,3 +29,5 @@ pub mod Distinct
 pub mod NamingFacts
 pub mod KeyOrder
 pub mod ChosenFacts
+pub mod Repeats
+pub mod GroupFacts

@@ -5,6 +5,7 @@ pub mod Results
 pub mod Origins
 pub mod Cells
 pub mod Partitioned
+pub mod Ranges
 pub mod Stripes
 pub mod Pools
 pub mod Shards
@@ -12,3 +13,6 @@ pub mod Once
 pub mod Expected
 pub mod Naming
 pub mod Chosen
+pub mod Violations
+pub mod KeyGroups
+pub mod Reports

@@ -65,7 +65,7 @@ fn are_matched(
 }
 
 // Whether there are no more members than this.
-fn has_at_most(joined: &Joined, most: Option<u32>) -> bool
+pub(crate) fn has_at_most(joined: &Joined, most: Option<u32>) -> bool
     ensures { IsTrue result ↔ HasAtMost most joined.now.members }
 {
     match most {

@@ -134,6 +134,7 @@ pub record IsRequestOf (word : Text → Option Text) (texts : Text → List Text
   pub tells_pieces : r.tells_pieces ≡ is_some (word (codes "piece"))
   pub choice : IsChoiceOf word r.choice
   pub expectation : IsExpectationOf word r.expectation
+  pub report : r.report ≡ is_true (word (codes "report"))
 
 -- `clap` has no fault to tell, each option that is required is given, and each value is the one given or the default
 pub record IsLineOf (words : List Text) (l : Line) : Type 0 where

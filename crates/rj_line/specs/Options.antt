@@ -84,6 +84,7 @@ option_rules h =
     ∷ rule_for (codes "expect") (takes.Word h.matchings)
     ∷ rule_for (codes "max-rows") (takes.Number 0 4294967295)
     ∷ rule_for (codes "count") takes.Nothing
+    ∷ rule_for (codes "report") takes.Nothing
     ∷ []
 
 -- a command with these rules more

@@ -166,6 +166,7 @@ fn request_of<'a>(alloc: Global, matches: &ArgMatches<'a>) -> Result<Request<'a>
         tells_pieces: matches.get_str("piece").is_some(),
         choice,
         expectation: expectation_of(matches),
+        report: is_given(matches, "report"),
     })
 }
 

@@ -38,7 +38,7 @@ pub(crate) struct LineOption {
 // The bits of the hash that a pass partitions by.
 const BITS: Takes = Takes::Number(0, 10);
 
-const OPTIONS: [LineOption; 29] = [
+const OPTIONS: [LineOption; 30] = [
     LineOption {
         name: "left",
         takes: Takes::Required,
@@ -186,6 +186,12 @@ const OPTIONS: [LineOption; 29] = [
         name: "count",
         takes: Takes::Nothing,
         help: "Print in place of the rows how many pairs and rows in no pair the joined table has",
+    },
+    LineOption {
+        name: "report",
+        takes: Takes::Nothing,
+        help: "Print on standard error how many rows find a partner and have a null key, how many keys repeat, and the key \
+            that makes the most pairs",
     },
 ];
 

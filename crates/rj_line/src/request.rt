@@ -50,4 +50,6 @@ pub struct Request<'a> {
     pub choice: Choice<'a>,
     /// What is expected of the joined table.
     pub expectation: Expectation,
+    /// Whether it is told how many rows find a partner, and how keys are spread.
+    pub report: bool,
 }

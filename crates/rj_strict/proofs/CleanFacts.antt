@@ -38,10 +38,6 @@ follow-at before text i low =
     subst (λ (x : ℕ). x < length text → all_follow before (take x text) ≡ true → may_not_follow (get_or text (i - 1) 0) (get_or text x 0) ≡ false → all_follow before (take (x + 1) text) ≡ true)
     next (follow-step before text (i - 1))
 
-pub or-none : (x y : Bool) → (x || y) ≡ false → (x ≡ false) × (y ≡ false)
-or-none true y e = absurd (false≢true (sym e))
-or-none false y e = (refl, e)
-
 pub follow-whole : (before : ℕ) (text : List ℕ) → 0 < length text → all_follow before text ≡ true → walk (place_after before) text ≡ Some (place_after (get_or text (length text - 1) 0))
 follow-whole before text h e =
     let i = length text - 1 in

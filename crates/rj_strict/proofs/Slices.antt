@@ -1,13 +1,10 @@
 -- Parts of a text.
 use Rattle.std.proofs.Common.{◌≡◌, ◌+◌, ◌-◌, ℕ, List, length, take, drop, get_or, ap, arith, ◌∙◌}
 use Rattle.std.specs.Prelude.{Option, Some, None, IfSome}
-use Rattle.std.proofs.lemmas.List.{take_all, length-drop, get_or-drop}
-
-pub rest-drop : (text : List ℕ) (at : ℕ) → take (length text - at) (drop at text) ≡ drop at text
-rest-drop text at = let size = length-drop at text in take_all (length text - at) (drop at text) (omega (arith, size))
+use Rattle.std.proofs.lemmas.List.{take_rest, get_or-drop}
 
 pub rest-at : (text : List ℕ) (at k : ℕ) → get_or (take (length text - at) (drop at text)) k 0 ≡ get_or text (at + k) 0
-rest-at text at k = ap (λ t. get_or t k 0) (rest-drop text at) ∙ get_or-drop at text k 0
+rest-at text at k = ap (λ t. get_or t k 0) (take_rest text at) ∙ get_or-drop at text k 0
 
 -- a value that is there has more that is true of it
 pub some-then : {X : Type 0} (o : Option X) (P Q : X → Type 0) → ((x : X) → P x → Q x) → IfSome o P → IfSome o Q

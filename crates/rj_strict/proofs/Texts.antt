@@ -3,7 +3,7 @@ use Rattle.std.specs.Prelude.{ℕ, ◌==◌, ◌≡◌, ◌&&◌, ◌||◌, not,
 use Rattle.std.specs.List.{list_all}
 use Rattle.std.proofs.Common.{refl, sym, ap, ◌∙◌, inl, inr, append_assoc}
 use Rattle.std.proofs.lemmas.List.{append-nil}
-use Rattle.std.proofs.lemmas.Bool.{cases_Bool, and_parts, and_from, and_cases, and_right, and_left, or_right, or_left, or_cases, not-true, not_from_false, ltb-false, leb-true, le-leb, le-ltb, false≢true}
+use Rattle.std.proofs.lemmas.Bool.{cases_Bool, and_parts, and_from, and_cases, and_right, and_left, or_right, or_left, or_cases, or_parts, not-true, not_from_false, ltb-false, leb-true, le-leb, le-ltb, false≢true}
 use Rattle.rj_strict.specs.Grammar.{Field, escaped, non-escaped, Record, Line, dquote, comma, cr, lf, is_textdata, doubled, field_text, fields_text, record_text, is_record, is_blank, end_text, line_text, is_line, lines_text, names_of, width}
 use Rattle.rj_strict.specs.declared.header.Header.{Header}
 use Rattle.rj_strict.specs.declared.header.Header.TheVariants.{First, Above}
@@ -60,10 +60,6 @@ doubled-dquote (b ∷ bytes) rest = go (b == dquote) (doubled-dquote bytes rest)
 pub is-textdata : (c : ℕ) → (c == comma) ≡ false → (c == dquote) ≡ false → (c == cr) ≡ false → (c == lf) ≡ false → is_textdata c ≡ true
 is-textdata c a q r n = rw (a, q, r, n) refl
 
-or-none : (x y : Bool) → (x || y) ≡ false → (x ≡ false) × (y ≡ false)
-or-none true y e = absurd (false≢true (sym e))
-or-none false y e = (refl, e)
-
 pub record Plain (c : ℕ) : Type 0 where
   pub no-comma : (c == 44) ≡ false
   pub no-dquote : (c == 34) ≡ false
@@ -73,9 +69,9 @@ pub record Plain (c : ℕ) : Type 0 where
 pub textdata-is : (c : ℕ) → is_textdata c ≡ true → Plain c
 textdata-is c e =
     let all : ((c == comma) || (c == dquote) || (c == cr) || (c == lf)) ≡ false = not-true ((c == comma) || (c == dquote) || (c == cr) || (c == lf)) e in
-    let three = or-none ((c == comma) || (c == dquote) || (c == cr)) (c == lf) all in
-    let two = or-none ((c == comma) || (c == dquote)) (c == cr) three.0 in
-    let one = or-none (c == comma) (c == dquote) two.0 in
+    let three = or_parts ((c == comma) || (c == dquote) || (c == cr)) (c == lf) all in
+    let two = or_parts ((c == comma) || (c == dquote)) (c == cr) three.0 in
+    let one = or_parts (c == comma) (c == dquote) two.0 in
     record { no-comma = one.0; no-dquote = one.1; no-cr = two.1; no-lf = three.1 }
 
 -- nothing at all

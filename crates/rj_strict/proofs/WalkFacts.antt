@@ -2,7 +2,7 @@
 use Rattle.std.specs.Prelude.{ℕ, ◌==◌, ◌≡◌, ◌&&◌, ◌||◌, not, if◌then◌else◌, Bool, true, false, List, [], ◌∷◌, ◌++◌, ◌<◌, length, get_or, suc, Option, Some, None, option_and_then, Result, Ok, Err}
 use Rattle.std.specs.List.{list_all}
 use Rattle.std.proofs.Common.{refl, sym, ap, ◌∙◌, arith}
-use Rattle.std.proofs.lemmas.Bool.{and_parts, and_from, not-true, not_from_false, false≢true, eqb-true}
+use Rattle.std.proofs.lemmas.Bool.{and_parts, and_from, or_parts, not-true, not_from_false, false≢true, eqb-true}
 use Rattle.rj_strict.specs.Grammar.{comma, dquote, cr, lf}
 use Rattle.rj_strict.specs.Steps.{begun, step_of, end_of, step_then, verdict}
 use Rattle.rj_strict.specs.Walk.{by_byte, walk_byte, walk, over_quote, place_after, may_not_follow, all_follow, may_end}
@@ -79,10 +79,6 @@ by_tests a b r q k n m o x = if a then k else if b then n else if r then m else 
 abbrev after_tests : Bool → Bool → Bool → Place
 after_tests a b r = if a then place.Fresh else if b then place.Start else if r then place.Return else place.Inside
 
-or-none : (x y : Bool) → (x || y) ≡ false → (x ≡ false) × (y ≡ false)
-or-none true y e = absurd (false≢true (sym e))
-or-none false y e = (refl, e)
-
 fresh-row : (a b r q : Bool) → q ≡ false
     → by_tests a b r q (Some place.Fresh) (Some place.Start) (Some place.Return) (Some place.Open) (Some place.Inside) ≡ Some (after_tests a b r)
 fresh-row true b r q e = refl
@@ -112,19 +108,19 @@ return-row a true r q e f = rw (e refl) refl
 rows : (y x z a b r q : Bool) (c : ℕ) → a ≡ (c == comma) → b ≡ (c == lf) → r ≡ (c == cr) → q ≡ (c == dquote) → (b ≡ true → a ≡ false)
     → (q || (x && (b || r)) || (z && not b)) ≡ false → walk_byte (after_tests y x z) c ≡ Some (after_tests a b r)
 rows true x z a b r q c e f g h n bad =
-    let two = or-none (q || (x && (b || r))) (z && not b) bad in
-    let one = or-none q (x && (b || r)) two.0 in
+    let two = or_parts (q || (x && (b || r))) (z && not b) bad in
+    let one = or_parts q (x && (b || r)) two.0 in
     rw (sym e, sym f, sym g, sym h) (fresh-row a b r q one.0)
 rows false true z a b r q c e f g h n bad =
-    let two = or-none (q || (b || r)) (z && not b) bad in
-    let one = or-none q (b || r) two.0 in
+    let two = or_parts (q || (b || r)) (z && not b) bad in
+    let one = or_parts q (b || r) two.0 in
     rw (sym e, sym f, sym g, sym h) (start-row a b r q one.0 one.1)
 rows false false true a b r q c e f g h n bad =
-    let two = or-none (q || false) (not b) bad in
+    let two = or_parts (q || false) (not b) bad in
     rw (sym e, sym f, sym g, sym h) (return-row a b r q n two.1)
 rows false false false a b r q c e f g h n bad =
-    let two = or-none (q || false) false bad in
-    let one = or-none q false two.0 in
+    let two = or_parts (q || false) false bad in
+    let one = or_parts q false two.0 in
     rw (sym e, sym f, sym g, sym h) (inside-row a b r q one.0)
 
 no-comma : (c : ℕ) → (c == lf) ≡ true → (c == comma) ≡ false

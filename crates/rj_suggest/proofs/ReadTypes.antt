@@ -1,9 +1,9 @@
 -- The types that the columns of a table get by the lines of their own names.
 use Rattle.std.proofs.Common.{◌≡◌, ◌≢◌, ◌∙◌, ◌+◌, ◌++◌, ◌∷◌, [], ℕ, Bool, List, Option, Some, None, true, false, cond, inl, inr, refl, sym, ap, arith, not, append_assoc, length, length-append, true≢false}
-use Rattle.std.specs.Prelude.{◌&&◌, ◌||◌, nat_lt}
+use Rattle.std.specs.Prelude.{◌&&◌, ◌||◌}
 use Rattle.std.specs.List.{cons_option, filter_map, list_any}
 use Rattle.std.specs.Str.{str_eq_ignore_ascii_case, str_to_ascii_lowercase}
-use Rattle.std.proofs.lemmas.Bool.{and_parts, cases_Bool}
+use Rattle.std.proofs.lemmas.Bool.{and_parts, or_parts, cases_Bool}
 use Rattle.std.proofs.lemmas.Slice.Eq.{bytes_eq-Decides}
 use Rattle.rj_columns.specs.declared.cell.ColumnType.{ColumnType}
 use Rattle.rj_columns.specs.declared.refused.BuildRefused.{BuildRefused}
@@ -15,6 +15,7 @@ use Rattle.rj_types.specs.Columns as columns
 use Rattle.rj_types.specs.Columns.{first_kind, kind_of, label_fault, name_fault_behind, names, or_else, types_under}
 use Rattle.rj_types.specs.declared.entry.TypeEntry.{TypeEntry}
 use Rattle.rj_types.specs.Lists.{IsTypeList, is_rest}
+use Rattle.rj_types.proofs.LabelFacts.{not_empty}
 use Rattle.rj_suggest.specs.Listed.{list_in}
 use Rattle.rj_suggest.specs.Suggested.{column_lines, entries_of, entry_of, is_identifier}
 use Rattle.rj_suggest.proofs.ReadBack.{AreSome, is_list}
@@ -40,17 +41,13 @@ not_own m n d other = elim (cases_Bool (matches (a_name m d) n)) [
   | inr h ↦ h
 ]
 
-or_none : (a b : Bool) → (a || b) ≡ false → (a ≡ false) × (b ≡ false)
-or_none true b e = cc
-or_none false b e = (refl, e)
-
 -- no entry of other names names a column
 unseen : (seen : List (List ℕ)) (kinds : List ColumnType) (n : List ℕ) → list_any (str_eq_ignore_ascii_case n) seen ≡ false
     → list_any (λ e. names n e.label) (entries_of seen kinds) ≡ false
 unseen [] kinds n other = refl
 unseen (m ∷ seen) [] n other = refl
 unseen (m ∷ seen) (k ∷ kinds) n other =
-    let h = or_none (str_eq_ignore_ascii_case n m) (list_any (str_eq_ignore_ascii_case n) seen) other in
+    let h = or_parts (str_eq_ignore_ascii_case n m) (list_any (str_eq_ignore_ascii_case n) seen) other in
     ap (λ (t : Bool). t || list_any (λ e. names n e.label) (entries_of seen kinds)) (not_own m n (not (is_identifier m)) h.0) ∙ unseen seen kinds n h.1
 
 -- its own type is the first that names it
@@ -61,7 +58,7 @@ own_kind [] more [] after n k same other =
 own_kind [] more (j ∷ before) after n k same other = absurd (omega (arith, same))
 own_kind (m ∷ seen) more [] after n k same other = absurd (omega (arith, same))
 own_kind (m ∷ seen) more (j ∷ before) after n k same other =
-    let h = or_none (str_eq_ignore_ascii_case n m) (list_any (str_eq_ignore_ascii_case n) seen) other in
+    let h = or_parts (str_eq_ignore_ascii_case n m) (list_any (str_eq_ignore_ascii_case n) seen) other in
     ap (λ (t : Bool). cond t (Some j) (first_kind (names n) (entries_of (seen ++ n ∷ more) (before ++ k ∷ after)))) (not_own m n (not (is_identifier m)) h.0)
     ∙ own_kind seen more before after n k (omega (arith, same)) h.1
 
@@ -87,15 +84,11 @@ is_new seen n more e =
     let p = fault_parts (not (is_name n)) (list_any (str_eq_ignore_ascii_case n) seen) (length seen + 1) (name_fault (seen ++ n ∷ []) more) e in
     record { name = no_false (is_name n) p.0; other = p.1; rest = p.2 }
 
-some_byte : (n : List ℕ) → nat_lt 0 (length n) ≡ true → n ≢ []
-some_byte [] e is = cc
-some_byte (b ∷ n) e is = cc
-
 are_some : (seen all : List (List ℕ)) → name_fault seen all ≡ None → AreSome all
 are_some seen [] lawful = tt
 are_some seen (n ∷ all) lawful =
     let new = is_new seen n all lawful in
-    (some_byte n (and_parts _ _ (and_parts _ _ new.name).0).0, are_some (seen ++ n ∷ []) all new.rest)
+    (not_empty n (and_parts _ _ (and_parts _ _ new.name).0).0, are_some (seen ++ n ∷ []) all new.rest)
 
 one_longer : {A B : Type 0} (xs : List A) (ys : List B) (x : A) (y : B) → length xs ≡ length ys → length (xs ++ x ∷ []) ≡ length (ys ++ y ∷ [])
 one_longer xs ys x y same = omega (arith, same, length-append xs (x ∷ []), length-append ys (y ∷ []))

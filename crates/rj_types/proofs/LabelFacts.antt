@@ -73,7 +73,7 @@ regular_sound word rest text p whole e = elim (cases_Bool (is_regular word)) [
       cc
 ]
 
-not_empty : (name : List ℕ) → nat_lt 0 (length name) ≡ true → name ≢ []
+pub not_empty : (name : List ℕ) → nat_lt 0 (length name) ≡ true → name ≢ []
 not_empty [] e is = cc
 not_empty (b ∷ name) e is = cc
 

@@ -1,5 +1,5 @@
 mod EntryFacts
-mod LabelFacts
+pub mod LabelFacts
 pub mod NumberFacts
 mod OneList
 mod WordFacts

@@ -1,9 +1,9 @@
 use Rattle.std.proofs.Common.{◌<◌, ◌+◌, sym, ap, ◌∙◌, arith, length, drop}
-use Rattle.std.proofs.lemmas.List.{length-drop}
+use Rattle.std.proofs.lemmas.List.{length-drop, take_rest}
 use Rattle.rj_csv_io.specs.declared.place.Place.TheVariants as place
 use Rattle.rj_csv_io.specs.Cuts.{is_open_place, has_bom}
 use Rattle.rj_csv_io.proofs.CutFacts.{strip-plain}
-use Rattle.rj_csv_io.proofs.PlaceFacts.{rest-drop, rest-at, next-place, line-ends}
+use Rattle.rj_csv_io.proofs.PlaceFacts.{rest-at, next-place, line-ends}
 use Rattle.rj_csv_io.proofs.cut.cut_after.Goals as goal
 
 pub returns-then-not-starts_with_bom-clause-ends : goal.returns-then-not-starts_with_bom-clause-ends
@@ -12,7 +12,7 @@ returns-then-not-starts_with_bom-clause-ends c =
     let k = c.in-Some.k in
     let text = c.args.text.now in
     let size = length-drop at text in
-    let rest = ap length (rest-drop text at) in
+    let rest = ap length (take_rest text at) in
     let high = c.in-Some.ensures.0.high in
     let within : at + k < length text = omega (arith, size, rest, high) in
     let found = rw (rest-at text at k) at c.in-Some.ensures.1 in
@@ -24,7 +24,7 @@ returns-then-not-starts_with_bom-clause-unmarked c =
     let text = c.args.text.now in
     let next = c.loop-turn.at + c.in-Some.k + 1 in
     let plain = sym c.starts_with_bom.ensures.value ∙ c.if-not-starts_with_bom.true in
-    strip-plain (drop next text) (ap has_bom (sym (rest-drop text next)) ∙ plain)
+    strip-plain (drop next text) (ap has_bom (sym (take_rest text next)) ∙ plain)
 
 pub loop-turn-preserved : goal.loop-turn-preserved
 loop-turn-preserved c =
@@ -32,7 +32,7 @@ loop-turn-preserved c =
     let k = c.in-Some.k in
     let text = c.args.text.now in
     let size = length-drop at text in
-    let rest = ap length (rest-drop text at) in
+    let rest = ap length (take_rest text at) in
     let high = c.in-Some.ensures.0.high in
     let within : at + k < length text = omega (arith, size, rest, high) in
     let next = next-place place.Fresh c.loop-turn.place c.scan-place-in-loop-turn.result text at (at + k + 1) (omega arith) c.loop-turn.invariant.place c.scan-place-in-loop-turn.ensures in

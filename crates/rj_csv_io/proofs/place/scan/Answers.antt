@@ -1,7 +1,7 @@
 use Rattle.std.proofs.Common.{◌≡◌, ◌<◌, length, ◌+◌, ◌-◌, refl, sym, ap, arith, ◌∙◌}
 use Rattle.rj_csv_io.specs.Cuts.{after_quote}
-use Rattle.rj_csv_io.proofs.PlaceFacts.{no-quote, run-quote, place-none, rest-at, rest-drop}
-use Rattle.std.proofs.lemmas.List.{length-drop}
+use Rattle.rj_csv_io.proofs.PlaceFacts.{no-quote, run-quote, place-none, rest-at}
+use Rattle.std.proofs.lemmas.List.{length-drop, take_rest}
 use Rattle.rj_csv_io.proofs.place.scan.Goals as goal
 
 pub loop-turn-init : goal.loop-turn-init
@@ -10,7 +10,7 @@ loop-turn-init c = record { within = omega arith; turn = omega arith; end = refl
 pub run-requires-clause-plain : goal.run-requires-clause-plain
 run-requires-clause-plain c =
     let size = length-drop c.loop-turn.at c.args.text.now in
-    let rest = ap length (rest-drop c.args.text.now c.loop-turn.at) in
+    let rest = ap length (take_rest c.args.text.now c.loop-turn.at) in
     λ i a b. no-quote c.args.text.now c.loop-turn.at (length c.args.text.now - c.loop-turn.at) (λ k x y. c.in-None.ensures k x (omega (arith, size, rest, y))) i a (omega (arith, b, c.loop-turn.invariant.within))
 
 pub run-requires-in-Some-clause-plain : goal.run-requires-in-Some-clause-plain
@@ -20,7 +20,7 @@ run-requires-in-Some-clause-plain c =
 pub loop-turn-preserved : goal.loop-turn-preserved
 loop-turn-preserved c =
     let size = length-drop c.loop-turn.at c.args.text.now in
-    let rest = ap length (rest-drop c.args.text.now c.loop-turn.at) in
+    let rest = ap length (take_rest c.args.text.now c.loop-turn.at) in
     let high = c.in-Some.ensures.0.high in
     let within : c.loop-turn.at + c.in-Some.k < length c.args.text.now = omega (arith, size, rest, high) in
     let found = rw (rest-at c.args.text.now c.loop-turn.at c.in-Some.k) at c.in-Some.ensures.1 in

@@ -34,6 +34,7 @@ returns-clause-request c =
       hash = c.hash_of.ensures;
       choice = c.in-Ok-choice_of.ensures.choice;
       expectation = c.expectation_of.ensures;
+      report = c.is_given.ensures;
       tells_pieces = c.is_some.ensures ∙ same-given _ c.get_str-3.result c.get_str-3.ensures;
     }
 

@@ -1,6 +1,6 @@
 use Rattle.std.proofs.Common.{sym, ◌∙◌, length}
-use Rattle.std.proofs.lemmas.Bool.{eqb-true}
-use Rattle.rj_strict.proofs.CleanFacts.{follow-empty, follow-one, follow-at, or-none}
+use Rattle.std.proofs.lemmas.Bool.{eqb-true, or_parts}
+use Rattle.rj_strict.proofs.CleanFacts.{follow-empty, follow-one, follow-at}
 use Rattle.rj_strict.proofs.clean.all_may_follow.Goals as goal
 
 pub returns-then-is_empty : goal.returns-then-is_empty
@@ -11,5 +11,5 @@ loop-i-init c = λ e. follow-one c.args.before c.args.text.now (sym c.is_empty.e
 
 pub loop-i-preserved : goal.loop-i-preserved
 loop-i-preserved c = λ e.
-    let parts = or-none c.loop-i.bad c.is_bad-bad-in-loop-i.result e in
+    let parts = or_parts c.loop-i.bad c.is_bad-bad-in-loop-i.result e in
     follow-at c.args.before c.args.text.now c.loop-i.i c.loop-i.auto.i c.loop-i-test.true (c.loop-i.invariant parts.0) (sym c.is_bad-bad-in-loop-i.ensures ∙ parts.1)

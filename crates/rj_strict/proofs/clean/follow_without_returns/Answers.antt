@@ -1,7 +1,7 @@
 use Rattle.std.proofs.Common.{◌==◌, ◌&&◌, ◌-◌, sym, ◌∙◌, length, get_or, arith}
-use Rattle.std.proofs.lemmas.Bool.{eqb-true}
+use Rattle.std.proofs.lemmas.Bool.{eqb-true, or_parts}
 use Rattle.rj_strict.specs.Grammar.{lf}
-use Rattle.rj_strict.proofs.CleanFacts.{follow-empty, follow-one, follow-at, or-none, plain-pair}
+use Rattle.rj_strict.proofs.CleanFacts.{follow-empty, follow-one, follow-at, plain-pair}
 use Rattle.rj_strict.proofs.clean.follow_without_returns.Goals as goal
 
 pub returns-then-is_empty : goal.returns-then-is_empty
@@ -17,6 +17,6 @@ loop-i-preserved c = λ e.
     let here = c.loop-i-test.true in
     let before = get_or text (i - 1) 0 in
     let byte = get_or text i 0 in
-    let parts = or-none c.loop-i.bad ((before == lf) && (byte == lf)) e in
+    let parts = or_parts c.loop-i.bad ((before == lf) && (byte == lf)) e in
     let pair = plain-pair before byte (c.requires.quotes i here) (c.requires.returns i here) (c.requires.returns (i - 1) (omega (arith, here))) parts.1 in
     follow-at c.args.before text i c.loop-i.auto.i here (c.loop-i.invariant parts.0) pair

@@ -1,9 +1,9 @@
 use Rattle.std.proofs.Common.{◌≡◌, ◌<◌, ◌+◌, ◌-◌, length, take, drop, refl, sym, ap, arith, ◌∙◌, Some}
 use Rattle.std.proofs.lemmas.Bool.{eqb-true}
-use Rattle.std.proofs.lemmas.List.{length-drop, at_drop_all}
+use Rattle.std.proofs.lemmas.List.{length-drop, take_rest, at_drop_all}
 use Rattle.rj_strict.specs.Walk.{walk, over_quote}
 use Rattle.rj_strict.specs.declared.standing.Place.{Place}
-use Rattle.rj_strict.proofs.Slices.{rest-drop, rest-at}
+use Rattle.rj_strict.proofs.Slices.{rest-at}
 use Rattle.rj_strict.proofs.WalkFacts.{walk-none}
 use Rattle.rj_strict.proofs.CleanFacts.{some-is, turn}
 use Rattle.rj_strict.proofs.clean.place_behind_text.Goals as goal
@@ -14,7 +14,7 @@ loop-turn-preserved c =
     let from = c.loop-turn.at in
     let k = c.in-Some.k in
     let size = length-drop from text in
-    let rest = ap length (rest-drop text from) in
+    let rest = ap length (take_rest text from) in
     let high = c.in-Some.ensures.0.high in
     let within : from + k < length text = omega (arith, size, rest, high) in
     let found = rw (rest-at text from k) at c.in-Some.ensures.1 in

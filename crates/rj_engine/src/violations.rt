@@ -1,0 +1,176 @@
+//! By what a joined table isn't as expected.
+
+ghost use Rattle.std.specs.Prelude.{◌≡◌, ◌<◌, ◌↔◌, ℕ, All, IfOk, IsTrue, MatchOption, Some, length, map, slice_index};
+ghost use Rattle.rj_engine.specs.Expected.{AreDistinct, AreMatched, IsAsExpected};
+ghost use Rattle.rj_engine.specs.Results.{joined_of};
+ghost use Rattle.rj_engine.specs.Violations.{IsFirstRepeated, IsPairViolation, IsViolation, times};
+
+use crate::expected::has_at_most;
+use crate::joined::Joined;
+use rj_columns::Table;
+use rj_condition::BoundJoin;
+use rj_settings::{Expectation, Matching};
+use std::alloc::{AllocError, Global};
+
+/// By what a joined table isn't as expected.
+#[derive(Clone, Copy, Debug, PartialEq, Eq)]
+pub enum Violation {
+    /// It has so many rows.
+    Rows(u64),
+    /// This left row, counted from 0, is in so many kept pairs.
+    LeftRow(u32, u64),
+    /// This right row, counted from 0, is in so many kept pairs.
+    RightRow(u32, u64),
+}
+
+// How often each number below the count stands among the numbers, all of which are below it.
+fn occurrences(alloc: Global, numbers: &[u32], count: u32) -> Result<Vec<u64>, AllocError>
+    requires { All (λ n. n < count) numbers.now }
+    ensures len { IfOk result (λ v. length v.items ≡ count) }
+    ensures each { IfOk result (λ v. (k : ℕ) → k < count → slice_index v.items k ≡ times k numbers.now) }
+{
+    let mut counts = vec![in alloc; 0u64; count as usize]?;
+    for number in numbers {
+        counts[*number as usize] += 1;
+    }
+    Ok(counts)
+}
+
+// The least number that stands more than once among the numbers, all of which are below the count, and how often it does.
+fn first_repeated(
+    alloc: Global,
+    numbers: &[u32],
+    count: u32,
+) -> Result<Option<(u32, u64)>, AllocError>
+    requires { All (λ n. n < count) numbers.now }
+    ensures { IfOk result (λ o. MatchOption o (AreDistinct numbers.now) (λ p. IsFirstRepeated numbers.now p.0 p.1)) }
+{
+    let counts = occurrences(alloc, numbers, count)?;
+    for number in 0..count {
+        let often = counts[number as usize];
+        if often > 1 {
+            return Ok(Some((number, often)));
+        }
+    }
+    Ok(None)
+}
+
+fn left_numbers(alloc: Global, pairs: &[(u32, u32)]) -> Result<Vec<u32>, AllocError>
+    ensures { IfOk result (λ v. v.items ≡ map (λ p. p.0) pairs.now) }
+{
+    let numbers: Vec<u32> = pairs.iter().map(|pair| pair.0).collect(alloc)?;
+    Ok(numbers)
+}
+
+fn right_numbers(alloc: Global, pairs: &[(u32, u32)]) -> Result<Vec<u32>, AllocError>
+    ensures { IfOk result (λ v. v.items ≡ map (λ p. p.1) pairs.now) }
+{
+    let numbers: Vec<u32> = pairs.iter().map(|pair| pair.1).collect(alloc)?;
+    Ok(numbers)
+}
+
+// The first left row that is in more than one of the pairs.
+fn left_violation(
+    alloc: Global,
+    pairs: &[(u32, u32)],
+    lefts: u32,
+) -> Result<Option<Violation>, AllocError>
+    requires { All (λ p. p.0 < lefts) pairs.now }
+    ensures { IfOk result (λ o. MatchOption o (AreDistinct (map (λ p. p.0) pairs.now)) (IsPairViolation Matching.ManyToOne pairs.now)) }
+{
+    let numbers = left_numbers(alloc, pairs)?;
+    match first_repeated(alloc, numbers.as_slice(), lefts)? {
+        Some((row, often)) => Ok(Some(Violation::LeftRow(row, often))),
+        None => Ok(None),
+    }
+}
+
+// The first right row that is in more than one of the pairs.
+fn right_violation(
+    alloc: Global,
+    pairs: &[(u32, u32)],
+    rights: u32,
+) -> Result<Option<Violation>, AllocError>
+    requires { All (λ p. p.1 < rights) pairs.now }
+    ensures { IfOk result (λ o. MatchOption o (AreDistinct (map (λ p. p.1) pairs.now)) (IsPairViolation Matching.OneToMany pairs.now)) }
+{
+    let numbers = right_numbers(alloc, pairs)?;
+    match first_repeated(alloc, numbers.as_slice(), rights)? {
+        Some((row, often)) => Ok(Some(Violation::RightRow(row, often))),
+        None => Ok(None),
+    }
+}
+
+// The first left row that is in more than one of the pairs, or else the first right one.
+fn either_violation(
+    alloc: Global,
+    pairs: &[(u32, u32)],
+    lefts: u32,
+    rights: u32,
+) -> Result<Option<Violation>, AllocError>
+    requires left { All (λ p. p.0 < lefts) pairs.now }
+    requires right { All (λ p. p.1 < rights) pairs.now }
+    ensures { IfOk result (λ o. MatchOption o (AreMatched (Some Matching.OneToOne) pairs.now) (IsPairViolation Matching.OneToOne pairs.now)) }
+{
+    match left_violation(alloc, pairs, lefts)? {
+        Some(found) => Ok(Some(found)),
+        None => match right_violation(alloc, pairs, rights)? {
+            Some(found) => Ok(Some(found)),
+            None => Ok(None),
+        },
+    }
+}
+
+// The first row by which the pairs, of so many left and right rows, aren't matched so.
+fn pair_violation(
+    alloc: Global,
+    pairs: &[(u32, u32)],
+    matching: Matching,
+    lefts: u32,
+    rights: u32,
+) -> Result<Option<Violation>, AllocError>
+    requires left { All (λ p. p.0 < lefts) pairs.now }
+    requires right { All (λ p. p.1 < rights) pairs.now }
+    ensures { IfOk result (λ o. MatchOption o (AreMatched (Some matching) pairs.now) (IsPairViolation matching pairs.now)) }
+{
+    match matching {
+        Matching::ManyToOne => left_violation(alloc, pairs, lefts),
+        Matching::OneToMany => right_violation(alloc, pairs, rights),
+        Matching::OneToOne => either_violation(alloc, pairs, lefts, rights),
+    }
+}
+
+/// By what the joined table of these tables by this join isn't as expected: how many rows it has, where these are too many, and
+/// else the first row that is in more kept pairs than one, with their number: where neither a left nor a right row may be, a left
+/// one before a right one. There is none exactly where the joined table is as expected.
+///
+/// # Errors
+///
+/// Refuses only for want of memory, of which it asks eight bytes for each row of a side that may be in one pair only, and four for
+/// each pair.
+pub fn first_violation(
+    alloc: Global,
+    left: &Table,
+    right: &Table,
+    join: &BoundJoin,
+    joined: &Joined,
+    expectation: &Expectation,
+) -> Result<Option<Violation>, AllocError>
+    requires { joined.now.members ≡ joined_of join.now left.now right.now }
+    ensures { IfOk result (λ o. MatchOption o (IsAsExpected expectation.now (joined_of join.now left.now right.now))
+        (IsViolation expectation.now (joined_of join.now left.now right.now))) }
+{
+    if !has_at_most(joined, expectation.most_rows) {
+        return Ok(Some(Violation::Rows(joined.len() as u64)));
+    }
+    let Some(matching) = expectation.matching else {
+        return Ok(None);
+    };
+    pair_violation(
+        alloc,
+        joined.kept_pairs(),
+        matching,
+        left.rows() as u32,
+        right.rows() as u32,
+    )
+}
