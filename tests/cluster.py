@@ -144,12 +144,12 @@ def run_large(cluster, tally):
         words = write_tables(folder)
         known = {it.name for it in folder.iterdir()}
         wanted = harness.run([harness.program("radixjoin"), *words], folder)
-        for more in (["--parts", "5"], ["--parts", "16", "--ranges", "7", "--workers", "2"], ["--parts", "1", "--memory", "700"]):
+        for more in (["--parts", "5"], ["--parts", "16", "--ranges", "7", "--workers", "2", "--merges", "3"], ["--parts", "1", "--memory", "700"]):
             ran = ended(started(cluster, words, folder, *more))
             tally.check(f"cluster: 200,000 by 50,000 rows, {' '.join(more)}", faults_of_run(ran, folder, known, wanted))
             (folder / "out.csv").unlink(missing_ok=True)
         by_left = [*words, "--order", "left"]
-        ran = ended(started(cluster, by_left, folder, "--parts", "8"))
+        ran = ended(started(cluster, by_left, folder, "--parts", "8", "--merges", "5"))
         tally.check("cluster: 200,000 by 50,000 rows, each left row at its place", faults_of_run(ran, folder, known, harness.run([harness.program("radixjoin"), *by_left], folder)))
         (folder / "out.csv").unlink(missing_ok=True)
         running = started(cluster, words, folder, "--parts", "64", "--ranges", "12")

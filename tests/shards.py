@@ -56,8 +56,9 @@ def placed_in(words, folder):
 
 
 def faults_of(words, folder, parts, ranges, wanted):
-    """How the joined parts differ from what `radixjoin` wrote. A clause without a key is refused."""
-    ran = joined([*words, "--parts", str(parts)], folder, ranges)
+    """How the joined parts differ from what `radixjoin` wrote, merged in as many ranges as the files are divided in. A clause without a
+    key is refused."""
+    ran = joined([*words, "--parts", str(parts), "--merges", str(ranges)], folder, ranges)
     if ran.stderr == NO_KEY.encode() + b"\n":
         # (before the rows are read)
         return [] if ran.status == 4 and wanted.status in (0, 3) else [f"refused for want of a key, where radixjoin ends by {wanted.status}"]
@@ -232,6 +233,13 @@ MERGES = (
     ("each left row at its place", ["left_place,a,right_place\n0,x,\n2,z,9\n,w,2\n", "left_place,a,right_place\n1,y,5\n3,u,\n,v,0\n"], 0, b"a\nx\ny\nz\nu\nv\nw\n", "--order", "left"),
     ("pairs first, where each left row is to be at its place", ["left_place,right_place,a\n1,1,y\n0,,x\n"], 3, None, "--order=left"),
     ("a lone left row twice", ["left_place,right_place,a\n1,,y\n", "left_place,right_place,a\n1,,z\n"], 3, None, "--order=left"),
+    ("pairs of the first left rows", ["left_place,a,right_place\n0,x,5\n1,y,\n", "left_place,a,right_place\n0,z,7\n,w,2\n"], 0, b"a\nx\nz\n", "--to=1"),
+    ("pairs of later left rows, and the rows in no pair", ["left_place,a,right_place\n0,x,5\n1,y,\n", "left_place,a,right_place\n0,z,7\n,w,2\n"], 0, b"y\nw\n", "--from", "1"),
+    ("a range of left rows", ["left_place,a,right_place\n0,x,5\n1,y,\n7,t,1\n", "left_place,a,right_place\n6,z,7\n,w,2\n"], 0, b"y\nz\n", "--from=1", "--to=7", "--order=left"),
+    ("a range without rows", ["left_place,a,right_place\n0,x,5\n"], 0, b"", "--from=1", "--to=0"),
+    ("a row behind a range that has no place", ["left_place,a,right_place\n0,x,5\n1,y,0\nb,a,d\n"], 0, b"a\nx\n", "--to=1"),
+    ("a row before a range that has no place", ["left_place,a,right_place\nb,a,d\n1,y,0\n"], 3, None, "--from=1"),
+    ("a range that begins nowhere", ["left_place,right_place,a\n"], 2, None, "--from=-1"),
     ("an order that is none", ["left_place,right_place,a\n"], 2, None, "--order=right"),
 )
 

@@ -1,8 +1,8 @@
 """Joins two CSV files that are larger than one machine's memory, shard by shard, in the processes of a Dask cluster.
 
 Both files are divided by the hash of their rows' keys (the program `shards`, one task for each range of a file), the two
-parts of each shard are joined (`radixjoin`, one task a shard), and what the shards give is merged (`merges`, one task). The
-bytes written are those that `radixjoin` would write. docs/cluster.md says what of this is proved, and how to run it.
+parts of each shard are joined (`radixjoin`, one task a shard), and what the shards give is merged (`merges`, one task for each
+range of the left rows). The bytes written are those that `radixjoin` would write. docs/cluster.md says what of this is proved, and how to run it.
 
 Every task writes under a new name and renames at its end, so that a task may run twice. The parts of a shard are removed as soon
 as it is joined, and all that is half made at the end, whether it is a good one or not. It needs Dask (Debian's python3-dask and
@@ -52,7 +52,7 @@ SIDES = ("left", "right")
 # The options that may be given again.
 SEVERAL = ("--left-null", "--right-null")
 PLACES = {"left": LEFT, "right": RIGHT}
-LIMITS = (("parts", 1, 1024), ("processes", 1, 1024), ("ranges", 1, 100_000))
+LIMITS = (("parts", 1, 1024), ("processes", 1, 1024), ("ranges", 1, 100_000), ("merges", 1, 1024))
 PROGRAMS = ("radixjoin", "shards", "merges")
 # What the system tells where there is no room, which no second try changes.
 FULL = (errno.ENOSPC, errno.EDQUOT, errno.EROFS)
@@ -91,6 +91,7 @@ def read_line(words: Sequence[str]) -> argparse.Namespace:
     line.add_argument("--out", required=True, metavar="FILE", help="file of the joined table; it is there when the whole table is")
     line.add_argument("--parts", type=int, default=16, metavar="N", help="shards that the tables are divided into, 1 to 1024 [default: 16]")
     line.add_argument("--ranges", type=int, metavar="N", help="ranges of a file that are divided side by side [default: one a process]")
+    line.add_argument("--merges", type=int, metavar="N", help="ranges of the joined table that are merged side by side, by its left rows, 1 to 1024 [default: 1]")
     line.add_argument("--scratch", metavar="FOLDER", help="folder for what is half made, which every process can write [default: that of --out]")
     line.add_argument("--programs", metavar="FOLDER", help="folder of radixjoin, shards and merges [default: this tree's, or those on the PATH]")
     line.add_argument("--memory", type=int, metavar="MIB", help="address space that each program may take, in MiB [default: no limit]")
@@ -178,8 +179,9 @@ class Job:
         # The first letters of the names of results that are half made.
         self.half = os.path.join(os.path.dirname(self.out), f".{os.path.basename(scratch)}")
 
-    def run(self, name: str, words: Sequence[str], output: Any = subprocess.PIPE) -> bytes:
-        """Runs a program, and gives what it printed. What it refuses is told; that it was killed is an error, so that Dask tries again."""
+    def run(self, name: str, words: Sequence[str], output: Any = subprocess.PIPE, writes: Optional[str] = None) -> bytes:
+        """Runs a program, and gives what it printed. What it refuses is told; that it was killed is an error, so that Dask tries again.
+        What can't be written is told as what the program writes, or as the folder for what is half made."""
         begin = beginning(self.memory)
         ran = subprocess.run([self.programs[name], *words], stdin=subprocess.DEVNULL, stdout=output, stderr=subprocess.PIPE, preexec_fn=begin, check=False)
         if ran.returncode < 0:
@@ -187,7 +189,7 @@ class Job:
         if ran.returncode:
             line = ran.stderr.decode(errors="replace").rstrip("\n")
             if line.endswith(": E20 WriteDevice"):
-                raise unwritten(self.out if name == "merges" else self.folder())
+                raise unwritten(writes or self.folder())
             raise Told(line, ran.returncode, ran.stdout or b"")
         return ran.stdout
 
@@ -212,6 +214,10 @@ class Job:
     def joined(self, part: int) -> str:
         """The path of a joined shard."""
         return self.place(f"joined-{part:04}/table.csv")
+
+    def merged(self, number: int) -> str:
+        """The path of a merged range."""
+        return self.place(f"merged-{number:04}")
 
 
 def beginning(memory: Optional[int]) -> Callable[[], None]:
@@ -383,11 +389,37 @@ def count_before(job: Job, part: int, place: Place) -> int:
     return rows_before(job.joined(part), place, job.order)
 
 
+def merging(job: Job, start: Optional[int], end: Optional[int]) -> List[str]:
+    """The words for `merges` that merge the joined shards from the left row at one place up to that at another one."""
+    bounds = [f"--{name}={place}" for name, place in (("from", start), ("to", end)) if place is not None]
+    return [f"--null={job.out_null}", f"--order={job.order}", *bounds, *map(job.joined, range(job.parts))]
+
+
 def merge_shards(job: Job) -> None:
     """Merges the joined shards into the joined table."""
     try:
         with made(job.out, job.half) as new, open(new, "wb") as output:
-            job.run("merges", [f"--null={job.out_null}", f"--order={job.order}", *map(job.joined, range(job.parts))], output)
+            job.run("merges", merging(job, None, None), output, job.out)
+            os.fsync(output.fileno())
+    except OSError as error:
+        raise unwritten(job.out, error.strerror) from None
+
+
+def merge_range(job: Job, number: int, start: Optional[int], end: Optional[int]) -> None:
+    """Merges a range of the joined shards."""
+    path = job.merged(number)
+    if not os.path.exists(path):
+        with made(path) as new, open(new, "wb") as output:
+            job.run("merges", merging(job, start, end), output)
+
+
+def put_together(job: Job, count: int) -> None:
+    """Puts the merged ranges one after another into the joined table."""
+    try:
+        with made(job.out, job.half) as new, open(new, "wb") as output:
+            for number in range(count):
+                with open(job.merged(number), "rb") as merged:
+                    shutil.copyfileobj(merged, output, 1 << 20)
             os.fsync(output.fileno())
     except OSError as error:
         raise unwritten(job.out, error.strerror) from None
@@ -542,8 +574,19 @@ def ranges_of(job: Job, cluster: Any, count: int) -> Dict[str, List[Tuple[int, O
     return dict(zip(SIDES, cuts))
 
 
-def divided(job: Job, cluster: Any, count: int) -> Tuple[Dict[str, int], Dict[str, int]]:
-    """Divides both files. It gives how many ranges each has, and how many bytes the header of each's parts has."""
+def places_of_rows(starts: Sequence[int], counts: Sequence[int], numbers: Sequence[int]) -> List[int]:
+    """The places of left rows of these numbers, which rise and count from 0, in ranges that begin at these places and have so many rows."""
+    places, before, at = [], 0, 0
+    for number in numbers:
+        while number >= before + counts[at]:
+            before, at = before + counts[at], at + 1
+        places.append(starts[at] + number - before)
+    return places
+
+
+def divided(job: Job, cluster: Any, count: int, merges: int) -> Tuple[Dict[str, int], Dict[str, int], List[int]]:
+    """Divides both files. It gives how many ranges each has, how many bytes the header of each's parts has, and at which places of
+    left rows the merge is cut into so many ranges or fewer, of about as many left rows each."""
     ranges = ranges_of(job, cluster, count)
     tasks = {side: [(divide, job, side, number, *it) for number, it in enumerate(ranges[side])] for side in SIDES}
     answers = cluster.answers([*tasks["left"], *tasks["right"]])
@@ -559,7 +602,10 @@ def divided(job: Job, cluster: Any, count: int) -> Tuple[Dict[str, int], Dict[st
             refuse_taken_names(job)
         raise
     refuse_taken_names(job)
-    return {side: len(ranges[side]) for side in SIDES}, {side: of_side[side][0][1] for side in SIDES}
+    counts = [rows for rows, _ in of_side["left"]]
+    numbers = sorted({sum(counts) * it // merges for it in range(1, merges)} - {0})
+    cuts = places_of_rows([start for start, _ in ranges["left"]], counts, numbers)
+    return {side: len(ranges[side]) for side in SIDES}, {side: of_side[side][0][1] for side in SIDES}, cuts
 
 
 def refuse_ambiguous(job: Job, cluster: Any, parts: Sequence[int]) -> None:
@@ -572,16 +618,26 @@ def refuse_ambiguous(job: Job, cluster: Any, parts: Sequence[int]) -> None:
     raise Told(f"radixjoin: E28 AmbiguousNull row {sum(before) + 1} column {column}", 3)
 
 
-def run(job: Job, cluster: Any, count: int) -> None:
+def merge_all(job: Job, cluster: Any, cuts: Sequence[int]) -> None:
+    """Merges the joined shards, in ranges that are cut at these places where there are any."""
+    if not cuts:
+        first_fault(cluster.answers([(merge_shards, job)]))
+        return
+    ranges = zip([None, *cuts], [*cuts, None])
+    first_fault(cluster.answers([(merge_range, job, number, *it) for number, it in enumerate(ranges)]))
+    first_fault(cluster.answers([(put_together, job, len(cuts) + 1)]))
+
+
+def run(job: Job, cluster: Any, count: int, merges: int) -> None:
     """Divides, joins and merges."""
     with output_of(job):
-        ranges, headers = divided(job, cluster, count)
+        ranges, headers, cuts = divided(job, cluster, count, merges)
         joined = cluster.answers([(join_shard, job, part, ranges, headers) for part in range(job.parts)])
         first_fault(joined)
         ambiguous = [part for part, has_cell in enumerate(joined) if has_cell]
         if ambiguous:
             refuse_ambiguous(job, cluster, ambiguous)
-        first_fault(cluster.answers([(merge_shards, job)]))
+        merge_all(job, cluster, cuts)
 
 
 @contextlib.contextmanager
@@ -604,7 +660,7 @@ def run_in(asked: argparse.Namespace, cluster: contextlib.AbstractContextManager
     """Joins as asked by the processes of a cluster, in a scratch folder that is removed at the end."""
     folder = str(Path(asked.scratch or Path(asked.out).resolve().parent).resolve())
     with scratch_in(folder) as scratch, cluster as it:
-        run(Job(asked, scratch), it, asked.ranges or it.processes())
+        run(Job(asked, scratch), it, asked.ranges or it.processes(), asked.merges or 1)
 
 
 def join(
@@ -623,6 +679,7 @@ def join(
     strict: Union[bool, str] = False,
     parts: int = 16,
     ranges: Optional[int] = None,
+    merges: Optional[int] = None,
     scratch: Union[str, os.PathLike[str], None] = None,
     programs: Union[str, os.PathLike[str], None] = None,
     memory: Optional[int] = None,
@@ -634,8 +691,8 @@ def join(
 
     The arguments are the options of the command line `radixjoin-cluster` (docs/cluster.md): `left_null` and `right_null`, a text or
     up to four, and `out_null`, in place of `null`; `strict`, True or "full", has files refused that aren't of RFC 4180's grammar;
-    `parts` that the tables are divided into (1 to 1,024), `ranges` of a file that are divided side by side, `memory` in MiB for
-    each program; `workers` and other options of the join of each shard go to `radixjoin`. Types are a list, a text as the program
+    `parts` that the tables are divided into (1 to 1,024), `ranges` of a file that are divided side by side, `merges`, the
+    ranges of the joined table that are merged side by side, `memory` in MiB for each program; `workers` and other options of the join of each shard go to `radixjoin`. Types are a list, a text as the program
     has it (`"int,text"`, `"id=int,*=text"`, `"@FILE"`), or a mapping by name, in which `*` stands for all other columns.
 
     Raises:
@@ -652,7 +709,7 @@ def join(
     where = {"left": left, "right": right, "out": output, "scratch": scratch, "programs": programs}
     if strict not in (True, False, "full"):
         raise ValueError(f"strict={strict!r} is none of True, False and 'full'")
-    how = {"strict": "on" if strict is True else strict or None, "parts": parts, "ranges": ranges, "memory": memory, "progress": progress}
+    how = {"strict": "on" if strict is True else strict or None, "parts": parts, "ranges": ranges, "merges": merges, "memory": memory, "progress": progress}
     asked = argparse.Namespace(join=clause, processes=1, **how, **where, **types, **nulls, **each)
     for name, least, most in beyond(asked):
         raise ValueError(f"{name}= is from {least} to {most}")

@@ -5,15 +5,25 @@
 mod failure;
 
 use crate::failure::Failure;
-use clap::{Arg, ArgAction, ArgMatches, Command};
+use clap::{Arg, ArgAction, ArgMatches, Command, value_parser};
 use rj_csv_io::{CountedWriter, is_lawful_null};
 use rj_fault::{VERSION, read_words, tell, texts_of};
-use rj_merge::{MergeOptions, Patient, RowOrder, merge_texts};
+use rj_merge::{MergeOptions, Patient, Place, RowOrder, merge_texts};
 use std::alloc::{AllocError, Global};
 use std::env::Env;
 use std::fs::{self, Files};
 use std::io;
 use std::process::ExitCode;
+
+// An option that takes the place of a left row.
+fn bound<'a>(alloc: Global, name: &'a str, help: &'a str) -> Arg<'a> {
+    Arg::new(alloc, name)
+        .long(name)
+        .value_name("PLACE")
+        .action(ArgAction::Set)
+        .value_parser(value_parser!(u64))
+        .help(help)
+}
 
 fn line_command<'a>(alloc: Global) -> Result<Command<'a>, AllocError> {
     let null = Arg::new(alloc, "null")
@@ -29,6 +39,16 @@ fn line_command<'a>(alloc: Global) -> Result<Command<'a>, AllocError> {
         .help(
             "Order of the rows, in each file and in what is written: pairs before rows in no pair, or each left row at its place [default: pairs]",
         );
+    let from = bound(
+        alloc,
+        "from",
+        "Left place that the rows begin with, without the header [default: the beginning]",
+    );
+    let to = bound(
+        alloc,
+        "to",
+        "Left place that the rows end before [default: the end]",
+    );
     let files = Arg::new(alloc, "files")
         .value_name("FILE")
         .num_args(1..)
@@ -40,6 +60,8 @@ fn line_command<'a>(alloc: Global) -> Result<Command<'a>, AllocError> {
         .no_binary_name(true)
         .arg(null)?
         .arg(order)?
+        .arg(from)?
+        .arg(to)?
         .arg(files)
 }
 
@@ -48,6 +70,24 @@ fn order_of(matches: &ArgMatches<'_>) -> RowOrder {
     match matches.get_str("order") {
         Some("left") => RowOrder::LeftFirst,
         _ => RowOrder::PairsFirst,
+    }
+}
+
+// The least place of the rows of the left row that an option names, if it is given.
+fn bound_of(matches: &ArgMatches<'_>, name: &str) -> Option<Place> {
+    match matches.get_one::<u64>(name) {
+        Some(left) => Some(Place::Pair(left, 0)),
+        None => None,
+    }
+}
+
+// How the files are merged.
+fn options_of<'n>(matches: &ArgMatches<'_>, null: &'n str) -> MergeOptions<'n> {
+    MergeOptions {
+        null: null.as_bytes(),
+        order: order_of(matches),
+        from: bound_of(matches, "from"),
+        to: bound_of(matches, "to"),
     }
 }
 
@@ -77,7 +117,7 @@ where
 fn merge_files<R: Files + AllocGlobal + Print>(
     rt: &R,
     null: &str,
-    order: RowOrder,
+    how: MergeOptions<'_>,
     files: &[&str],
 ) -> Result<(), Failure>
 where
@@ -91,10 +131,6 @@ where
         return Err(Failure::FileCount);
     }
     let mut output = CountedWriter::new(io::writer(rt));
-    let how = MergeOptions {
-        null: null.as_bytes(),
-        order,
-    };
     match merge_texts(rt.alloc(), inputs, how, &mut output) {
         Ok(()) => Ok(()),
         Err(refused) => Err(Failure::of(rt.alloc(), files, refused)),
@@ -116,7 +152,7 @@ where
     };
     let null = matches.get_str("null").unwrap_or("");
     let files = matches.get_strs("files").unwrap_or(&[]);
-    merge_files(rt, null, order_of(&matches), files)
+    merge_files(rt, null, options_of(&matches, null), files)
 }
 
 // Reads the command line, and merges.

@@ -8,4 +8,7 @@ pub mod HeaderFacts
 pub mod WrittenFacts
 pub mod OpeningFacts
 pub mod PutFacts
+pub mod RangeFacts
+pub mod CutFacts
+pub mod RangeLaws
 pub mod MergedFacts

@@ -16,12 +16,12 @@ use Rattle.rj_merge.specs.declared.refused.MergeRefused.{MergeRefused}
 use Rattle.rj_merge.specs.declared.refused.MergeRefused.TheVariants as refused
 use Rattle.rj_merge.specs.Headers.{place_columns}
 use Rattle.rj_merge.specs.Inputs.{faults_of_readings, first_header, input_reading, readings, rows_of_readings}
-use Rattle.rj_merge.specs.MergedTexts.{HaveNoFault, IsFaultOfTexts, IsMergedText, records_text}
+use Rattle.rj_merge.specs.MergedTexts.{HaveNoFault, IsFaultOfTexts, IsMergedText, head_rows, records_text}
 use Rattle.rj_merge.specs.Merging.{faults_of_inputs, rows_of_inputs}
 use Rattle.rj_merge.specs.Sources.{Reading}
 use Rattle.rj_merge.specs.Texts.{others}
 use Rattle.rj_merge.specs.Wholes.{HasTwice, IsMerge}
-use Rattle.rj_merge.proofs.WrittenFacts.{under-header}
+use Rattle.rj_merge.proofs.WrittenFacts.{under-head}
 
 module _ {R : Type 0} (known : R → Option (List ℕ)) (how : MergeOptions) (texts : List (List ℕ)) (sources : List (TextSource R)) (given : readings how texts ≡ map (input_reading known) sources) where
   rows_given : rows_of_readings (readings how texts) ≡ rows_of_inputs (input_reading known) sources
@@ -33,14 +33,14 @@ module _ {R : Type 0} (known : R → Option (List ℕ)) (how : MergeOptions) (te
   lists_given : map (λ (r : Reading (List (List ℕ))). r.rows) (readings how texts) ≡ map (λ s. (input_reading known s).rows) sources
   lists_given = ap (map (λ (r : Reading (List (List ℕ))). r.rows)) given ∙ map-map (λ (r : Reading (List (List ℕ))). r.rows) (input_reading known) sources
 
-  pub merged : (columns : Columns) (first names : List (List ℕ)) (rows : List (Placed (List (List ℕ)))) → first ≡ first_header texts → place_columns first ≡ Some columns → names ≡ others columns first
-      → IsMerge (map (λ s. (input_reading known s).rows) sources) rows → IsMergedText how texts (row_text default_writer names ++ records_text rows)
-  merged columns first names rows is places named merge = record {
+  pub merged : (columns : Columns) (first : List (List ℕ)) (rows : List (Placed (List (List ℕ)))) → first ≡ first_header texts → place_columns first ≡ Some columns
+      → IsMerge (map (λ s. (input_reading known s).rows) sources) rows → IsMergedText how texts (rows_text (head_rows how.from (others columns first)) ++ records_text rows)
+  merged columns first rows is places merge = record {
     columns = columns;
     rows = rows;
     places = ap place_columns (sym is) ∙ places;
     merge = subst (λ l. IsMerge l rows) (sym lists_given) merge;
-    shown = under-header names rows ∙ ap (λ (h : List (List ℕ)). rows_text (h ∷ map (λ p. p.row) rows)) (named ∙ ap (others columns) is);
+    shown = under-head (head_rows how.from (others columns first)) rows ∙ ap (λ (h : List (List ℕ)). rows_text (head_rows how.from (others columns h) ++ map (λ p. p.row) rows)) is;
   }
 
   pub faultless : faults_of_inputs (input_reading known) sources ≡ [] → HaveNoFault how texts

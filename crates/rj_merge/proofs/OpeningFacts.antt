@@ -17,6 +17,7 @@ use Rattle.rj_merge.specs.declared.refused.MergeRefused.{MergeRefused}
 use Rattle.rj_merge.specs.declared.refused.MergeRefused.TheVariants as refused
 use Rattle.rj_merge.specs.Headers.{place_columns}
 use Rattle.rj_merge.specs.Inputs.{faults_of_readings, first_header, first_record, input_reading, input_tells, reading_of, reading_of_records, readings, readings_from}
+use Rattle.rj_merge.specs.Ranges.{fault_before, reading_within, rows_before}
 use Rattle.rj_merge.specs.Sources.{Reading}
 use Rattle.rj_merge.specs.Texts.{read_rows}
 use Rattle.rj_merge.proofs.HeadFacts.{fault_first}
@@ -27,7 +28,7 @@ module _ (how : MergeOptions) (first : List (List ℕ)) (input : ℕ) where
   of-none records e = rw e refl
 
   pub of-header : (records more : List (List (List ℕ))) (header : List (List ℕ)) (columns : Columns) → records ≡ header ∷ more → pointwise bytes_eq header first ≡ true
-      → place_columns first ≡ Some columns → reading_of_records how first input records ≡ read_rows how columns input 0 None more
+      → place_columns first ≡ Some columns → reading_of_records how first input records ≡ reading_within how (read_rows how columns input 0 None more)
   of-header records more header columns e same places = rw (e, same, places) refl
 
   pub of-other : (records more : List (List (List ℕ))) (header : List (List ℕ)) → records ≡ header ∷ more → pointwise bytes_eq header first ≡ false
@@ -39,7 +40,7 @@ own_header : (header : List (List ℕ)) → pointwise bytes_eq header header ≡
 own_header header = (pointwise_decides (λ x y. let d = bytes_eq-Decides x y in (d.0, d.1)) header header).1 refl
 
 module _ (how : MergeOptions) (input : ℕ) (records more : List (List (List ℕ))) (header : List (List ℕ)) (is : records ≡ header ∷ more) where
-  pub of-first : (columns : Columns) → place_columns header ≡ Some columns → reading_of_records how (first_record records) input records ≡ read_rows how columns input 0 None more
+  pub of-first : (columns : Columns) → place_columns header ≡ Some columns → reading_of_records how (first_record records) input records ≡ reading_within how (read_rows how columns input 0 None more)
   of-first columns places = rw (is, own_header header, places) refl
 
   pub of-unplaced : place_columns header ≡ None → (reading_of_records how (first_record records) input records).fault ≡ Some (refused.NoPlaces input)

@@ -1,6 +1,7 @@
 -- What a writer of records, and an output behind it, got by one more record.
-use Rattle.std.proofs.Common.{◌≡◌, ◌≢◌, ◌∙◌, ℕ, List, [], ◌∷◌, ◌++◌, map, Option, Some, None, Bool, true, false, Result, Ok, Err, refl, sym, ap, append_assoc, Vec, Global}
+use Rattle.std.proofs.Common.{◌≡◌, ◌≢◌, ◌∙◌, ℕ, List, [], ◌∷◌, ◌++◌, map, Option, Some, None, Bool, true, false, Result, Ok, Err, refl, sym, ap, subst, append_assoc, Vec, Global}
 use Rattle.std.specs.Prelude.{OnOk, not, ◌&&◌}
+use Rattle.std.specs.Option.{is_some}
 use Rattle.std.specs.Result.{is_ok}
 use Rattle.std.specs.Io.KnownBytes.{Appends}
 use Rattle.std.proofs.KnownBytes.{Appends-nil}
@@ -12,8 +13,9 @@ use Rattle.csv.specs.declared.writer.WriterBuilder.{WriterBuilder}
 use Rattle.csv.specs.Writing.{default_writer, row_text, is_blank, text_written, writer_setup, fields_written, has_written}
 use Rattle.rj_csv_io.specs.Shown.{rows_text}
 use Rattle.rj_csv_io.specs.Written.{HasWritten}
+use Rattle.rj_merge.specs.declared.place.Place.{Place}
 use Rattle.rj_merge.specs.declared.place.Placed.{Placed}
-use Rattle.rj_merge.specs.MergedTexts.{IsTold, records_text}
+use Rattle.rj_merge.specs.MergedTexts.{IsTold, head_rows, records_text}
 
 abbrev known : Vec ℕ Global → Option (List ℕ)
 known v = Some v.items
@@ -76,7 +78,7 @@ told-more start text row a b told t write = record {
 pub told-all : (start : Option (List ℕ)) (text : List ℕ) (block : Writer (Vec ℕ Global)) (told : Option (List ℕ)) → Appends start told text → HasWritten block [] [] → IsTold start text block told
 told-all start text block told got written = record { put = text; kept = []; whole = sym (append-nil text); got = got; written = written }
 
-rows_text-append : (xs ys : List (List (List ℕ))) → rows_text (xs ++ ys) ≡ rows_text xs ++ rows_text ys
+pub rows_text-append : (xs ys : List (List (List ℕ))) → rows_text (xs ++ ys) ≡ rows_text xs ++ rows_text ys
 unfolding rows_text
 rows_text-append [] ys = refl
 rows_text-append (x ∷ xs) ys = ap (λ t. row_text default_writer x ++ t) (rows_text-append xs ys) ∙ sym (append_assoc (row_text default_writer x) (rows_text xs) (rows_text ys))
@@ -95,6 +97,23 @@ records-more text rows row =
     append_assoc text (records_text rows) (row_text default_writer row.row)
     ∙ ap (λ t. text ++ t) (sym (ap rows_text (map-append (λ (p : Placed (List (List ℕ))). p.row) rows (row ∷ [])) ∙ rows_text-append (map (λ p. p.row) rows) (row.row ∷ []) ∙ ap (λ t. records_text rows ++ t) (rows_text-one row.row)))
 
-pub under-header : (header : List (List ℕ)) (rows : List (Placed (List (List ℕ)))) → row_text default_writer header ++ records_text rows ≡ rows_text (header ∷ map (λ p. p.row) rows)
+pub under-head : (head : List (List (List ℕ))) (rows : List (Placed (List (List ℕ)))) → rows_text head ++ records_text rows ≡ rows_text (head ++ map (λ p. p.row) rows)
+under-head head rows = sym (rows_text-append head (map (λ p. p.row) rows))
+
+-- the text of one row, and of none
+pub one-row : (header : List (List ℕ)) → row_text default_writer header ≡ rows_text (header ∷ [])
+one-row header = sym (rows_text-one header)
+
+pub no-row : rows_text [] ≡ []
 unfolding rows_text
-under-header header rows = refl
+no-row = refl
+
+-- a block that begins with a header, or with none
+pub begun-later : (from : Option Place) (header : List (List ℕ)) (w : Writer (Vec ℕ Global)) → is_some from ≡ true → HasWritten w [] [] → HasWritten w (rows_text (head_rows from header)) []
+begun-later None header w is h = absurd (false≢true is)
+begun-later (Some place) header w is h = subst (λ t. HasWritten w t []) (sym no-row) h
+
+pub begun-first : (from : Option Place) (header names : List (List ℕ)) (w : Writer (Vec ℕ Global)) → is_some from ≡ false → names ≡ header → HasWritten w (row_text default_writer names) []
+    → HasWritten w (rows_text (head_rows from header)) []
+begun-first None header names w is same h = subst (λ t. HasWritten w t []) (ap (row_text default_writer) same ∙ one-row header) h
+begun-first (Some place) header names w is same h = absurd (false≢true (sym is))

@@ -13,6 +13,7 @@ use Rattle.rj_merge.specs.declared.place.Placed.{Placed}
 use Rattle.rj_merge.specs.declared.refused.MergeRefused.{MergeRefused}
 use Rattle.rj_merge.specs.declared.refused.MergeRefused.TheVariants as refused
 use Rattle.rj_merge.specs.Headers.{place_columns}
+use Rattle.rj_merge.specs.Ranges.{reading_within}
 use Rattle.rj_merge.specs.Sources.{Reading}
 use Rattle.rj_merge.specs.Texts.{read_rows}
 
@@ -20,19 +21,23 @@ use Rattle.rj_merge.specs.Texts.{read_rows}
 abbrev pub input_tells : {R : Type 0} → (R → Option (List ℕ)) → TextSource R → Type 0
 input_tells known s = s.ended ≡ false → IsBetween known s.reader.value
 
--- what it still gives
-abbrev pub input_reading : {R : Type 0} → (R → Option (List ℕ)) → TextSource R → Reading (List (List ℕ))
-input_reading known s =
+-- what its records still are
+abbrev pub records_reading : {R : Type 0} → (R → Option (List ℕ)) → TextSource R → Reading (List (List ℕ))
+records_reading known s =
     if s.ended then record { rows = []; fault = None } else read_rows s.how s.columns s.input s.row s.last (records_remaining known s.reader.value)
+
+-- what it still gives: of these rows those within the range
+abbrev pub input_reading : {R : Type 0} → (R → Option (List ℕ)) → TextSource R → Reading (List (List ℕ))
+input_reading known s = reading_within s.how (records_reading known s)
 
 -- no rows, and this fault
 abbrev pub only_fault : MergeRefused → Reading (List (List ℕ))
 only_fault e = record { rows = []; fault = Some e }
 
--- the rows of the records under a header, where it has the columns of the places
+-- the rows of the records under a header that are within the range, where it has the columns of the places
 abbrev pub under_header : MergeOptions → ℕ → Option Columns → List (List (List ℕ)) → Reading (List (List ℕ))
 under_header how input None records = only_fault (refused.NoPlaces input)
-under_header how input (Some columns) records = read_rows how columns input 0 None records
+under_header how input (Some columns) records = reading_within how (read_rows how columns input 0 None records)
 
 -- what records give, the first of which has to be the header of the first input
 abbrev pub reading_of_records : MergeOptions → List (List ℕ) → ℕ → List (List (List ℕ)) → Reading (List (List ℕ))

@@ -2,6 +2,7 @@ pub mod Places
 pub mod Sources
 pub mod Merging
 pub mod Wholes
+pub mod Ranges
 pub mod Texts
 pub mod Headers
 pub mod Inputs

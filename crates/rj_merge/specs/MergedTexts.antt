@@ -1,5 +1,5 @@
 -- The merge of texts, as a text, and what stands in the way of it.
-use Rattle.std.specs.Prelude.{◌≡◌, ◌⊎◌, ℕ, List, [], ◌∷◌, ◌++◌, map, Option, Some, Contains}
+use Rattle.std.specs.Prelude.{◌≡◌, ◌⊎◌, ℕ, List, [], ◌∷◌, ◌++◌, map, Option, None, Some, Contains}
 use Rattle.std.specs.Io.KnownBytes.{Appends}
 use Rattle.std.specs.declared.alloc.Global.{Global}
 use Rattle.std.specs.declared.vec.Vec.{Vec}
@@ -14,6 +14,7 @@ use Rattle.rj_merge.specs.declared.refused.MergeRefused.{MergeRefused}
 use Rattle.rj_merge.specs.declared.refused.MergeRefused.TheVariants as refused
 use Rattle.rj_merge.specs.Headers.{place_columns}
 use Rattle.rj_merge.specs.Inputs.{faults_of_readings, first_header, readings, rows_of_readings}
+use Rattle.rj_merge.specs.Ranges.{between}
 use Rattle.rj_merge.specs.Texts.{others}
 use Rattle.rj_merge.specs.Wholes.{HasTwice, IsMerge}
 
@@ -21,13 +22,27 @@ use Rattle.rj_merge.specs.Wholes.{HasTwice, IsMerge}
 abbrev pub records_text : List (Placed (List (List ℕ))) → List ℕ
 records_text rows = rows_text (map (λ p. p.row) rows)
 
--- the text of a merge of texts: their header without the columns of the places, and under it the merge of their rows
+-- the header stands above rows that begin nowhere, and not above a later range
+abbrev pub head_rows : Option Place → List (List ℕ) → List (List (List ℕ))
+head_rows None header = header ∷ []
+head_rows (Some from) header = []
+
+-- the text of a merge of texts within a range: their header without the columns of the places, if the range begins nowhere, and
+-- under it the merge of their rows within it
 pub record IsMergedText (how : MergeOptions) (texts : List (List ℕ)) (text : List ℕ) : Type 0 where
   pub columns : Columns
   pub rows : List (Placed (List (List ℕ)))
   pub places : place_columns (first_header texts) ≡ Some columns
   pub merge : IsMerge (map (λ r. r.rows) (readings how texts)) rows
-  pub shown : text ≡ rows_text (others columns (first_header texts) ∷ map (λ p. p.row) rows)
+  pub shown : text ≡ rows_text (head_rows how.from (others columns (first_header texts)) ++ map (λ p. p.row) rows)
+
+-- texts are those of the merges of the ranges between these cuts, the first from this place on, the last to the end
+abbrev pub AreRanges : MergeOptions → List (List ℕ) → Option Place → List Place → List (List ℕ) → Type 0
+AreRanges how texts from [] [] = ⊥
+AreRanges how texts from [] (part ∷ []) = IsMergedText (between how from None) texts part
+AreRanges how texts from [] (part ∷ more ∷ parts) = ⊥
+AreRanges how texts from (cut ∷ cuts) [] = ⊥
+AreRanges how texts from (cut ∷ cuts) (part ∷ parts) = IsMergedText (between how from (Some cut)) texts part × AreRanges how texts (Some cut) cuts parts
 
 -- no text has a fault
 abbrev pub HaveNoFault : MergeOptions → List (List ℕ) → Type 0

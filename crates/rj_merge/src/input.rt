@@ -1,12 +1,13 @@
 //! An input of a merge that is a text of CSV, read record by record.
 
-ghost use Rattle.std.specs.Prelude.{◌≡◌, ◌+◌, ◌∷◌, [], None, false, true, Ok, Err, IfOk, IfErr, MatchBool, if◌then◌else◌, IsTrue};
+ghost use Rattle.std.specs.Prelude.{◌≡◌, ◌+◌, ◌∷◌, [], None, Some, false, true, Ok, Err, IfOk, IfErr, IfSome, OnOk, MatchBool, if◌then◌else◌, IsTrue};
 ghost use Rattle.csv.specs.Records.{fields_of};
 ghost use Rattle.rj_csv_io.specs.Remaining.{IsBetween, records_remaining};
-ghost use Rattle.rj_merge.specs.Inputs.{input_reading, input_tells};
+ghost use Rattle.rj_merge.specs.Inputs.{input_reading, input_tells, records_reading};
 ghost use Rattle.rj_merge.specs.Places.{IsAbove};
+ghost use Rattle.rj_merge.specs.Ranges.{reading_within};
 ghost use Rattle.rj_merge.specs.Sources.{is_outside};
-ghost use Rattle.rj_merge.specs.Texts.{read_row, read_rows};
+ghost use Rattle.rj_merge.specs.Texts.{others, read_row, read_rows};
 
 use crate::columns::Columns;
 use crate::fields::Fields;
@@ -39,19 +40,19 @@ pub(crate) fn next_record<R: Read>(
     }
 }
 
-// The row that a record is, behind a row of this place, if there is one.
-fn placed_row(
-    alloc: Global,
+// The place of the row that a record is, behind a row of this place, if there is one.
+fn place_of_row(
     input: u32,
     row: u64,
     before: Option<Place>,
     fields: &ByteRecord,
     columns: Columns,
     how: MergeOptions<'_>,
-) -> Result<Placed<Fields>, MergeRefused>
-    ensures row { IfOk result (λ p. read_row how.entry columns input row before (fields_of fields.now) ≡ Ok p) }
-    ensures rises { IfOk result (λ p. IsAbove before p.place) }
-    ensures fault { IfErr result (λ e. is_outside e ≡ false → read_row how.entry columns input row before (fields_of fields.now) ≡ Err e) }
+) -> Result<Place, MergeRefused>
+    ensures row { IfOk result (λ p. read_row how.entry columns input row before (fields_of fields.now)
+        ≡ Ok record { place = p; row = others columns (fields_of fields.now) }) }
+    ensures rises { IfOk result (λ p. IsAbove before p) }
+    ensures fault { IfErr result (λ e. read_row how.entry columns input row before (fields_of fields.now) ≡ Err e) }
 {
     if fields.len() != columns.width {
         return Err(MergeRefused::RaggedRow(input, row));
@@ -63,10 +64,7 @@ fn placed_row(
     if !stands_above(before, place) {
         return Err(MergeRefused::NotInOrder(input, row));
     }
-    match Fields::without_place(alloc, fields, columns) {
-        Ok(row) => Ok(Placed { place, row }),
-        Err(_) => Err(MergeRefused::Memory),
-    }
+    Ok(place)
 }
 
 /// An input that is a text of CSV whose header was read already.
@@ -94,7 +92,8 @@ impl<'n, R: Read + Drop> TextSource<'n, R> {
         input: u32,
     ) -> TextSource<'n, R>
         ensures tells { IsBetween R.remaining reader.value → input_tells R.remaining result }
-        ensures reading { input_reading R.remaining result ≡ read_rows how.entry columns input 0 None (records_remaining R.remaining reader.value) }
+        ensures reading { input_reading R.remaining result
+            ≡ reading_within how.entry (read_rows how.entry columns input 0 None (records_remaining R.remaining reader.value)) }
     {
         TextSource {
             alloc,
@@ -108,18 +107,23 @@ impl<'n, R: Read + Drop> TextSource<'n, R> {
             ended: false,
         }
     }
-}
 
-impl<'n, R: Read + Drop> Source for TextSource<'n, R> {
-    type Row = Fields;
-
-    ghost tells = { input_tells R.remaining };
-
-    ghost reading = { input_reading R.remaining };
-
-    ghost last = { λ s. s.last };
-
-    fn next(&mut self) -> Result<Option<Placed<Fields>>, MergeRefused> {
+    // Reads the next row, whose fields then stand in `fields`, and gives its place; or `None` behind the last one.
+    fn next_place(&mut self) -> Result<Option<Place>, MergeRefused>
+        ensures tells { OnOk result (input_tells R.remaining self.old → input_tells R.remaining self.new) }
+        ensures how { OnOk result (self.new.how ≡ self.old.how) }
+        ensures columns { OnOk result (self.new.columns ≡ self.old.columns) }
+        ensures alloc { OnOk result (self.new.alloc ≡ self.old.alloc) }
+        ensures some { IfOk result (λ o. IfSome o (λ p. input_tells R.remaining self.old
+            → ((records_reading R.remaining self.old).rows
+            ≡ record { place = p; row = others self.old.columns (fields_of self.new.fields) } ∷ (records_reading R.remaining self.new).rows)
+            × ((records_reading R.remaining self.old).fault ≡ (records_reading R.remaining self.new).fault))) }
+        ensures end { result ≡ Ok None → input_tells R.remaining self.old
+            → ((records_reading R.remaining self.old).rows ≡ []) × ((records_reading R.remaining self.old).fault ≡ None) }
+        ensures fault { IfErr result (λ e. is_outside e ≡ false → input_tells R.remaining self.old
+            → ((records_reading R.remaining self.old).rows ≡ []) × ((records_reading R.remaining self.old).fault ≡ Some e)) }
+        ensures rises { IfOk result (λ o. IfSome o (λ p. IsAbove self.old.last p × (self.new.last ≡ Some p))) }
+    {
         if self.ended {
             return Ok(None);
         }
@@ -134,8 +138,7 @@ impl<'n, R: Read + Drop> Source for TextSource<'n, R> {
         let Some(row) = self.row.checked_add(1) else {
             return Err(MergeRefused::Memory);
         };
-        match placed_row(
-            self.alloc,
+        match place_of_row(
             self.input,
             row,
             self.last,
@@ -143,12 +146,44 @@ impl<'n, R: Read + Drop> Source for TextSource<'n, R> {
             self.columns,
             self.how,
         ) {
-            Ok(placed) => {
+            Ok(place) => {
                 self.row = row;
-                self.last = Some(placed.place);
-                Ok(Some(placed))
+                self.last = Some(place);
+                Ok(Some(place))
             }
             Err(e) => Err(e),
         }
+    }
+}
+
+impl<'n, R: Read + Drop> Source for TextSource<'n, R> {
+    type Row = Fields;
+
+    ghost tells = { input_tells R.remaining };
+
+    ghost reading = { input_reading R.remaining };
+
+    ghost last = { λ s. s.last };
+
+    fn next(&mut self) -> Result<Option<Placed<Fields>>, MergeRefused> {
+        'rows: for _turn in 0..u64::MAX {
+            let place = match self.next_place() {
+                Ok(Some(place)) => place,
+                Ok(None) => return Ok(None),
+                Err(e) => return Err(e),
+            };
+            if !self.how.is_before(place) {
+                self.ended = true;
+                return Ok(None);
+            }
+            if !self.how.is_from(place) {
+                continue;
+            }
+            match Fields::without_place(self.alloc, &self.fields, self.columns) {
+                Ok(row) => return Ok(Some(Placed { place, row })),
+                Err(_) => return Err(MergeRefused::Memory),
+            }
+        }
+        Err(MergeRefused::Memory)
     }
 }

@@ -1,5 +1,9 @@
 //! How texts of placed rows are merged.
 
+ghost use Rattle.std.specs.Prelude.{◌≡◌};
+ghost use Rattle.rj_merge.specs.Ranges.{is_before, is_from};
+
+use crate::place::Place;
 use rj_settings::RowOrder;
 
 /// How texts of placed rows are merged.
@@ -9,4 +13,30 @@ pub struct MergeOptions<'n> {
     pub null: &'n [u8],
     /// The order of the rows, in each text and in the merge.
     pub order: RowOrder,
+    /// The first place of the rows that are merged, or `None` where they begin nowhere.
+    pub from: Option<Place>,
+    /// The place that the rows which are merged end before, or `None` where they end nowhere.
+    pub to: Option<Place>,
+}
+
+impl<'n> MergeOptions<'n> {
+    // Whether a place isn't below the first one of the range.
+    pub(crate) fn is_from(&self, place: Place) -> bool
+        ensures { result ≡ is_from self.now.from place }
+    {
+        match self.from {
+            Some(first) => place >= first,
+            None => true,
+        }
+    }
+
+    // Whether a place is below the end of the range.
+    pub(crate) fn is_before(&self, place: Place) -> bool
+        ensures { result ≡ is_before self.now.to place }
+    {
+        match self.to {
+            Some(end) => place < end,
+            None => true,
+        }
+    }
 }

@@ -1,27 +1,32 @@
 //! Texts of placed rows merged into one text.
 
-ghost use Rattle.std.specs.Prelude.{◌≡◌, ◌≢◌, ◌⊎◌, ◌<◌, ◌+◌, ◌-◌, ◌^◌, ◌++◌, [], false, List, ℕ, Some, Err, All, Contains, OnOk, map, vec_len};
+ghost use Rattle.std.specs.Prelude.{◌≡◌, ◌≢◌, ◌⊎◌, ◌<◌, ◌+◌, ◌-◌, ◌^◌, ◌++◌, [], false, List, ℕ, Some, Err, All, Contains, IfOk, OnOk, map, vec_len};
 ghost use Rattle.std.specs.Io.KnownBytes.{Appends};
+ghost use Rattle.csv.specs.Records.{fields_of};
+ghost use Rattle.rj_csv_io.specs.Shown.{rows_text};
 ghost use Rattle.rj_csv_io.specs.Written.{HasWritten};
 ghost use Rattle.rj_merge.specs.declared.place.Place.{Place};
 ghost use Rattle.rj_merge.specs.declared.place.Placed.{Placed};
 ghost use Rattle.rj_merge.specs.declared.refused.MergeRefused.{MergeRefused};
 ghost use Rattle.rj_merge.specs.Inputs.{input_reading, input_tells};
-ghost use Rattle.rj_merge.specs.MergedTexts.{HaveNoFault, IsFaultOfTexts, IsMergedText, records_text};
+ghost use Rattle.rj_merge.specs.MergedTexts.{HaveNoFault, IsFaultOfTexts, IsMergedText, head_rows, records_text};
 ghost use Rattle.rj_merge.specs.Merging.{faults_of_inputs, rows_of_inputs};
 ghost use Rattle.rj_merge.specs.Sources.{is_outside};
+ghost use Rattle.rj_merge.specs.Texts.{others};
 ghost use Rattle.rj_merge.specs.Wholes.{HasTwice, IsMerge};
 
 use crate::block::{add_row, empty_block, put_block};
 use crate::fields::Fields;
+use crate::header::Header;
 use crate::input::TextSource;
 use crate::merge::Merge;
 use crate::opening::{Opened, open_all};
 use crate::options::MergeOptions;
+use crate::place::Place;
 use crate::refused::{MergeRefused, MergeTextsRefused};
 use csv::Writer;
 use rj_csv_io::Output;
-use std::alloc::Global;
+use std::alloc::{AllocError, Global};
 use std::io::Read;
 
 // Merges inputs, and puts their rows on the output behind what stands in a block.
@@ -61,9 +66,27 @@ fn put_rows<'n, R: Read + Drop, O: Output>(
     Err(MergeTextsRefused::Merge(MergeRefused::Memory))
 }
 
+// A block with the header that stands above rows from this place on, if one does.
+fn begin_block(
+    alloc: Global,
+    header: &Header,
+    from: Option<Place>,
+) -> Result<Writer<Vec<u8>>, AllocError>
+    ensures { IfOk result (λ block. HasWritten block (rows_text (head_rows from (others header.now.columns (fields_of header.now.names)))) []) }
+{
+    let mut block = empty_block(alloc);
+    if from.is_some() {
+        return Ok(block);
+    }
+    let names = Fields::without_place(alloc, &header.names, header.columns)?;
+    names.write(&mut block)?;
+    Ok(block)
+}
+
 /// Merges texts of placed rows, and puts the merge on the output: their header and their rows in order, without the two
 /// columns of the places, as csv's default writer writes records, block by block. The options say in which order rows stand,
-/// and which field of a place tells no number.
+/// which field of a place tells no number, and between which places rows are merged. The header stands above rows that begin
+/// nowhere: so the texts of ranges, one after another, are the text of the whole (`ranges_are_whole`).
 ///
 /// It holds a block and one row of each text.
 ///
@@ -92,12 +115,8 @@ pub fn merge_texts<R: Read + Drop, O: Output>(
         Ok(opened) => opened,
         Err(e) => return Err(MergeTextsRefused::Merge(e)),
     };
-    let mut block = empty_block(alloc);
-    let Ok(names) = Fields::without_place(alloc, &header.names, header.columns) else {
+    let Ok(block) = begin_block(alloc, &header, how.from) else {
         return Err(MergeTextsRefused::Merge(MergeRefused::Memory));
     };
-    if names.write(&mut block).is_err() {
-        return Err(MergeTextsRefused::Merge(MergeRefused::Memory));
-    }
     put_rows(alloc, sources, block, output)
 }

@@ -31,6 +31,8 @@ fn pairs_first(null: &str) -> MergeOptions<'_> {
     MergeOptions {
         null: null.as_bytes(),
         order: RowOrder::PairsFirst,
+        from: None,
+        to: None,
     }
 }
 
@@ -102,13 +104,25 @@ fn a_null_text(rt: HostRuntime) -> Result<(), Fail> {
     Ok(())
 }
 
-// The same with each left row at its place.
-fn left_first(alloc: Global, texts: &[&str]) -> Result<Vec<u8>, MergeTextsRefused> {
+// Each left row at its place, from one place to another.
+fn left_between(
+    alloc: Global,
+    texts: &[&str],
+    from: Option<Place>,
+    to: Option<Place>,
+) -> Result<Vec<u8>, MergeTextsRefused> {
     let how = MergeOptions {
         null: b"".as_slice(),
         order: RowOrder::LeftFirst,
+        from,
+        to,
     };
     merge_of(alloc, texts, how)
+}
+
+// All rows so.
+fn left_first(alloc: Global, texts: &[&str]) -> Result<Vec<u8>, MergeTextsRefused> {
+    left_between(alloc, texts, None, None)
 }
 
 #[test]
@@ -127,6 +141,30 @@ fn each_left_row_at_its_place(rt: HostRuntime) -> Result<(), Fail> {
         left_first(alloc, &[twice, twice]).map(|_| ()),
         Err(repeated)
     );
+    Ok(())
+}
+
+#[test]
+fn ranges_of_left_rows(rt: HostRuntime) -> Result<(), Fail> {
+    let alloc = rt.alloc();
+    let first = "left_place,right_place,v\n0,,a\n2,1,d\n2,3,f\n,7,i\n";
+    let second = "left_place,right_place,v\n1,9,b\n2,0,c\n3,,g\nbad,5,h\n";
+    let texts = [first, second];
+    let one = Some(Place::Pair(1, 0));
+    let three = Some(Place::Pair(3, 0));
+    let start = left_between(alloc, texts.as_slice(), None, one)?;
+    assert!(rt; start.as_slice() == b"v\na\n".as_slice());
+    let middle = left_between(alloc, texts.as_slice(), one, three)?;
+    assert!(rt; middle.as_slice() == b"b\nc\nd\nf\n".as_slice());
+    let none = left_between(alloc, texts.as_slice(), three, one)?;
+    assert!(rt; none.is_empty());
+    let refused = MergeTextsRefused::Merge(MergeRefused::BadPlace(2, 4));
+    assert_eq!(rt;
+        left_between(alloc, texts.as_slice(), three, None).map(|_| ()),
+        Err(refused)
+    );
+    let end = left_between(alloc, &[first], three, None)?;
+    assert!(rt; end.as_slice() == b"i\n".as_slice());
     Ok(())
 }
 

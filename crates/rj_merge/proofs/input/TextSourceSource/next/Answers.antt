@@ -1,21 +1,75 @@
+use Rattle.std.proofs.Common.{◌≡◌, ◌∙◌, ◌∷◌, ℕ, List, None, Some, refl, sym, ap, rules}
 use Rattle.csv.specs.Records.{fields_of}
-use Rattle.rj_merge.proofs.TextFacts.{gives-end, gives-fault, gives-row}
+use Rattle.rj_merge.specs.Inputs.{records_reading}
+use Rattle.rj_merge.specs.Sources.{Reading}
+use Rattle.rj_merge.specs.Texts.{others}
+use Rattle.rj_merge.proofs.RangeFacts.{above_again, same_before, same_from, same_within, within-below, within-end, within-none, within-row}
 use Rattle.rj_merge.proofs.input.TextSourceSource.next.Goals as goal
 
-pub returns-in-Ok-false-clause-gives : goal.returns-in-Ok-false-clause-gives
-returns-in-Ok-false-clause-gives g c = λ tells.
-    let s = c.args.self.now in
-    let none = rw (c.in-Ok-false.field-0-test, c.as_mut.ensures.value) at c.in-Ok-false.ensures.next in
-    rw c.if-self.false (gives-end s.how s.columns s.input s.row s.last _ (none (tells c.if-self.false)))
+pub returns-in-Ok-None-clause-tells : goal.returns-in-Ok-None-clause-tells
+returns-in-Ok-None-clause-tells g c = λ t. c.in-Ok-None.ensures.tells (c.rows.invariant.tells t)
+
+pub returns-in-Ok-None-clause-gives : goal.returns-in-Ok-None-clause-gives
+returns-in-Ok-None-clause-gives g c = λ t.
+    let end = rw c.in-Ok-None.field-0-is at c.in-Ok-None.ensures.end in
+    let last = end refl (c.rows.invariant.tells t) in
+    let none = within-none c.rows.self.how (records_reading g.R.Read.remaining c.rows.self) None last.0 last.1 in
+    (c.rows.invariant.rows t ∙ none.0, c.rows.invariant.fault t ∙ none.1)
+
+pub returns-in-Err-clause-gives : goal.returns-in-Err-clause-gives
+returns-in-Err-clause-gives g c = λ t out.
+    let last = c.in-Err.ensures.fault out (c.rows.invariant.tells t) in
+    let none = within-none c.rows.self.how (records_reading g.R.Read.remaining c.rows.self) (Some c.in-Err.e) last.0 last.1 in
+    (c.rows.invariant.rows t ∙ none.0, c.rows.invariant.fault t ∙ none.1)
+
+pub returns-then-not-is_before-clause-gives : goal.returns-then-not-is_before-clause-gives
+returns-then-not-is_before-clause-gives g c = λ t.
+    let some = rw c.in-Ok-Some.field-0-is at c.in-Ok-Some.ensures.some in
+    let step = some (c.rows.invariant.tells t) in
+    let s = c.rows.self in
+    let now = c.next_place.new.self in
+    let past = sym (same_before now.how s.how c.in-Ok-Some.place c.in-Ok-Some.ensures.how) ∙ (sym c.is_before.ensures ∙ c.if-not-is_before.true) in
+    let end = within-end s.how (records_reading g.R.Read.remaining s) record { place = c.in-Ok-Some.place; row = others s.columns (fields_of now.fields) } (records_reading g.R.Read.remaining now).rows step.0 past in
+    (c.rows.invariant.rows t ∙ end.0, c.rows.invariant.fault t ∙ end.1)
+
+pub rows-preserved : goal.rows-preserved
+rows-preserved g c =
+    let some = rw c.in-Ok-Some.field-0-is at c.in-Ok-Some.ensures.some in
+    let rises = rw c.in-Ok-Some.field-0-is at c.in-Ok-Some.ensures.rises in
+    let s = c.rows.self in
+    let now = c.next_place.new.self in
+    let old = records_reading g.R.Read.remaining s in
+    let new = records_reading g.R.Read.remaining now in
+    let before = sym (same_before now.how s.how c.in-Ok-Some.place c.in-Ok-Some.ensures.how) ∙ (sym c.is_before.ensures ∙ c.if-not-is_before.false) in
+    let below = sym (same_from now.how s.how c.in-Ok-Some.place c.in-Ok-Some.ensures.how) ∙ (sym c.is_from.ensures ∙ c.if-not-is_from.true) in
+    let same = same_within now.how s.how new c.in-Ok-Some.ensures.how in
+    record {
+      tells = λ t. c.in-Ok-Some.ensures.tells (c.rows.invariant.tells t);
+      rows = λ t.
+          let step = some (c.rows.invariant.tells t) in
+          c.rows.invariant.rows t ∙ ((within-below s.how old new record { place = c.in-Ok-Some.place; row = others s.columns (fields_of now.fields) } step.0 step.1 before below).0 ∙ ap (λ (r : Reading (List (List ℕ))). r.rows) same);
+      fault = λ t.
+          let step = some (c.rows.invariant.tells t) in
+          c.rows.invariant.fault t ∙ ((within-below s.how old new record { place = c.in-Ok-Some.place; row = others s.columns (fields_of now.fields) } step.0 step.1 before below).1 ∙ ap (λ (r : Reading (List (List ℕ))). r.fault) same);
+      above = λ p h. c.rows.invariant.above p (above_again s.last c.in-Ok-Some.place p now.last rises.0 rises.1 h);
+    }
+
+pub returns-in-Ok-clause-tells : goal.returns-in-Ok-clause-tells
+returns-in-Ok-clause-tells g c = λ t. c.in-Ok-Some.ensures.tells (c.rows.invariant.tells t)
 
 pub returns-in-Ok-clause-gives : goal.returns-in-Ok-clause-gives
-returns-in-Ok-clause-gives g c = λ tells.
-    let s = c.args.self.now in
-    let next = rw (c.in-Ok-true.field-0-test, c.as_mut.ensures.value) at c.in-Ok-true.ensures.next in
-    rw c.if-self.false (gives-row s.how s.columns s.input s.row c.in-Some.row s.last (fields_of c.next_record.new.fields) _ _ c.in-Ok.placed (next (tells c.if-self.false)).0 c.in-Some.ensures.1 c.in-Ok.ensures.row)
-
-pub returns-in-Err-placed_row-clause-gives : goal.returns-in-Err-placed_row-clause-gives
-returns-in-Err-placed_row-clause-gives g c = λ tells inside.
-    let s = c.args.self.now in
-    let next = rw (c.in-Ok-true.field-0-test, c.as_mut.ensures.value) at c.in-Ok-true.ensures.next in
-    rw c.if-self.false (gives-fault s.how s.columns s.input s.row c.in-Some.row s.last (fields_of c.next_record.new.fields) _ _ c.in-Err-placed_row.e (next (tells c.if-self.false)).0 c.in-Some.ensures.1 (c.in-Err-placed_row.ensures.fault inside))
+returns-in-Ok-clause-gives g c = λ t.
+    let some = rw c.in-Ok-Some.field-0-is at c.in-Ok-Some.ensures.some in
+    let s = c.rows.self in
+    let now = c.next_place.new.self in
+    let old = records_reading g.R.Read.remaining s in
+    let new = records_reading g.R.Read.remaining now in
+    let before = sym (same_before now.how s.how c.in-Ok-Some.place c.in-Ok-Some.ensures.how) ∙ (sym c.is_before.ensures ∙ c.if-not-is_before.false) in
+    let from = sym (same_from now.how s.how c.in-Ok-Some.place c.in-Ok-Some.ensures.how) ∙ (sym c.is_from.ensures ∙ c.if-not-is_from.false) in
+    let same = same_within now.how s.how new c.in-Ok-Some.ensures.how in
+    let step = some (c.rows.invariant.tells t) in
+    let named : c.in-Ok.row ≡ others s.columns (fields_of now.fields) = c.in-Ok.ensures ∙ ap (λ k. others k (fields_of now.fields)) c.in-Ok-Some.ensures.columns in
+    let found = within-row s.how old new record { place = c.in-Ok-Some.place; row = others s.columns (fields_of now.fields) } step.0 step.1 before from in (
+      c.rows.invariant.rows t ∙ (found.0 ∙ (λ u. record { place = c.in-Ok-Some.place; row = sym named u } ∷ (same u).rows)),
+      c.rows.invariant.fault t ∙ (found.1 ∙ ap (λ (r : Reading (List (List ℕ))). r.fault) same),
+    )

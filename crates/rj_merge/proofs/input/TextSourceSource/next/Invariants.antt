@@ -1,0 +1,13 @@
+use Rattle.std.proofs.Common.{◌≡◌}
+use Rattle.rj_merge.specs.declared.place.Place.{Place}
+use Rattle.rj_merge.specs.Inputs.{input_reading, input_tells}
+use Rattle.rj_merge.specs.Places.{IsAbove}
+use Rattle.rj_merge.proofs.input.TextSourceSource.next.Given as goal
+
+abbrev pub invariant-rows : goal.invariant-rows
+invariant-rows g l = record {
+  tells : input_tells g.R.Read.remaining l.fn.self → input_tells g.R.Read.remaining l.self;
+  rows : input_tells g.R.Read.remaining l.fn.self → (input_reading g.R.Read.remaining l.fn.self).rows ≡ (input_reading g.R.Read.remaining l.self).rows;
+  fault : input_tells g.R.Read.remaining l.fn.self → (input_reading g.R.Read.remaining l.fn.self).fault ≡ (input_reading g.R.Read.remaining l.self).fault;
+  above : (place : Place) → IsAbove l.self.last place → IsAbove l.fn.self.last place;
+}
