@@ -1,6 +1,7 @@
 //! Places where a text can be cut.
 
-ghost use Rattle.std.specs.Prelude.{◌≡◌, ◌<◌, ◌+◌, ◌-◌, ◌^◌, ℕ, List, if◌then◌else◌, IfErr, IfOk, IfSome};
+ghost use Rattle.std.specs.Io.KnownBytes.{IsAtEnd};
+ghost use Rattle.std.specs.Prelude.{◌≡◌, ◌<◌, ◌+◌, ◌-◌, ◌^◌, ℕ, List, true, Ok, if◌then◌else◌, IfErr, IfOk, IfSome, OnOk};
 ghost use Rattle.rj_divide.specs.Ranges.{AreCuts, IsCutFault, IsCutting};
 ghost use Rattle.rj_divide.specs.Readings.{reads_after};
 
@@ -37,6 +38,7 @@ fn cut_next<I: Input>(
     requires { I.count input.old < 2 ^ 64 - 1 }
     ensures cuts { IfOk result (λ last. (text : List ℕ) (n : ℕ) → IsCutting size text (I.tells input.old) cutting.old n
         → IsCutting size text (I.tells input.new) cutting.new (if last then n else n + 1)) }
+    ensures end { result ≡ Ok true → IsAtEnd (I.tells input.new) }
     ensures reads { I.count input.new ≡ reads_after result (I.count input.old) }
     ensures fault { IfErr result (λ e. (text : List ℕ) (n : ℕ) → IsCutting size text (I.tells input.old) cutting.old n → IsCutFault text e) }
 {
@@ -70,7 +72,8 @@ fn cut_next<I: Input>(
 /// is the end of a record, and at least `size` bytes behind the one before; the first is behind the header. A text's own
 /// byte order mark is left out already.
 ///
-/// The text is read in pieces of about `block` bytes, or more where a record is longer; only the ends of pieces are places.
+/// The text is read to its end, in pieces of about `block` bytes, or more where a record is longer; only the ends of pieces are
+/// places.
 ///
 /// # Errors
 ///
@@ -83,6 +86,7 @@ pub fn find_cuts<I: Input>(
 ) -> Result<Vec<u64>, DivideRefused>
     requires { I.count input.old < 2 ^ 64 - 1 }
     ensures cuts { IfOk result (λ v. IfSome (I.tells input.old) (λ text. AreCuts size text v.items)) }
+    ensures end { OnOk result (IsAtEnd (I.tells input.new)) }
     ensures reads { I.count input.new ≡ reads_after result (I.count input.old) }
     ensures fault { IfErr result (λ e. IfSome (I.tells input.old) (λ text. IsCutFault text e)) }
 {
