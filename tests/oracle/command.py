@@ -72,6 +72,7 @@ OPTIONS_OF = {
         "expect": Word(("one-to-one", "many-to-one", "one-to-many"), None),
         "max-rows": Number(0, 4_294_967_295, math.inf),
         "count": FLAG,
+        "report": FLAG,
         "columns": Word(("all", "left", "right"), "all"),
     },
     "arrivals": {"partition": Number(0, 1023), "senders": Number(1, 128), "block": Number(1, 65536), "gaps": FLAG},
@@ -182,6 +183,7 @@ class Request:
         self.expect = found.get("expect")
         self.most_rows = found.get("max-rows", options["max-rows"].default)
         self.counts = "count" in found
+        self.report = "report" in found
         self.repeated = found.get("repeated", "keep")
         if self.repeated not in ("keep", "qualify") and not 1 <= len(self.repeated.encode()) <= LONGEST_SUFFIX:
             raise bad("bad suffix of repeated names")
@@ -240,5 +242,5 @@ def joined(request, files):
     for side in ("left", "right"):
         if getattr(request, side) not in files:
             raise Fault(19, "ReadDevice", side)
-    text, statistics = joining.run(files[request.left], files[request.right], request)
-    return Ended(0, text, statistics if request.stats else b"")
+    text, statistics, report = joining.run(files[request.left], files[request.right], request)
+    return Ended(0, text, (statistics if request.stats else b"") + (report if request.report else b""))

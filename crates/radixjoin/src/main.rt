@@ -115,6 +115,9 @@ fn join<R: Files + Input + AllocGlobal + Print + Eprint + Threads + Wait + Clock
     if line.stats {
         let _ = eprintln!(rt; "{stats}");
     }
+    if let Some(report) = &stats.report {
+        let _ = eprintln!(rt; "{report}");
+    }
     Ok(())
 }
 

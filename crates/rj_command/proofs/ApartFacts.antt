@@ -79,40 +79,43 @@ module _ (null : List ℕ) (l r : TableValue) (left : AreApart null l.rows) (rig
   pub view-apart : (choice : Choice) (join : BoundJoin) → AreApart null (chosen_view choice join l r).cells
   view-apart choice join = rows-apart (chosen_columns choice join r) (chosen_rows choice (length l.rows) (joined_of join l r))
 
--- what the reading of records says where the null text is one of the side's
-module _ (law : (records : List (List (List ℕ))) (types : List ColumnType) (nulls : List (List ℕ)) (null : List ℕ) (t : TableValue)
-    → is_null_field nulls null ≡ true → records_read records types nulls ≡ Ok t → AreApart null t.rows) where
-  told-apart : (q : Request) (s : Side) (found : List (List (List ℕ))) (kinds : List ColumnType) (null : List ℕ) (t : TableValue) → is_null_field (nulls_of q s) null ≡ true
-      → told s (records_read found kinds (nulls_of q s)) ≡ Ok t → AreApart null t.rows
-  told-apart q s found kinds null t among e = go (records_read found kinds (nulls_of q s)) refl e
+-- what holds of each table that records read as holds of the table of a side
+module _ (P : TableValue → Type 0) (q : Request) (s : Side)
+    (law : (found : List (List (List ℕ))) (kinds : List ColumnType) (t : TableValue) → records_read found kinds (nulls_of q s) ≡ Ok t → P t) where
+  told-holds : (found : List (List (List ℕ))) (kinds : List ColumnType) (t : TableValue) → told s (records_read found kinds (nulls_of q s)) ≡ Ok t → P t
+  told-holds found kinds t e = go (records_read found kinds (nulls_of q s)) refl e
     where
-      go : (r : Result TableValue ReadRefused) → records_read found kinds (nulls_of q s) ≡ r → told s r ≡ Ok t → AreApart null t.rows
+      go : (r : Result TableValue ReadRefused) → records_read found kinds (nulls_of q s) ≡ r → told s r ≡ Ok t → P t
       go (Ok u) is e =
           let g : ◌≡◌ {A = Result TableValue Fault} (Ok u) (Ok t) = e in
           let same : u ≡ t = cc in
-          law found kinds (nulls_of q s) null t among (is ∙ ap Ok same)
+          law found kinds t (is ∙ ap Ok same)
       go (Err x) is e = let g : ◌≡◌ {A = Result TableValue Fault} (Err (read_fault s x)) (Ok t) = e in absurd (cc)
 
-  header-apart : (q : Request) (s : Side) (found : List (List (List ℕ))) (null : List ℕ) (t : TableValue) → is_null_field (nulls_of q s) null ≡ true
-      → header_records q s found ≡ Ok t → AreApart null t.rows
-  header-apart q s [] null t among e = told-apart q s [] [] null t among e
-  header-apart q s (header ∷ rest) null t among e = go (type_fault (types_of q s) s header) e
+  header-holds : (found : List (List (List ℕ))) (t : TableValue) → header_records q s found ≡ Ok t → P t
+  header-holds [] t e = told-holds [] [] t e
+  header-holds (header ∷ rest) t e = go (type_fault (types_of q s) s header) e
     where
-      go : (o : Option Fault) → told_first o (told s (records_read (header ∷ rest) (types_under (types_of q s) header) (nulls_of q s))) ≡ Ok t → AreApart null t.rows
-      go None e = told-apart q s (header ∷ rest) (types_under (types_of q s) header) null t among e
+      go : (o : Option Fault) → told_first o (told s (records_read (header ∷ rest) (types_under (types_of q s) header) (nulls_of q s))) ≡ Ok t → P t
+      go None e = told-holds (header ∷ rest) (types_under (types_of q s) header) t e
       go (Some f) e = let g : ◌≡◌ {A = Result TableValue Fault} (Err f) (Ok t) = e in absurd (cc)
 
-  side-apart : (q : Request) (s : Side) (found : List (List (List ℕ))) (null : List ℕ) (t : TableValue) → is_null_field (nulls_of q s) null ≡ true → side_records q s found ≡ Ok t → AreApart null t.rows
-  side-apart q s found null t among e = elim (cases_Bool (has_lawful_nulls q)) [
-    | inl lawful ↦ let read : header_records q s found ≡ Ok t = rw lawful at e in header-apart q s found null t among read
+  side-holds : (found : List (List (List ℕ))) (t : TableValue) → side_records q s found ≡ Ok t → P t
+  side-holds found t e = elim (cases_Bool (has_lawful_nulls q)) [
+    | inl lawful ↦ let read : header_records q s found ≡ Ok t = rw lawful at e in header-holds found t read
     | inr unlawful ↦ let no : ◌≡◌ {A = Result TableValue Fault} (Err fault.BadNull) (Ok t) = rw unlawful at e in absurd (cc)
   ]
 
-  by-apart : (x : Strictness) (q : Request) (s : Side) (bytes null : List ℕ) (t : TableValue) → is_null_field (nulls_of q s) null ≡ true → IsTableBy x q s bytes t → AreApart null t.rows
-  by-apart strictness.Off q s bytes null t among is = side-apart q s (records default_config (strip_bom bytes)) null t among is
-  by-apart strictness.On q s bytes null t among is = side-apart q s (records_of is.0) null t among is.2
-  by-apart strictness.Full q s bytes null t among is = side-apart q s (records_of is.0) null t among is.2
+  by-holds : (x : Strictness) (bytes : List ℕ) (t : TableValue) → IsTableBy x q s bytes t → P t
+  by-holds strictness.Off bytes t is = side-holds (records default_config (strip_bom bytes)) t is
+  by-holds strictness.On bytes t is = side-holds (records_of is.0) t is.2
+  by-holds strictness.Full bytes t is = side-holds (records_of is.0) t is.2
 
-  -- a table that was read has no text that is one of its null texts
-  pub table-apart : (q : Request) (s : Side) (bytes null : List ℕ) (t : TableValue) → is_null_field (nulls_of q s) null ≡ true → IsTable q s bytes t → AreApart null t.rows
-  table-apart q s bytes null t among is = by-apart q.strict q s bytes null t among is
+  pub table-holds : (bytes : List ℕ) (t : TableValue) → IsTable q s bytes t → P t
+  table-holds bytes t is = by-holds q.strict bytes t is
+
+-- a table that was read has no text that is one of its null texts
+pub table-apart : ((records : List (List (List ℕ))) (types : List ColumnType) (nulls : List (List ℕ)) (null : List ℕ) (t : TableValue)
+    → is_null_field nulls null ≡ true → records_read records types nulls ≡ Ok t → AreApart null t.rows)
+    → (q : Request) (s : Side) (bytes null : List ℕ) (t : TableValue) → is_null_field (nulls_of q s) null ≡ true → IsTable q s bytes t → AreApart null t.rows
+table-apart law q s bytes null t among is = table-holds (λ t. AreApart null t.rows) q s (λ found kinds t e. law found kinds (nulls_of q s) null t among e) bytes t is

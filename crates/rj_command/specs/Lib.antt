@@ -9,3 +9,5 @@ pub mod Sides
 pub mod Statistics
 pub mod Expected
 pub mod Counts
+pub mod ReadBack
+pub mod Reported

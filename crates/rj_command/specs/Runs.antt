@@ -21,6 +21,7 @@ use Rattle.rj_engine.specs.Pools.{pieces_of_sizes}
 use Rattle.rj_engine.specs.Results.{joined_of}
 use Rattle.rj_command.specs.Expected.{IsExpected, IsUnexpected}
 use Rattle.rj_command.specs.Operands.{AreOperands, IsFirstFault}
+use Rattle.rj_command.specs.Reported.{IsReported}
 use Rattle.rj_fault.specs.declared.fault.Fault.{Fault}
 use Rattle.rj_fault.specs.declared.fault.Fault.TheVariants as fault
 use Rattle.rj_command.specs.declared.join.operands.Operands.{Operands}
@@ -72,8 +73,8 @@ hash_value hash.Plain key = plain key
 hash_value hash.Mixed key = mixed (plain key)
 
 -- how many members of each kind the joined table has, how many rows of each table were delivered to each partition of the
--- first pass (the rows with a key whose hash ends in the partition's bits), and how many pieces the rows of the larger side of
--- each partition make
+-- first pass (the rows with a key whose hash ends in the partition's bits), how many pieces the rows of the larger side of
+-- each partition make, and, where it is asked for, what is told of the join
 pub record IsCounted (value : List Content → ℕ) (q : Request) (l r : TableValue) (join : BoundJoin) (stats : Stats) : Type 0 where
   pub pairs : stats.pairs ≡ length (joined_of join l r).pairs
   pub lone_left : stats.lone_left ≡ length (joined_of join l r).lone_left
@@ -83,6 +84,7 @@ pub record IsCounted (value : List Content → ℕ) (q : Request) (l r : TableVa
   pub rights : map (λ p. p.right) stats.partitions.items ≡ sizes_of value q.settings.bits1 r (map (λ k. k.1) (keys_of join))
   pub pieces : stats.pieces ≡ pieces_of_sizes q.settings.piece (map (λ p. p.left) stats.partitions.items) (map (λ p. p.right) stats.partitions.items)
   pub tells_pieces : stats.tells_pieces ≡ q.tells_pieces
+  pub report : IsReported q join l r stats.report
 
 -- the text of what is chosen of the operands' joined table was written behind what the writer had been told, and this is counted of it
 abbrev pub WritesTables : (List Content → ℕ) → Request → Operands → Option (List ℕ) → Option (List ℕ) → Stats → Type 0

@@ -6,13 +6,14 @@ mod laws;
 mod naming;
 mod nulls;
 mod operands;
+mod reports;
 mod running;
 mod stats;
 mod strict;
 mod types;
 
 pub use self::counting::{Counts, count};
-pub use self::laws::plain_text;
+pub use self::laws::{plain_text, results_are_apart, results_read_back};
 pub use self::operands::bind_clause;
 pub use self::running::{run, run_owned};
 pub use self::stats::{PartitionRows, Stats};

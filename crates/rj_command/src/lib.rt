@@ -5,7 +5,7 @@ mod join;
 
 pub use join::{
     Counts, PartitionRows, Stats, bind_clause, count, fault_of_text, plain_text, read_strictly,
-    run, run_owned, types_of_header,
+    results_are_apart, results_read_back, run, run_owned, types_of_header,
 };
 pub use rj_engine::Open;
 pub use rj_fault::{Fault, Side, Told, VERSION, fault_of_read, read_words, tell, texts_of};

@@ -1,14 +1,25 @@
-//! A law of what is written: the function does nothing, and its contract is a fact about every run.
+//! Laws of what is written: each function does nothing, and its contract is a fact about every run.
 
-ghost use Rattle.std.specs.Prelude.{◌≡◌, List, true, ℕ};
+ghost use Rattle.std.specs.Prelude.{◌≡◌, List, Ok, true, ℕ};
 ghost use Rattle.rj_columns.specs.Tables.{TableValue};
 ghost use Rattle.rj_condition.specs.declared.bound.BoundJoin.{BoundJoin};
-ghost use Rattle.rj_command.specs.Runs.{AreNames, chosen_text, joined_text};
-ghost use Rattle.rj_engine.specs.Chosen.{is_plain};
+ghost use Rattle.rj_command.specs.ReadBack.{IsReadable, written_table};
+ghost use Rattle.rj_command.specs.Runs.{AreNames, IsJoined, chosen_text, joined_text};
+ghost use Rattle.rj_command.specs.declared.join.stats.Stats.{Stats};
+ghost use Rattle.rj_command.specs.Sides.{nulls_of};
+ghost use Rattle.rj_csv_io.specs.Ambiguous.{AreApart};
+ghost use Rattle.rj_csv_io.specs.Tables.{read_of};
+ghost use Rattle.rj_csv_io.specs.Typed.{is_null_field};
+ghost use Rattle.rj_engine.specs.Chosen.{chosen_view, is_plain};
 ghost use Rattle.rj_line.specs.declared.request.Request.{Request};
 ghost use Rattle.rj_settings.specs.declared.choice.Repeated.TheVariants.{Kept};
 
+use rj_csv_io::{
+    mark_is_of_the_first_name, null_texts_read_as_null, read_tables_hold_their_types,
+    tables_read_back,
+};
 use rj_engine::plain_choice;
+use rj_fault::Side;
 
 /// Where a request chooses all rows of the joined table in their own order, and all columns under their own names, the text that is
 /// written is that of the joined table.
@@ -17,4 +28,25 @@ pub fn plain_text()
         → AreNames q join l r names → chosen_text q names join l r ≡ joined_text q.out_null.now join l r }
 {
     plain_choice();
+}
+
+/// What a run writes reads back: as the table of what it chose of the joined table, under the names that it wrote and by the types
+/// of the columns that these come from, and with no fault. The names are lawful wherever repeated ones are renamed.
+pub fn results_read_back()
+    ensures { (left right text : List ℕ) (q : Request) (stats : Stats) (nulls : List (List ℕ)) (j : IsJoined left right q stats text)
+        → IsReadable q nulls j.names j.join j.l j.r
+        → read_of text (written_table q j.names j.join j.l j.r).types nulls ≡ Ok (written_table q j.names j.join j.l j.r) }
+{
+    tables_read_back();
+    mark_is_of_the_first_name();
+    read_tables_hold_their_types();
+}
+
+/// No cell of what a run writes is a text that is a null text of both tables, since none of theirs is.
+pub fn results_are_apart()
+    ensures { (left right text null : List ℕ) (q : Request) (stats : Stats) (j : IsJoined left right q stats text)
+        → is_null_field (nulls_of q Side.Left) null ≡ true → is_null_field (nulls_of q Side.Right) null ≡ true
+        → AreApart null (chosen_view q.choice j.join j.l j.r).cells }
+{
+    null_texts_read_as_null();
 }

@@ -32,6 +32,8 @@ pub struct Stats {
     pub pieces: u64,
     /// Whether the text tells the number of pieces.
     pub tells_pieces: bool,
+    /// The lines of the report, without the last line end, where one is asked for. The text of the statistics has none of them.
+    pub report: Option<String>,
 }
 
 impl fmt::Display for PartitionRows {

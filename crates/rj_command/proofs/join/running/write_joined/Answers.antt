@@ -70,6 +70,7 @@ returns-clause-ok g c =
             c.pieces.ensures
             ∙ (ap (λ (o : Outcome). o.pieces) forgot ∙ (joined.pieces ∙ ap₂ (pieces_of_sizes c.args.request.now.settings.piece) (sym left_sizes) (sym right_sizes)));
         tells_pieces = refl;
+        report = c.in_ok-report.ensures;
       },
       c.in_ok-refuse_unexpected.ensures.expected,
       subst (λ (v : ViewValue). IsToldApart c.args.request.now.strict null v.cells) c.in_ok-view.ensures c.in_ok-tell_apart.ensures.clear,
