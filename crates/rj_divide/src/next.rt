@@ -58,6 +58,7 @@ pub fn next_piece<I: Input>(
         → Consumes start (I.tells input.new) bytes.new.items) }
     ensures within { IfOk result (λ p. p.end ≤ vec_len bytes.new) }
     ensures some { IfOk result (λ p. p.is_last ≡ false → 0 < p.end) }
+    ensures block { IfOk result (λ p. p.is_last ≡ false → block ≤ vec_len bytes.new) }
     ensures last { IfOk result (λ p. p.is_last ≡ true → (p.end ≡ vec_len bytes.new) × IsAtEnd (I.tells input.new)) }
     ensures records { IfOk result (λ p. (more : List ℕ) → (p.is_last ≡ true → more ≡ []) → records default_config (bytes.new.items ++ more)
         ≡ records default_config (take p.end bytes.new.items) ++ records default_config (drop p.end bytes.new.items ++ more)) }

@@ -6,7 +6,7 @@ use Rattle.rj_divide.proofs.UnderwayFacts.{last-records}
 use Rattle.rj_divide.proofs.next.next_piece.Goals as goal
 
 pub reading-init : goal.reading-init
-reading-init g c = record { bytes = λ start h. h; count = refl; some = omega (arith, c.max-size.ensures) }
+reading-init g c = record { bytes = λ start h. h; count = refl; some = omega (arith, c.max-size.ensures); least = omega (arith, c.max-size.ensures) }
 
 pub returns-in-Ok-true-clause-records : goal.returns-in-Ok-true-clause-records
 returns-in-Ok-true-clause-records g c = λ more none.

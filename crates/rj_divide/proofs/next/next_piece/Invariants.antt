@@ -7,6 +7,7 @@ invariant-reading g l = record {
   bytes : (start : Option (List ℕ)) → Consumes start (g.I.Input.tells l.fn.input) l.fn.bytes.items → Consumes start (g.I.Input.tells l.input) l.bytes.items;
   count : g.I.Input.count l.input ≡ g.I.Input.count l.fn.input;
   some : 1 ≤ l.size;
+  least : l.fn.block ≤ l.size;
 }
 
 abbrev pub decreases-reading : goal.decreases-reading
