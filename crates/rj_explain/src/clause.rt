@@ -13,8 +13,8 @@ use std::alloc::{AllocError, Global};
 // How long a clause is at most.
 const LONGEST: usize = 65_536;
 
-// The table without rows whose columns are those of a side's file, if there is one.
-fn columns_of(
+/// The table without rows whose columns are those of a side's file, if there is one.
+pub(crate) fn columns_of(
     alloc: Global,
     inputs: &Inputs<'_, '_>,
     side: Side,

@@ -4,6 +4,8 @@ use crate::cells::{cell_lines, ragged_lines};
 use crate::clause::name_lines;
 use crate::headers::{bad_name_lines, repeated_name_lines, type_count_lines, type_name_lines};
 use crate::inputs::Inputs;
+use crate::joined::null_text_lines;
+use crate::mismatch::mismatch_lines;
 use crate::strict::grammar_lines;
 use crate::syntax::syntax_lines;
 use rj_fault::{Fault, Side};
@@ -78,6 +80,8 @@ pub fn explain(
         Fault::UnknownColumn | Fault::AmbiguousColumn | Fault::RepeatedUsing => {
             name_lines(alloc, inputs)
         }
+        Fault::TypeMismatch => mismatch_lines(alloc, inputs),
+        Fault::AmbiguousNull(row, column) => null_text_lines(alloc, inputs, row, column),
         Fault::RaggedRow(side, row) => ragged_lines(alloc, inputs, side, row),
         Fault::BadInteger(side, row, column) | Fault::BadText(side, row, column) => {
             cell_lines(alloc, inputs, side, row, column)

@@ -18,14 +18,21 @@ fn show_byte<W: fmt::Write>(f: &mut fmt::Formatter<W>, byte: u8) -> fmt::Result 
     write!(f, "\\x{byte:02X}")
 }
 
-// The bytes of a text that fit, and how many are left.
-fn show_text<W: fmt::Write>(f: &mut fmt::Formatter<W>, text: &str) -> Result<usize, fmt::Error> {
+// The bytes of a text that fit, and how many are left. A quote is one that is written twice.
+fn show_text<W: fmt::Write>(
+    f: &mut fmt::Formatter<W>,
+    text: &str,
+    quote: Option<char>,
+) -> Result<usize, fmt::Error> {
     let mut left = text.len();
     for c in text.chars() {
         if text.len().saturating_sub(left) + c.len_utf8() > MOST {
             return Ok(left);
         }
         left = left.saturating_sub(c.len_utf8());
+        if quote == Some(c) {
+            write!(f, "{c}")?;
+        }
         if c.is_ascii_control() {
             show_byte(f, c as u8)?;
         } else {
@@ -55,10 +62,29 @@ impl fmt::Display for Shown<'_> {
     fn fmt<W: fmt::Write>(&self, f: &mut fmt::Formatter<W>) -> fmt::Result {
         f.write_str("\"")?;
         let left = match str::from_utf8(self.bytes) {
-            Ok(text) => show_text(f, text)?,
+            Ok(text) => show_text(f, text, None)?,
             Err(_) => show_bytes(f, self.bytes)?,
         };
         f.write_str("\"")?;
+        if left > 0 {
+            write!(f, " and {left} more bytes")?;
+        }
+        Ok(())
+    }
+}
+
+/// A text literal as a clause writes it: between single quotes, each quote in it written twice. Control bytes and what is beyond 60
+/// bytes are shown as of other texts.
+#[derive(Clone, Copy)]
+pub(crate) struct ShownText<'a> {
+    pub(crate) text: &'a str,
+}
+
+impl fmt::Display for ShownText<'_> {
+    fn fmt<W: fmt::Write>(&self, f: &mut fmt::Formatter<W>) -> fmt::Result {
+        f.write_str("'")?;
+        let left = show_text(f, self.text, Some('\''))?;
+        f.write_str("'")?;
         if left > 0 {
             write!(f, " and {left} more bytes")?;
         }

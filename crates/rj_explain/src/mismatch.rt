@@ -1,0 +1,121 @@
+//! Operands of a clause that can't be compared.
+
+use crate::clause::columns_of;
+use crate::inputs::Inputs;
+use crate::shown::{Shown, ShownText, TypeWord};
+use rj_columns::Table;
+use rj_condition::{BoundOperand, DecimalLiteral, Literal, first_mismatch};
+use rj_decimal::DecimalBuffer;
+use rj_fault::Side;
+use std::alloc::{AllocError, Global};
+use std::{fmt, str};
+
+// How long a clause is at most.
+const LONGEST: usize = 65_536;
+
+// An operand with its type: a column with its table's letter, or a literal as a clause writes it.
+#[derive(Clone, Copy)]
+struct Typed<'t> {
+    operand: &'t BoundOperand,
+    left: &'t Table,
+    right: &'t Table,
+}
+
+fn is_plain_name(name: &str) -> bool {
+    name.as_bytes()
+        .iter()
+        .all(|b| b.is_ascii_alphanumeric() || *b == b'_')
+}
+
+// A column of the table with this letter, and its type.
+fn show_column<W: fmt::Write>(
+    f: &mut fmt::Formatter<W>,
+    letter: &str,
+    table: &Table,
+    column: usize,
+) -> fmt::Result {
+    if column >= table.columns() {
+        return Ok(());
+    }
+    let (name, kind) = (
+        table.name(column),
+        TypeWord {
+            kind: table.column_type(column),
+        },
+    );
+    if is_plain_name(name) {
+        return write!(f, "{letter}.{name} is {kind}");
+    }
+    let name = Shown {
+        bytes: name.as_bytes(),
+    };
+    write!(f, "{letter}.{name} is {kind}")
+}
+
+fn show_decimal<W: fmt::Write>(f: &mut fmt::Formatter<W>, decimal: DecimalLiteral) -> fmt::Result {
+    let mut buffer = DecimalBuffer::new();
+    let bytes = buffer.format(i128::from(decimal.units), decimal.scale);
+    match str::from_utf8(bytes) {
+        Ok(text) => write!(f, "{text} is a number"),
+        Err(_) => f.write_str("a number"),
+    }
+}
+
+fn show_literal<W: fmt::Write>(f: &mut fmt::Formatter<W>, literal: &Literal) -> fmt::Result {
+    match literal {
+        Literal::Integer(number) => {
+            let number = *number;
+            write!(f, "{number} is a number")
+        }
+        Literal::Decimal(decimal) => show_decimal(f, *decimal),
+        Literal::Text(text) => {
+            let text = ShownText {
+                text: text.as_str(),
+            };
+            write!(f, "{text} is text")
+        }
+    }
+}
+
+impl fmt::Display for Typed<'_> {
+    fn fmt<W: fmt::Write>(&self, f: &mut fmt::Formatter<W>) -> fmt::Result {
+        match self.operand {
+            BoundOperand::Left(column) => show_column(f, "L", self.left, *column),
+            BoundOperand::Right(column) => show_column(f, "R", self.right, *column),
+            BoundOperand::Literal(literal) => show_literal(f, literal),
+        }
+    }
+}
+
+/// What is told of the first comparison of the clause whose operands are a number and a text: both with their types, and the
+/// byte at which it begins.
+///
+/// # Errors
+///
+/// It fails only where memory is refused.
+pub(crate) fn mismatch_lines(alloc: Global, inputs: &Inputs<'_, '_>) -> Result<String, AllocError> {
+    let clause = inputs.request.clause;
+    let left = columns_of(alloc, inputs, Side::Left)?;
+    let right = columns_of(alloc, inputs, Side::Right)?;
+    let (Some(left), Some(right)) = (left, right) else {
+        return Ok(String::new(alloc));
+    };
+    if clause.len() > LONGEST {
+        return Ok(String::new(alloc));
+    }
+    let Some(found) = first_mismatch(alloc, clause, &left, &right)? else {
+        return Ok(String::new(alloc));
+    };
+    let at = found.at;
+    let first = Typed {
+        operand: &found.first,
+        left: &left,
+        right: &right,
+    };
+    let second = Typed {
+        operand: &found.second,
+        left: &left,
+        right: &right,
+    };
+    format!(in alloc; "  {first}, {second}, at byte {at} of the clause\n")
+}
