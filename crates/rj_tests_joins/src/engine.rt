@@ -6,7 +6,6 @@ mod joins;
 mod naming;
 mod once;
 mod parts;
-mod reports;
 mod shards;
 mod stripes;
 mod tables;
