@@ -9,3 +9,4 @@ pub mod Sides
 pub mod Statistics
 pub mod Expected
 pub mod Counts
+pub mod Violations

@@ -1,6 +1,7 @@
 //! Worked examples of clauses from their text to the truth at two rows, and what no contract says.
 
 mod binding;
+mod mismatches;
 mod parsing;
 mod samples;
 mod splitting;
