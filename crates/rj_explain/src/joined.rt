@@ -131,12 +131,15 @@ fn row_line(
     row: u64,
     pairs: u64,
 ) -> Result<String, AllocError> {
-    let (Some(header), Some(found)) = (find_row(alloc, text, 0)?, find_row(alloc, text, row)?) else {
+    let (Some(header), Some(found)) = (find_row(alloc, text, 0)?, find_row(alloc, text, row)?)
+    else {
         return Ok(String::new(alloc));
     };
     let line = found.line;
     let fields = fields_text(alloc, &header, &found, columns)?;
-    format!(in alloc; "  {side} row {row}, line {line} of the file, is in {pairs} kept pairs{fields}\n")
+    format!(in alloc;
+        "  {side} row {row}, line {line} of the file, is in {pairs} kept pairs{fields}\n"
+    )
 }
 
 /// What is told of a row of a side's table, counted from 1, that is in so many kept pairs: the line of the file on which it
