@@ -1,6 +1,6 @@
 # Completion of shards for bash: options that were not given yet, files, and the words of --side and --strict.
 _shards() {
-    local options="--side --left --right --left-types --right-types --join --null --left-null --right-null --strict --parts --from
+    local options="--side --left --right --left-types --right-types --join --null --left-null --right-null --strict --explain --parts --from
         --to --out --cuts --help --version"
     local word=${COMP_WORDS[COMP_CWORD]} before=${COMP_WORDS[COMP_CWORD - 1]}
     # `--left=a` is three words here: --left, = and a.

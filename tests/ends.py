@@ -64,7 +64,7 @@ def help_of_each_option(folder):
     options = {
         "radixjoin": ["left", "right", "left-types", "right-types", "join", "null", "bits1", "bits2", "hash", "workers", "block", "lanes", "capacity", "retries", "piece", "stats", "explain", "output", "order", "rows", "columns", "repeated", "expect", "max-rows", "count", "report", "help", "version"],
         "arrivals": ["partition", "senders", "block", "gaps", "help", "version"],
-        "shards": ["side", "left", "right", "left-types", "right-types", "join", "null", "parts", "from", "to", "out", "cuts", "help", "version"],
+        "shards": ["side", "left", "right", "left-types", "right-types", "join", "null", "parts", "from", "to", "out", "cuts", "explain", "help", "version"],
         "merges": ["null", "help", "version"],
     }
     for name, told in options.items():

@@ -198,6 +198,19 @@ LINES = (
     ({"left": "none.csv", "null": "no null"}, 6, b"radixjoin: E19 ReadDevice left\n"),
 )
 
+# What is told with `--explain`: the words that are others, the status, and all that is told.
+EXPLAINED = (
+    ({"join": "JOIN USING (q)"}, 4, b'radixjoin: E13 UnknownColumn\n  "q" at byte 12 of the clause; left has k, a; right has k, b\n'),
+    ({"join": "JOIN ON L.k = R.b"}, 4, b"radixjoin: E15 TypeMismatch\n  L.k is int, R.b is text, at byte 8 of the clause\n"),
+    ({"join": "JOIN ON L.k"}, 4, b"radixjoin: E11 Syntax byte 11\n  found the end, wanted a comparison or NOT or IS or IN or BETWEEN\n  JOIN ON L.k\n             ^\n"),
+    ({"left-types": "int"}, 3, b'radixjoin: E4 TypeCount left\n  2 names, 1 types; the first without a type is "a"\n'),
+    ({"right-types": "k=int,c=text"}, 3, b'radixjoin: E27 TypeName right "c"\n  the header has "k", "b"\n'),
+    ({"left-types": "int,string"}, 2, b'radixjoin: bad type list left\n  "string": a type is int, num(p,s) or text, and a name before it stands before =\n'),
+    ({"left-types": "int,int"}, 3, b"radixjoin: E6 BadInteger left row 1 column 2\n"),
+    ({"join": "CROSS JOIN"}, 4, NO_KEY.encode() + b"\n"),
+    ({"left": "none.csv"}, 6, b"radixjoin: E19 ReadDevice left\n"),
+)
+
 
 def run_shards_alone(tally):
     """What `shards` writes of a small file, and tells of its command line."""
@@ -213,6 +226,9 @@ def run_shards_alone(tally):
             ran = harness.run([harness.program("shards"), *division(folder, **more)], folder)
             faults = harness.differences(ran, None, None, status) + ([] if told in ran.stderr else [harness.shorten(ran.stderr)])
             tally.check(f"shards: {more}", faults)
+        for more, status, told in EXPLAINED:
+            ran = harness.run([harness.program("shards"), *division(folder, **more), "--explain"], folder)
+            tally.check(f"shards: {more}, explained", harness.differences(ran, None, told, status))
 
 
 # Inputs of `merges`, and how it ends: its status, and what it writes or tells; and its options.

@@ -15,6 +15,9 @@ use std::io::{ErrorKind, Read, Seek, SeekFrom, Take};
 /// The bytes that are read of a file for its header at first.
 const HEADER_BYTES: usize = 1 << 16;
 
+/// The bytes that are read of a file whose header is shown.
+const BEGINNING: usize = 1 << 20;
+
 /// The header of a file, and where the file's first range begins.
 #[derive(Drop)]
 pub(crate) struct Head {
@@ -119,6 +122,24 @@ pub(crate) fn read_head<R: Files + AllocGlobal>(
         size = size.saturating_mul(2);
     }
     Err(Fault::Memory)
+}
+
+/// The first bytes of a file, which hold its header, but for one of more than a mebibyte.
+///
+/// # Errors
+///
+/// `ReadDevice`, or `Memory` where memory was refused.
+pub(crate) fn read_beginning<R: Files + AllocGlobal>(
+    rt: &R,
+    name: &str,
+    side: Side,
+) -> Result<Vec<u8>, Fault> {
+    let mut input = CountedReader::new(open_file(rt, name, side)?);
+    let mut bytes = Vec::new(rt.alloc());
+    match read_up_to(&mut input, &mut bytes, BEGINNING) {
+        Ok(_) => Ok(bytes),
+        Err(refused) => Err(fault_of_read(side, refused)),
+    }
 }
 
 /// A file that a part of the rows is written to. It is open only while something is put, so that there can be more parts than

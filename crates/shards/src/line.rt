@@ -201,7 +201,11 @@ fn line_command<'a>(alloc: Global) -> Result<Command<'a>, AllocError> {
         true,
         "How many parts there are, 1 to 1024",
     ).value_parser(value_parser!(u32).range(1..=1_024));
-    let command = with_tables(alloc, command.arg(side)?)?;
+    let explain = Arg::new(alloc, "explain")
+        .long("explain")
+        .action(ArgAction::SetTrue)
+        .help("Tell behind the line of a fault where it is and what stands there");
+    let command = with_tables(alloc, command.arg(side)?)?.arg(explain)?;
     with_division(alloc, command.arg(parts)?)
 }
 

@@ -4,6 +4,7 @@
 
 mod cutting;
 mod dividing;
+mod explaining;
 mod failure;
 mod files;
 mod first_line;
@@ -12,30 +13,38 @@ mod outputs;
 
 use crate::cutting::print_cuts;
 use crate::dividing::divide_range;
+use crate::explaining::{Ended, ended, tell_ended};
 use crate::failure::Failure;
 use crate::line::{Task, read_line};
-use rj_command::{read_words, tell, texts_of};
+use rj_command::{read_words, texts_of};
 use std::env::Env;
 use std::fs::Files;
 use std::process::ExitCode;
 
-// Reads the command line, and does what it asks for.
-fn run<R: Env + Files + AllocGlobal + Print>(rt: &R) -> Result<(), Failure> {
-    let alloc = rt.alloc();
-    let Some(words) = read_words(rt)? else {
-        return Err(Failure::NotText);
-    };
-    let texts = texts_of(alloc, words.as_slice())?;
-    let line = read_line(alloc, texts.as_slice())?;
+// Does what the words of the command line ask for.
+fn work<R: Files + AllocGlobal + Print>(rt: &R, words: &[&str]) -> Result<(), Failure> {
+    let line = read_line(rt.alloc(), words)?;
     match line.task {
         Task::Divide(from, to, folder) => divide_range(rt, &line, from, to, folder),
         Task::Cut(ranges) => print_cuts(rt, &line, ranges),
     }
 }
 
+// Reads the command line, and does what it asks for.
+fn run<R: Env + Files + AllocGlobal + Print>(rt: &R) -> Result<(), Ended> {
+    let Some(words) = read_words(rt)? else {
+        return Err(Ended::from(Failure::NotText));
+    };
+    let texts = texts_of(rt.alloc(), words.as_slice())?;
+    match work(rt, texts.as_slice()) {
+        Ok(()) => Ok(()),
+        Err(failure) => Err(ended(rt, texts.as_slice(), failure)),
+    }
+}
+
 fn main(rt: HostRuntime) -> ExitCode {
     match run(&rt) {
         Ok(()) => ExitCode::SUCCESS,
-        Err(failure) => ExitCode::from(tell(&rt, &failure)),
+        Err(ended) => ExitCode::from(tell_ended(&rt, &ended)),
     }
 }

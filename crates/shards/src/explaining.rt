@@ -1,0 +1,144 @@
+//! `--explain`: what is told of a fault behind its own line.
+
+use crate::failure::Failure;
+use crate::files::read_beginning;
+use rj_command::{read_line, tell};
+use rj_explain::{Inputs, explain, explain_words};
+use rj_fault::{Fault, Side};
+use std::alloc::{AllocError, Global};
+use std::fs::Files;
+
+/// Why there is no output, and what explains it, as lines.
+#[derive(Drop)]
+pub(crate) struct Ended {
+    failure: Failure,
+    lines: Option<String>,
+}
+
+impl From<Failure> for Ended {
+    fn from(failure: Failure) -> Ended {
+        Ended {
+            failure,
+            lines: None,
+        }
+    }
+}
+
+impl From<Fault> for Ended {
+    fn from(fault: Fault) -> Ended {
+        Ended {
+            failure: Failure::Told(fault),
+            lines: None,
+        }
+    }
+}
+
+impl From<AllocError> for Ended {
+    fn from(_error: AllocError) -> Ended {
+        Ended {
+            failure: Failure::Told(Fault::Memory),
+            lines: None,
+        }
+    }
+}
+
+// The options that a join in one go doesn't have; each takes a value.
+const OWN_OPTIONS: [&str; 6] = ["--side", "--parts", "--from", "--to", "--out", "--cuts"];
+
+// Whether a word is an option that a join in one go doesn't have, with its value behind `=` or without.
+fn is_own_option(word: &str) -> bool {
+    match word.split_once('=') {
+        Some((option, _)) => OWN_OPTIONS.contains(&option),
+        None => OWN_OPTIONS.contains(&word),
+    }
+}
+
+// The words that say the same to a join in one go.
+fn words_of_join<'w>(alloc: Global, words: &[&'w str]) -> Result<Vec<&'w str>, AllocError> {
+    let mut of_join = Vec::with_capacity(alloc, words.len())?;
+    let mut is_own_value = false;
+    for word in words {
+        if is_own_value {
+            is_own_value = false;
+        } else if is_own_option(*word) {
+            is_own_value = !word.contains('=');
+        } else {
+            of_join.push(*word)?;
+        }
+    }
+    Ok(of_join)
+}
+
+// Whether a fault stands in a header, in a type list that doesn't fit one, or in the clause.
+fn is_of_headers(fault: &Fault) -> bool {
+    match fault {
+        Fault::BadName(_, _)
+        | Fault::RepeatedName(_, _)
+        | Fault::TypeCount(_)
+        | Fault::TypeName(_, _)
+        | Fault::Syntax(_)
+        | Fault::UnknownColumn
+        | Fault::AmbiguousColumn
+        | Fault::TypeMismatch
+        | Fault::RepeatedUsing => true,
+        _ => false,
+    }
+}
+
+// The lines of a fault of headers or of the clause, of which the files' beginnings are enough.
+fn header_lines<R: Files + AllocGlobal>(
+    rt: &R,
+    words: &[&str],
+    fault: &Fault,
+) -> Result<String, AllocError> {
+    let alloc = rt.alloc();
+    let words = words_of_join(alloc, words)?;
+    let Ok(line) = read_line(alloc, words.as_slice()) else {
+        return Ok(String::new(alloc));
+    };
+    let (Ok(left), Ok(right)) = (
+        read_beginning(rt, line.left, Side::Left),
+        read_beginning(rt, line.right, Side::Right),
+    ) else {
+        return Ok(String::new(alloc));
+    };
+    let inputs = Inputs {
+        left: left.as_slice(),
+        right: right.as_slice(),
+        request: &line.request,
+    };
+    explain(alloc, fault, &inputs)
+}
+
+// The lines that say more of a failure than its own line does: of a list of types, of a fault of a header, of a list that doesn't
+// fit one, and of the clause.
+fn lines_of<R: Files + AllocGlobal>(
+    rt: &R,
+    words: &[&str],
+    failure: &Failure,
+) -> Result<Option<String>, AllocError> {
+    match failure {
+        Failure::Told(fault) if is_of_headers(fault) => Ok(Some(header_lines(rt, words, fault)?)),
+        Failure::Told(fault) => explain_words(rt.alloc(), words, fault),
+        _ => Ok(None),
+    }
+}
+
+/// A failure of a run with these words, explained where they ask for it and there was memory for it.
+pub(crate) fn ended<R: Files + AllocGlobal>(rt: &R, words: &[&str], failure: Failure) -> Ended {
+    let lines = if words.iter().any(|word| *word == "--explain") {
+        lines_of(rt, words, &failure).unwrap_or(None)
+    } else {
+        None
+    };
+    Ended { failure, lines }
+}
+
+/// Prints a failure, and what explains it, on standard error, and gives the exit status.
+pub(crate) fn tell_ended<R: Print + Eprint>(rt: &R, ended: &Ended) -> u8 {
+    let status = tell(rt, &ended.failure);
+    if let Some(lines) = &ended.lines {
+        let _ = eprint!(rt; "{lines}");
+    }
+    status
+}
