@@ -125,7 +125,7 @@ fn lines_of<R: Files + AllocGlobal>(
 }
 
 /// A failure of a run with these words, explained where they ask for it and there was memory for it.
-pub(crate) fn ended<R: Files + AllocGlobal>(rt: &R, words: &[&str], failure: Failure) -> Ended {
+pub(crate) fn explained<R: Files + AllocGlobal>(rt: &R, words: &[&str], failure: Failure) -> Ended {
     let lines = if words.iter().any(|word| *word == "--explain") {
         lines_of(rt, words, &failure).unwrap_or(None)
     } else {

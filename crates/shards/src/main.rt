@@ -13,7 +13,7 @@ mod outputs;
 
 use crate::cutting::print_cuts;
 use crate::dividing::divide_range;
-use crate::explaining::{Ended, ended, tell_ended};
+use crate::explaining::{Ended, explained, tell_ended};
 use crate::failure::Failure;
 use crate::line::{Task, read_line};
 use rj_command::{read_words, texts_of};
@@ -38,7 +38,7 @@ fn run<R: Env + Files + AllocGlobal + Print>(rt: &R) -> Result<(), Ended> {
     let texts = texts_of(rt.alloc(), words.as_slice())?;
     match work(rt, texts.as_slice()) {
         Ok(()) => Ok(()),
-        Err(failure) => Err(ended(rt, texts.as_slice(), failure)),
+        Err(failure) => Err(explained(rt, texts.as_slice(), failure)),
     }
 }
 
