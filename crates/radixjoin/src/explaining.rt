@@ -3,9 +3,9 @@
 ghost use Rattle.std.specs.Prelude.{◌<◌, ◌-◌, ◌^◌};
 
 use crate::inputs::{is_standard_stream, read_table};
-use rj_command::{Line, Open, Stats, read_line, run};
+use rj_command::{Line, Open, Stats, Violation, count, first_violation, read_line, run};
 use rj_csv_io::{CountedWriter, Output};
-use rj_explain::{Inputs, explain, explain_list};
+use rj_explain::{Inputs, explain, explain_row, explain_words};
 use rj_fault::{Fault, Side, tell};
 use std::alloc::{AllocError, Global};
 use std::fs::{self, Files};
@@ -53,43 +53,16 @@ pub(crate) fn tell_ended<R: Print + Eprint>(rt: &R, ended: &Ended) -> u8 {
     status
 }
 
-// The list that one of these options has among the words.
-fn list_of<'w>(words: &[&'w str], option: &str) -> Option<&'w str> {
-    for i in 0..words.len() {
-        let Some(behind) = words[i].strip_prefix(option) else {
-            continue;
-        };
-        if behind.is_empty() {
-            return match words.get(i + 1) {
-                Some(list) => Some(*list),
-                None => None,
-            };
-        }
-        if let Some(list) = behind.strip_prefix('=') {
-            return Some(list);
-        }
-    }
-    None
-}
-
 // What explains a fault of the command line, where it can be explained and this is asked for among the words.
-fn explain_words(
+fn explain_line(
     alloc: Global,
     words: &[&str],
     fault: &Fault,
 ) -> Result<Option<String>, AllocError> {
-    let option = match fault {
-        Fault::BadTypeList(Side::Left) => "--left-types",
-        Fault::BadTypeList(Side::Right) => "--right-types",
-        _ => return Ok(None),
-    };
     if !words.iter().any(|word| *word == "--explain") {
         return Ok(None);
     }
-    match list_of(words, option) {
-        Some(list) => Ok(Some(explain_list(alloc, list)?)),
-        None => Ok(None),
-    }
+    explain_words(alloc, words, fault)
 }
 
 /// What the words of the command line say.
@@ -104,7 +77,7 @@ pub(crate) fn read_words_of_line<'a>(
     match read_line(alloc, words) {
         Ok(line) => Ok(line),
         Err(fault) => {
-            let lines = explain_words(alloc, words, &fault).unwrap_or(None);
+            let lines = explain_line(alloc, words, &fault).unwrap_or(None);
             Err(Ended { fault, lines })
         }
     }
@@ -166,12 +139,60 @@ pub(crate) fn read_side<R: Files + Input + AllocGlobal>(
     }
 }
 
+// What is told of a joined table that isn't as expected. It is joined once more, since nothing was kept of it.
+fn violation_lines<R: AllocGlobal + Threads + Wait + Clock + Sync>(
+    rt: &R,
+    inputs: &Inputs<'_, '_>,
+) -> Result<String, AllocError> {
+    let alloc = rt.alloc();
+    let (left, right, request) = (inputs.left, inputs.right, inputs.request);
+    match first_violation(rt, alloc, left, right, request, &Open) {
+        Ok(Some(Violation::Rows(rows))) => {
+            format!(in alloc; "  the joined table has {rows} rows\n")
+        }
+        Ok(Some(Violation::LeftRow(row, pairs))) => {
+            explain_row(
+                alloc,
+                inputs,
+                Side::Left,
+                u64::from(row).saturating_add(1),
+                pairs,
+            )
+        }
+        Ok(Some(Violation::RightRow(row, pairs))) => {
+            explain_row(
+                alloc,
+                inputs,
+                Side::Right,
+                u64::from(row).saturating_add(1),
+                pairs,
+            )
+        }
+        Ok(None) | Err(_) => Ok(String::new(alloc)),
+    }
+}
+
 // What is told of want of memory in a join of two files.
 fn memory_lines(alloc: Global, left: &[u8], right: &[u8]) -> Result<String, AllocError> {
     let (left, right) = (left.len(), right.len());
     format!(in alloc;
         "  while tables of {left} and {right} bytes were joined; with what is written that takes about four times as many\n"
     )
+}
+
+// A fault of a join of two files, explained.
+fn explained<R: AllocGlobal + Threads + Wait + Clock + Sync>(
+    rt: &R,
+    fault: Fault,
+    inputs: &Inputs<'_, '_>,
+) -> Ended {
+    let alloc = rt.alloc();
+    let lines = match fault {
+        Fault::Memory => memory_lines(alloc, inputs.left, inputs.right),
+        Fault::NotAsExpected => violation_lines(rt, inputs),
+        _ => explain(alloc, &fault, inputs),
+    };
+    with_lines(fault, lines)
 }
 
 /// Joins two tables, and writes the joined table.
@@ -191,20 +212,92 @@ where
     O: Output,
     requires { O.count writer.old < 2 ^ 64 - 1 }
 {
-    let alloc = rt.alloc();
+    let (alloc, request) = (rt.alloc(), &line.request);
     let (left, right) = (left.as_slice(), right.as_slice());
-    let fault = match run(rt, alloc, left, right, &line.request, &Open, writer) {
-        Ok(stats) => return Ok(stats),
-        Err(fault) => fault,
+    match run(rt, alloc, left, right, request, &Open, writer) {
+        Ok(stats) => Ok(stats),
+        Err(fault) => {
+            let inputs = Inputs {
+                left,
+                right,
+                request,
+            };
+            Err(explained(rt, fault, &inputs))
+        }
+    }
+}
+
+/// Joins two tables, and writes how many rows of each kind their joined table has. The bytes are kept for what is told.
+///
+/// # Errors
+///
+/// As `count` tells them, explained.
+pub(crate) fn count_explained<R, O>(
+    rt: &R,
+    left: Vec<u8>,
+    right: Vec<u8>,
+    line: &Line<'_>,
+    writer: &mut O,
+) -> Result<(), Ended>
+where
+    R: AllocGlobal + Threads + Wait + Clock + Sync,
+    O: Output,
+    requires { O.count writer.old < 2 ^ 64 - 1 }
+{
+    let (alloc, request) = (rt.alloc(), &line.request);
+    let (own_left, own_right) = (left.clone()?, right.clone()?);
+    match count(rt, alloc, own_left, own_right, request, &Open, writer) {
+        Ok(()) => Ok(()),
+        Err(fault) => {
+            let inputs = Inputs {
+                left: left.as_slice(),
+                right: right.as_slice(),
+                request,
+            };
+            Err(explained(rt, fault, &inputs))
+        }
+    }
+}
+
+/// The fault of a result that can't be written, explained where that is asked for: by the output's name and the system's words.
+pub(crate) fn unwritten<R: AllocGlobal>(
+    rt: &R,
+    line: &Line<'_>,
+    fault: Fault,
+    error: &Option<io::Error>,
+) -> Ended {
+    if !line.explain || !is_unwritten(&fault) {
+        return Ended::from(fault);
+    }
+    let name = match line.output {
+        Some(name) if !is_standard_stream(name) => name,
+        _ => "standard output",
     };
-    let inputs = Inputs {
-        left,
-        right,
-        request: &line.request,
+    let lines = match error {
+        Some(error) => told_by_system(rt.alloc(), name, error),
+        None => format!(in rt.alloc(); "  {name}\n"),
     };
-    let lines = match fault {
-        Fault::Memory => memory_lines(alloc, left, right),
-        _ => explain(alloc, &fault, &inputs),
-    };
-    Err(with_lines(fault, lines))
+    with_lines(fault, lines)
+}
+
+fn is_unwritten(fault: &Fault) -> bool {
+    match fault {
+        Fault::WriteDevice => true,
+        _ => false,
+    }
+}
+
+/// The same of an end that may be another one, which then is as it was.
+pub(crate) fn with_write_error<R: AllocGlobal>(
+    rt: &R,
+    line: &Line<'_>,
+    ended: Ended,
+    error: &Option<io::Error>,
+) -> Ended {
+    let Ended { fault, lines } = ended;
+    if is_unwritten(&fault) {
+        unwritten(rt, line, fault, error)
+    } else {
+        Ended { fault, lines }
+    }
 }

@@ -2,19 +2,26 @@
 //! or in a file; or prints the types that the cells of a file suggest. Statistics and faults go to standard error.
 #![tactic(auto)]
 
+ghost use Rattle.std.specs.Prelude.{◌<◌, ◌-◌, ◌^◌};
+
 mod explaining;
 mod inputs;
 mod lists;
+mod noting;
 mod output;
 mod suggesting;
 
-use crate::explaining::{Ended, join_explained, read_side, read_words_of_line, tell_ended};
+use crate::explaining::{
+    Ended, count_explained, join_explained, read_side, read_words_of_line, tell_ended, unwritten,
+    with_write_error,
+};
 use crate::inputs::{STANDARD_OUTPUT, is_standard_stream, refuse_output};
 use crate::lists::read_lists;
-use crate::output::Draft;
+use crate::noting::Noting;
+use crate::output::{Draft, Unwritten};
 use crate::suggesting::suggest;
 use rj_command::{Line, Open, Stats, count, run_owned};
-use rj_csv_io::CountedWriter;
+use rj_csv_io::{CountedWriter, Output};
 use rj_fault::{Fault, Side, read_words, texts_of};
 use std::env::Env;
 use std::fs::Files;
@@ -42,6 +49,23 @@ fn refuse_inputs<R: Files>(rt: &R, line: &Line<'_>) -> Result<(), Fault> {
     refuse_output(rt, output, line.right, Side::Right)
 }
 
+// Joins two tables, explained where that is asked for.
+fn join_tables<R: AllocGlobal + Threads + Wait + Clock + Sync, O: Output>(
+    rt: &R,
+    line: &Line<'_>,
+    left: Vec<u8>,
+    right: Vec<u8>,
+    writer: &mut O,
+) -> Result<Stats, Ended>
+    requires { O.count writer.old < 2 ^ 64 - 1 }
+{
+    if line.explain {
+        return join_explained(rt, left, right, line, writer);
+    }
+    let (alloc, request) = (rt.alloc(), &line.request);
+    Ok(run_owned(rt, alloc, left, right, request, &Open, writer)?)
+}
+
 // Reads both tables, left first, and writes the joined table. The writer is given back where that is done.
 fn write_joined<R: Files + Input + AllocGlobal + Threads + Wait + Clock + Sync, W: Write + Drop>(
     rt: &R,
@@ -50,14 +74,13 @@ fn write_joined<R: Files + Input + AllocGlobal + Threads + Wait + Clock + Sync, 
 ) -> Result<(Stats, W), Ended> {
     let left = read_side(rt, line, Side::Left)?;
     let right = read_side(rt, line, Side::Right)?;
-    let mut writer = CountedWriter::new(writer);
-    let stats = if line.explain {
-        join_explained(rt, left, right, line, &mut writer)?
-    } else {
-        let (alloc, request) = (rt.alloc(), &line.request);
-        run_owned(rt, alloc, left, right, request, &Open, &mut writer)?
-    };
-    Ok((stats, writer.into_inner()))
+    let mut writer = CountedWriter::new(Noting::new(writer));
+    let joined = join_tables(rt, line, left, right, &mut writer);
+    let (writer, error) = writer.into_inner().into_parts();
+    match joined {
+        Ok(stats) => Ok((stats, writer)),
+        Err(ended) => Err(with_write_error(rt, line, ended, &error)),
+    }
 }
 
 // Does this with a file, which has the whole joined table in the end, or what it had before.
@@ -66,17 +89,38 @@ fn write_file<R: Files + Input + AllocGlobal + Threads + Wait + Clock + Sync>(
     line: &Line<'_>,
     name: &str,
 ) -> Result<Stats, Ended> {
-    let (draft, file) = Draft::open(rt, name)?;
+    let (draft, file) = match Draft::open(rt, name) {
+        Ok(opened) => opened,
+        Err(Unwritten { fault, error }) => return Err(unwritten(rt, line, fault, &error)),
+    };
     match write_joined(rt, line, file) {
-        Ok((stats, file)) => {
-            draft.finish(rt, file)?;
-            Ok(stats)
-        }
+        Ok((stats, file)) => match draft.finish(rt, file) {
+            Ok(()) => Ok(stats),
+            Err(Unwritten { fault, error }) => Err(unwritten(rt, line, fault, &error)),
+        },
         Err(ended) => {
             draft.discard(rt);
             Err(ended)
         }
     }
+}
+
+// Counts the rows of two tables' joined table, explained where that is asked for.
+fn count_tables<R: AllocGlobal + Threads + Wait + Clock + Sync, O: Output>(
+    rt: &R,
+    line: &Line<'_>,
+    left: Vec<u8>,
+    right: Vec<u8>,
+    writer: &mut O,
+) -> Result<(), Ended>
+    requires { O.count writer.old < 2 ^ 64 - 1 }
+{
+    if line.explain {
+        return count_explained(rt, left, right, line, writer);
+    }
+    let (alloc, request) = (rt.alloc(), &line.request);
+    count(rt, alloc, left, right, request, &Open, writer)?;
+    Ok(())
 }
 
 // Reads both tables, left first, and writes how many rows of each kind their joined table has on standard output.
@@ -86,10 +130,13 @@ fn write_counts<R: Files + Input + AllocGlobal + Print + Threads + Wait + Clock 
 ) -> Result<(), Ended> {
     let left = read_side(rt, line, Side::Left)?;
     let right = read_side(rt, line, Side::Right)?;
-    let mut writer = CountedWriter::new(io::writer(rt));
-    let (alloc, request) = (rt.alloc(), &line.request);
-    count(rt, alloc, left, right, request, &Open, &mut writer)?;
-    Ok(())
+    let mut writer = CountedWriter::new(Noting::new(io::writer(rt)));
+    let counted = count_tables(rt, line, left, right, &mut writer);
+    let (_writer, error) = writer.into_inner().into_parts();
+    match counted {
+        Ok(()) => Ok(()),
+        Err(ended) => Err(with_write_error(rt, line, ended, &error)),
+    }
 }
 
 // Reads the words of a join, and writes the joined table.

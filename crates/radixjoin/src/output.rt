@@ -24,11 +24,28 @@ pub(crate) enum Draft {
     Stream,
 }
 
-// The fault of an error that the system tells of the file.
-fn fault_of(error: &io::Error) -> Fault {
-    match error.kind() {
+/// Why there is no file to write to, with the system's error where it told one.
+#[derive(Drop)]
+pub(crate) struct Unwritten {
+    pub(crate) fault: Fault,
+    pub(crate) error: Option<io::Error>,
+}
+
+impl From<Fault> for Unwritten {
+    fn from(fault: Fault) -> Unwritten {
+        Unwritten { fault, error: None }
+    }
+}
+
+// What an error is that the system tells of the file.
+fn unwritten_by(error: io::Error) -> Unwritten {
+    let fault = match error.kind() {
         ErrorKind::OutOfMemory => Fault::Memory,
         _ => Fault::WriteDevice,
+    };
+    Unwritten {
+        fault,
+        error: Some(error),
     }
 }
 
@@ -82,18 +99,21 @@ impl Draft {
     pub(crate) fn open<R: Files + AllocGlobal>(
         rt: &R,
         output: &str,
-    ) -> Result<(Draft, R::File), Fault> {
+    ) -> Result<(Draft, R::File), Unwritten> {
         if is_special(&fs::metadata(rt, output)) {
             return match OpenOptions::new().write(true).open(rt, output) {
                 Ok(file) => Ok((Draft::Stream, file)),
-                Err(error) => Err(fault_of(&error)),
+                Err(error) => Err(unwritten_by(error)),
             };
         }
         Draft::beside(rt, followed(rt, output)?)
     }
 
     // A new file beside the target, under the first name that is free.
-    fn beside<R: Files + AllocGlobal>(rt: &R, target: String) -> Result<(Draft, R::File), Fault> {
+    fn beside<R: Files + AllocGlobal>(
+        rt: &R,
+        target: String,
+    ) -> Result<(Draft, R::File), Unwritten> {
         for number in 0..NAMES {
             let name = draft_name(rt.alloc(), target.as_str(), number)?;
             let made = OpenOptions::new()
@@ -103,10 +123,10 @@ impl Draft {
             match made {
                 Ok(file) => return Ok((Draft::Replacing { name, target }, file)),
                 Err(error) if error.kind() == ErrorKind::AlreadyExists => {}
-                Err(error) => return Err(fault_of(&error)),
+                Err(error) => return Err(unwritten_by(error)),
             }
         }
-        Err(Fault::WriteDevice)
+        Err(Unwritten::from(Fault::WriteDevice))
     }
 
     /// Brings the file to the disk and puts it in the target's place.
@@ -114,15 +134,24 @@ impl Draft {
     /// # Errors
     ///
     /// `WriteDevice` where one of the two isn't done: the target is as it was, and the new file is removed.
-    pub(crate) fn finish<R: Files>(self, rt: &R, file: R::File) -> Result<(), Fault> {
+    pub(crate) fn finish<R: Files>(self, rt: &R, file: R::File) -> Result<(), Unwritten> {
         let Draft::Replacing { name, target } = self else {
             return Ok(());
         };
-        if file.sync_all().is_ok() && fs::rename(rt, name.as_str(), target.as_str()).is_ok() {
-            return Ok(());
+        let placed = match file.sync_all() {
+            Ok(()) => fs::rename(rt, name.as_str(), target.as_str()),
+            Err(error) => Err(error),
+        };
+        match placed {
+            Ok(()) => Ok(()),
+            Err(error) => {
+                let _ = fs::remove_file(rt, name.as_str());
+                Err(Unwritten {
+                    fault: Fault::WriteDevice,
+                    error: Some(error),
+                })
+            }
         }
-        let _ = fs::remove_file(rt, name.as_str());
-        Err(Fault::WriteDevice)
     }
 
     /// Removes the file, since nothing is to take the target's place.

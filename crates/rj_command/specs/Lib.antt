@@ -11,3 +11,4 @@ pub mod Expected
 pub mod Counts
 pub mod ReadBack
 pub mod Reported
+pub mod Violations

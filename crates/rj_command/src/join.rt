@@ -11,6 +11,7 @@ mod running;
 mod stats;
 mod strict;
 mod types;
+mod violations;
 
 pub use self::counting::{Counts, count};
 pub use self::laws::{plain_text, results_are_apart, results_read_back};
@@ -19,3 +20,4 @@ pub use self::running::{run, run_owned};
 pub use self::stats::{PartitionRows, Stats};
 pub use self::strict::{fault_of_text, read_strictly};
 pub use self::types::types_of_header;
+pub use self::violations::first_violation;

@@ -1,13 +1,14 @@
-//! Columns of the result.
+//! Columns of the result, and rows that are in more pairs than is expected.
 
 ghost use Rattle.std.specs.Prelude.{◌≡◌, IfOk, IfSome, true};
 ghost use Rattle.rj_condition.specs.Fits.{fits};
 
 use crate::clause::columns_of;
-use crate::inputs::Inputs;
+use crate::inputs::{Inputs, text_of};
+use crate::row::{Row, field_at, find_row};
 use crate::shown::Shown;
 use rj_columns::Table;
-use rj_condition::{BoundJoin, bind, parse};
+use rj_condition::{BoundJoin, bind, parse, split};
 use rj_engine::{chosen_header, written_names};
 use rj_fault::Side;
 use std::alloc::{AllocError, Global};
@@ -69,4 +70,93 @@ pub(crate) fn null_text_lines(
     format!(in alloc;
         "  row {row} of the result, column {name}: {text} is a text, and null is written so too\n"
     )
+}
+
+// The columns of a side's table, counted from 0, that are keys of a join.
+fn keys_on(alloc: Global, join: &BoundJoin, side: Side) -> Result<Vec<usize>, AllocError> {
+    let split = split(alloc, join)?;
+    match side {
+        Side::Left => split.left_columns(alloc),
+        Side::Right => split.right_columns(alloc),
+    }
+}
+
+// The same of the join that is asked for, if it is one.
+fn key_columns(
+    alloc: Global,
+    inputs: &Inputs<'_, '_>,
+    side: Side,
+) -> Result<Vec<usize>, AllocError> {
+    let left = columns_of(alloc, inputs, Side::Left)?;
+    let right = columns_of(alloc, inputs, Side::Right)?;
+    let (Some(left), Some(right)) = (left, right) else {
+        return Ok(Vec::new(alloc));
+    };
+    match join_of(alloc, inputs.request.clause, &left, &right)? {
+        Some(join) => keys_on(alloc, &join, side),
+        None => Ok(Vec::new(alloc)),
+    }
+}
+
+// The names of these columns, counted from 0, and what stands under each in a row.
+fn fields_text(
+    alloc: Global,
+    header: &Row,
+    row: &Row,
+    columns: &[usize],
+) -> Result<String, AllocError> {
+    let mut text = String::new(alloc);
+    for column in columns {
+        let at = (*column as u64).saturating_add(1);
+        let (Some(name), Some(value)) = (
+            field_at(alloc, &header.record, at)?,
+            field_at(alloc, &row.record, at)?,
+        ) else {
+            continue;
+        };
+        let sign = if text.is_empty() { ":" } else { "," };
+        let (name, value) = (Shown { bytes: name }, Shown { bytes: value });
+        let more = format!(in alloc; "{sign} {name} is {value}")?;
+        text.push_str(more.as_str())?;
+    }
+    Ok(text)
+}
+
+// The line that tells a row of a text that is in so many kept pairs.
+fn row_line(
+    alloc: Global,
+    text: &[u8],
+    columns: &[usize],
+    side: Side,
+    row: u64,
+    pairs: u64,
+) -> Result<String, AllocError> {
+    let (Some(header), Some(found)) = (find_row(alloc, text, 0)?, find_row(alloc, text, row)?)
+    else {
+        return Ok(String::new(alloc));
+    };
+    let line = found.line;
+    let fields = fields_text(alloc, &header, &found, columns)?;
+    format!(in alloc;
+        "  {side} row {row}, line {line} of the file, is in {pairs} kept pairs{fields}\n"
+    )
+}
+
+/// What is told of a row of a side's table, counted from 1, that is in so many kept pairs: the line of the file on which it
+/// begins, and what stands in the key's columns.
+///
+/// # Errors
+///
+/// It fails only where memory is refused.
+pub fn explain_row(
+    alloc: Global,
+    inputs: &Inputs<'_, '_>,
+    side: Side,
+    row: u64,
+    pairs: u64,
+) -> Result<String, AllocError> {
+    let columns = key_columns(alloc, inputs, side)?;
+    let quoted = inputs.quoted_text(alloc, side)?;
+    let text = text_of(&quoted, inputs.file(side));
+    row_line(alloc, text, columns.as_slice(), side, row, pairs)
 }

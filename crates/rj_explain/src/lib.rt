@@ -21,7 +21,8 @@ mod syntax;
 
 pub use explanation::explain;
 pub use inputs::Inputs;
-pub use lists::explain_list;
+pub use joined::explain_row;
+pub use lists::{explain_list, explain_words};
 pub use row::{Row, field_at, find_row};
 pub use shown::Shown;
 pub use strict::line_of_fault;

@@ -1,6 +1,7 @@
 //! Texts that are no type list.
 
 use crate::shown::Shown;
+use rj_fault::{Fault, Side};
 use rj_types::read_list;
 use std::alloc::{AllocError, Global};
 
@@ -88,5 +89,46 @@ pub fn explain_list(alloc: Global, list: &str) -> Result<String, AllocError> {
         None => format!(in alloc;
             "  a name stands before each type or before none, and * before one at most\n"
         ),
+    }
+}
+
+// The list that one of these options has among the words.
+fn list_of<'w>(words: &[&'w str], option: &str) -> Option<&'w str> {
+    for i in 0..words.len() {
+        let Some(behind) = words[i].strip_prefix(option) else {
+            continue;
+        };
+        if behind.is_empty() {
+            return match words.get(i + 1) {
+                Some(list) => Some(*list),
+                None => None,
+            };
+        }
+        if let Some(list) = behind.strip_prefix('=') {
+            return Some(list);
+        }
+    }
+    None
+}
+
+/// What is told of a fault of the command line that these words are: of a list of types that is none. Of other faults there is no
+/// more to say.
+///
+/// # Errors
+///
+/// It fails only where memory is refused.
+pub fn explain_words(
+    alloc: Global,
+    words: &[&str],
+    fault: &Fault,
+) -> Result<Option<String>, AllocError> {
+    let option = match fault {
+        Fault::BadTypeList(Side::Left) => "--left-types",
+        Fault::BadTypeList(Side::Right) => "--right-types",
+        _ => return Ok(None),
+    };
+    match list_of(words, option) {
+        Some(list) => Ok(Some(explain_list(alloc, list)?)),
+        None => Ok(None),
     }
 }

@@ -1,0 +1,41 @@
+//! By what the joined table of two files isn't as expected.
+
+ghost use Rattle.std.specs.Prelude.{IfOk};
+ghost use Rattle.rj_command.specs.Violations.{HasViolation};
+
+use crate::join::operands::read_operands;
+use rj_engine::{Gate, Violation, run_join};
+use rj_fault::Fault;
+use rj_line::Request;
+use rj_radix::Plain;
+use std::alloc::Global;
+use std::sync::Wait;
+use std::thread::Threads;
+use std::time::Clock;
+
+/// By what the joined table of the tables that the two files' bytes denote isn't as the request expects: how many rows it has, or
+/// the first row that is in more kept pairs than one; none where it is as expected. The join is made, and nothing is written.
+///
+/// # Errors
+///
+/// The first fault of the tables and of the clause. `Memory` comes only where a growth was refused.
+pub fn first_violation<R: Threads + Wait + Clock + Sync, G: Gate + Sync>(
+    rt: &R,
+    alloc: Global,
+    left: &[u8],
+    right: &[u8],
+    request: &Request<'_>,
+    gate: &G,
+) -> Result<Option<Violation>, Fault>
+    ensures { IfOk result (HasViolation left.now right.now request.now) }
+{
+    let operands = read_operands(rt, alloc, left, right, request)?;
+    let (left, right, join) = (&operands.left, &operands.right, &operands.join);
+    let settings = &request.settings;
+    let joined = run_join(rt, alloc, left, right, join, settings, &Plain, gate)?;
+    let expectation = &request.expectation;
+    match rj_engine::first_violation(alloc, left, right, join, &joined, expectation) {
+        Ok(found) => Ok(found),
+        Err(_) => Err(Fault::Memory),
+    }
+}
