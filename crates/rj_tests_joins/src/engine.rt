@@ -6,6 +6,7 @@ mod joins;
 mod naming;
 mod once;
 mod parts;
+mod reports;
 mod shards;
 mod stripes;
 mod tables;

@@ -236,3 +236,83 @@ const BANDS: [(&str, Option<Band>); 5] = [
 fn bands_of_clauses(rt: HostRuntime) {
     assert_eq!(rt; first_banded_otherwise(rt.alloc(), BANDS.as_slice()), "");
 }
+
+// Whether the remainder of a clause has these null-safe keys.
+fn has_null_safe_keys(
+    alloc: Global,
+    clause: &str,
+    want: &[(usize, usize)],
+    left: &Table,
+    right: &Table,
+) -> bool {
+    match join_of(alloc, clause, left, right) {
+        Ok(join) => match split(alloc, &join) {
+            Ok(parts) => match parts.remainder.null_safe_keys(alloc) {
+                Ok(keys) => keys.as_slice() == want,
+                Err(_) => false,
+            },
+            Err(_) => false,
+        },
+        Err(_) => false,
+    }
+}
+
+// The first clause of the cases that has other null-safe keys; empty where there is none.
+fn first_met_otherwise<'a>(alloc: Global, cases: &[(&'a str, &[(usize, usize)])]) -> &'a str {
+    match tables(alloc, LEFTS, RIGHTS) {
+        Some((left, right)) => {
+            for case in cases {
+                if !has_null_safe_keys(alloc, case.0, case.1, &left, &right) {
+                    return case.0;
+                }
+            }
+            ""
+        }
+        None => "the tables",
+    }
+}
+
+const NULL_SAFE_KEYS: [(&str, &[(usize, usize)]); 9] = [
+    (
+        "JOIN ON L.a = R.b OR L.a IS NULL AND R.b IS NULL",
+        &[(0, 1)],
+    ),
+    (
+        "JOIN ON R.a IS NULL AND L.b IS NULL OR R.a = L.b",
+        &[(1, 0)],
+    ),
+    (
+        "JOIN ON L.b > 1 AND (L.b = R.b OR (R.b IS NULL AND L.b IS NULL)) AND (L.a = R.a OR L.a IS NULL AND R.a IS NULL)",
+        &[(1, 1), (0, 0)],
+    ),
+    ("JOIN ON L.a = R.a OR L.a IS NULL AND R.b IS NULL", &[]),
+    ("JOIN ON L.a = R.a OR L.a IS NULL OR R.a IS NULL", &[]),
+    ("JOIN ON L.a = R.a OR L.a IS NULL AND R.a IS NOT NULL", &[]),
+    ("JOIN ON L.a = L.b OR L.a IS NULL AND L.b IS NULL", &[]),
+    (
+        "JOIN ON NOT (L.a = R.a OR L.a IS NULL AND R.a IS NULL)",
+        &[],
+    ),
+    ("JOIN ON L.a = R.a OR L.b < R.b", &[]),
+];
+
+#[test]
+fn null_safe_keys_of_clauses(rt: HostRuntime) {
+    assert_eq!(rt;
+        first_met_otherwise(rt.alloc(), NULL_SAFE_KEYS.as_slice()),
+        ""
+    );
+}
+
+const FIVE_MEETINGS: &str =
+    "JOIN ON (L.a = R.a OR L.a IS NULL AND R.a IS NULL) AND (L.a = R.b OR L.a IS NULL AND R.b IS NULL) AND (L.b = R.a OR L.b IS NULL AND R.a IS NULL) AND (L.b = R.b OR L.b IS NULL AND R.b IS NULL) AND (R.b = L.a OR L.a IS NULL AND R.b IS NULL)";
+
+const FIRST_FOUR: [(&str, &[(usize, usize)]); 1] = [(
+    FIVE_MEETINGS,
+    &[(0, 0), (0, 1), (1, 0), (1, 1)],
+)];
+
+#[test]
+fn four_null_safe_keys_at_most(rt: HostRuntime) {
+    assert_eq!(rt; first_met_otherwise(rt.alloc(), FIRST_FOUR.as_slice()), "");
+}
