@@ -84,9 +84,10 @@ def on_terminal(words, folder, stdin=subprocess.DEVNULL, feed=None, shares=False
 
 
 def lines_of(told):
-    """The lines that a terminal showed, each in the place of the one before it, and what stands behind the last one."""
+    """The lines that a terminal showed, each in the place of the one before it or where that was taken away, and what stands behind the
+    last one."""
     before, *lines = told.split(CLEARED)
-    return (lines[:-1], lines[-1]) if lines else ([], before)
+    return ([line for line in lines[:-1] if line], lines[-1]) if lines else ([], before)
 
 
 def step_of(line):
@@ -98,7 +99,7 @@ def step_of(line):
     return None
 
 
-def line_faults(lines, told=b""):
+def line_faults(lines, told):
     """What of the lines isn't as it has to be: their form, their order, and that none is told to be beyond the whole."""
     faults, steps = [], list(STEPS)
     if lines and not told.startswith(CLEARED):
@@ -188,8 +189,9 @@ def what_stands_behind(folder):
     bad = ["--left", "bad.csv", *words[2:], "--progress"]
     line = b"radixjoin: E6 BadInteger left row 2 column 1\n"
     yield "a fault", run_faults(on_terminal(bad, folder), b"", line, 3, ["left table"])
-    lines, rest = lines_of(on_terminal([*bad, "--explain"], folder).stderr)
-    yield "a fault explained", line_faults(lines) + ([] if rest.startswith(line + b"  ") else [f"behind the lines stands {rest!r}"])
+    ran = on_terminal([*bad, "--explain"], folder)
+    lines, rest = lines_of(ran.stderr)
+    yield "a fault explained", line_faults(lines, ran.stderr) + ([] if rest.startswith(line + b"  ") else [f"behind the lines stands {rest!r}"])
     missing = ["--left", "left.csv", "--right", "missing", *WORDS, "--progress"]
     yield "a missing file", run_faults(on_terminal(missing, folder), b"", b"radixjoin: E19 ReadDevice right\n", 6)
     full = [*words, "--progress", "--output=/dev/full"]
@@ -197,7 +199,7 @@ def what_stands_behind(folder):
     expected = [*words[:-1], "CROSS JOIN", "--expect=one-to-one", "--explain", "--progress"]
     ran = on_terminal(expected, folder)
     lines, rest = lines_of(ran.stderr)
-    yield "a joined table that isn't as expected", line_faults(lines) + ([] if rest.startswith(b"radixjoin: E30 NotAsExpected\n  ") and ran.status == 7 else [f"behind the lines stands {rest!r}"])
+    yield "a joined table that isn't as expected", line_faults(lines, ran.stderr) + ([] if rest.startswith(b"radixjoin: E30 NotAsExpected\n  ") and ran.status == 7 else [f"behind the lines stands {rest!r}"])
 
 
 def until_shown():
