@@ -705,7 +705,7 @@ def join(
     files, the programs and the scratch folder under the same names.
 
     The arguments are the options of the command line `radixjoin-cluster` (docs/cluster.md): `left_null` and `right_null`, a text or
-    up to four, and `out_null`, in place of `null`; `strict`, True or "full", has files refused that aren't of RFC 4180's grammar;
+    up to four, and `out_null`, in place of `null`; `strict`, True or "full", has files refused that aren't of RFC 4180's grammar; with `explain`, a `Fault` has an `explanation`;
     `parts` that the tables are divided into (1 to 1,024), `ranges` of a file that are divided side by side, `merges`, the
     ranges of the joined table that are merged side by side, `memory` in MiB for each program; `workers` and other options of the join of each shard go to `radixjoin`. Types are a list, a text as the program
     has it (`"int,text"`, `"id=int,*=text"`, `"@FILE"`), or a mapping by name, in which `*` stands for all other columns.

@@ -1,4 +1,4 @@
--- How a report shows a text, the name of a column or what stands in a cell: so that it stands on one line, and ends where it is seen to end.
+-- How a report shows a text, the name of a column or what stands in a cell, so that it stands on one line.
 use Rattle.std.specs.Prelude.{ℕ, true, List, [], ◌∷◌, ◌++◌, ◌-◌, ◌/◌, ◌%◌, ◌==◌, ◌||◌, nat_lt, if◌then◌else◌, codes, decimal, encode_utf8, length, take}
 use Rattle.std.specs.Fmt.{digit_glyph}
 use Rattle.std.specs.List.{flat_map}
