@@ -6,7 +6,7 @@ use Rattle.std.specs.Str.{chars}
 use Rattle.std.specs.Str.Lossy.{utf8_valid_len}
 
 -- a control character of ASCII is a backslash, x and the two hexadecimal digits of its byte; each other character is itself
-abbrev pub shown_char : ℕ → List ℕ
+unfoldable pub shown_char : ℕ → List ℕ
 shown_char c =
     if nat_lt c 32 || (c == 127) then 92 ∷ (120 ∷ (digit_glyph true (c / 16) ∷ (digit_glyph true (c % 16) ∷ []))) else encode_utf8 c
 
@@ -19,5 +19,5 @@ abbrev pub more_text : ℕ → List ℕ
 more_text n = if n == 0 then [] else codes " and " ++ (decimal n ++ codes " more bytes")
 
 -- these characters between double quotes, and what stands behind them
-abbrev pub shown_text : List ℕ → List ℕ
+unfoldable pub shown_text : List ℕ → List ℕ
 shown_text text = 34 ∷ (flat_map shown_char (chars (shown_part text)) ++ (34 ∷ more_text (length text - length (shown_part text))))

@@ -13,7 +13,7 @@ use std::str;
 const MOST: usize = 60;
 
 // The characters that end within the first bytes.
-#[tactic(auto, using(crate::proofs::ShownFacts::whole_shown, crate::proofs::ShownFacts::head_shown, crate::proofs::ShownFacts::front_shown))]
+#[tactic(auto, using(crate::proofs::ShownFacts::whole_shown))]
 fn shown_part(text: &str) -> &str
     ensures { result.now ≡ shown_part text.now }
 {
@@ -38,6 +38,7 @@ fn byte_text(alloc: Global, byte: u8) -> Result<String, AllocError>
 }
 
 // Adds a character as it is shown.
+#[tactic(auto, unfolding(crate::specs::ShownTexts::shown_char))]
 fn add_char(text: &mut String, alloc: Global, character: char) -> Result<(), AllocError>
     ensures { OnOk result (string_bytes text.new ≡ string_bytes text.old ++ shown_char character) }
 {
@@ -79,6 +80,7 @@ fn add_part(text: &mut String, alloc: Global, part: &str) -> Result<(), AllocErr
 /// # Errors
 ///
 /// Refuses only for want of memory.
+#[tactic(auto, unfolding(crate::specs::ShownTexts::shown_text))]
 pub(crate) fn shown_text(alloc: Global, text: &str) -> Result<String, AllocError>
     ensures { IfOk result (λ s. string_bytes s ≡ shown_text text.now) }
 {
