@@ -68,11 +68,7 @@ fn first_violations(rt: HostRuntime) -> Result<(), Fail> {
             Matching::OneToMany,
             Some(Violation::RightRow(1, 2)),
         ),
-        (
-            "JOIN ON L.id = R.id AND a = 'x'",
-            Matching::OneToMany,
-            None,
-        ),
+        ("JOIN ON L.id = R.id AND a = 'x'", Matching::OneToMany, None),
         (
             "JOIN ON L.id = R.id AND b = 'z'",
             Matching::OneToOne,

@@ -30,10 +30,7 @@ fn is_refused(found: &RefusedColumn, wanted: Option<Refused<'_>>) -> bool {
         Some(word) => word.as_str(),
         None => "",
     };
-    found.at == at
-        && found.name.as_str() == name
-        && qualifier == before
-        && found.refused == refused
+    found.at == at && found.name.as_str() == name && qualifier == before && found.refused == refused
 }
 
 fn tells_name(alloc: Global, case: NameCase<'_>, left: &Table, right: &Table) -> bool {
@@ -176,10 +173,7 @@ fn comparisons_that_cannot_be_made(rt: HostRuntime) {
 }
 
 const PARTNERS: [OperandCase<'static>; 4] = [
-    (
-        "JOIN USING (city, id)",
-        Some((18, ('L', 1), ('R', 0))),
-    ),
+    ("JOIN USING (city, id)", Some((18, ('L', 1), ('R', 0)))),
     (" NATURAL JOIN", Some((1, ('L', 1), ('R', 0)))),
     ("JOIN USING (city)", None),
     ("CROSS JOIN", None),
