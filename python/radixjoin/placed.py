@@ -2,7 +2,7 @@
 from __future__ import annotations
 
 from itertools import chain, islice, repeat, takewhile
-from typing import Iterator, Tuple
+from typing import Iterator, List, Tuple
 
 from .text import blocks, fields_in, split_header
 
@@ -41,8 +41,18 @@ def rows_before(path: str, place: Place, order: str) -> int:
     return sum(1 for _ in takewhile(lambda it: it < place, places(path, order)))
 
 
+def _names(path: str) -> List[str]:
+    """The names of the columns of a joined shard."""
+    with open(path, "rb") as file:
+        return split_header(next(blocks(file)))[0]
+
+
 def column_in_whole(path: str, column: int) -> int:
     """The number in the joined table of a column of a joined shard, both counted from 1."""
-    with open(path, "rb") as file:
-        names, _ = split_header(next(blocks(file)))
+    names = _names(path)
     return column - sum(names.index(name) + 1 < column for name in (LEFT, RIGHT))
+
+
+def names_in_whole(path: str) -> List[str]:
+    """The names of the columns of the joined table, by a joined shard."""
+    return [name for name in _names(path) if name not in (LEFT, RIGHT)]

@@ -10,3 +10,4 @@ mod reports;
 mod shards;
 mod stripes;
 mod tables;
+mod violations;
