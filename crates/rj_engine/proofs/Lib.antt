@@ -16,8 +16,8 @@ pub mod Starts
 pub mod Within
 pub mod Whole
 pub mod Delivered
-pub mod Books
 pub mod Pools
+pub mod Made
 pub mod Crosses
 pub mod ShardRows
 pub mod ShardPairs
