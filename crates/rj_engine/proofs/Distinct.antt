@@ -14,7 +14,7 @@ use Rattle.rj_engine.specs.Expected.{AreDistinct}
 use Rattle.rj_engine.specs.Marks.{IsMarked}
 use Rattle.rj_engine.specs.Results.{kept_pairs}
 
-is_equal : (a b : ℕ) → a ≡ b → (a == b) ≡ true
+pub is_equal : (a b : ℕ) → a ≡ b → (a == b) ≡ true
 is_equal a b e = grind (arith, nat_tests, e)
 
 equal_is : (a b : ℕ) → (a == b) ≡ true → a ≡ b
