@@ -19,11 +19,6 @@ pub mod Delivered
 pub mod Pools
 pub mod Made
 pub mod Crosses
-pub mod ShardRows
-pub mod ShardPairs
-pub mod ShardLone
-pub mod ShardMerges
-pub mod ShardFacts
 pub mod OnceFacts
 pub mod Distinct
 pub mod NamingFacts

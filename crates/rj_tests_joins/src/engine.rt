@@ -7,6 +7,5 @@ mod naming;
 mod once;
 mod parts;
 mod reports;
-mod shards;
 mod stripes;
 mod tables;
