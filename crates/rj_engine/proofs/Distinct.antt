@@ -65,7 +65,7 @@ module _ (join : BoundJoin) (l r : TableValue) (joined : JoinedValue) (given : L
   within = subst (λ (ps : List (ℕ × ℕ)). All (λ (p : ℕ × ℕ). (p.0 < length l.rows) × (p.1 < length r.rows)) ps) (sym kept) (pairs-within (keeps join l r) (length l.rows) (length r.rows))
 
   pub lefts_there : count ≡ length l.rows → All (λ (p : ℕ × ℕ). p.0 < count) given
-  lefts_there many = All-weaker _ (λ (p : ℕ × ℕ). p.0 < count) (λ p low. let h = low.0 in omega (arith, many, h)) given within
+  lefts_there many = All-weaker (λ (p : ℕ × ℕ). (p.0 < length l.rows) × (p.1 < length r.rows)) (λ (p : ℕ × ℕ). p.0 < count) (λ p low. let h = low.0 in omega (arith, many, h)) given within
 
   pub rights_there : count ≡ length r.rows → All (λ (p : ℕ × ℕ). p.1 < count) given
-  rights_there many = All-weaker _ (λ (p : ℕ × ℕ). p.1 < count) (λ p low. let h = low.1 in omega (arith, many, h)) given within
+  rights_there many = All-weaker (λ (p : ℕ × ℕ). (p.0 < length l.rows) × (p.1 < length r.rows)) (λ (p : ℕ × ℕ). p.1 < count) (λ p low. let h = low.1 in omega (arith, many, h)) given within

@@ -9,4 +9,4 @@ returns-in-ManyToOne c =
 
 pub returns-in-OneToMany : goal.returns-in-OneToMany
 returns-in-OneToMany c =
-    subst (λ (m : Matching). IfOk c.are_distinct.result (λ b. IsTrue b ↔ AreMatched (Some m) c.args.pairs.now)) (sym c.in-OneToMany.is) c.are_distinct.ensures
+    subst (λ (m : Matching). IfOk c.are_distinct-in-OneToMany.result (λ b. IsTrue b ↔ AreMatched (Some m) c.args.pairs.now)) (sym c.in-OneToMany.is) c.are_distinct-in-OneToMany.ensures
