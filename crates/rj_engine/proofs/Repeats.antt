@@ -1,9 +1,9 @@
 -- Numbers that stand more than once.
-use Rattle.std.proofs.Common.{◌≡◌, ◌<◌, ◌≤◌, ◌==◌, ◌+◌, ◌∙◌, ◌⊎◌, ℕ, zero, suc, refl, true, false, Bool, cond, List, [], ◌∷◌, length, map, get_or, set, take, arith, inl, inr, sym, ap, get_or-set_same, get_or-set_other}
-use Rattle.std.specs.List.{All, count_by}
-use Rattle.std.proofs.lemmas.Bool.{cases_eq, false≢true}
+use Rattle.std.proofs.Common.{◌≡◌, ◌<◌, ◌≤◌, ◌==◌, ◌+◌, ◌∙◌, ℕ, zero, suc, refl, false, Bool, cond, List, [], ◌∷◌, length, map, get_or, set, take, arith, inl, inr, sym, ap, get_or-set_same, get_or-set_other}
+use Rattle.std.specs.List.{All}
+use Rattle.std.proofs.lemmas.Bool.{cases_eq}
 use Rattle.std.proofs.lemmas.Bool.Decides.{nat_tests}
-use Rattle.std.proofs.lemmas.List.{get_or_read, get_or-map, length-map}
+use Rattle.std.proofs.lemmas.List.{get_or_read}
 use Rattle.std.proofs.lemmas.List.Sums.{count_by_more_no, count_by_more_yes, sum_by-cons}
 use Rattle.rj_engine.specs.Expected.{AreDistinct}
 use Rattle.rj_engine.specs.Violations.{times}

@@ -1,5 +1,5 @@
 use Rattle.std.proofs.lemmas.Bool.{false≢true}
-use Rattle.std.proofs.Common.{◌≡◌, ◌<◌, ◌==◌, ◌++◌, ◌∷◌, [], ℕ, true, false, map, take, slice_index_or, arith, subst}
+use Rattle.std.proofs.Common.{◌≡◌, ◌==◌, ◌++◌, ◌∷◌, [], ℕ, true, false, map, take, slice_index_or, arith, subst}
 use Rattle.std.specs.List.{list_any}
 use Rattle.rj_engine.specs.Marks.{IsMarked, row_on}
 use Rattle.rj_engine.proofs.Distinct.{distinct_more, marked_is, stands_twice}
