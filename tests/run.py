@@ -49,6 +49,7 @@ PARTS = (
     "citations",
     "ends",
     "output_file",
+    "progress",
     "streams",
     "comparisons",
 )
