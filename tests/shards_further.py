@@ -136,9 +136,9 @@ def run_explained(tally):
             ran = shards.joined([*words, "--parts", "2"], folder, 1)
             tally.check(f"shards_further: {name}, explained", harness.differences(ran, b"", told, 3))
         file = folder / "left.csv"
-        file.write_bytes(b"k,a\n" + b"1,x\n" * 4_000 + b"z,x\n")
+        file.write_bytes(b"k,a\n" + b"1,x\n" * 100_000 + b"z,x\n")
         ran = shards.joined([*words, "--parts", "2"], folder, 4)
-        line = re.fullmatch(rb"radixjoin: E6 BadInteger left row 4001 column 1\n  row (\d+) of those in the file's bytes from (\d+) on, column \"k\"\n", ran.stderr)
+        line = re.fullmatch(rb"radixjoin: E6 BadInteger left row 100001 column 1\n  row (\d+) of those in the file's bytes from (\d+) on, column \"k\"\n", ran.stderr)
         is_told = line and file.read_bytes()[int(line[2]) :].split(b"\n")[int(line[1]) - 1] == b"z,x"
         tally.check("shards_further: a cell of a later range, explained", [] if is_told else [harness.shorten(ran.stderr)])
         file.unlink()
