@@ -15,7 +15,7 @@ import harness
 import shards
 
 # For each program a text that its words have where a task runs it, and not before.
-STEPS = {"shards": "--out /", "radixjoin": "/radixjoin-", "merges": "/joined-"}
+STEPS = {"shards": "--out /", "radixjoin": "/radixjoin-", "merges": "--order="}
 # What a program does in place of its work: it waits for a signal, or is ended by one.
 WAITS = 'echo $PPID > "$0.number.new" && mv "$0.number.new" "$0.number"; exec sleep 60'
 IS_KILLED = "kill -9 $$"

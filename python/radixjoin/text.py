@@ -88,20 +88,44 @@ def _cut(block: bytes) -> int:
         upto = at
 
 
-def blocks(stream: BinaryIO) -> Iterator[str]:
-    """What a stream gives to its end, in blocks of whole records."""
+def pieces(stream: BinaryIO, size: int = _BLOCK) -> Iterator[bytes]:
+    """What a stream gives to its end, in pieces of whole records, each of about so many bytes or of one record that is longer."""
     rest = b""
     while True:
-        read = stream.read(max(_BLOCK, len(rest)))
+        read = stream.read(max(size, len(rest)))
         if not read:
             break
-        block = rest + read if rest else read
-        cut = _cut(block)
-        rest = block[cut:]
+        piece = rest + read if rest else read
+        cut = _cut(piece)
+        rest = piece[cut:]
         if cut:
-            yield block[:cut].decode()
+            yield piece[:cut]
     if rest:
-        yield rest.decode()
+        yield rest
+
+
+def blocks(stream: BinaryIO) -> Iterator[str]:
+    """What a stream gives to its end, in blocks of whole records."""
+    return (piece.decode() for piece in pieces(stream))
+
+
+def end_of_record(piece: bytes, begin: int = 0) -> int:
+    """Behind the line feed of the record that begins at a byte of some bytes; behind all of them where it has none."""
+    end, quotes = begin, 0
+    while True:
+        at = piece.find(b"\n", end)
+        if at < 0:
+            return len(piece)
+        quotes += piece.count(b'"', end, at)
+        end = at + 1
+        if quotes % 2 == 0:
+            return end
+
+
+def records_in(piece: bytes) -> int:
+    """How many records a piece of whole records has, the last of which may lack its line feed."""
+    outside = b"".join(piece.split(b'"')[::2]) if b'"' in piece else piece
+    return outside.count(b"\n") + (not piece.endswith(b"\n") and piece != b"")
 
 
 def _fields_in(record: str) -> List[str]:
