@@ -58,6 +58,7 @@ PROGRAMS = ("radixjoin", "shards", "merges")
 FULL = (errno.ENOSPC, errno.EDQUOT, errno.EROFS)
 AMBIGUOUS = re.compile(r"radixjoin: E28 AmbiguousNull row (\d+) column (\d+)")
 
+
 class Told(Exception):
     """A fault that a program told: the line that it printed, its exit status, and what it had printed on standard output."""
 

@@ -17,6 +17,8 @@ _SURROGATE = re.compile("[\ud800-\udfff]")
 _QUOTED = re.compile('"((?:[^"]+|"")*)"')
 _BLOCK = 1 << 22
 _HEADER = 1 << 20
+# The bytes that are neither quotes nor line feeds.
+_NO_ENDS = bytes(set(range(256)) - set(b'"\n'))
 
 
 def _quoted(text: str) -> str:
@@ -124,8 +126,12 @@ def end_of_record(piece: bytes, begin: int = 0) -> int:
 
 def records_in(piece: bytes) -> int:
     """How many records a piece of whole records has, the last of which may lack its line feed."""
-    outside = b"".join(piece.split(b'"')[::2]) if b'"' in piece else piece
-    return outside.count(b"\n") + (not piece.endswith(b"\n") and piece != b"")
+    ends = piece.count(b"\n")
+    if b'"' in piece:
+        # (two quotes with no line feed between them change nothing for the others)
+        left = piece.translate(None, _NO_ENDS).replace(b'""', b"")
+        ends = b"".join(left.split(b'"')[::2]).count(b"\n")
+    return ends + (not piece.endswith(b"\n") and piece != b"")
 
 
 def _fields_in(record: str) -> List[str]:
