@@ -367,6 +367,11 @@ def merging(job: Job) -> List[str]:
     return [f"--null={job.out_null}", f"--order={job.order}"]
 
 
+def refused(job: Job, error: OSError) -> Told:
+    """The fault of a result that the system doesn't take."""
+    return unwritten(job.out) if error.errno in FULL else unwritten(job.out, error.strerror)
+
+
 def merge_shards(job: Job) -> None:
     """Merges the joined shards into the joined table."""
     try:
@@ -374,7 +379,7 @@ def merge_shards(job: Job) -> None:
             job.run("merges", [*merging(job), *map(job.joined, range(job.parts))], output, job.out)
             os.fsync(output.fileno())
     except OSError as error:
-        raise unwritten(job.out, error.strerror) from None
+        raise refused(job, error) from None
 
 
 def merge_range(job: Job, number: int, runs: Dict[int, Tuple[int, int, int]]) -> None:
@@ -396,7 +401,7 @@ def put_together(job: Job, count: int) -> None:
                     shutil.copyfileobj(merged, output, 1 << 20)
             os.fsync(output.fileno())
     except OSError as error:
-        raise unwritten(job.out, error.strerror) from None
+        raise refused(job, error) from None
 
 
 def answer(task: Callable[..., Any], job: Job, *words: Any) -> Any:
