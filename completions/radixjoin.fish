@@ -19,6 +19,7 @@ complete -c radixjoin -l expect -x -a 'one-to-one many-to-one one-to-many' -d 'W
 complete -c radixjoin -l max-rows -x -d 'Write nothing where there are more rows, 0 to 4294967295'
 complete -c radixjoin -l count -d 'Print in place of the rows how many there are'
 complete -c radixjoin -l report -d 'Tell how many rows find a partner, and how keys are spread'
+complete -c radixjoin -l progress -d 'Show on a terminal at once how far it is'
 complete -c radixjoin -l output -r -F -d 'File that gets the result'
 complete -c radixjoin -l explain -d 'Tell more of a fault: where it is, and what stands there'
 complete -c radixjoin -l workers -x -d 'Threads that scan, and as many that join, 1 to 64'

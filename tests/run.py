@@ -50,6 +50,7 @@ PARTS = (
     "citations",
     "ends",
     "output_file",
+    "progress",
     "streams",
     "comparisons",
 )

@@ -30,6 +30,7 @@ from typing import TYPE_CHECKING, Any, Callable, Dict, Iterator, List, Optional,
 
 from .clauses import quoted
 from .columns import Types, text_of, word_of
+from .explained import of_cell, of_row, of_unread
 from .faults import Fault, fault_of
 from .feeding import Input, run_program
 from .lists import lower, read_list, with_place
@@ -60,13 +61,18 @@ AMBIGUOUS = re.compile(r"radixjoin: E28 AmbiguousNull row (\d+) column (\d+)")
 
 
 class Told(Exception):
-    """A fault that a program told: the line that it printed, its exit status, and what it had printed on standard output."""
+    """A fault that a program told: the line that it printed, its exit status, what it had printed on standard output, and what it
+    told below the line."""
 
-    def __init__(self, line: str, status: int, printed: bytes = b"") -> None:
-        super().__init__(line, status, printed)
+    def __init__(self, line: str, status: int, printed: bytes = b"", more: str = "") -> None:
+        super().__init__(line, status, printed, more)
         self.line = line
         self.status = status
         self.printed = printed
+        self.more = more
+
+    def __str__(self) -> str:
+        return f"{self.line}\n{self.more}" if self.more else self.line
 
     def is_of(self, side: str) -> bool:
         """Whether it is a fault of a side's file."""
@@ -97,6 +103,7 @@ def read_line(words: Sequence[str]) -> argparse.Namespace:
     where.add_argument("--scheduler", metavar="ADDRESS", help="scheduler of a Dask cluster, as tcp://node1:8786")
     where.add_argument("--processes", type=int, default=1, metavar="N", help="processes of this machine that work side by side [default: 1]")
     line.add_argument("--progress", action="store_true", help="show how many tasks are done, by Dask's own bar")
+    line.add_argument("--explain", action="store_true", help="tell behind the line of a fault where it is, and what stands there")
     for option in OF_ONE_JOIN:
         line.add_argument(f"--{option}", metavar="X", help=f"as radixjoin's --{option}, for the join of each shard")
     for option in OF_WHOLE_TABLES:
@@ -113,7 +120,9 @@ def read_line(words: Sequence[str]) -> argparse.Namespace:
         line.error(f"--{name} is from {least} to {most}")
     for option, only in OF_WHOLE_TABLES.items():
         if getattr(asked, option) not in (None, only):
-            line.error(f"--{option}: a join in shards writes all columns")
+            line.error(f"--{option}: a join in shards writes all columns, so leave those out of the files that aren't wanted")
+    if "matched-left" in (asked.rows or "").split(","):
+        line.error("--rows: a join in shards has no matched-left, so join by USING with a right file of the keys alone, each once")
     return asked
 
 
@@ -168,6 +177,7 @@ class Job:
         # Whether a cell that isn't null may be written as null is, which has to be told.
         self.is_apart = bool(asked.strict) and any(self.out_null not in (nulls[side] or [null]) for side in SIDES)
         self.strict = [f"--strict={asked.strict}"] if asked.strict else []
+        self.explain = ["--explain"] if asked.explain else []
         self.parts = asked.parts
         self.order = asked.order or "pairs"
         self.one_join = [f"--{option}={getattr(asked, option)}" for option in OF_ONE_JOIN if getattr(asked, option) is not None]
@@ -186,10 +196,11 @@ class Job:
         if ran.returncode < 0:
             raise RuntimeError(f"{name} was ended by signal {-ran.returncode}")
         if ran.returncode:
-            line = ran.stderr.decode(errors="replace").rstrip("\n")
+            line, _, more = ran.stderr.decode(errors="replace").rstrip("\n").partition("\n")
             if line.endswith(": E20 WriteDevice"):
                 raise unwritten(writes or self.folder())
-            raise Told(line, ran.returncode, ran.stdout or b"")
+            side = re.fullmatch(r"radixjoin: E19 ReadDevice (left|right)", line) if self.explain and name == "shards" else None
+            raise Told(line, ran.returncode, ran.stdout or b"", of_unread(self.files[side[1]]) if side else more)
         return ran.stdout
 
     def folder(self) -> str:
@@ -204,7 +215,7 @@ class Job:
     def division(self, side: str) -> List[str]:
         """The words for `shards` that don't depend on the range."""
         tables = [word for it in SIDES for word in (f"--{it}={self.files[it]}", f"--{it}-types={self.types[it]}")]
-        return [f"--side={side}", *tables, f"--join={self.clause}", *self.null, *self.strict, f"--parts={self.parts}"]
+        return [f"--side={side}", *tables, f"--join={self.clause}", *self.null, *self.strict, *self.explain, f"--parts={self.parts}"]
 
     def place(self, name: str) -> str:
         """The path of something that is made in the scratch folder."""
@@ -495,16 +506,17 @@ def counted_on(line: str, before: int) -> str:
     return re.sub(r"\brow (\d+)", lambda found: f"row {before + int(found[1])}", told) + quote + name
 
 
-def first_fault_of_file(answers: Sequence[Any], side: str) -> None:
+def first_fault_of_file(job: Job, side: str, ranges: Sequence[Tuple[int, Optional[int]]], answers: Sequence[Any]) -> None:
     """Raises the first fault of a side's own file among the answers of its ranges, its row counted through the whole file.
 
     What else a range tells is looked at later: a clause that can't be bound, or the other file. Such a range's own rows have
     no fault, and `shards` told how many there are."""
     before = 0
-    for it in answers:
+    for it, (start, end) in zip(answers, ranges):
         if isinstance(it, Told):
             if it.is_of(side) or not it.printed:
-                raise Told(counted_on(it.line, before), it.status)
+                more = of_row(it.line, names_in(job.files[side]), start, end) if job.explain and not it.more else it.more
+                raise Told(counted_on(it.line, before), it.status, more=more)
             before += counts_in(it.printed)[0]
         else:
             before += it
@@ -528,7 +540,7 @@ def refuse_line(job: Job) -> Optional[Told]:
     """Tells what `radixjoin` does of the command line, by a run on empty files. A null text that isn't lawful is given back:
     files that can't be read are told before it."""
     try:
-        job.run("radixjoin", [*job.joining({side: os.devnull for side in SIDES}, job.types), *job.strict])
+        job.run("radixjoin", [*job.joining({side: os.devnull for side in SIDES}, job.types), *job.strict, *job.explain])
     except Told as told:
         if told.status != 3:
             raise
@@ -561,7 +573,7 @@ def divided(job: Job, cluster: Any, count: int) -> Dict[str, int]:
     of_side = {"left": answers[: len(ranges["left"])], "right": answers[len(ranges["left"]) :]}
     try:
         for side in SIDES:
-            first_fault_of_file(of_side[side], side)
+            first_fault_of_file(job, side, ranges[side], of_side[side])
         first_fault(answers)
     except Told as told:
         repeated = re.fullmatch(r"radixjoin: E3 RepeatedName (left|right) column (\d+)", told.line)
@@ -580,7 +592,9 @@ def refuse_ambiguous(job: Job, cluster: Any, parts: Sequence[int]) -> None:
     place, column = min(cells)
     before = cluster.answers([(count_before, job, part, place) for part in range(job.parts)])
     first_fault(before)
-    raise Told(f"radixjoin: E28 AmbiguousNull row {sum(before) + 1} column {column}", 3)
+    name = job.shard(parts[0])[0].names_in_whole()[column - 1]
+    more = of_cell(sum(before) + 1, name, job.out_null) if job.explain else ""
+    raise Told(f"radixjoin: E28 AmbiguousNull row {sum(before) + 1} column {column}", 3, more=more)
 
 
 def runs_of(bytes_of_shards: Sequence[Sequence[int]], number: int) -> Dict[int, Tuple[int, int, int]]:
@@ -659,13 +673,14 @@ def join(
     programs: Union[str, os.PathLike[str], None] = None,
     memory: Optional[int] = None,
     progress: bool = False,
+    explain: bool = False,
     **of_one_join: Any,
 ) -> Any:
     """Joins two files by the processes of a Dask client, and gives the path of the result, `output`. All processes have to see the
     files, the programs and the scratch folder under the same names.
 
     The arguments are the options of the command line `radixjoin-cluster` (docs/cluster.md): `left_null` and `right_null`, a text or
-    up to four, and `out_null`, in place of `null`; `strict`, True or "full", has files refused that aren't of RFC 4180's grammar;
+    up to four, and `out_null`, in place of `null`; `strict`, True or "full", has files refused that aren't of RFC 4180's grammar; with `explain`, a `Fault` has an `explanation`;
     `parts` that the tables are divided into (1 to 1,024), `ranges` of a file that are divided side by side, `merges`, the
     ranges of the joined table that are merged side by side, `memory` in MiB for each program; `workers` and other options of the join of each shard go to `radixjoin`. Types are a list, a text as the program
     has it (`"int,text"`, `"id=int,*=text"`, `"@FILE"`), or a mapping by name, in which `*` stands for all other columns.
@@ -684,14 +699,14 @@ def join(
     where = {"left": left, "right": right, "out": output, "scratch": scratch, "programs": programs}
     if strict not in (True, False, "full"):
         raise ValueError(f"strict={strict!r} is none of True, False and 'full'")
-    how = {"strict": "on" if strict is True else strict or None, "parts": parts, "ranges": ranges, "merges": merges, "memory": memory, "progress": progress}
+    how = {"strict": "on" if strict is True else strict or None, "parts": parts, "ranges": ranges, "merges": merges, "memory": memory, "progress": progress, "explain": explain}
     asked = argparse.Namespace(join=clause, processes=1, **how, **where, **types, **nulls, **each)
     for name, least, most in beyond(asked):
         raise ValueError(f"{name}= is from {least} to {most}")
     try:
         run_in(asked, contextlib.nullcontext(Cluster(client, progress)))
     except Told as told:
-        raise fault_of(told.line, told.status) from None
+        raise fault_of(str(told), told.status) from None
     return output
 
 
@@ -718,7 +733,7 @@ def main() -> int:
         asked = read_line(sys.argv[1:])
         run_in(asked, cluster_of(asked))
     except (Told, Fault) as fault:
-        print(fault.line, file=sys.stderr)
+        print(fault, file=sys.stderr)
         return fault.status
     except (OSError, RuntimeError) as error:
         print(f"radixjoin-cluster: {error}", file=sys.stderr)

@@ -55,12 +55,16 @@ class Shard:
         self.order = order
         with open(path, "rb") as file:
             # (and the byte at which the rows begin)
-            names, self.begin = _header_of(file)
-        self.left, self.right = names.index(LEFT), names.index(RIGHT)
+            self.names, self.begin = _header_of(file)
+        self.left, self.right = self.names.index(LEFT), self.names.index(RIGHT)
 
     def column_in_whole(self, column: int) -> int:
         """The number in the joined table of a column of the shard, both counted from 1."""
         return column - sum(place + 1 < column for place in (self.left, self.right))
+
+    def names_in_whole(self) -> List[str]:
+        """The names of the columns of the joined table."""
+        return [name for name in self.names if name not in (LEFT, RIGHT)]
 
     def scanned(self) -> Index:
         """The index of the file."""

@@ -73,6 +73,7 @@ OPTIONS_OF = {
         "max-rows": Number(0, 4_294_967_295, math.inf),
         "count": FLAG,
         "report": FLAG,
+        "progress": FLAG,
         "columns": Word(("all", "left", "right"), "all"),
     },
     "arrivals": {"partition": Number(0, 1023), "senders": Number(1, 128), "block": Number(1, 65536), "gaps": FLAG},

@@ -3,6 +3,7 @@
 ghost use Rattle.std.specs.Prelude.{◌<◌, ◌-◌, ◌^◌};
 
 use crate::inputs::{is_standard_stream, read_table};
+use crate::progress::Progress;
 use rj_command::{Line, Open, Stats, Violation, count, first_violation, read_line, run};
 use rj_csv_io::{CountedWriter, Output};
 use rj_explain::{Inputs, explain, explain_row, explain_words};
@@ -119,16 +120,17 @@ fn unread_lines<R: Files + AllocGlobal>(rt: &R, name: &str) -> Result<String, Al
 /// # Errors
 ///
 /// As `read_table` tells them, explained where that is asked for.
-pub(crate) fn read_side<R: Files + Input + AllocGlobal>(
+pub(crate) fn read_side<R: Files + Input + AllocGlobal + Eprint + Clock>(
     rt: &R,
     line: &Line<'_>,
     side: Side,
+    progress: &Progress<'_, R>,
 ) -> Result<Vec<u8>, Ended> {
     let name = match side {
         Side::Left => line.left,
         Side::Right => line.right,
     };
-    match read_table(rt, name, side) {
+    match read_table(rt, name, side, progress) {
         Ok(bytes) => Ok(bytes),
         Err(fault) if !line.explain => Err(Ended::from(fault)),
         Err(Fault::Memory) => Err(with_lines(
@@ -205,16 +207,17 @@ pub(crate) fn join_explained<R, O>(
     left: Vec<u8>,
     right: Vec<u8>,
     line: &Line<'_>,
+    progress: &Progress<'_, R>,
     writer: &mut O,
 ) -> Result<Stats, Ended>
 where
-    R: AllocGlobal + Threads + Wait + Clock + Sync,
+    R: AllocGlobal + Eprint + Threads + Wait + Clock + Sync,
     O: Output,
     requires { O.count writer.old < 2 ^ 64 - 1 }
 {
     let (alloc, request) = (rt.alloc(), &line.request);
     let (left, right) = (left.as_slice(), right.as_slice());
-    match run(rt, alloc, left, right, request, &Open, writer) {
+    match run(rt, alloc, left, right, request, progress, writer) {
         Ok(stats) => Ok(stats),
         Err(fault) => {
             let inputs = Inputs {
@@ -237,16 +240,17 @@ pub(crate) fn count_explained<R, O>(
     left: Vec<u8>,
     right: Vec<u8>,
     line: &Line<'_>,
+    progress: &Progress<'_, R>,
     writer: &mut O,
 ) -> Result<(), Ended>
 where
-    R: AllocGlobal + Threads + Wait + Clock + Sync,
+    R: AllocGlobal + Eprint + Threads + Wait + Clock + Sync,
     O: Output,
     requires { O.count writer.old < 2 ^ 64 - 1 }
 {
     let (alloc, request) = (rt.alloc(), &line.request);
     let (own_left, own_right) = (left.clone()?, right.clone()?);
-    match count(rt, alloc, own_left, own_right, request, &Open, writer) {
+    match count(rt, alloc, own_left, own_right, request, progress, writer) {
         Ok(()) => Ok(()),
         Err(fault) => {
             let inputs = Inputs {

@@ -1,6 +1,7 @@
 //! `radixjoin --suggest-types FILE`: prints a list of types that the cells of a file suggest.
 
 use crate::inputs::{STANDARD_OUTPUT, read_table, refuse_output};
+use crate::progress::Progress;
 use clap::error::ErrorKind;
 use clap::{Arg, ArgAction, ArgMatches, Command, Error};
 use rj_csv_io::{CountedWriter, Output};
@@ -9,6 +10,7 @@ use rj_suggest::suggest_types;
 use std::alloc::{AllocError, Global};
 use std::fs::Files;
 use std::io;
+use std::time::Clock;
 
 fn suggest_command<'a>(alloc: Global) -> Result<Command<'a>, AllocError> {
     let file = Arg::new(alloc, "FILE")
@@ -42,14 +44,14 @@ fn matches_of<'a>(alloc: Global, words: &'a [&'a str]) -> Result<ArgMatches<'a>,
 }
 
 /// Prints the types that the cells of the file in these words suggest. The words are those behind `--suggest-types`.
-pub(crate) fn suggest<R: Files + Input + AllocGlobal + Print>(
+pub(crate) fn suggest<R: Files + Input + AllocGlobal + Print + Eprint + Clock>(
     rt: &R,
     words: &[&str],
 ) -> Result<(), Fault> {
     let matches = matches_of(rt.alloc(), words)?;
     let name = matches.get_str("FILE").unwrap_or("");
     refuse_output(rt, STANDARD_OUTPUT, name, Side::Left)?;
-    let bytes = read_table(rt, name, Side::Left)?;
+    let bytes = read_table(rt, name, Side::Left, &Progress::hidden(rt))?;
     let null = matches.get_str("null").unwrap_or("");
     let list = suggest_types(rt.alloc(), bytes.as_slice(), &[null])?;
     let mut writer = CountedWriter::new(io::writer(rt));

@@ -8,10 +8,12 @@ mod nulls;
 mod operands;
 mod reports;
 mod running;
+mod shown;
 mod stats;
 mod strict;
 mod types;
 mod violations;
+mod watching;
 
 pub use self::counting::{Counts, count};
 pub use self::laws::{plain_text, results_are_apart, results_read_back};
@@ -21,3 +23,4 @@ pub use self::stats::{PartitionRows, Stats};
 pub use self::strict::{fault_of_text, read_strictly};
 pub use self::types::types_of_header;
 pub use self::violations::first_violation;
+pub use self::watching::{Step, Watch};

@@ -4,10 +4,11 @@
 mod join;
 
 pub use join::{
-    Counts, PartitionRows, Stats, bind_clause, count, fault_of_text, first_violation, plain_text,
-    read_strictly, results_are_apart, results_read_back, run, run_owned, types_of_header,
+    Counts, PartitionRows, Stats, Step, Watch, bind_clause, count, fault_of_text, first_violation,
+    plain_text, read_strictly, results_are_apart, results_read_back, run, run_owned,
+    types_of_header,
 };
-pub use rj_engine::{Open, Violation};
+pub use rj_engine::{Gate, Open, Place, Violation};
 pub use rj_fault::{Fault, Side, Told, VERSION, fault_of_read, read_words, tell, texts_of};
 pub use rj_line::{Hash, Line, Request, Strictness, read_line, read_nulls, read_types};
 pub use rj_script::arrivals;

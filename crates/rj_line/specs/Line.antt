@@ -147,6 +147,7 @@ pub record IsLineOf (words : List Text) (l : Line) : Type 0 where
   pub explain : l.explain ≡ is_true (word_of option_words words (codes "explain"))
   pub output : option_map (λ s. s.now) l.output ≡ word_of option_words words (codes "output")
   pub count : l.count ≡ is_true (word_of option_words words (codes "count"))
+  pub progress : l.progress ≡ is_true (word_of option_words words (codes "progress"))
 
 -- both type lists are such lists
 abbrev pub GiveTypes : (Text → Option Text) → Type 0

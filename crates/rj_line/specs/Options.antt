@@ -85,6 +85,7 @@ option_rules h =
     ∷ rule_for (codes "max-rows") (takes.Number 0 4294967295)
     ∷ rule_for (codes "count") takes.Nothing
     ∷ rule_for (codes "report") takes.Nothing
+    ∷ rule_for (codes "progress") takes.Nothing
     ∷ []
 
 -- a command with these rules more

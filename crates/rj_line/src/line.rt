@@ -34,6 +34,8 @@ pub struct Line<'a> {
     pub output: Option<&'a str>,
     /// Whether the numbers of rows are asked for in place of the rows.
     pub count: bool,
+    /// Whether it is shown from the beginning how far the run is.
+    pub progress: bool,
 }
 
 // The fault of an error of `clap`'s.
@@ -194,5 +196,6 @@ pub fn read_line<'a>(alloc: Global, words: &'a [&'a str]) -> Result<Line<'a>, Fa
         explain: is_given(&matches, "explain"),
         output: matches.get_str("output"),
         count: is_given(&matches, "count"),
+        progress: is_given(&matches, "progress"),
     })
 }

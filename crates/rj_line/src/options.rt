@@ -38,7 +38,7 @@ pub(crate) struct LineOption {
 // The bits of the hash that a pass partitions by.
 const BITS: Takes = Takes::Number(0, 10);
 
-const OPTIONS: [LineOption; 30] = [
+const OPTIONS: [LineOption; 31] = [
     LineOption {
         name: "left",
         takes: Takes::Required,
@@ -192,6 +192,11 @@ const OPTIONS: [LineOption; 30] = [
         takes: Takes::Nothing,
         help: "Print on standard error how many rows find a partner and have a null key, how many keys repeat, and the key \
             that makes the most pairs",
+    },
+    LineOption {
+        name: "progress",
+        takes: Takes::Nothing,
+        help: "Show on a terminal at once which step is done and how far it is, and not only after two seconds",
     },
 ];
 

@@ -1,6 +1,6 @@
 //! The two tables of a run and the join bound to them.
 
-ghost use Rattle.std.specs.Prelude.{◌≡◌, ◌≢◌, IfOk, IfErr, OnOk, IsTrue, true};
+ghost use Rattle.std.specs.Prelude.{◌≡◌, ◌≢◌, IfOk, IfErr, OnOk, IsTrue, length, true};
 ghost use Rattle.rj_csv_io.specs.Tables.{is_null_text};
 ghost use Rattle.rj_condition.specs.Fits.{fits};
 ghost use Rattle.rj_command.specs.Operands.{AreOperands, IsFirstFault, IsJoinFault, IsJoinOf, bind_fault, parse_fault};
@@ -8,6 +8,7 @@ ghost use Rattle.rj_command.specs.Runs.{AreReadApart};
 ghost use Rattle.rj_command.specs.Sides.{IsTable, IsTableFault};
 
 use crate::join::strict::{read_strictly, read_text};
+use crate::join::watching::{Step, Watch};
 use rj_columns::Table;
 use rj_condition::{BindRefused, BoundJoin, ParseRefused, bind, parse};
 use rj_csv_io::null_texts_read_as_null;
@@ -23,6 +24,18 @@ pub(crate) struct Operands {
     pub(crate) left: Table,
     pub(crate) right: Table,
     pub(crate) join: BoundJoin,
+}
+
+impl Operands {
+    // The step in which they are joined.
+    pub(crate) fn join_step(&self) -> Step
+        ensures { result ≡ Step.Join (length self.now.left.rows) (length self.now.right.rows) }
+    {
+        Step::Join {
+            left_rows: self.left.rows(),
+            right_rows: self.right.rows(),
+        }
+    }
 }
 
 fn fault_of_bind(refused: BindRefused) -> Fault
@@ -107,12 +120,13 @@ fn bind_tables(alloc: Global, text: &str, left: Table, right: Table) -> Result<O
 // Reads both tables and binds the clause to them, or tells the first fault. Bytes that it owns are given back as soon as their
 // table stands.
 #[tactic(auto, using(crate::proofs::OperandFacts::left_fault))]
-pub(crate) fn read_operands<R: Threads + Sync, B: AsSlice<u8> + Drop>(
+pub(crate) fn read_operands<R: Threads + Sync, B: AsSlice<u8> + Drop, G: Watch>(
     rt: &R,
     alloc: Global,
     left: B,
     right: B,
     request: &Request<'_>,
+    gate: &G,
 ) -> Result<Operands, Fault>
     ensures operands { IfOk result (λ o. AreOperands (B.items left) (B.items right) request.now o.left o.right o.join) }
     ensures fault { IfErr result (λ f. f ≢ Fault.Memory → IsFirstFault (B.items left) (B.items right) request.now f) }
@@ -121,7 +135,9 @@ pub(crate) fn read_operands<R: Threads + Sync, B: AsSlice<u8> + Drop>(
     ensures bound { IfOk result (λ o. fits o.join o.left.types o.right.types ≡ true) }
 {
     null_texts_read_as_null();
+    gate.begin(Step::Read(Side::Left));
     let left = read_side(rt, alloc, left, request, Side::Left)?;
+    gate.begin(Step::Read(Side::Right));
     let right = read_side(rt, alloc, right, request, Side::Right)?;
     bind_tables(alloc, request.clause, left, right)
 }

@@ -3,7 +3,7 @@
 ghost use Rattle.std.specs.Prelude.{◌<◌, ◌-◌, ◌^◌};
 
 use crate::command::broken::Broken;
-use rj_command::{Fault, Open, Request, Stats, read_line, run, run_owned};
+use rj_command::{Fault, Open, Request, Side, Stats, Step, Watch, read_line, run, run_owned};
 use rj_csv_io::{CountedWriter, Output};
 use rj_engine::{Gate, Place};
 use std::alloc::{AllocError, Global};
@@ -69,7 +69,7 @@ fn words_of<'a>(
 }
 
 // A run over the tables.
-fn called<R: Threads + Wait + Clock + Sync, G: Gate + Sync, O: Output>(
+fn called<R: Threads + Wait + Clock + Sync, G: Watch + Sync, O: Output>(
     rt: &R,
     alloc: Global,
     asked: &Asked<'_>,
@@ -328,6 +328,12 @@ impl Gate for Passes {
     }
 }
 
+impl Watch for Passes {
+    fn begin(&self, step: Step) {
+        let _step = step;
+    }
+}
+
 // How often workers came to stripes, posted parcels, first takes and partitions in a run of two workers with two partitions, blocks
 // and pieces of one row; none where it is refused, or where they did not come to each piece that it counts.
 fn counted<R: Threads + Wait + Clock + Sync>(
@@ -371,5 +377,93 @@ fn gate_is_heeded(rt: HostRuntime) -> Result<(), Fail> {
         let mixed = counted(&rt, rt.alloc(), "mixed", owned)?;
         assert_eq!(rt; mixed, Some((2, 14, 2, 2)));
     }
+    Ok(())
+}
+
+// Which number each step of a join of three left and three right rows had, of which one row is written, from 1 on; 0 where it didn't
+// come.
+#[derive(Drop)]
+struct Steps {
+    begun: AtomicU64,
+    left: AtomicU64,
+    right: AtomicU64,
+    join: AtomicU64,
+    write: AtomicU64,
+    other: AtomicU64,
+}
+
+impl Steps {
+    fn none() -> Steps {
+        Steps {
+            begun: AtomicU64::new(0),
+            left: AtomicU64::new(0),
+            right: AtomicU64::new(0),
+            join: AtomicU64::new(0),
+            write: AtomicU64::new(0),
+            other: AtomicU64::new(0),
+        }
+    }
+
+    fn at(&self, step: Step) -> &AtomicU64 {
+        match step {
+            Step::Read(Side::Left) => &self.left,
+            Step::Read(Side::Right) => &self.right,
+            Step::Join {
+                left_rows: 3,
+                right_rows: 3,
+            } => &self.join,
+            Step::Write { rows: 1 } => &self.write,
+            Step::Join { .. } | Step::Write { .. } => &self.other,
+        }
+    }
+
+    // The numbers of the steps in their order, and of any other one.
+    fn numbers(&self) -> [u64; 5] {
+        [
+            self.left.load(Ordering::SeqCst),
+            self.right.load(Ordering::SeqCst),
+            self.join.load(Ordering::SeqCst),
+            self.write.load(Ordering::SeqCst),
+            self.other.load(Ordering::SeqCst),
+        ]
+    }
+}
+
+impl Gate for Steps {
+    fn pass(&self, place: Place) {
+        let _place = place;
+    }
+}
+
+impl Watch for Steps {
+    fn begin(&self, step: Step) {
+        let before = self.begun.fetch_add(1, Ordering::SeqCst);
+        self.at(step)
+            .store(before.saturating_add(1), Ordering::SeqCst);
+    }
+}
+
+// The numbers of the steps of a join of the people and the cities.
+fn steps_of<R: Threads + Wait + Clock + Sync>(
+    rt: &R,
+    alloc: Global,
+    asked: &Asked<'_>,
+) -> Result<[u64; 5], Fail> {
+    let words = words_of(alloc, asked, [].as_slice())?;
+    let line = read_line(alloc, words.as_slice())?;
+    let steps = Steps::none();
+    let mut writer = CountedWriter::new(Vec::new(alloc));
+    let _ = called(rt, alloc, asked, &line.request, &steps, &mut writer);
+    Ok(steps.numbers())
+}
+
+#[test]
+fn steps_come_in_order(rt: HostRuntime) -> Result<(), Fail> {
+    let mut asked = ask("JOIN USING (id)");
+    assert_eq!(rt; steps_of(&rt, rt.alloc(), &asked)?, [1, 2, 3, 4, 0]);
+    asked.owned = true;
+    assert_eq!(rt; steps_of(&rt, rt.alloc(), &asked)?, [1, 2, 3, 4, 0]);
+    let unbound = ask("JOIN USING (name)");
+    assert_eq!(rt; steps_of(&rt, rt.alloc(), &unbound)?, [1, 2, 0, 0, 0]);
     Ok(())
 }

@@ -28,6 +28,7 @@ returns-clause-line c =
       explain = c.is_given-2.ensures ∙ ap is_true (parse.values (codes "explain"));
       output = c.get_str.ensures ∙ parse.values (codes "output");
       count = c.is_given-3.ensures ∙ ap is_true (parse.values (codes "count"));
+      progress = c.is_given-4.ensures ∙ ap is_true (parse.values (codes "progress"));
     }
 
 pub returns-in-Err-clause-fault : goal.returns-in-Err-clause-fault

@@ -1,0 +1,35 @@
+//! What is told of a run while it goes on.
+
+use rj_engine::{Gate, Open};
+use rj_fault::Side;
+
+/// A step of a run. The steps come in this order, each where the ones before it have ended without a fault.
+#[derive(Clone, Copy, Debug, PartialEq, Eq)]
+pub enum Step {
+    /// The table of a side is read from its bytes.
+    Read(Side),
+    /// Two tables of so many rows are joined.
+    Join {
+        /// The rows of the left table.
+        left_rows: u64,
+        /// The rows of the right table.
+        right_rows: u64,
+    },
+    /// So many rows are written. Where rows are counted alone, this step doesn't come.
+    Write {
+        /// The rows, without the header.
+        rows: u64,
+    },
+}
+
+/// What a run passes at each [`Step`], beside the gate that its workers pass at each place. No answer of a run depends on it.
+pub trait Watch: Gate {
+    /// Is called by the thread that runs, before a step begins.
+    fn begin(&self, step: Step);
+}
+
+impl Watch for Open {
+    fn begin(&self, step: Step) {
+        let _step = step;
+    }
+}
