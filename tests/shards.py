@@ -18,6 +18,10 @@ NO_KEY = "shards: the clause has no key, so that its tables can't be divided"
 
 sys.path.append(str(harness.ROOT / "python"))
 from radixjoin import cluster as SCRIPT  # noqa: E402
+from radixjoin import placed  # noqa: E402
+
+# So small that joined shards of some rows have many pieces, and are cut into ranges.
+placed.PIECE = 200
 
 
 class OneByOne:
