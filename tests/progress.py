@@ -12,7 +12,7 @@ import tty
 import ends
 import harness
 
-CITIES, JOINED, PEOPLE, WORDS, two_files = ends.CITIES, ends.JOINED, ends.PEOPLE, ends.WORDS, ends.two_files
+CITIES, JOINED, WORDS, two_files = ends.CITIES, ends.JOINED, ends.WORDS, ends.two_files
 # What is written in the place of a line, with the cursor at its beginning then.
 CLEARED = b"\r" + b" " * 72 + b"\r"
 # The steps in their order, and what their lines look like.
@@ -200,32 +200,33 @@ def what_stands_behind(folder):
     yield "a joined table that isn't as expected", line_faults(lines) + ([] if rest.startswith(b"radixjoin: E30 NotAsExpected\n  ") and ran.status == 7 else [f"behind the lines stands {rest!r}"])
 
 
-def slowly(wait):
-    """What writes the left table in two parts, so many seconds apart, and notes when something was shown first."""
-    shown = []
+def until_shown():
+    """What writes a left table row by row until something is shown, and after how many seconds that was."""
+    after = []
 
     def feed(stdin, terminal):
-        stdin.write(PEOPLE[:10])
-        stdin.flush()
+        stdin.write(b"id,name\n")
         start = time.monotonic()
-        while time.monotonic() < start + wait:
+        while not terminal.told and time.monotonic() < start + ends.SECONDS:
+            stdin.write(b"1,ann\n")
+            stdin.flush()
             time.sleep(0.05)
-            if terminal.told and not shown:
-                shown.append(time.monotonic() - start)
-        stdin.write(PEOPLE[10:])
+        after.append(time.monotonic() - start)
+        stdin.write(b"2,bob\n")
 
-    return shown, feed
+    return after, feed
 
 
 def slow_joins(folder):
     """A line is shown from the beginning where that is asked for, and else after two seconds."""
     words = ["--left", "-", *two_files(folder)[2:]]
-    shown, feed = slowly(0.5)
+    after, feed = until_shown()
     ran = on_terminal([*words, "--progress"], folder, subprocess.PIPE, feed)
-    yield "asked for: at once", run_faults(ran, JOINED, steps=STEPS) + ([] if shown else ["nothing was shown at once"])
-    shown, feed = slowly(PATIENCE + 0.3)
+    yield "from the beginning", run_faults(ran, JOINED, steps=STEPS)
+    after, feed = until_shown()
     ran = on_terminal(words, folder, subprocess.PIPE, feed)
-    yield "after two seconds", run_faults(ran, JOINED, steps=["left file", "left table", "writing"]) + ([f"shown after {shown} seconds"] if shown else [])
+    early = [] if after[0] > PATIENCE - 0.2 else [f"shown after {after[0]} seconds"]
+    yield "after two seconds", run_faults(ran, JOINED, steps=["left file", "left table", "writing"]) + early
 
 
 def tables_written_by_hand(folder):

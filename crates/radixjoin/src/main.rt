@@ -70,9 +70,7 @@ fn join_tables<R: AllocGlobal + Eprint + Threads + Wait + Clock + Sync, O: Outpu
         return join_explained(rt, left, right, line, progress, writer);
     }
     let (alloc, request) = (rt.alloc(), &line.request);
-    Ok(run_owned(
-        rt, alloc, left, right, request, progress, writer,
-    )?)
+    Ok(run_owned(rt, alloc, left, right, request, progress, writer)?)
 }
 
 // Reads both tables, left first, and writes the joined table. The writer is given back where that is done.

@@ -92,7 +92,12 @@ impl<'a, R: Clock> Progress<'a, R> {
             block: u64::from(settings.block),
             piece: u64::from(settings.piece),
         };
-        Progress::from(rt, milliseconds(rt).saturating_add(patience), cuts, terminals)
+        Progress::from(
+            rt,
+            milliseconds(rt).saturating_add(patience),
+            cuts,
+            terminals,
+        )
     }
 
     /// One that is never shown.
