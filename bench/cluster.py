@@ -2,8 +2,9 @@
 """Times cluster/radixjoin-cluster on this machine beside radixjoin alone, on the workload of foreign keys: the time of each run
 and the peak of memory of its largest process. The bytes of all runs are compared. It needs Dask.
 
-usage: cluster.py FOLDER [--scale F] [--parts N] [--processes N ..] [--limit]
+usage: cluster.py FOLDER [--scale F] [--parts N] [--processes N ..] [--merges N ..] [--limit]
     FOLDER      where the tables are made, if they aren't there, and the results
+    --merges    each number of processes joins with each of these numbers of ranges of the merge
     --limit     also joins with a quarter of the address space that radixjoin alone needs"""
 import argparse
 import filecmp
@@ -80,6 +81,7 @@ def main():
     line.add_argument("--scale", type=float, default=1.0)
     line.add_argument("--parts", type=int, default=16)
     line.add_argument("--processes", type=int, nargs="*", default=[1, 2, 4])
+    line.add_argument("--merges", type=int, nargs="*", default=[])
     line.add_argument("--limit", action="store_true")
     asked = line.parse_args()
     left, right = (asked.folder / f"foreign_key.{side}.csv" for side in ("left", "right"))
@@ -93,8 +95,9 @@ def main():
         told("radixjoin alone", *timed([ROOT / "crates" / "radixjoin" / "out" / "radixjoin", *words], stdout=out))
     script = ["/usr/bin/python3", ROOT / "cluster" / "radixjoin-cluster", *words, "--out", sharded, "--parts", asked.parts]
     for processes in asked.processes:
-        told(f"{processes} processes", *timed([*script, "--processes", processes]))
-        compare(alone, sharded)
+        for more in [["--merges", merges] for merges in asked.merges] or [[]]:
+            told(" ".join(map(str, [processes, "processes", *more])), *timed([*script, "--processes", processes, *more]))
+            compare(alone, sharded)
     if asked.limit:
         with open(alone, "wb") as out:
             _, peaks = timed([ROOT / "crates" / "radixjoin" / "out" / "radixjoin", *words], "VmPeak", stdout=out)

@@ -15,7 +15,7 @@ import harness
 import shards
 
 # For each program a text that its words have where a task runs it, and not before.
-STEPS = {"shards": "--out /", "radixjoin": "/radixjoin-", "merges": "/joined-"}
+STEPS = {"shards": "--out /", "radixjoin": "/radixjoin-", "merges": "--order="}
 # What a program does in place of its work: it waits for a signal, or is ended by one.
 WAITS = 'echo $PPID > "$0.number.new" && mv "$0.number.new" "$0.number"; exec sleep 60'
 IS_KILLED = "kill -9 $$"
@@ -62,10 +62,11 @@ def number_in(programs, name):
     return None
 
 
-def run_killed(on, folder, words, name, tally):
-    """A process of the cluster is killed while one of its programs runs; the program is killed once; and each time."""
+def run_killed(on, folder, words, name, more, tally):
+    """A process of the cluster is killed while one of its programs runs; the program is killed once; and each time. There may be
+    further options."""
     wanted = harness.run([harness.program("radixjoin"), *words], folder)
-    how = ["--scheduler", on.address, "--programs"]
+    how, title = ["--scheduler", on.address, *more, "--programs"], " ".join([name, *more])
     programs = programs_in(folder / "waits", name, WAITS)
     known = {it.name for it in folder.iterdir()} | {"killed", "always"}
     running = begun(on.python, words, folder, *how, programs)
@@ -73,15 +74,15 @@ def run_killed(on, folder, words, name, tally):
     if number is not None:
         os.kill(number, signal.SIGKILL)
     faults = cluster.faults_of_run(cluster.ended(running), folder, known, wanted)
-    tally.check(f"cluster_ends: a process that runs {name} is killed", faults + ([] if number else ["there was none to kill"]))
+    tally.check(f"cluster_ends: a process that runs {title} is killed", faults + ([] if number else ["there was none to kill"]))
     (folder / "out.csv").unlink(missing_ok=True)
     ran = cluster.ended(begun(on.python, words, folder, *how, programs_in(folder / "killed", name, IS_KILLED)))
     faults = cluster.faults_of_run(ran, folder, known, wanted)
-    tally.check(f"cluster_ends: {name} is killed", faults + ([] if (folder / "killed" / f"{name}.once").exists() else ["it wasn't"]))
+    tally.check(f"cluster_ends: {title} is killed", faults + ([] if (folder / "killed" / f"{name}.once").exists() else ["it wasn't"]))
     (folder / "out.csv").unlink(missing_ok=True)
     told = harness.Ran(1, b"", f"radixjoin-cluster: {name} was ended by signal 9\n".encode())
     ran = cluster.ended(begun(on.python, words, folder, *how, programs_in(folder / "always", name, IS_KILLED, is_once=False)))
-    tally.check(f"cluster_ends: {name} is killed each time", cluster.faults_of_run(ran, folder, known, told))
+    tally.check(f"cluster_ends: {title} is killed each time", cluster.faults_of_run(ran, folder, known, told))
 
 
 def run_told_to_end(python, name, number, tally):
@@ -140,19 +141,19 @@ def disk(folder, size):
         subprocess.run(["umount", place], check=True)
 
 
-def run_on_disk(folder, words, size, option, tally):
-    """Joins with what is half made, or the result, on a disk of some KiB. It gives how it ended."""
+def run_on_disk(folder, words, size, option, merges, tally):
+    """Joins with what is half made, or the result, on a disk of some KiB, merged in so many ranges. It gives how it ended."""
     with disk(folder, size) as place:
         if place is None:
             return None
         out, scratch = (folder / "out.csv", place) if option == "scratch" else (place / "out.csv", folder)
         wanted = harness.run([harness.program("radixjoin"), *words], folder)
-        ran = shards.joined([*words, "--parts", "3", "--scratch", scratch], folder, 2, out)
+        ran = shards.joined([*words, "--parts", "3", "--merges", merges, "--scratch", scratch], folder, 2, out)
         if ran.status == 6:
             told = place.resolve() if option == "scratch" else f"{place.resolve()}/out.csv"
             wanted = harness.Ran(6, b"", f'radixjoin-cluster: E20 WriteDevice "{told}": {NO_ROOM}\n'.encode())
         faults = harness.differences(ran, wanted.stdout, wanted.stderr, wanted.status)
-        tally.check(f"cluster_ends: {option} on a disk of {size} KiB", faults + [f"{it} was left behind" for it in place.iterdir() if it != out])
+        tally.check(f"cluster_ends: {option} on a disk of {size} KiB, {merges} merges", faults + [f"{it} was left behind" for it in place.iterdir() if it != out])
         return ran.status
 
 
@@ -162,7 +163,7 @@ def run_full(on, tally):
         folder = pathlib.Path(name)
         words = write_tables(folder, 20_000)
         for option, sizes in (("scratch", range(64, 4_096, 192)), ("result", range(64, 1_600, 384))):
-            ends = [run_on_disk(folder, words, size, option, tally) for size in sizes]
+            ends = [run_on_disk(folder, words, size, option, number % 2 * 2 + 1, tally) for number, size in enumerate(sizes)]
             if None in ends:
                 print("cluster_ends: full disks are left out, since no small file system can be mounted")
                 return
@@ -184,9 +185,9 @@ def run_all(tally):
     with harness.folder() as programs:
         on = cluster.Cluster(python, programs)
         try:
-            for name in STEPS:
+            for name, *more in (*((name,) for name in STEPS), ("merges", "--merges", "3")):
                 with harness.folder() as place:
-                    run_killed(on, pathlib.Path(place), write_tables(pathlib.Path(place)), name, tally)
+                    run_killed(on, pathlib.Path(place), write_tables(pathlib.Path(place)), name, more, tally)
             run_output(on, tally)
             run_full(on, tally)
         finally:

@@ -35,6 +35,7 @@ PARTS = (
     "shards_strict",
     "shards",
     "shards_further",
+    "shards_scratch",
     "parts_further",
     "amounts",
     "parts",

@@ -18,6 +18,10 @@ NO_KEY = "shards: the clause has no key, so that its tables can't be divided"
 
 sys.path.append(str(harness.ROOT / "python"))
 from radixjoin import cluster as SCRIPT  # noqa: E402
+from radixjoin import placed  # noqa: E402
+
+# So small that joined shards of some rows have many pieces, and are cut into ranges.
+placed.PIECE = 200
 
 
 class OneByOne:
@@ -44,7 +48,7 @@ def joined(words, folder, ranges, out=None):
         asked = SCRIPT.read_line([*map(str, words), "--out", str(out)])
         SCRIPT.run_in(asked, contextlib.nullcontext(OneByOne(ranges)))
     except (SCRIPT.Told, SCRIPT.Fault) as told:
-        status, line = told.status, told.line.encode() + b"\n"
+        status, line = told.status, str(told).encode() + b"\n"
     left = sorted(it.name for it in folder.iterdir() if it.name not in known and it != out)
     line += "".join(f"{name} was left behind\n" for name in left).encode()
     return harness.Ran(status, out.read_bytes() if out.exists() else b"", line)

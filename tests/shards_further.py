@@ -3,6 +3,7 @@
 import os
 import pathlib
 import random
+import re
 
 import harness
 import shards
@@ -48,6 +49,22 @@ CASES = (
     ("a word that is no hash", b"k\n", b"", ("int", "int"), ON_K, ["--hash=md5"]),
     ("a null text that isn't lawful", b"", b"", ("int", "int"), "no clause", ["--out-null=1"]),
     ("one that stands for nothing", LEFT, RIGHT, INT_TEXT, ON_K, [*BY_SIDE, "--null=1", "--out-null="]),
+)
+# What is explained as `radixjoin` explains it: the types, the clause, options, and the status.
+EXPLAINED = (
+    ("a name that isn't there", INT_TEXT, "JOIN USING (q)", ["--right-null=-"], 4),
+    ("operands that can't be compared", INT_TEXT, "JOIN ON L.k = R.b", ["--right-null=-"], 4),
+    ("a text that is no clause", INT_TEXT, "JOIN ON L.k", ["--right-null=-"], 4),
+    ("a list that doesn't fit", ("int", "int,text"), ON_K, [], 3),
+    ("a list that is none", ("k=int,a=string", "int,text"), ON_K, [], 2),
+    ("a cell that is written as null is", INT_TEXT, ON_K, [*BY_SIDE, "--out-null=y", "--strict"], 3),
+)
+# What is told of a row of a file: the left file, options, and what is told.
+ROWS_EXPLAINED = (
+    ("a cell", b"k,\"a\nb\"\n1,x\n2,y\nz,w\n", [], b"radixjoin: E6 BadInteger left row 3 column 1\n  row 3 of those in the file's bytes from 0 on, column \"k\"\n"),
+    ("a long row", b"k,a\n1,x,y\n", [], b"radixjoin: E5 RaggedRow left row 1\n  row 1 of those in the file's bytes from 0 on\n"),
+    ("a quote", b"k,\"a\nb\"\n1,\"x\n", ["--strict"], b"radixjoin: E21 OpenQuote left row 1 column 2\n  row 1 of those in the file's bytes from 0 on, column \"a\\x0Ab\"\n"),
+    ("a quote in the header", b"k,\"a\"b\n1,x\n", ["--strict"], b"radixjoin: E22 AfterQuote left row 0 column 2\n  in the header\n"),
 )
 # A file in which a name is taken, and the name.
 TAKEN = ((b"k,left_place\n1,2\n", "left_place"), (b"k,RIGHT_PLACE\n1,2\n", "RIGHT_PLACE"), (b'Left_Place,"k"\n1,2\n', "Left_Place"), (MARK + b'"right_place",k\n', "right_place"))
@@ -104,6 +121,32 @@ def run_refused(tally):
         tally.check("shards_further: a pipe", harness.differences(ran, b"", b"radixjoin-cluster: the left file is a pipe, which can't be divided: give a file\n", 2))
 
 
+def run_explained(tally):
+    """What `--explain` adds: what `radixjoin` adds, and of a row of a file the range that it stands in."""
+    with harness.folder() as place:
+        folder = pathlib.Path(place)
+        for name, types, clause, options, status in EXPLAINED:
+            words = [*words_for(folder, LEFT, RIGHT, types, clause, options), "--explain"]
+            wanted = harness.run([harness.program("radixjoin"), *words], folder)
+            ran = shards.joined([*words, "--parts", "2"], folder, 2)
+            faults = [] if wanted.stderr.count(b"\n") > 1 else ["radixjoin explains nothing"]
+            tally.check(f"shards_further: {name}, explained", faults + harness.differences(ran, b"", wanted.stderr, status))
+        for name, left, options, told in ROWS_EXPLAINED:
+            words = words_for(folder, left, RIGHT, ("int,text", "int,text"), ON_K, ["--right-null=-", *options, "--explain"])
+            ran = shards.joined([*words, "--parts", "2"], folder, 1)
+            tally.check(f"shards_further: {name}, explained", harness.differences(ran, b"", told, 3))
+        file = folder / "left.csv"
+        file.write_bytes(b"k,a\n" + b"1,x\n" * 100_000 + b"z,x\n")
+        ran = shards.joined([*words, "--parts", "2"], folder, 4)
+        line = re.fullmatch(rb"radixjoin: E6 BadInteger left row 100001 column 1\n  row (\d+) of those in the file's bytes from (\d+) on, column \"k\"\n", ran.stderr)
+        is_told = line and file.read_bytes()[int(line[2]) :].split(b"\n")[int(line[1]) - 1] == b"z,x"
+        tally.check("shards_further: a cell of a later range, explained", [] if is_told else [harness.shorten(ran.stderr)])
+        file.unlink()
+        ran = shards.joined([*words, "--parts", "2"], folder, 1)
+        told = f"radixjoin: E19 ReadDevice left\n  {file.resolve()}: No such file or directory\n"
+        tally.check("shards_further: a file that isn't there, explained", harness.differences(ran, b"", told.encode(), 6))
+
+
 def run_random(seed, tally):
     """Tables of some thousand rows whose null texts differ, joined strictly: what is written as null is, is told with its row and column
     of the whole. It gives the status."""
@@ -128,5 +171,6 @@ def run_random(seed, tally):
 def run_all(tally):
     harness.side_by_side(tally, [lambda own, it=it: run_case(own, *it) for it in CASES])
     run_refused(tally)
+    run_explained(tally)
     statuses = harness.side_by_side(tally, [lambda own, seed=seed: run_random(seed, own) for seed in range(120)])
     tally.check("shards_further: cells that are written as null is, and none", [] if 15 < statuses.count(3) < 100 else [f"{statuses.count(3)} of 120 are told"])

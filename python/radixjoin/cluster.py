@@ -2,41 +2,42 @@
 
 Both files are divided by the hash of their rows' keys (the program `shards`, one task for each range of a file), the two
 parts of each shard are joined (`radixjoin`, one task a shard), and what the shards give is merged (`merges`, one task for each
-range of the left rows). The bytes written are those that `radixjoin` would write. docs/cluster.md says what of this is proved, and how to run it.
+range of the joined table). The bytes written are those that `radixjoin` would write. docs/cluster.md says what of this is proved, and how to run it.
 
-Every task writes under a new name and renames at its end, so that a task may run twice. The parts of a shard are removed as soon
-as it is joined, and all that is half made at the end, whether it is a good one or not. It needs Dask (Debian's python3-dask and
-python3-distributed).
+Every task writes under a new name and renames at its end, so that a task may run twice. The parts of a range stand in one file. What
+a step made is removed when the next one is done, and all that is half made at the end, whether it is a good one or not. It needs
+Dask (Debian's python3-dask and python3-distributed).
 """
 from __future__ import annotations
 
 import argparse
 import codecs
 import contextlib
-import ctypes
 import errno
 import glob
+import json
 import logging
 import os
 import re
-import resource
 import shutil
 import signal
 import stat
 import subprocess
 import sys
 import tempfile
-import time
-import uuid
 from pathlib import Path
 from typing import TYPE_CHECKING, Any, Callable, Dict, Iterator, List, Optional, Sequence, Tuple, Union
 
 from .clauses import quoted
 from .columns import Types, text_of, word_of
+from .explained import of_cell, of_row, of_unread
 from .faults import Fault, fault_of
+from .feeding import Input, run_program
 from .lists import lower, read_list, with_place
+from .making import beginning, folder_beside, made, remove
 from .nulls import Texts, texts_of
-from .placed import LEFT, RIGHT, Place, column_in_whole, place_of_row, rows_before
+from .packed import gather, give_back, pack, told_of
+from .placed import LEFT, RIGHT, Index, Place, Shard, cut_places, sampled
 from .programs import ProgramNotFound, build, built
 from .text import header_in
 
@@ -57,18 +58,21 @@ PROGRAMS = ("radixjoin", "shards", "merges")
 # What the system tells where there is no room, which no second try changes.
 FULL = (errno.ENOSPC, errno.EDQUOT, errno.EROFS)
 AMBIGUOUS = re.compile(r"radixjoin: E28 AmbiguousNull row (\d+) column (\d+)")
-# How often, and after how many seconds, it is tried again to remove what is half made.
-TRIES, SECONDS = 20, 0.1
 
 
 class Told(Exception):
-    """A fault that a program told: the line that it printed, its exit status, and what it had printed on standard output."""
+    """A fault that a program told: the line that it printed, its exit status, what it had printed on standard output, and what it
+    told below the line."""
 
-    def __init__(self, line: str, status: int, printed: bytes = b"") -> None:
-        super().__init__(line, status, printed)
+    def __init__(self, line: str, status: int, printed: bytes = b"", more: str = "") -> None:
+        super().__init__(line, status, printed, more)
         self.line = line
         self.status = status
         self.printed = printed
+        self.more = more
+
+    def __str__(self) -> str:
+        return f"{self.line}\n{self.more}" if self.more else self.line
 
     def is_of(self, side: str) -> bool:
         """Whether it is a fault of a side's file."""
@@ -91,7 +95,7 @@ def read_line(words: Sequence[str]) -> argparse.Namespace:
     line.add_argument("--out", required=True, metavar="FILE", help="file of the joined table; it is there when the whole table is")
     line.add_argument("--parts", type=int, default=16, metavar="N", help="shards that the tables are divided into, 1 to 1024 [default: 16]")
     line.add_argument("--ranges", type=int, metavar="N", help="ranges of a file that are divided side by side [default: one a process]")
-    line.add_argument("--merges", type=int, metavar="N", help="ranges of the joined table that are merged side by side, by its left rows, 1 to 1024 [default: 1]")
+    line.add_argument("--merges", type=int, metavar="N", help="ranges of the joined table, of about as many bytes each, that are merged side by side, 1 to 1024 [default: 1]")
     line.add_argument("--scratch", metavar="FOLDER", help="folder for what is half made, which every process can write [default: that of --out]")
     line.add_argument("--programs", metavar="FOLDER", help="folder of radixjoin, shards and merges [default: this tree's, or those on the PATH]")
     line.add_argument("--memory", type=int, metavar="MIB", help="address space that each program may take, in MiB [default: no limit]")
@@ -99,6 +103,7 @@ def read_line(words: Sequence[str]) -> argparse.Namespace:
     where.add_argument("--scheduler", metavar="ADDRESS", help="scheduler of a Dask cluster, as tcp://node1:8786")
     where.add_argument("--processes", type=int, default=1, metavar="N", help="processes of this machine that work side by side [default: 1]")
     line.add_argument("--progress", action="store_true", help="show how many tasks are done, by Dask's own bar")
+    line.add_argument("--explain", action="store_true", help="tell behind the line of a fault where it is, and what stands there")
     for option in OF_ONE_JOIN:
         line.add_argument(f"--{option}", metavar="X", help=f"as radixjoin's --{option}, for the join of each shard")
     for option in OF_WHOLE_TABLES:
@@ -115,7 +120,9 @@ def read_line(words: Sequence[str]) -> argparse.Namespace:
         line.error(f"--{name} is from {least} to {most}")
     for option, only in OF_WHOLE_TABLES.items():
         if getattr(asked, option) not in (None, only):
-            line.error(f"--{option}: a join in shards writes all columns")
+            line.error(f"--{option}: a join in shards writes all columns, so leave those out of the files that aren't wanted")
+    if "matched-left" in (asked.rows or "").split(","):
+        line.error("--rows: a join in shards has no matched-left, so join by USING with a right file of the keys alone, each once")
     return asked
 
 
@@ -170,6 +177,7 @@ class Job:
         # Whether a cell that isn't null may be written as null is, which has to be told.
         self.is_apart = bool(asked.strict) and any(self.out_null not in (nulls[side] or [null]) for side in SIDES)
         self.strict = [f"--strict={asked.strict}"] if asked.strict else []
+        self.explain = ["--explain"] if asked.explain else []
         self.parts = asked.parts
         self.order = asked.order or "pairs"
         self.one_join = [f"--{option}={getattr(asked, option)}" for option in OF_ONE_JOIN if getattr(asked, option) is not None]
@@ -179,18 +187,20 @@ class Job:
         # The first letters of the names of results that are half made.
         self.half = os.path.join(os.path.dirname(self.out), f".{os.path.basename(scratch)}")
 
-    def run(self, name: str, words: Sequence[str], output: Any = subprocess.PIPE, writes: Optional[str] = None) -> bytes:
-        """Runs a program, and gives what it printed. What it refuses is told; that it was killed is an error, so that Dask tries again.
-        What can't be written is told as what the program writes, or as the folder for what is half made."""
-        begin = beginning(self.memory)
-        ran = subprocess.run([self.programs[name], *words], stdin=subprocess.DEVNULL, stdout=output, stderr=subprocess.PIPE, preexec_fn=begin, check=False)
+    def run(self, name: str, words: Sequence[str], output: Any = subprocess.PIPE, writes: Optional[str] = None, inputs: Sequence[Input] = ()) -> bytes:
+        """Runs a program, on these inputs beside the files that its words name, and gives what it printed. What it refuses is told; that
+        it was killed is an error, so that Dask tries again. What can't be written is told as what the program writes, or as the folder
+        for what is half made."""
+        how = {"stdin": subprocess.DEVNULL, "stdout": output, "preexec_fn": beginning(self.memory)}
+        ran = run_program([self.programs[name], *words], inputs, **how)
         if ran.returncode < 0:
             raise RuntimeError(f"{name} was ended by signal {-ran.returncode}")
         if ran.returncode:
-            line = ran.stderr.decode(errors="replace").rstrip("\n")
+            line, _, more = ran.stderr.decode(errors="replace").rstrip("\n").partition("\n")
             if line.endswith(": E20 WriteDevice"):
                 raise unwritten(writes or self.folder())
-            raise Told(line, ran.returncode, ran.stdout or b"")
+            side = re.fullmatch(r"radixjoin: E19 ReadDevice (left|right)", line) if self.explain and name == "shards" else None
+            raise Told(line, ran.returncode, ran.stdout or b"", of_unread(self.files[side[1]]) if side else more)
         return ran.stdout
 
     def folder(self) -> str:
@@ -205,61 +215,36 @@ class Job:
     def division(self, side: str) -> List[str]:
         """The words for `shards` that don't depend on the range."""
         tables = [word for it in SIDES for word in (f"--{it}={self.files[it]}", f"--{it}-types={self.types[it]}")]
-        return [f"--side={side}", *tables, f"--join={self.clause}", *self.null, *self.strict, f"--parts={self.parts}"]
+        return [f"--side={side}", *tables, f"--join={self.clause}", *self.null, *self.strict, *self.explain, f"--parts={self.parts}"]
 
     def place(self, name: str) -> str:
         """The path of something that is made in the scratch folder."""
         return os.path.join(self.scratch, name)
 
+    def parts_of(self, side: str, number: int) -> str:
+        """The path of the parts of a range of a file."""
+        return self.place(f"{side}-{number}")
+
     def joined(self, part: int) -> str:
         """The path of a joined shard."""
         return self.place(f"joined-{part:04}/table.csv")
+
+    def shard(self, part: int) -> Tuple[Shard, Index, Optional[List[int]]]:
+        """A joined shard, its index, and the row and column of its first cell that isn't null and is written as null is, if that has to
+        be told and there is one."""
+        told = json.loads(Path(self.joined(part)).with_name("told").read_text())
+        entries = [(at, before, tuple(place)) for at, before, place in told["entries"]]
+        return Shard(self.joined(part), self.order), (entries, told["end"]), told["cell"]
 
     def merged(self, number: int) -> str:
         """The path of a merged range."""
         return self.place(f"merged-{number:04}")
 
-
-def beginning(memory: Optional[int]) -> Callable[[], None]:
-    """What a program's process does before it becomes the program: it ends when the process that began it does, and takes no more than its memory."""
-
-    def begin() -> None:
-        ctypes.CDLL(None).prctl(1, signal.SIGKILL)  # PR_SET_PDEATHSIG
-        most = resource.getrlimit(resource.RLIMIT_NOFILE)[1]
-        resource.setrlimit(resource.RLIMIT_NOFILE, (most, most))  # `merges` opens the file of each part
-        if memory:
-            resource.setrlimit(resource.RLIMIT_AS, (memory, memory))
-
-    return begin
-
-
-@contextlib.contextmanager
-def made(path: str, begin: Optional[str] = None) -> Iterator[str]:
-    """A new name for what is to stand at a path. It is renamed at the end, and removed after a fault. A folder isn't, where another
-    try of the task was faster."""
-    new = f"{begin or path}.{uuid.uuid4().hex}"
-    try:
-        yield new
-        try:
-            os.rename(new, path)
-        except OSError:
-            if not (os.path.isdir(new) and os.path.isdir(path)):
-                raise
-    finally:
-        remove(new)
-
-
-def remove(path: str) -> None:
-    """Removes a file or a folder, if it is there. A program that is just being ended may still write into it."""
-    for _ in range(TRIES):
-        if os.path.isdir(path) and not os.path.islink(path):
-            shutil.rmtree(path, ignore_errors=True)
-        else:
-            with contextlib.suppress(OSError):
-                os.remove(path)
-        if not os.path.lexists(path):
-            return
-        time.sleep(SECONDS)
+    def clear(self, *patterns: str) -> None:
+        """Removes what isn't needed any more in the scratch folder."""
+        for pattern in patterns:
+            for path in glob.glob(os.path.join(glob.escape(self.scratch), pattern)):
+                remove(path)
 
 
 @contextlib.contextmanager
@@ -307,46 +292,28 @@ def counts_in(printed: bytes) -> Tuple[int, int]:
     return int(told[1]), int(told[2])
 
 
-def divide(job: Job, side: str, number: int, start: int, end: Optional[int]) -> Tuple[int, int]:
-    """Divides a range of a file into parts. It gives how many rows it has, and how many bytes the header of a part has."""
-    path = job.place(f"{side}-{number}")
-    if not os.path.isdir(path):
-        with made(path) as new:
-            os.mkdir(new)
+def divide(job: Job, side: str, number: int, start: int, end: Optional[int]) -> int:
+    """Divides a range of a file into parts, which then stand in one file. It gives how many rows it has."""
+    path = job.parts_of(side, number)
+    if not os.path.exists(path):
+        with made(path) as new, folder_beside(new) as folder:
             upto = ["--to", str(end)] if end is not None else []
-            printed = job.run("shards", [*job.division(side), "--from", str(start), *upto, "--out", new])
-            Path(new, "told").write_bytes(printed)
-    return counts_in(Path(path, "told").read_bytes())
+            told = counts_in(job.run("shards", [*job.division(side), "--from", str(start), *upto, "--out", folder]))
+            pack(folder, job.parts, told, new)
+    return told_of(path, job.parts)[0]
 
 
-def part_of(job: Job, side: str, number: int, part: int) -> str:
-    """The path of a part of a range."""
-    return job.place(f"{side}-{number}/{part:04}.csv")
-
-
-def gather(job: Job, side: str, part: int, ranges: int, header: int, path: str) -> None:
-    """Puts the rows of a part from all ranges of a file behind one header. A name that begins with a byte order mark gets another
-    one before it, which is dropped."""
-    with open(path, "wb") as whole:
-        for number in range(ranges):
-            with open(part_of(job, side, number, part), "rb") as piece:
-                if number == 0 and piece.read(len(codecs.BOM_UTF8)) == codecs.BOM_UTF8:
-                    whole.write(codecs.BOM_UTF8)
-                piece.seek(header if number else 0)
-                shutil.copyfileobj(piece, whole, 1 << 20)
-
-
-def join_parts(job: Job, part: int, ranges: Dict[str, int], headers: Dict[str, int], folder: str) -> None:
-    """Joins the two tables of a shard into a folder: the joined table, and the place of its first cell that isn't null and is
-    written as null is, if that has to be told and there is one."""
-    with tempfile.TemporaryDirectory(dir=job.scratch) as name, open(os.path.join(folder, "table.csv"), "wb") as output:
+def join_parts(job: Job, part: int, ranges: Dict[str, int], path: str) -> Optional[List[int]]:
+    """Joins the two tables of a shard into a file. It gives the row and the column of the first cell that isn't null and is written as
+    null is, if that has to be told and there is one."""
+    with tempfile.TemporaryDirectory(dir=job.scratch) as name, open(path, "wb") as output:
         tables = {side: os.path.join(name, side) for side in SIDES}
         for side in SIDES:
-            gather(job, side, part, ranges[side], headers[side], tables[side])
+            gather([job.parts_of(side, number) for number in range(ranges[side])], job.parts, part, tables[side])
         # (dropped by `merges`, and so not a mark that a name begins with)
         output.write(codecs.BOM_UTF8)
         output.flush()
-        words, cell = job.joining(tables, {side: with_place(job.types[side], PLACES[side]) for side in SIDES}), None
+        words = job.joining(tables, {side: with_place(job.types[side], PLACES[side]) for side in SIDES})
         try:
             job.run("radixjoin", [*words, *(job.strict if job.is_apart else [])], output)
         except Told as told:
@@ -354,63 +321,86 @@ def join_parts(job: Job, part: int, ranges: Dict[str, int], headers: Dict[str, i
             if cell is None:
                 raise
             job.run("radixjoin", words, output)
-    Path(folder, "ambiguous").write_text(f"{cell[1]} {cell[2]}" if cell else "")
+            return [int(cell[1]), int(cell[2])]
+    return None
 
 
-def join_shard(job: Job, part: int, ranges: Dict[str, int], headers: Dict[str, int]) -> bool:
-    """Joins the two tables of a shard, and removes its parts. It gives whether there is a cell in it that isn't null and has to be
-    told, since it is written as null is."""
-    path = job.place(f"joined-{part:04}")
+def join_into(job: Job, part: int, ranges: Dict[str, int], folder: str) -> None:
+    """Joins the two tables of a shard into a folder: the joined table, and what `Job.shard` gives of it."""
+    path = os.path.join(folder, "table.csv")
+    cell = join_parts(job, part, ranges, path)
+    entries, end = Shard(path, job.order).scanned()
+    Path(folder, "told").write_text(json.dumps({"cell": cell, "entries": entries, "end": end}))
+
+
+def join_shard(job: Job, part: int, ranges: Dict[str, int]) -> Tuple[bool, List[Tuple[Place, int]]]:
+    """Joins the two tables of a shard, and gives back the room of its parts. It gives whether there is a cell in it that isn't null and
+    has to be told, since it is written as null is; and how its bytes are spread."""
+    path = os.path.dirname(job.joined(part))
     if not os.path.isdir(path):
         try:
             with made(path) as new:
                 os.mkdir(new)
-                join_parts(job, part, ranges, headers, new)
+                join_into(job, part, ranges, new)
         except FileNotFoundError:
-            # (another try that was faster has removed the parts)
+            # (another try that was faster has given the parts back)
             if not os.path.isdir(path):
                 raise
     for side in SIDES:
         for number in range(ranges[side]):
-            with contextlib.suppress(FileNotFoundError):
-                os.remove(part_of(job, side, number, part))
-    return bool(Path(path, "ambiguous").read_text())
+            give_back(job.parts_of(side, number), job.parts, part)
+    _, index, cell = job.shard(part)
+    return cell is not None, sampled(index)
 
 
 def ambiguous_cell(job: Job, part: int) -> Tuple[Place, int]:
     """Where the first cell of a shard that isn't null and is written as null is stands: the place of its row, and its column in
     the joined table."""
-    row, column = map(int, Path(job.place(f"joined-{part:04}"), "ambiguous").read_text().split())
-    return place_of_row(job.joined(part), row, job.order), column_in_whole(job.joined(part), column)
+    shard, index, cell = job.shard(part)
+    row, column = cell or (0, 0)
+    return shard.place_of_row(index, row), shard.column_in_whole(column)
 
 
 def count_before(job: Job, part: int, place: Place) -> int:
     """How many rows of a joined shard stand before a place."""
-    return rows_before(job.joined(part), place, job.order)
+    shard, index, _ = job.shard(part)
+    return shard.find(index, place)[1]
 
 
-def merging(job: Job, start: Optional[int], end: Optional[int]) -> List[str]:
-    """The words for `merges` that merge the joined shards from the left row at one place up to that at another one."""
-    bounds = [f"--{name}={place}" for name, place in (("from", start), ("to", end)) if place is not None]
-    return [f"--null={job.out_null}", f"--order={job.order}", *bounds, *map(job.joined, range(job.parts))]
+def cut_shard(job: Job, part: int, cuts: Sequence[Place]) -> List[int]:
+    """The bytes of a joined shard at which the ranges between places begin, and that behind the last one."""
+    shard, index, _ = job.shard(part)
+    return [shard.begin, *(shard.find(index, place)[0] for place in cuts), index[1]]
+
+
+def merging(job: Job) -> List[str]:
+    """The words for `merges` that merge joined shards."""
+    return [f"--null={job.out_null}", f"--order={job.order}"]
+
+
+def refused(job: Job, error: OSError) -> Told:
+    """The fault of a result that the system doesn't take."""
+    return unwritten(job.out) if error.errno in FULL else unwritten(job.out, error.strerror)
 
 
 def merge_shards(job: Job) -> None:
     """Merges the joined shards into the joined table."""
     try:
         with made(job.out, job.half) as new, open(new, "wb") as output:
-            job.run("merges", merging(job, None, None), output, job.out)
+            job.run("merges", [*merging(job), *map(job.joined, range(job.parts))], output, job.out)
             os.fsync(output.fileno())
     except OSError as error:
-        raise unwritten(job.out, error.strerror) from None
+        raise refused(job, error) from None
 
 
-def merge_range(job: Job, number: int, start: Optional[int], end: Optional[int]) -> None:
-    """Merges a range of the joined shards."""
+def merge_range(job: Job, number: int, runs: Dict[int, Tuple[int, int, int]]) -> None:
+    """Merges a range of the joined table: of each of these shards the bytes of its rows in the range, behind its header, which ends at
+    the first of the three numbers. No row stands before left row 0, and so `--from=0` leaves out the header alone."""
     path = job.merged(number)
     if not os.path.exists(path):
+        inputs = [(job.joined(part), [(0, header), (begin, end)]) for part, (header, begin, end) in runs.items()]
         with made(path) as new, open(new, "wb") as output:
-            job.run("merges", merging(job, start, end), output)
+            job.run("merges", [*merging(job), *(["--from=0"] if number else [])], output, inputs=inputs)
 
 
 def put_together(job: Job, count: int) -> None:
@@ -422,7 +412,7 @@ def put_together(job: Job, count: int) -> None:
                     shutil.copyfileobj(merged, output, 1 << 20)
             os.fsync(output.fileno())
     except OSError as error:
-        raise unwritten(job.out, error.strerror) from None
+        raise refused(job, error) from None
 
 
 def answer(task: Callable[..., Any], job: Job, *words: Any) -> Any:
@@ -516,19 +506,20 @@ def counted_on(line: str, before: int) -> str:
     return re.sub(r"\brow (\d+)", lambda found: f"row {before + int(found[1])}", told) + quote + name
 
 
-def first_fault_of_file(answers: Sequence[Any], side: str) -> None:
+def first_fault_of_file(job: Job, side: str, ranges: Sequence[Tuple[int, Optional[int]]], answers: Sequence[Any]) -> None:
     """Raises the first fault of a side's own file among the answers of its ranges, its row counted through the whole file.
 
     What else a range tells is looked at later: a clause that can't be bound, or the other file. Such a range's own rows have
     no fault, and `shards` told how many there are."""
     before = 0
-    for it in answers:
+    for it, (start, end) in zip(answers, ranges):
         if isinstance(it, Told):
             if it.is_of(side) or not it.printed:
-                raise Told(counted_on(it.line, before), it.status)
+                more = of_row(it.line, names_in(job.files[side]), start, end) if job.explain and not it.more else it.more
+                raise Told(counted_on(it.line, before), it.status, more=more)
             before += counts_in(it.printed)[0]
         else:
-            before += it[0]
+            before += it
 
 
 def names_in(file: str) -> List[str]:
@@ -549,7 +540,7 @@ def refuse_line(job: Job) -> Optional[Told]:
     """Tells what `radixjoin` does of the command line, by a run on empty files. A null text that isn't lawful is given back:
     files that can't be read are told before it."""
     try:
-        job.run("radixjoin", [*job.joining({side: os.devnull for side in SIDES}, job.types), *job.strict])
+        job.run("radixjoin", [*job.joining({side: os.devnull for side in SIDES}, job.types), *job.strict, *job.explain])
     except Told as told:
         if told.status != 3:
             raise
@@ -574,26 +565,15 @@ def ranges_of(job: Job, cluster: Any, count: int) -> Dict[str, List[Tuple[int, O
     return dict(zip(SIDES, cuts))
 
 
-def places_of_rows(starts: Sequence[int], counts: Sequence[int], numbers: Sequence[int]) -> List[int]:
-    """The places of left rows of these numbers, which rise and count from 0, in ranges that begin at these places and have so many rows."""
-    places, before, at = [], 0, 0
-    for number in numbers:
-        while number >= before + counts[at]:
-            before, at = before + counts[at], at + 1
-        places.append(starts[at] + number - before)
-    return places
-
-
-def divided(job: Job, cluster: Any, count: int, merges: int) -> Tuple[Dict[str, int], Dict[str, int], List[int]]:
-    """Divides both files. It gives how many ranges each has, how many bytes the header of each's parts has, and at which places of
-    left rows the merge is cut into so many ranges or fewer, of about as many left rows each."""
+def divided(job: Job, cluster: Any, count: int) -> Dict[str, int]:
+    """Divides both files. It gives how many ranges each has."""
     ranges = ranges_of(job, cluster, count)
     tasks = {side: [(divide, job, side, number, *it) for number, it in enumerate(ranges[side])] for side in SIDES}
     answers = cluster.answers([*tasks["left"], *tasks["right"]])
     of_side = {"left": answers[: len(ranges["left"])], "right": answers[len(ranges["left"]) :]}
     try:
         for side in SIDES:
-            first_fault_of_file(of_side[side], side)
+            first_fault_of_file(job, side, ranges[side], of_side[side])
         first_fault(answers)
     except Told as told:
         repeated = re.fullmatch(r"radixjoin: E3 RepeatedName (left|right) column (\d+)", told.line)
@@ -602,10 +582,7 @@ def divided(job: Job, cluster: Any, count: int, merges: int) -> Tuple[Dict[str, 
             refuse_taken_names(job)
         raise
     refuse_taken_names(job)
-    counts = [rows for rows, _ in of_side["left"]]
-    numbers = sorted({sum(counts) * it // merges for it in range(1, merges)} - {0})
-    cuts = places_of_rows([start for start, _ in ranges["left"]], counts, numbers)
-    return {side: len(ranges[side]) for side in SIDES}, {side: of_side[side][0][1] for side in SIDES}, cuts
+    return {side: len(ranges[side]) for side in SIDES}
 
 
 def refuse_ambiguous(job: Job, cluster: Any, parts: Sequence[int]) -> None:
@@ -615,29 +592,41 @@ def refuse_ambiguous(job: Job, cluster: Any, parts: Sequence[int]) -> None:
     place, column = min(cells)
     before = cluster.answers([(count_before, job, part, place) for part in range(job.parts)])
     first_fault(before)
-    raise Told(f"radixjoin: E28 AmbiguousNull row {sum(before) + 1} column {column}", 3)
+    name = job.shard(parts[0])[0].names_in_whole()[column - 1]
+    more = of_cell(sum(before) + 1, name, job.out_null) if job.explain else ""
+    raise Told(f"radixjoin: E28 AmbiguousNull row {sum(before) + 1} column {column}", 3, more=more)
 
 
-def merge_all(job: Job, cluster: Any, cuts: Sequence[int]) -> None:
+def runs_of(bytes_of_shards: Sequence[Sequence[int]], number: int) -> Dict[int, Tuple[int, int, int]]:
+    """Of each shard that has rows in a range where its header ends, and from which byte up to which one these rows stand. One of them
+    is among the runs in any case, for its header."""
+    runs = {part: (at[0], at[number], at[number + 1]) for part, at in enumerate(bytes_of_shards)}
+    return {part: run for part, run in runs.items() if part == 0 or run[1] < run[2]}
+
+
+def merge_all(job: Job, cluster: Any, cuts: Sequence[Place]) -> None:
     """Merges the joined shards, in ranges that are cut at these places where there are any."""
     if not cuts:
         first_fault(cluster.answers([(merge_shards, job)]))
         return
-    ranges = zip([None, *cuts], [*cuts, None])
-    first_fault(cluster.answers([(merge_range, job, number, *it) for number, it in enumerate(ranges)]))
+    cut = cluster.answers([(cut_shard, job, part, cuts) for part in range(job.parts)])
+    first_fault(cut)
+    first_fault(cluster.answers([(merge_range, job, number, runs_of(cut, number)) for number in range(len(cuts) + 1)]))
+    job.clear("joined-*")
     first_fault(cluster.answers([(put_together, job, len(cuts) + 1)]))
 
 
 def run(job: Job, cluster: Any, count: int, merges: int) -> None:
     """Divides, joins and merges."""
     with output_of(job):
-        ranges, headers, cuts = divided(job, cluster, count, merges)
-        joined = cluster.answers([(join_shard, job, part, ranges, headers) for part in range(job.parts)])
+        ranges = divided(job, cluster, count)
+        joined = cluster.answers([(join_shard, job, part, ranges) for part in range(job.parts)])
         first_fault(joined)
-        ambiguous = [part for part, has_cell in enumerate(joined) if has_cell]
+        job.clear("left-*", "right-*")
+        ambiguous = [part for part, (has_cell, _) in enumerate(joined) if has_cell]
         if ambiguous:
             refuse_ambiguous(job, cluster, ambiguous)
-        merge_all(job, cluster, cuts)
+        merge_all(job, cluster, cut_places((it for _, samples in joined for it in samples), merges))
 
 
 @contextlib.contextmanager
@@ -684,13 +673,14 @@ def join(
     programs: Union[str, os.PathLike[str], None] = None,
     memory: Optional[int] = None,
     progress: bool = False,
+    explain: bool = False,
     **of_one_join: Any,
 ) -> Any:
     """Joins two files by the processes of a Dask client, and gives the path of the result, `output`. All processes have to see the
     files, the programs and the scratch folder under the same names.
 
     The arguments are the options of the command line `radixjoin-cluster` (docs/cluster.md): `left_null` and `right_null`, a text or
-    up to four, and `out_null`, in place of `null`; `strict`, True or "full", has files refused that aren't of RFC 4180's grammar;
+    up to four, and `out_null`, in place of `null`; `strict`, True or "full", has files refused that aren't of RFC 4180's grammar; with `explain`, a `Fault` has an `explanation`;
     `parts` that the tables are divided into (1 to 1,024), `ranges` of a file that are divided side by side, `merges`, the
     ranges of the joined table that are merged side by side, `memory` in MiB for each program; `workers` and other options of the join of each shard go to `radixjoin`. Types are a list, a text as the program
     has it (`"int,text"`, `"id=int,*=text"`, `"@FILE"`), or a mapping by name, in which `*` stands for all other columns.
@@ -709,14 +699,14 @@ def join(
     where = {"left": left, "right": right, "out": output, "scratch": scratch, "programs": programs}
     if strict not in (True, False, "full"):
         raise ValueError(f"strict={strict!r} is none of True, False and 'full'")
-    how = {"strict": "on" if strict is True else strict or None, "parts": parts, "ranges": ranges, "merges": merges, "memory": memory, "progress": progress}
+    how = {"strict": "on" if strict is True else strict or None, "parts": parts, "ranges": ranges, "merges": merges, "memory": memory, "progress": progress, "explain": explain}
     asked = argparse.Namespace(join=clause, processes=1, **how, **where, **types, **nulls, **each)
     for name, least, most in beyond(asked):
         raise ValueError(f"{name}= is from {least} to {most}")
     try:
         run_in(asked, contextlib.nullcontext(Cluster(client, progress)))
     except Told as told:
-        raise fault_of(told.line, told.status) from None
+        raise fault_of(str(told), told.status) from None
     return output
 
 
@@ -743,7 +733,7 @@ def main() -> int:
         asked = read_line(sys.argv[1:])
         run_in(asked, cluster_of(asked))
     except (Told, Fault) as fault:
-        print(fault.line, file=sys.stderr)
+        print(fault, file=sys.stderr)
         return fault.status
     except (OSError, RuntimeError) as error:
         print(f"radixjoin-cluster: {error}", file=sys.stderr)

@@ -20,19 +20,22 @@ from .process import Run
 from .rows import Rows
 from .tables import FileTable, RowsTable, Table, table_of_path
 
-_OWN = {"left", "right", "left_types", "right_types", "join", "strict", "workers", "output", "help", "version", "stats"}
+# Options of the program in whose place `stats` stands, and what is told of them.
+_OF_STATS = {"stats": "radixjoin.stats gives statistics", "count": "radixjoin.stats counts", "report": "radixjoin.stats(.., report=True) gives the report"}
+_OWN = {"left", "right", "left_types", "right_types", "join", "strict", "workers", "output", "help", "version", *_OF_STATS}
 
 
 @dataclass(frozen=True)
 class Stats:
     """What `--stats` tells: the rows that were delivered to each partition, left and right, and how many rows there are of each
-    kind; `pieces` where that option was given."""
+    kind; `pieces` where that option was given; and with `report=True` the lines of `--report`, without the last line end."""
 
     partitions: Tuple[Tuple[int, int], ...]
     pairs: int
     lone_left: int
     lone_right: int
     pieces: Optional[int] = None
+    report: Optional[str] = None
 
     @property
     def rows(self) -> int:
@@ -166,16 +169,19 @@ def join(
 
 
 def stats(left: Any, right: Any, clause: Optional[str] = None, **arguments: Any) -> Stats:
-    """Joins as `join` does, with the same arguments but `output`, and gives the program's statistics in place of the rows."""
+    """Joins as `join` does, with the same arguments but `output`, and gives the program's statistics in place of the rows; with
+    `report=True` its report too."""
     if arguments.get("output") is not None:
         raise TypeError("stats has no output=")
     ways = [arguments.pop(name, default) for name, default in (("using", None), ("on", None), ("natural", False), ("how", "inner"))]
     text_of_clause = clause_of(clause, *ways)
     types = {side: arguments.pop(f"{side}_types", None) for side in ("left", "right")}
     own = {"workers": arguments.pop("workers", None), "strict": arguments.pop("strict", True), "output": None}
+    report = {"report": arguments.pop("report", None)}
     _refuse_own(arguments)
     names = _names(arguments)
-    run = _Asked(left, right, text_of_clause, types, names, {**arguments, **own}).run(subprocess.DEVNULL, ["--stats"])
+    asked = _Asked(left, right, text_of_clause, types, names, {**arguments, **report, **own})
+    run = asked.run(subprocess.DEVNULL, ["--stats"])
     try:
         return _stats_in(run.end())
     finally:
@@ -186,7 +192,7 @@ def _refuse_own(options: Dict[str, Any]) -> None:
     """Refuses options of the program that are arguments here, or aren't for `join`."""
     own = next((name for name in options if name in _OWN), None)
     if own is not None:
-        raise TypeError(f"{own}= is no option here" + (": radixjoin.stats gives statistics" if own == "stats" else ""))
+        raise TypeError(f"{own}= is no option here" + (f": {_OF_STATS[own]}" if own in _OF_STATS else ""))
 
 
 def _stats_in(told: str) -> Stats:
@@ -194,10 +200,16 @@ def _stats_in(told: str) -> Stats:
     partitions = re.findall(r"^partition \d+ left (\d+) right (\d+)$", told, re.MULTILINE)
     kinds = re.search(r"^pairs (\d+) lone-left (\d+) lone-right (\d+)$", told, re.MULTILINE)
     pieces = re.search(r"^pieces (\d+)$", told, re.MULTILINE)
+    report = re.search(r"^rows left .*", told, re.MULTILINE | re.DOTALL)
     if kinds is None:
         raise RuntimeError("radixjoin told no statistics")
     counts = [int(count) for count in kinds.groups()]
-    return Stats(tuple((int(left), int(right)) for left, right in partitions), *counts, int(pieces[1]) if pieces else None)
+    return Stats(
+        tuple((int(left), int(right)) for left, right in partitions),
+        *counts,
+        pieces=int(pieces[1]) if pieces else None,
+        report=report[0].rstrip("\n") if report else None,
+    )
 
 
 def _columns(asked: _Asked, names: Sequence[str], which: str) -> List[Column]:

@@ -17,6 +17,8 @@ _SURROGATE = re.compile("[\ud800-\udfff]")
 _QUOTED = re.compile('"((?:[^"]+|"")*)"')
 _BLOCK = 1 << 22
 _HEADER = 1 << 20
+# The bytes that are neither quotes nor line feeds.
+_NO_ENDS = bytes(set(range(256)) - set(b'"\n'))
 
 
 def _quoted(text: str) -> str:
@@ -88,20 +90,48 @@ def _cut(block: bytes) -> int:
         upto = at
 
 
-def blocks(stream: BinaryIO) -> Iterator[str]:
-    """What a stream gives to its end, in blocks of whole records."""
+def pieces(stream: BinaryIO, size: int = _BLOCK) -> Iterator[bytes]:
+    """What a stream gives to its end, in pieces of whole records, each of about so many bytes or of one record that is longer."""
     rest = b""
     while True:
-        read = stream.read(max(_BLOCK, len(rest)))
+        read = stream.read(max(size, len(rest)))
         if not read:
             break
-        block = rest + read if rest else read
-        cut = _cut(block)
-        rest = block[cut:]
+        piece = rest + read if rest else read
+        cut = _cut(piece)
+        rest = piece[cut:]
         if cut:
-            yield block[:cut].decode()
+            yield piece[:cut]
     if rest:
-        yield rest.decode()
+        yield rest
+
+
+def blocks(stream: BinaryIO) -> Iterator[str]:
+    """What a stream gives to its end, in blocks of whole records."""
+    return (piece.decode() for piece in pieces(stream))
+
+
+def end_of_record(piece: bytes, begin: int = 0) -> int:
+    """Behind the line feed of the record that begins at a byte of some bytes; behind all of them where it has none."""
+    end, quotes = begin, 0
+    while True:
+        at = piece.find(b"\n", end)
+        if at < 0:
+            return len(piece)
+        quotes += piece.count(b'"', end, at)
+        end = at + 1
+        if quotes % 2 == 0:
+            return end
+
+
+def records_in(piece: bytes) -> int:
+    """How many records a piece of whole records has, the last of which may lack its line feed."""
+    ends = piece.count(b"\n")
+    if b'"' in piece:
+        # (two quotes with no line feed between them change nothing for the others)
+        left = piece.translate(None, _NO_ENDS).replace(b'""', b"")
+        ends = b"".join(left.split(b'"')[::2]).count(b"\n")
+    return ends + (not piece.endswith(b"\n") and piece != b"")
 
 
 def _fields_in(record: str) -> List[str]:

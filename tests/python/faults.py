@@ -114,6 +114,8 @@ def cases_that_are_refused(folder):
     yield ValueError, "'id'", ROWS, ROWS, {"on": "L.id = R.id"}
     yield NotImplementedError, "--no-such-option", ROWS, ROWS, {**by_id, "no_such_option": 1}
     yield TypeError, "stats", ROWS, ROWS, {**by_id, "stats": True}
+    yield TypeError, "radixjoin.stats counts", ROWS, ROWS, {**by_id, "count": True}
+    yield TypeError, "radixjoin.stats(.., report=True)", ROWS, ROWS, {**by_id, "report": True}
     yield TypeError, "rb", io.StringIO("id\n1\n"), ROWS, {**by_id, **LOOSE, "left_types": "int"}
     yield TypeError, "neither", 7, ROWS, by_id
     yield FileNotFoundError, "nowhere", ROWS, ROWS, {**by_id, "program": "nowhere"}
@@ -256,10 +258,28 @@ def outputs(folder):
     told = radixjoin.stats(ROWS, ROWS, using="id", how="left", bits1=0, piece=10)
     yield from telling.differs("statistics", told, radixjoin.Stats(((2, 2),), 2, 0, 0, 1))
     yield from telling.differs("all rows", told.rows, 2)
+    told = radixjoin.stats([{"id": "a\nb"}], [{"id": "a\nb"}], using="id", bits1=0, report=True)
+    lines = ["rows left 1 right 1", "pairs 1 lone-left 0 lone-right 0", "null-keys left 0 right 0", "repeated-keys left 0 right 0"]
+    report = "\n".join([*lines, 'largest-key left 1 right 1, "id" = "a\\x0Ab"'])
+    yield from telling.differs("a report", told, radixjoin.Stats(((1, 1),), 1, 0, 0, None, report))
+    told = radixjoin.stats(ROWS, ROWS, using="id", bits1=0, report=False)
+    yield from telling.differs("no report", told.report, None)
+
+
+def explanations(_):
+    """With `explain=True` a fault has the lines that the program told below its own."""
+    fault = telling.raised(radixjoin.join, ROWS, ROWS, on="L.idd = R.id", explain=True)
+    wanted = '  "idd" at byte 10 of the clause; left has id, name; right has id, name; did you mean "id"?'
+    yield from telling.differs("of a clause", (type(fault), getattr(fault, "explanation", None)), (radixjoin.ClauseFault, wanted))
+    fault = telling.raised(radixjoin.join, ROWS, ROWS, on="L.idd = R.id")
+    yield from telling.differs("without it", getattr(fault, "explanation", None), "")
+    fault = telling.raised(radixjoin.stats, ROWS, [(1,), (1,)], using="id", right_columns=["id"], expect="many-to-one", explain=True)
+    wanted = '  left row 1, line 2 of the file, is in 2 kept pairs: "id" is "1"'
+    yield from telling.differs("of a row", getattr(fault, "explanation", None), wanted)
 
 
 def main():
-    tests = [faults_of_each_status, refused_arguments, outputs, broken_off, interrupted]
+    tests = [faults_of_each_status, refused_arguments, outputs, explanations, broken_off, interrupted]
     for test in tests + ([dtypes_that_have_no_type] if pandas is not None else []):
         with tempfile.TemporaryDirectory(prefix="radixjoin-test-") as name:
             telling.attempt(test.__name__.replace("_", " "), test, pathlib.Path(name))

@@ -1,20 +1,10 @@
 -- The lines of a report, cell by cell.
-use Rattle.std.proofs.Common.{◌≡◌, ◌∙◌, ℕ, ◌+◌, ◌<◌, List, [], ◌∷◌, ◌++◌, Some, codes, length, take, get_or, ap, sym, append_assoc, append-nil}
-use Rattle.std.specs.Prelude.{slice_get, slice_index_or}
+use Rattle.std.proofs.Common.{◌≡◌, ◌∙◌, ℕ, ◌+◌, ◌<◌, List, [], ◌∷◌, ◌++◌, length, take, get_or, ap, sym, append_assoc, append-nil}
 use Rattle.std.specs.List.{flat_map}
 use Rattle.std.proofs.lemmas.Grind.{flat_map-append}
 use Rattle.std.proofs.lemmas.List.{take_more}
-use Rattle.std.proofs.lemmas.Option.{get_or_from_slice_get}
-use Rattle.rj_columns.specs.Tables.{TableValue, cell_of}
-use Rattle.rj_csv_io.specs.Shown.{shown}
+use Rattle.rj_columns.specs.Tables.{TableValue}
 use Rattle.rj_command.specs.Reported.{cell_part}
-
--- a name and a cell
-pub part-is : (t : TableValue) (row c : ℕ) (name value part : List ℕ) → slice_get t.names c ≡ Some name → value ≡ shown [] (cell_of t row c)
-    → part ≡ codes ", " ++ (name ++ (codes " = " ++ value)) → part ≡ cell_part t row c
-part-is t row c name value part named is made =
-    made ∙ (ap (λ v. codes ", " ++ (name ++ (codes " = " ++ v))) is
-    ∙ ap (λ n. codes ", " ++ (n ++ (codes " = " ++ shown [] (cell_of t row c)))) (sym (get_or_from_slice_get t.names c name [] named)))
 
 -- one more column
 pub cells-more : (t : TableValue) (row : ℕ) (columns : List ℕ) (i : ℕ) (base before after part : List ℕ) → i < length columns

@@ -11,4 +11,5 @@ pub mod Expected
 pub mod Counts
 pub mod ReadBack
 pub mod Reported
+pub mod ShownTexts
 pub mod Violations

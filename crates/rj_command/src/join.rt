@@ -8,6 +8,7 @@ mod nulls;
 mod operands;
 mod reports;
 mod running;
+mod shown;
 mod stats;
 mod strict;
 mod types;

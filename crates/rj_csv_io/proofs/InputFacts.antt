@@ -3,7 +3,7 @@ use Rattle.std.proofs.Common.{◌≡◌, ◌≤◌, ◌+◌, ◌∙◌, ℕ, Lis
 use Rattle.std.specs.Prelude.{IfOk, IfSome}
 use Rattle.std.specs.Io.KnownBytes.{Consumes, IsAtEnd, Keeps}
 use Rattle.std.proofs.Math.Seq.{drop-append_seam, take-add, take-append_seam}
-use Rattle.std.proofs.lemmas.List.{append-nil, take-append-le, take-take, take_all}
+use Rattle.std.proofs.lemmas.List.{append-nil, length-take, take-append-le, take-take, take_all}
 
 pub keeps-refl : (a : Option (List ℕ)) → Keeps a a
 keeps-refl None = tt
@@ -54,12 +54,24 @@ room-front old more f n e h =
     let all = take_all n old (omega (arith, e, h)) in
     rw (all, e) (take-append_seam old more)
 
+-- what begins so still begins so after more was added
+pub front-on : (old mid next : List ℕ) → take (length old) mid ≡ old → take (length mid) next ≡ mid → take (length old) next ≡ old
+front-on old mid next h more =
+    let a = length-take (length old) mid in let b = ap length h in
+    let less : length old ≤ length mid = omega (arith, a, b) in
+    sym (take-take (length old) (length mid) next less) ∙ (ap (λ l. take (length old) l) more ∙ h)
+
 -- a list that was cut behind the bytes that were got
-pub consumes-cut : (start a b : Option (List ℕ)) (old room buffer : List ℕ) (n f k : ℕ) → take f room ≡ old → take f buffer ≡ take f room → f + k ≤ length buffer → length buffer ≤ n
-    → Consumes start a old → Consumes a b (take k (drop f buffer)) → Consumes start b (take (f + k) (take n (buffer ++ drop (length buffer) room)))
-consumes-cut start a b old room buffer n f k e g h long before read =
-    let cut : take (f + k) (take n (buffer ++ drop (length buffer) room)) ≡ old ++ take k (drop f buffer) =
-    take-take (f + k) n (buffer ++ drop (length buffer) room) (omega (arith, h, long))
-    ∙ (take-append-le (f + k) buffer (drop (length buffer) room) h
-    ∙ (take-add f k buffer ∙ ap (λ t. t ++ take k (drop f buffer)) (g ∙ e))) in
-    subst (Consumes start b) (sym cut) (consumes-more start a b old (take k (drop f buffer)) before read)
+module _ (old room buffer : List ℕ) (n f k : ℕ) (e : take f room ≡ old) (g : take f buffer ≡ take f room) (h : f + k ≤ length buffer) (long : length buffer ≤ n) where
+  cut-off : take (f + k) (take n (buffer ++ drop (length buffer) room)) ≡ old ++ take k (drop f buffer)
+  cut-off =
+      take-take (f + k) n (buffer ++ drop (length buffer) room) (omega (arith, h, long))
+      ∙ (take-append-le (f + k) buffer (drop (length buffer) room) h
+      ∙ (take-add f k buffer ∙ ap (λ t. t ++ take k (drop f buffer)) (g ∙ e)))
+
+  pub consumes-cut : (start a b : Option (List ℕ)) → Consumes start a old → Consumes a b (take k (drop f buffer)) → Consumes start b (take (f + k) (take n (buffer ++ drop (length buffer) room)))
+  consumes-cut start a b before read = subst (Consumes start b) (sym cut-off) (consumes-more start a b old (take k (drop f buffer)) before read)
+
+  -- it begins as before
+  pub front-cut : take (length old) (take (f + k) (take n (buffer ++ drop (length buffer) room))) ≡ old
+  front-cut = ap (λ l. take (length old) l) cut-off ∙ take-append_seam old (take k (drop f buffer))

@@ -144,6 +144,8 @@ pub(crate) fn read_piece<I: Input>(input: &mut I, bytes: &mut Vec<u8>) -> Result
     requires failures { I.count input.old < 2 ^ 64 - 1 }
     ensures bytes { OnOk result ((start : Option (List ℕ)) → Consumes start (I.tells input.old) bytes.old.items
         → Consumes start (I.tells input.new) bytes.new.items) }
+    ensures front { OnOk result (take (length bytes.old.items) bytes.new.items ≡ bytes.old.items) }
+    ensures bound { OnOk result (vec_len bytes.new ≤ vec_len bytes.old + 2 ^ 16) }
     ensures more { result ≡ Ok true → vec_len bytes.old < vec_len bytes.new }
     ensures end { result ≡ Ok false → IsAtEnd (I.tells input.new) }
     ensures device { result ≡ Err ReadRefused.ReadDevice → I.count input.new ≡ I.count input.old + 1 }

@@ -5,6 +5,7 @@ pub mod ReadingFacts
 pub mod DivisionFacts
 pub mod UnderwayFacts
 pub mod HeaderFacts
+pub mod ShortFacts
 pub mod RangeFacts
 pub mod BlockFacts
 pub mod BrokenFacts

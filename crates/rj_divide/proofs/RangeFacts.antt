@@ -1,18 +1,20 @@
 -- Texts that are cut into ranges.
-use Rattle.std.proofs.Common.{◌≡◌, ◌≢◌, ◌<◌, ◌≤◌, ◌+◌, ◌-◌, ◌^◌, ℕ, zero, suc, List, [], ◌∷◌, ◌++◌, Option, Some, Bool, true, false, All, refl, sym, ap, ◌∙◌, arith, append_assoc, length, take, drop, length-take-le}
+use Rattle.std.proofs.Common.{inl, inr, subst, ◌*◌, ◌≡◌, ◌≢◌, ◌<◌, ◌≤◌, ◌+◌, ◌-◌, ◌^◌, ℕ, zero, suc, List, [], ◌∷◌, ◌++◌, Option, Some, Bool, true, false, All, refl, sym, ap, ◌∙◌, arith, append_assoc, length, take, drop, length-take-le}
 use Rattle.std.specs.Prelude.{slice_range}
-use Rattle.std.specs.Io.KnownBytes.{Consumes}
-use Rattle.std.proofs.lemmas.List.{drop-drop, length-append, length-drop, take-append-drop}
+use Rattle.std.specs.Io.KnownBytes.{Consumes, IsAtEnd}
+use Rattle.std.proofs.lemmas.Bool.{cases_lt}
+use Rattle.std.proofs.lemmas.List.{append-nil, drop-drop, length-append, length-drop, take-append-drop}
 use Rattle.std.proofs.Math.Seq.{take-append_seam}
 use Rattle.csv.specs.Reading.{default_config, records}
 use Rattle.csv.specs.declared.parser.State.TheVariants as st
 use Rattle.rj_csv_io.specs.Cuts.{state_after}
-use Rattle.rj_csv_io.specs.Pieces.{piece_records}
+use Rattle.rj_csv_io.specs.Pieces.{IsLineEnd, piece_records}
 use Rattle.rj_csv_io.proofs.CutFacts.{after-append, records-split}
-use Rattle.rj_divide.specs.Ranges.{AreCuts, IsCutting, IsRecordEnd, RiseBy, RiseTo, range_records}
+use Rattle.rj_divide.specs.Ranges.{AreCuts, AreShort, IsCutPlace, IsCutting, IsReadFor, IsShort, RiseBy, RiseTo, range_records}
 use Rattle.rj_divide.specs.Underway.{SplitsAs, behind_header}
 use Rattle.rj_divide.specs.declared.cuts.Cutting.{Cutting}
-use Rattle.rj_divide.proofs.UnderwayFacts.{Told, told-more}
+use Rattle.rj_divide.proofs.ShortFacts.{line-out, line-rest, read-bound, short-more, short-none, short-to}
+use Rattle.rj_divide.proofs.UnderwayFacts.{Told, records-none, told-more}
 
 -- ---- places that rise
 
@@ -55,6 +57,17 @@ header-seen : (is_first ahead : Bool) (piece : List (List (List ℕ))) → ((mor
     → ahead ≡ false → is_first ≡ true → piece ≢ []
 header-seen is_first ahead piece law a f = λ e. let h = rw (a, f, e) at (law ([] ∷ [])) in cc h
 
+-- the header is still to come
+header-ahead : (is_first : Bool) (piece : List (List (List ℕ))) → ((more : List (List (List ℕ))) → behind_header is_first (piece ++ more) ≡ behind_header is_first piece ++ behind_header true more)
+    → (is_first ≡ true) × (piece ≡ [])
+header-ahead true [] law = (refl, refl)
+header-ahead true (r ∷ piece) law =
+    let size = ap length (law ([] ∷ [])) in let a = length-append piece ([] ∷ []) in let b = ap length (append-nil piece) in
+    absurd (omega (arith, size, a, b))
+header-ahead false piece law =
+    let size = ap length (law ([] ∷ [])) in let a = length-append piece ([] ∷ []) in let b = ap length (append-nil piece) in
+    absurd (omega (arith, size, a, b))
+
 all-more : (P : ℕ → Type 0) (xs : List ℕ) (x : ℕ) → All P xs → P x → All P (xs ++ x ∷ [])
 all-more P [] x all here zero d l = here
 all-more P [] x all here (suc k) d l = absurd (omega (arith, l))
@@ -87,9 +100,17 @@ none-taken : (text : List ℕ) → state_after st.StartRecord (take 0 text) ≡ 
 unfolding state_after
 none-taken text = refl
 
-module _ (size : ℕ) (text : List ℕ) where
+-- behind a record no header is ahead
+records-on : (text : List ℕ) (at to : ℕ) → at ≤ to → state_after st.StartRecord (take at text) ≡ st.StartRecord → records default_config (take at text) ≢ []
+    → records default_config (take to text) ≢ []
+records-on text at to h ends some =
+    let slice = slice_range text at to in
+    subst (λ r. r ≢ []) (sym (ap (records default_config) (between text at to h) ∙ records-split (take at text) slice ends))
+    (some-both (records default_config (take at text)) (records default_config slice) some)
+
+module _ (size block : ℕ) (text : List ℕ) where
   ranges : (cuts : List ℕ) (from : ℕ) (is_first : Bool) → RiseBy size from cuts → state_after st.StartRecord (take from text) ≡ st.StartRecord
-      → (is_first ≡ true → from ≡ 0) → All (IsRecordEnd text) cuts → piece_records is_first (drop from text) ≡ range_records is_first from cuts text
+      → (is_first ≡ true → from ≡ 0) → All (IsCutPlace text) cuts → piece_records is_first (drop from text) ≡ range_records is_first from cuts text
   unfolding range_records RiseBy
   ranges [] from is_first rise ends start good = refl
   ranges (cut ∷ cuts) from is_first rise ends start good =
@@ -98,23 +119,25 @@ module _ (size : ℕ) (text : List ℕ) where
       let part = between text from cut order in
       let slice = slice_range text from cut in
       let clean : state_after st.StartRecord slice ≡ st.StartRecord =
-      ap (λ s. state_after s slice) (sym ends) ∙ (sym (after-append st.StartRecord (take from text) slice) ∙ (ap (state_after st.StartRecord) (sym part) ∙ here.ends)) in
+      ap (λ s. state_after s slice) (sym ends) ∙ (sym (after-append st.StartRecord (take from text) slice) ∙ (ap (state_after st.StartRecord) (sym part) ∙ here.line.ends)) in
       let some : is_first ≡ true → records default_config slice ≢ [] = λ e r. here.header (ap (records default_config) (part ∙ ap (λ n. take n text ++ slice) (start e)) ∙ r) in
       ap (piece_records is_first) (behind text from cut order)
       ∙ (piece-split is_first slice (drop cut text) clean some
-      ∙ ap (λ l. piece_records is_first slice ++ l) (ranges cuts cut false rise.1 here.ends (λ e. absurd (cc)) (λ k d l. good (suc k) d (omega (arith, l)))))
+      ∙ ap (λ l. piece_records is_first slice ++ l) (ranges cuts cut false rise.1 here.line.ends (λ e. absurd (cc)) (λ k d l. good (suc k) d (omega (arith, l)))))
 
   -- places that rise and are ends of records cut the text
-  pub are-cuts : (cuts : List ℕ) (last : ℕ) → RiseTo size 0 cuts last → All (IsRecordEnd text) cuts → AreCuts size text cuts
-  are-cuts cuts last rise good = record {
+  are-cuts : (cuts : List ℕ) (last : ℕ) → RiseTo size 0 cuts last → All (IsCutPlace text) cuts → AreShort size block text 0 cuts → IsShort size block text last (length text)
+      → AreCuts size block text cuts
+  are-cuts cuts last rise good short end = record {
     rise = rise-by size 0 cuts last rise;
-    within = λ k d l. (good k d l).within;
+    places = good;
     records = ranges cuts 0 true (rise-by size 0 cuts last rise) (none-taken text) (λ e. refl) good;
+    short = short-more size block text 0 cuts last (length text) rise short end;
   }
 
   -- nothing was looked at
   pub cutting-none : (tells : Option (List ℕ)) (now : Cutting) → tells ≡ Some text → now.bytes.items ≡ [] → now.place ≡ 0 → now.is_first ≡ true → now.cuts.items ≡ [] → now.last ≡ 0
-      → IsCutting size text tells now 0
+      → IsCutting size block text tells now 0
   cutting-none tells now told bytes place first cuts last =
       let all : now.bytes.items ++ text ≡ text = ap (λ l. l ++ text) bytes in
       record {
@@ -125,35 +148,39 @@ module _ (size : ℕ) (text : List ℕ) where
         place = place;
         ends = none-taken [];
         header = λ e. absurd (cc);
+        ahead = λ e. records-none;
         rise = rw (cuts, last) (rise-none size);
         behind = omega (arith, last);
         cuts = rw cuts (λ k d l. absurd (omega (arith, l)));
+        short = rw cuts (short-none size block text);
+        passed = λ at far here. omega (arith, place);
+        none = λ at h e. let few = ap length bytes in absurd (omega (arith, few, h, e.behind));
         shorter = let many = ap length all in omega (arith, many);
       }
 
-  module _ (old : Cutting) (bytes : List ℕ) (before tells : Option (List ℕ)) (n : ℕ) (u : IsCutting size text before old n)
+  module _ (old : Cutting) (bytes : List ℕ) (before tells : Option (List ℕ)) (n : ℕ) (u : IsCutting size block text before old n)
       (reads : (start : Option (List ℕ)) → Consumes start before old.bytes.items → Consumes start tells bytes) where
     t : Told old.bytes.items u.left bytes tells
     t = told-more old.bytes.items u.left bytes before tells u.told reads
 
-    -- more bytes were read
-    pub read-on : (next : Cutting) → next.bytes.items ≡ bytes → next.place ≡ old.place → next.is_first ≡ old.is_first → next.cuts.items ≡ old.cuts.items → next.last ≡ old.last
-        → IsCutting size text tells next n
-    read-on next now place first cuts last =
-        let all : next.bytes.items ++ t.more ≡ old.bytes.items ++ u.left = ap (λ l. l ++ t.more) now ∙ sym t.same in
-        record {
-          left = t.more;
-          told = t.told;
-          taken = u.taken;
-          order = u.order ∙ ap (λ l. u.taken ++ l) (sym all);
-          place = place ∙ u.place;
-          ends = u.ends;
-          header = λ e. u.header (sym first ∙ e);
-          rise = rw (cuts, last) u.rise;
-          behind = omega (arith, u.behind, place, last);
-          cuts = rw cuts u.cuts;
-          shorter = let many = ap length all in omega (arith, many, u.shorter);
-        }
+    order-now : text ≡ u.taken ++ (bytes ++ t.more)
+    order-now = u.order ∙ ap (λ l. u.taken ++ l) t.same
+
+    -- a range that ends among the bytes
+    short-now : (end plain : ℕ) → end ≤ length bytes → plain ≤ end → ((at : ℕ) → at ≤ plain → IsLineEnd bytes at → ⊥) → length bytes ≤ block + 2 * plain + 2 ^ 16
+        → IsShort size block text old.last (old.place + end)
+    short-now end plain within some none most =
+        short-to size block text u.taken bytes t.more old.last old.place end plain order-now u.place u.ends u.behind u.passed within some none most
+
+    -- the text was read to its end
+    pub finish-cuts : IsReadFor block old.bytes.items bytes → IsAtEnd tells → AreCuts size block text old.cuts.items
+    finish-cuts r end =
+        let found = read-bound block old.bytes.items bytes r u.none in
+        let left : t.more ≡ [] = rw t.told at end in
+        let a = ap length order-now in let b = length-append u.taken (bytes ++ t.more) in let c = ap length (ap (λ l. bytes ++ l) left ∙ append-nil bytes) in
+        let all : old.place + length bytes ≡ length text = omega (arith, a, b, c, u.place) in
+        are-cuts old.cuts.items old.last u.rise u.cuts u.short
+        (subst (λ n. IsShort size block text old.last n) all (short-now (length bytes) found.0 (omega arith) found.1 found.2 found.3))
 
     -- a place past all numbers of 64 bits
     pub too-long : (end : ℕ) → end ≤ length bytes → 2 ^ 64 ≤ old.place + end → 2 ^ 64 - 1 ≤ length text
@@ -161,21 +188,21 @@ module _ (size : ℕ) (text : List ℕ) where
         let a = ap length u.order in let b = length-append u.taken (old.bytes.items ++ u.left) in let c = ap length t.same in let d = length-append bytes t.more in
         omega (arith, a, b, c, d, u.place, within, high)
 
-    module _ (end : ℕ) (within : end ≤ length bytes) (some : 0 < end) (ends : state_after st.StartRecord (take end bytes) ≡ st.StartRecord) (ahead : Bool)
+    module _ (end : ℕ) (within : end ≤ length bytes) (line : IsLineEnd bytes end) (rest : (at : ℕ) → end < at → at ≤ length bytes → IsLineEnd bytes at → ⊥) (ahead : Bool)
         (law : SplitsAs old.is_first (records default_config (take end bytes)) ahead) where
       abbrev piece : List ℕ
       piece = take end bytes
 
       order-on : text ≡ (u.taken ++ piece) ++ (drop end bytes ++ t.more)
       order-on =
-          u.order ∙ (ap (λ l. u.taken ++ l) (t.same ∙ (ap (λ l. l ++ t.more) (sym (take-append-drop end bytes)) ∙ append_assoc piece (drop end bytes) t.more))
+          order-now ∙ (ap (λ l. u.taken ++ l) (ap (λ l. l ++ t.more) (sym (take-append-drop end bytes)) ∙ append_assoc piece (drop end bytes) t.more)
           ∙ sym (append_assoc u.taken piece (drop end bytes ++ t.more)))
 
       size-on : length (u.taken ++ piece) ≡ old.place + end
       size-on = let a = length-append u.taken piece in let b = length-take-le end bytes within in omega (arith, a, b, u.place)
 
       ends-on : state_after st.StartRecord (u.taken ++ piece) ≡ st.StartRecord
-      ends-on = after-append st.StartRecord u.taken piece ∙ (ap (λ s. state_after s piece) u.ends ∙ ends)
+      ends-on = after-append st.StartRecord u.taken piece ∙ (ap (λ s. state_after s piece) u.ends ∙ line.ends)
 
       header-on : ahead ≡ false → records default_config (u.taken ++ piece) ≢ []
       header-on e = go old.is_first refl
@@ -184,28 +211,60 @@ module _ (size : ℕ) (text : List ℕ) where
           go false is = rw (records-split u.taken piece u.ends) (some-both (records default_config u.taken) (records default_config piece) (u.header is))
           go true is = rw (records-split u.taken piece u.ends) (some-last (records default_config u.taken) (records default_config piece) (header-seen old.is_first ahead (records default_config piece) law e is))
 
+      ahead-on : ahead ≡ true → records default_config (u.taken ++ piece) ≡ []
+      ahead-on e =
+          let found = header-ahead old.is_first (records default_config piece) (subst (λ b. SplitsAs old.is_first (records default_config piece) b) e law) in
+          let a = u.ahead found.0 in
+          records-split u.taken piece u.ends ∙ ((λ i. a i ++ found.1 i))
+
+      front-on : (at : ℕ) → at ≡ old.place + end → take at text ≡ u.taken ++ piece
+      front-on at is = (λ i. take ((is ∙ sym size-on) i) (order-on i)) ∙ take-append_seam (u.taken ++ piece) (drop end bytes ++ t.more)
+
+      line-on : (at : ℕ) → at ≡ old.place + end → IsLineEnd text at
+      line-on at is =
+          let e : length u.taken + end ≡ at = omega (arith, is, u.place) in
+          subst (λ n. IsLineEnd text n) e (subst (λ l. IsLineEnd l (length u.taken + end)) (sym order-now) (line-out u.taken bytes t.more u.ends end within line))
+
       -- a place behind the header
-      place-on : (at : ℕ) → at ≡ old.place + end → ahead ≡ false → IsRecordEnd text at
+      place-on : (at : ℕ) → at ≡ old.place + end → ahead ≡ false → IsCutPlace text at
       place-on at is e =
-          let front : take at text ≡ u.taken ++ piece =
-          (λ i. take ((is ∙ sym size-on) i) (order-on i)) ∙ take-append_seam (u.taken ++ piece) (drop end bytes ++ t.more) in
           let a = ap length order-on in let b = length-append (u.taken ++ piece) (drop end bytes ++ t.more) in
           record {
             within = omega (arith, a, b, is, size-on);
-            ends = rw front ends-on;
-            header = rw front (header-on e);
+            line = line-on at is;
+            header = rw (front-on at is) (header-on e);
           }
+
+      -- a piece behind whose end no cut was wanted
+      passed-on : (next : ℕ) → next ≡ old.place + end → (ahead ≡ false → next < old.last + size) → (at : ℕ) → old.last + size ≤ at → IsCutPlace text at → next ≤ at
+      passed-on next is few at far here = elim (cases_lt at next) [ inr late ↦ late | inl early ↦ absurd (go ahead refl early) ]
+        where
+          go : (b : Bool) → ahead ≡ b → at < next → ⊥
+          go false e early = let less = few e in omega (arith, less, early, far)
+          go true e early = records-on text at next (omega (arith, early)) here.line.ends here.header (ap (records default_config) (front-on next is) ∙ ahead-on e)
+
+      -- the range up to the end of a piece
+      short-on : IsReadFor block old.bytes.items bytes → (next : ℕ) → next ≡ old.place + end → IsShort size block text old.last next
+      short-on r next is =
+          let found = read-bound block old.bytes.items bytes r u.none in
+          let few : found.0 ≤ end = elim (cases_lt end found.0) [ inl more ↦ absurd (found.2 end (omega (arith, more)) line) | inr h ↦ h ] in
+          subst (λ n. IsShort size block text old.last n) (sym is) (short-now end found.0 within few found.2 found.3)
+
+      none-on : (next : List ℕ) → next ≡ drop end bytes → (at : ℕ) → at ≤ length next → IsLineEnd next at → ⊥
+      none-on next left at h e =
+          let few = ap length left in
+          line-rest bytes end within line rest at (omega (arith, few, h)) (subst (λ l. IsLineEnd l at) left e)
 
       shorter-on : (next : List ℕ) → next ≡ drop end bytes → n + 1 + length (next ++ t.more) ≤ length text
       shorter-on next left =
           let a = ap length t.same in let b = length-append bytes t.more in let c = length-append (drop end bytes) t.more in let d = length-drop end bytes in
           let e = ap (λ l. length (l ++ t.more)) left in
-          omega (arith, u.shorter, a, b, c, d, e, within, some)
+          omega (arith, u.shorter, a, b, c, d, e, within, line.behind)
 
       -- a piece without a cut
       pub pass : (next : Cutting) → next.bytes.items ≡ drop end bytes → next.place ≡ old.place + end → next.is_first ≡ ahead → next.cuts.items ≡ old.cuts.items → next.last ≡ old.last
-          → IsCutting size text tells next (n + 1)
-      pass next left place first cuts last = record {
+          → (ahead ≡ false → next.place < old.last + size) → IsCutting size block text tells next (n + 1)
+      pass next left place first cuts last few = record {
         left = t.more;
         told = t.told;
         taken = u.taken ++ piece;
@@ -213,16 +272,20 @@ module _ (size : ℕ) (text : List ℕ) where
         place = place ∙ sym size-on;
         ends = ends-on;
         header = λ e. header-on (sym first ∙ e);
+        ahead = λ e. ahead-on (sym first ∙ e);
         rise = rw (cuts, last) u.rise;
         behind = omega (arith, u.behind, place, last);
         cuts = rw cuts u.cuts;
+        short = rw cuts u.short;
+        passed = λ at far here. passed-on next.place place few at (omega (arith, far, last)) here;
+        none = none-on next.bytes.items left;
         shorter = shorter-on next.bytes.items left;
       }
 
       -- a piece with a cut at its end
       pub put : (next : Cutting) → next.bytes.items ≡ drop end bytes → next.place ≡ old.place + end → next.is_first ≡ ahead → next.cuts.items ≡ old.cuts.items ++ next.place ∷ [] → next.last ≡ next.place
-          → ahead ≡ false → size ≤ next.place - old.last → IsCutting size text tells next (n + 1)
-      put next left place first cuts last seen far =
+          → ahead ≡ false → size ≤ next.place - old.last → IsReadFor block old.bytes.items bytes → IsCutting size block text tells next (n + 1)
+      put next left place first cuts last seen far read =
           let high : old.last + size ≤ next.place = omega (arith, far, u.behind, place) in
           record {
             left = t.more;
@@ -232,8 +295,12 @@ module _ (size : ℕ) (text : List ℕ) where
             place = place ∙ sym size-on;
             ends = ends-on;
             header = λ e. header-on (sym first ∙ e);
+            ahead = λ e. ahead-on (sym first ∙ e);
             rise = rw (cuts, last) (rise-more size 0 old.cuts.items old.last next.place u.rise high);
             behind = omega (arith, last);
-            cuts = rw cuts (all-more (IsRecordEnd text) old.cuts.items next.place u.cuts (place-on next.place place seen));
+            cuts = rw cuts (all-more (IsCutPlace text) old.cuts.items next.place u.cuts (place-on next.place place seen));
+            short = rw cuts (short-more size block text 0 old.cuts.items old.last next.place u.rise u.short (short-on read next.place place));
+            passed = λ at late here. omega (arith, late, last);
+            none = none-on next.bytes.items left;
             shorter = shorter-on next.bytes.items left;
           }

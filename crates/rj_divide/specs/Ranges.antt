@@ -1,9 +1,9 @@
 -- Places that cut a text into ranges.
-use Rattle.std.specs.Prelude.{ℕ, ◌+◌, ◌-◌, ◌^◌, ◌≡◌, ◌≢◌, ◌≤◌, Bool, true, false, List, [], ◌∷◌, ◌++◌, length, take, drop, slice_range, All, Option, Some}
+use Rattle.std.specs.Prelude.{ℕ, ◌+◌, ◌-◌, ◌*◌, ◌^◌, ◌≡◌, ◌≢◌, ◌≤◌, ◌<◌, Bool, true, false, List, [], ◌∷◌, ◌++◌, length, take, drop, slice_range, All, Option, Some}
 use Rattle.csv.specs.Reading.{default_config, records}
 use Rattle.csv.specs.declared.parser.State.TheVariants as st
 use Rattle.rj_csv_io.specs.Cuts.{state_after}
-use Rattle.rj_csv_io.specs.Pieces.{piece_records}
+use Rattle.rj_csv_io.specs.Pieces.{IsLastEnd, IsLineEnd, piece_records}
 use Rattle.rj_divide.specs.declared.cuts.Cutting.{Cutting}
 use Rattle.rj_divide.specs.declared.refused.DivideRefused.{DivideRefused}
 use Rattle.rj_divide.specs.declared.refused.DivideRefused.TheVariants as refused
@@ -18,26 +18,51 @@ unfoldable pub RiseBy : ℕ → ℕ → List ℕ → Type 0
 RiseBy size from [] = Unit {0}
 RiseBy size from (cut ∷ cuts) = (from + size ≤ cut) × RiseBy size cut cuts
 
--- places in a text, each so far behind the one before, that cut it into ranges: the records of the ranges are those of the
--- text, and the first range has the header
-pub record AreCuts (size : ℕ) (text : List ℕ) (cuts : List ℕ) : Type 0 where
-  pub rise : RiseBy size 0 cuts
-  pub within : All (λ cut. cut ≤ length text) cuts
-  pub records : piece_records true text ≡ range_records true 0 cuts text
-
--- a place behind the header where a record ends
-pub record IsRecordEnd (text : List ℕ) (at : ℕ) : Type 0 where
+-- a place where the text can be cut: behind the header, and behind a line feed that ends a record
+pub record IsCutPlace (text : List ℕ) (at : ℕ) : Type 0 where
   pub within : at ≤ length text
-  pub ends : state_after st.StartRecord (take at text) ≡ st.StartRecord
+  pub line : IsLineEnd text at
   pub header : records default_config (take at text) ≢ []
+
+-- between two places a line feed ends a record in each run of so many bytes
+abbrev pub EndIn : List ℕ → ℕ → ℕ → ℕ → Type 0
+EndIn text from to run = (at : ℕ) → from ≤ at → at + run ≤ to → (end : ℕ) × (at < end) × (end ≤ at + run) × IsLineEnd text end
+
+-- a range that ends soon behind each place in it, so many bytes or more from its begin, where the text can be cut: where a record
+-- ends in each run of so many bytes, within a block, twice such a run and 64 KiB
+abbrev pub IsShort : ℕ → ℕ → List ℕ → ℕ → ℕ → Type 0
+IsShort size block text from to = (at run : ℕ) → from + size ≤ at → IsCutPlace text at → EndIn text from to run → to ≤ at + block + 2 * run + 2 ^ 16
+
+-- the ranges from a place on that end at these places
+unfoldable pub AreShort : ℕ → ℕ → List ℕ → ℕ → List ℕ → Type 0
+AreShort size block text from [] = Unit {0}
+AreShort size block text from (to ∷ ends) = IsShort size block text from to × AreShort size block text to ends
+
+-- places in a text, each so far behind the one before, that cut it into ranges: the records of the ranges are those of the
+-- text, the first range has the header, and each range, the last one too, ends soon behind where it could
+pub record AreCuts (size block : ℕ) (text : List ℕ) (cuts : List ℕ) : Type 0 where
+  pub rise : RiseBy size 0 cuts
+  pub places : All (IsCutPlace text) cuts
+  pub records : piece_records true text ≡ range_records true 0 cuts text
+  pub short : AreShort size block text 0 (cuts ++ length text ∷ [])
+
+-- the bytes that were read for a piece behind those that were there: where there are more, a block, twice as many as the first
+-- ones, in which no record ends, and 64 KiB at most
+pub record IsReadFor (block : ℕ) (old bytes : List ℕ) : Type 0 where
+  pub front : take (length old) bytes ≡ old
+  pub plain : ℕ
+  pub within : plain ≤ length bytes
+  pub none : IsLastEnd bytes plain 0
+  pub most : length old < length bytes → length bytes ≤ block + 2 * plain + 2 ^ 16
 
 -- the places rise up to this one, which is the last
 unfoldable pub RiseTo : ℕ → ℕ → List ℕ → ℕ → Type 0
 RiseTo size from [] last = from ≡ last
 RiseTo size from (cut ∷ cuts) last = (from + size ≤ cut) × RiseTo size cut cuts last
 
--- a text whose first bytes, at least so many pieces, were looked at
-pub record IsCutting (size : ℕ) (text : List ℕ) (tells : Option (List ℕ)) (now : Cutting) (pieces : ℕ) : Type 0 where
+-- a text whose first bytes, at least so many pieces, were looked at: in the bytes that were read and not looked at yet no record
+-- ends, and no place for a cut was passed
+pub record IsCutting (size block : ℕ) (text : List ℕ) (tells : Option (List ℕ)) (now : Cutting) (pieces : ℕ) : Type 0 where
   pub left : List ℕ
   pub told : tells ≡ Some left
   pub taken : List ℕ
@@ -45,9 +70,13 @@ pub record IsCutting (size : ℕ) (text : List ℕ) (tells : Option (List ℕ)) 
   pub place : now.place ≡ length taken
   pub ends : state_after st.StartRecord taken ≡ st.StartRecord
   pub header : now.is_first ≡ false → records default_config taken ≢ []
+  pub ahead : now.is_first ≡ true → records default_config taken ≡ []
   pub rise : RiseTo size 0 now.cuts.items now.last
   pub behind : now.last ≤ now.place
-  pub cuts : All (IsRecordEnd text) now.cuts.items
+  pub cuts : All (IsCutPlace text) now.cuts.items
+  pub short : AreShort size block text 0 now.cuts.items
+  pub passed : (at : ℕ) → now.last + size ≤ at → IsCutPlace text at → now.place ≤ at
+  pub none : (at : ℕ) → at ≤ length now.bytes.items → IsLineEnd now.bytes.items at → ⊥
   pub shorter : pieces + length (now.bytes.items ++ left) ≤ length text
 
 -- why a text is not cut: a fault of its device or of memory, or its length

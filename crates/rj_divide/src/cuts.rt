@@ -1,7 +1,7 @@
 //! Places where a text can be cut.
 
 ghost use Rattle.std.specs.Io.KnownBytes.{IsAtEnd};
-ghost use Rattle.std.specs.Prelude.{◌≡◌, ◌<◌, ◌+◌, ◌-◌, ◌^◌, ℕ, List, true, Ok, if◌then◌else◌, IfErr, IfOk, IfSome, OnOk};
+ghost use Rattle.std.specs.Prelude.{◌≡◌, ◌<◌, ◌+◌, ◌-◌, ◌^◌, ℕ, List, true, false, Ok, IfErr, IfOk, IfSome, OnOk};
 ghost use Rattle.rj_divide.specs.Ranges.{AreCuts, IsCutFault, IsCutting};
 ghost use Rattle.rj_divide.specs.Readings.{reads_after};
 
@@ -36,11 +36,13 @@ fn cut_next<I: Input>(
     cutting: &mut Cutting,
 ) -> Result<bool, DivideRefused>
     requires { I.count input.old < 2 ^ 64 - 1 }
-    ensures cuts { IfOk result (λ last. (text : List ℕ) (n : ℕ) → IsCutting size text (I.tells input.old) cutting.old n
-        → IsCutting size text (I.tells input.new) cutting.new (if last then n else n + 1)) }
+    ensures more { result ≡ Ok false → (text : List ℕ) (n : ℕ) → IsCutting size block text (I.tells input.old) cutting.old n
+        → IsCutting size block text (I.tells input.new) cutting.new (n + 1) }
+    ensures last { result ≡ Ok true → (text : List ℕ) (n : ℕ) → IsCutting size block text (I.tells input.old) cutting.old n
+        → AreCuts size block text cutting.new.cuts.items }
     ensures end { result ≡ Ok true → IsAtEnd (I.tells input.new) }
     ensures reads { I.count input.new ≡ reads_after result (I.count input.old) }
-    ensures fault { IfErr result (λ e. (text : List ℕ) (n : ℕ) → IsCutting size text (I.tells input.old) cutting.old n → IsCutFault text e) }
+    ensures fault { IfErr result (λ e. (text : List ℕ) (n : ℕ) → IsCutting size block text (I.tells input.old) cutting.old n → IsCutFault text e) }
 {
     let piece = match next_piece(input, &mut cutting.bytes, block) {
         Ok(piece) => piece,
@@ -69,11 +71,12 @@ fn cut_next<I: Input>(
 }
 
 /// Places where a text with a header can be cut into ranges, so that the records of the ranges are those of the text. Each
-/// is the end of a record, and at least `size` bytes behind the one before; the first is behind the header. A text's own
-/// byte order mark is left out already.
+/// is behind a line feed that ends a record, and at least `size` bytes behind the one before; the first is behind the header.
+/// A text's own byte order mark is left out already.
 ///
 /// The text is read to its end, in pieces of about `block` bytes, or more where a record is longer; only the ends of pieces are
-/// places.
+/// places. So a range, the last one too, ends at most `block` bytes, 64 KiB and twice the bytes of its longest line behind the
+/// first place, `size` bytes or more from its begin, where it could.
 ///
 /// # Errors
 ///
@@ -85,7 +88,7 @@ pub fn find_cuts<I: Input>(
     block: usize,
 ) -> Result<Vec<u64>, DivideRefused>
     requires { I.count input.old < 2 ^ 64 - 1 }
-    ensures cuts { IfOk result (λ v. IfSome (I.tells input.old) (λ text. AreCuts size text v.items)) }
+    ensures cuts { IfOk result (λ v. IfSome (I.tells input.old) (λ text. AreCuts size block text v.items)) }
     ensures end { OnOk result (IsAtEnd (I.tells input.new)) }
     ensures reads { I.count input.new ≡ reads_after result (I.count input.old) }
     ensures fault { IfErr result (λ e. IfSome (I.tells input.old) (λ text. IsCutFault text e)) }

@@ -1,10 +1,10 @@
 //! The next piece of a device's bytes, which ends where a record does.
 
-ghost use Rattle.std.specs.Prelude.{◌≡◌, ◌<◌, ◌≤◌, ◌+◌, ◌-◌, ◌^◌, ◌++◌, ℕ, List, [], Option, true, false, vec_len, take, drop, slice_index_or, IfOk, IfErr, OnOk};
+ghost use Rattle.std.specs.Prelude.{◌≡◌, ◌<◌, ◌≤◌, ◌+◌, ◌-◌, ◌^◌, ◌++◌, ℕ, List, [], Option, true, false, length, vec_len, take, drop, IfOk, IfErr, OnOk};
 ghost use Rattle.std.specs.Io.KnownBytes.{Consumes, IsAtEnd};
 ghost use Rattle.csv.specs.Reading.{default_config, records};
-ghost use Rattle.csv.specs.declared.parser.State.TheVariants as st;
-ghost use Rattle.rj_csv_io.specs.Cuts.{state_after};
+ghost use Rattle.rj_csv_io.specs.Pieces.{IsLineEnd};
+ghost use Rattle.rj_divide.specs.Ranges.{IsReadFor};
 ghost use Rattle.rj_divide.specs.Readings.{IsInputFault, reads_after};
 
 use crate::refused::DivideRefused;
@@ -28,6 +28,8 @@ fn read_more<I: Input>(
     requires { I.count input.old < 2 ^ 64 - 1 }
     ensures bytes { OnOk result ((start : Option (List ℕ)) → Consumes start (I.tells input.old) bytes.old.items
         → Consumes start (I.tells input.new) bytes.new.items) }
+    ensures front { OnOk result (take (length bytes.old.items) bytes.new.items ≡ bytes.old.items) }
+    ensures bound { OnOk result (vec_len bytes.old < vec_len bytes.new → vec_len bytes.new < size + 2 ^ 16) }
     ensures end { result ≡ Ok true → IsAtEnd (I.tells input.new) }
     ensures full { result ≡ Ok false → size ≤ vec_len bytes.new }
     ensures count { I.count input.new ≡ reads_after result (I.count input.old) }
@@ -42,7 +44,7 @@ fn read_more<I: Input>(
 
 /// Adds the next bytes of a device to some, until there is a line feed that ends a record or the device is at its end: the piece
 /// up to the last such end, or all where the device is at its end. At least a block is read, and twice as many bytes as
-/// before where there is no such end in them.
+/// before where there is no such end in them; and less than 64 KiB more.
 ///
 /// # Errors
 ///
@@ -57,13 +59,13 @@ pub fn next_piece<I: Input>(
     ensures bytes { OnOk result ((start : Option (List ℕ)) → Consumes start (I.tells input.old) bytes.old.items
         → Consumes start (I.tells input.new) bytes.new.items) }
     ensures within { IfOk result (λ p. p.end ≤ vec_len bytes.new) }
-    ensures some { IfOk result (λ p. p.is_last ≡ false → 0 < p.end) }
+    ensures read { OnOk result (IsReadFor block bytes.old.items bytes.new.items) }
     ensures block { IfOk result (λ p. p.is_last ≡ false → block ≤ vec_len bytes.new) }
     ensures last { IfOk result (λ p. p.is_last ≡ true → (p.end ≡ vec_len bytes.new) × IsAtEnd (I.tells input.new)) }
     ensures records { IfOk result (λ p. (more : List ℕ) → (p.is_last ≡ true → more ≡ []) → records default_config (bytes.new.items ++ more)
         ≡ records default_config (take p.end bytes.new.items) ++ records default_config (drop p.end bytes.new.items ++ more)) }
-    ensures ends { IfOk result (λ p. p.is_last ≡ false → state_after st.StartRecord (take p.end bytes.new.items) ≡ st.StartRecord) }
-    ensures feed { IfOk result (λ p. p.is_last ≡ false → slice_index_or bytes.new.items (p.end - 1) 0 ≡ 10) }
+    ensures line { IfOk result (λ p. p.is_last ≡ false → IsLineEnd bytes.new.items p.end) }
+    ensures rest { IfOk result (λ p. p.is_last ≡ false → (at : ℕ) → p.end < at → at ≤ length bytes.new.items → IsLineEnd bytes.new.items at → ⊥) }
     ensures count { I.count input.new ≡ reads_after result (I.count input.old) }
     ensures fault { IfErr result IsInputFault }
 {

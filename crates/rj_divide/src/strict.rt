@@ -180,11 +180,10 @@ fn divide_next<I: Input, W: Route, O: Output>(
     requires null { IsTrue (is_null_text (written_null (null_texts division.now.nulls.now))) }
     requires reads { I.count input.old < 2 ^ 64 - 1 }
     requires writes { All (λ o. O.count o < 2 ^ 64 - 1) outputs.old }
-    ensures more { result ≡ Ok false → (text : List ℕ) (before : List (Option (List ℕ))) (blocks : ℕ)
-        → IsReadTo (null_texts division.now.nulls.now) division.now.types.now (W.part division.now.route.now) division.now.first text before
-        (I.tells input.old) rest.old.bytes.items (map O.told outputs.old) rest.old.rows blocks
-        → IsReadTo (null_texts division.now.nulls.now) division.now.types.now (W.part division.now.route.now) division.now.first text before
-        (I.tells input.new) rest.new.bytes.items (map O.told outputs.new) rest.new.rows (blocks + 1) }
+    ensures more { let read = IsReadTo (null_texts division.now.nulls.now) division.now.types.now (W.part division.now.route.now) division.now.first in
+        result ≡ Ok false → (text : List ℕ) (before : List (Option (List ℕ))) (blocks : ℕ)
+        → read text before (I.tells input.old) rest.old.bytes.items (map O.told outputs.old) rest.old.rows blocks
+        → read text before (I.tells input.new) rest.new.bytes.items (map O.told outputs.new) rest.new.rows (blocks + 1) }
     ensures last { result ≡ Ok true → (text : List ℕ) (before : List (Option (List ℕ))) (blocks : ℕ)
         → IsReadTo (null_texts division.now.nulls.now) division.now.types.now (W.part division.now.route.now) division.now.first text before
         (I.tells input.old) rest.old.bytes.items (map O.told outputs.old) rest.old.rows blocks

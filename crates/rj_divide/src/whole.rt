@@ -105,11 +105,10 @@ fn divide_next<I: Input, O: Output, R: Route>(
     requires null { IsTrue (is_null_text (written_null (null_texts division.now.nulls.now))) }
     requires reads { I.count input.old < 2 ^ 64 - 1 }
     requires writes { All (λ o. O.count o < 2 ^ 64 - 1) outputs.old }
-    ensures divided { IfOk result (λ last. (is_first : Bool) (all : List ℕ) (before : List (Option (List ℕ))) (n : ℕ)
-        → IsUnderway (null_texts division.now.nulls.now) division.now.types.now (R.part division.now.route.now) division.now.first is_first all before
-        (I.tells input.old) rest.old (map O.told outputs.old) n
-        → IsUnderway (null_texts division.now.nulls.now) division.now.types.now (R.part division.now.route.now) division.now.first is_first all before
-        (I.tells input.new) rest.new (map O.told outputs.new) (if last then n else n + 1)) }
+    ensures divided { let underway = IsUnderway (null_texts division.now.nulls.now) division.now.types.now (R.part division.now.route.now) division.now.first in
+        IfOk result (λ last. (is_first : Bool) (all : List ℕ) (before : List (Option (List ℕ))) (n : ℕ)
+        → underway is_first all before (I.tells input.old) rest.old (map O.told outputs.old) n
+        → underway is_first all before (I.tells input.new) rest.new (map O.told outputs.new) (if last then n else n + 1)) }
     ensures end { result ≡ Ok true → (rest.new.bytes.items ≡ []) × IsAtEnd (I.tells input.new) }
     ensures reads { I.count input.new ≡ reads_after result (I.count input.old) }
     ensures writes { map O.count outputs.new ≡ counts_after result (map O.count outputs.old) }

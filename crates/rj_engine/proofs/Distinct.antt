@@ -12,9 +12,10 @@ use Rattle.std.proofs.lemmas.List.Elements.{All-weaker}
 use Rattle.rj_engine.proofs.Sources.{pairs-within}
 use Rattle.rj_engine.specs.Expected.{AreDistinct}
 use Rattle.rj_engine.specs.Marks.{IsMarked}
-use Rattle.rj_engine.specs.Results.{kept_pairs}
+use Rattle.rj_engine.specs.Join.{JoinedValue}
+use Rattle.rj_engine.specs.Results.{joined_of, kept_pairs}
 
-is_equal : (a b : ℕ) → a ≡ b → (a == b) ≡ true
+pub is_equal : (a b : ℕ) → a ≡ b → (a == b) ≡ true
 is_equal a b e = grind (arith, nat_tests, e)
 
 equal_is : (a b : ℕ) → (a == b) ≡ true → a ≡ b
@@ -56,8 +57,15 @@ marked_is numbers count marks k x b marked low read is =
     sym (marked.each k low) ∙ (get_or_default marks k false x (omega (arith, len, low)) ∙ (sym read ∙ is))
 
 -- the rows of kept pairs are those of the tables
-pub lefts_there : (join : BoundJoin) (l r : TableValue) → All (λ p. p.0 < length l.rows) (kept_pairs join l r)
-lefts_there join l r = All-weaker (λ (p : ℕ × ℕ). (p.0 < length l.rows) × (p.1 < length r.rows)) (λ p. p.0 < length l.rows) (λ p within. within.0) (kept_pairs join l r) (pairs-within (keeps join l r) (length l.rows) (length r.rows))
+module _ (join : BoundJoin) (l r : TableValue) (joined : JoinedValue) (given : List (ℕ × ℕ)) (count : ℕ) (is : joined ≡ joined_of join l r) (same : given ≡ joined.pairs) where
+  kept : given ≡ kept_pairs join l r
+  kept = same ∙ ap (λ (j : JoinedValue). j.pairs) is
 
-pub rights_there : (join : BoundJoin) (l r : TableValue) → All (λ p. p.1 < length r.rows) (kept_pairs join l r)
-rights_there join l r = All-weaker (λ (p : ℕ × ℕ). (p.0 < length l.rows) × (p.1 < length r.rows)) (λ p. p.1 < length r.rows) (λ p within. within.1) (kept_pairs join l r) (pairs-within (keeps join l r) (length l.rows) (length r.rows))
+  within : All (λ (p : ℕ × ℕ). (p.0 < length l.rows) × (p.1 < length r.rows)) given
+  within = subst (λ (ps : List (ℕ × ℕ)). All (λ (p : ℕ × ℕ). (p.0 < length l.rows) × (p.1 < length r.rows)) ps) (sym kept) (pairs-within (keeps join l r) (length l.rows) (length r.rows))
+
+  pub lefts_there : count ≡ length l.rows → All (λ (p : ℕ × ℕ). p.0 < count) given
+  lefts_there many = All-weaker (λ (p : ℕ × ℕ). (p.0 < length l.rows) × (p.1 < length r.rows)) (λ (p : ℕ × ℕ). p.0 < count) (λ p low. let h = low.0 in omega (arith, many, h)) given within
+
+  pub rights_there : count ≡ length r.rows → All (λ (p : ℕ × ℕ). p.1 < count) given
+  rights_there many = All-weaker (λ (p : ℕ × ℕ). (p.0 < length l.rows) × (p.1 < length r.rows)) (λ (p : ℕ × ℕ). p.1 < count) (λ p low. let h = low.1 in omega (arith, many, h)) given within

@@ -16,14 +16,9 @@ pub mod Starts
 pub mod Within
 pub mod Whole
 pub mod Delivered
-pub mod Books
 pub mod Pools
+pub mod Made
 pub mod Crosses
-pub mod ShardRows
-pub mod ShardPairs
-pub mod ShardLone
-pub mod ShardMerges
-pub mod ShardFacts
 pub mod OnceFacts
 pub mod Distinct
 pub mod NamingFacts

@@ -8,7 +8,6 @@ pub mod Partitioned
 pub mod Ranges
 pub mod Stripes
 pub mod Pools
-pub mod Shards
 pub mod Once
 pub mod Expected
 pub mod Naming

@@ -2,41 +2,33 @@
 
 ghost use Rattle.std.specs.Prelude.{◌≡◌, ◌<◌, ◌↔◌, All, IfOk, IsTrue, Some, length, map};
 ghost use Rattle.rj_engine.specs.Expected.{AreDistinct, AreMatched, HasAtMost, IsAsExpected};
+ghost use Rattle.rj_engine.specs.Marks.{row_on};
 ghost use Rattle.rj_engine.specs.Results.{joined_of};
 
 use crate::joined::Joined;
-use crate::marks::mark;
+use crate::marks::{PairSide, mark, row_on};
 use rj_columns::Table;
 use rj_condition::BoundJoin;
 use rj_settings::{Expectation, Matching};
 use std::alloc::{AllocError, Global};
 
-// Whether no left row, of so many, stands in two of the pairs.
-fn are_lefts_distinct(alloc: Global, pairs: &[(u32, u32)], count: u32) -> Result<bool, AllocError>
-    requires { All (λ p. p.0 < count) pairs.now }
-    ensures { IfOk result (λ b. IsTrue b ↔ AreDistinct (map (λ p. p.0) pairs.now)) }
+// Whether no row of a side, of so many, stands in two of the pairs.
+fn are_distinct(
+    alloc: Global,
+    pairs: &[(u32, u32)],
+    side: PairSide,
+    count: u32,
+) -> Result<bool, AllocError>
+    requires { All (λ p. row_on side p < count) pairs.now }
+    ensures { IfOk result (λ b. IsTrue b ↔ AreDistinct (map (row_on side) pairs.now)) }
 {
     let mut marks = vec![in alloc; false; count as usize]?;
     for pair in pairs {
-        if marks[pair.0 as usize] {
+        let row = row_on(side, *pair);
+        if marks[row as usize] {
             return Ok(false);
         }
-        mark(&mut marks, pair.0);
-    }
-    Ok(true)
-}
-
-// Whether no right row, of so many, stands in two of the pairs.
-fn are_rights_distinct(alloc: Global, pairs: &[(u32, u32)], count: u32) -> Result<bool, AllocError>
-    requires { All (λ p. p.1 < count) pairs.now }
-    ensures { IfOk result (λ b. IsTrue b ↔ AreDistinct (map (λ p. p.1) pairs.now)) }
-{
-    let mut marks = vec![in alloc; false; count as usize]?;
-    for pair in pairs {
-        if marks[pair.1 as usize] {
-            return Ok(false);
-        }
-        mark(&mut marks, pair.1);
+        mark(&mut marks, row);
     }
     Ok(true)
 }
@@ -54,11 +46,11 @@ fn are_matched(
     ensures { IfOk result (λ b. IsTrue b ↔ AreMatched (Some matching) pairs.now) }
 {
     match matching {
-        Matching::ManyToOne => are_lefts_distinct(alloc, pairs, lefts),
-        Matching::OneToMany => are_rights_distinct(alloc, pairs, rights),
+        Matching::ManyToOne => are_distinct(alloc, pairs, PairSide::Left, lefts),
+        Matching::OneToMany => are_distinct(alloc, pairs, PairSide::Right, rights),
         Matching::OneToOne => {
-            let one = are_lefts_distinct(alloc, pairs, lefts)?;
-            let other = are_rights_distinct(alloc, pairs, rights)?;
+            let one = are_distinct(alloc, pairs, PairSide::Left, lefts)?;
+            let other = are_distinct(alloc, pairs, PairSide::Right, rights)?;
             Ok(one && other)
         }
     }

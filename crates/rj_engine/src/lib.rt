@@ -21,7 +21,6 @@ mod pieces;
 mod ranges;
 mod reporting;
 mod scattering;
-mod shards;
 mod sizes;
 mod view;
 mod violations;
@@ -43,6 +42,5 @@ pub use rj_settings::{
     Choice, ColumnChoice, Expectation, Matching, Repeated, RowKinds, RowOrder, Settings,
 };
 pub use rj_workers::{Gate, Open, Place};
-pub use shards::{rows_stand_once, shard_is_part, shard_of_row, shards_merge};
 pub use view::{View, chosen_header, header};
 pub use violations::{Violation, first_violation};

@@ -7,7 +7,7 @@ ghost use Rattle.rj_engine.specs.Results.{joined_of};
 
 use crate::groups::{KeyReport, KeySide, report_keys};
 use crate::joined::Joined;
-use crate::marks::{lone_left, lone_right};
+use crate::marks::{PairSide, lone_rows};
 use rj_columns::Table;
 use rj_condition::{BoundJoin, split};
 use std::alloc::{AllocError, Global};
@@ -78,8 +78,8 @@ pub fn report(
     ensures { IfOk result (IsReport join.now left.now right.now) }
 {
     let pairs = joined.kept_pairs();
-    let lone_left = lone_left(alloc, pairs, left.rows() as u32)?;
-    let lone_right = lone_right(alloc, pairs, right.rows() as u32)?;
+    let lone_left = lone_rows(alloc, pairs, PairSide::Left, left.rows() as u32)?;
+    let lone_right = lone_rows(alloc, pairs, PairSide::Right, right.rows() as u32)?;
     Ok(JoinReport {
         left_rows: left.rows(),
         right_rows: right.rows(),

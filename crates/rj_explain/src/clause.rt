@@ -110,30 +110,39 @@ fn unknown(
     }
 }
 
-/// What is told of the first name of the clause that can't be taken: the byte at which it begins, and the names that there are.
-///
-/// # Errors
-///
-/// It fails only where memory is refused.
-pub(crate) fn name_lines(alloc: Global, inputs: &Inputs<'_, '_>) -> Result<String, AllocError> {
-    let clause = inputs.request.clause;
-    let left = columns_of(alloc, inputs, Side::Left)?;
-    let right = columns_of(alloc, inputs, Side::Right)?;
-    let (Some(left), Some(right)) = (left, right) else {
-        return Ok(String::new(alloc));
+/// The columns of both sides' files, each as a table without rows.
+#[derive(Drop)]
+pub(crate) struct BothColumns {
+    pub(crate) left: Table,
+    pub(crate) right: Table,
+}
+
+/// Those of both sides, if both files have some.
+pub(crate) fn columns_of_both(
+    alloc: Global,
+    inputs: &Inputs<'_, '_>,
+) -> Result<Option<BothColumns>, AllocError> {
+    let Some(left) = columns_of(alloc, inputs, Side::Left)? else {
+        return Ok(None);
     };
-    if clause.len() > LONGEST {
-        return Ok(String::new(alloc));
+    match columns_of(alloc, inputs, Side::Right)? {
+        Some(right) => Ok(Some(BothColumns { left, right })),
+        None => Ok(None),
     }
-    let Some(found) = refused_column(alloc, clause, &left, &right)? else {
-        return Ok(String::new(alloc));
-    };
+}
+
+// What is told of a name that can't be taken.
+fn refused_line(
+    alloc: Global,
+    found: &RefusedColumn,
+    columns: &BothColumns,
+) -> Result<String, AllocError> {
     let at = found.at;
     let name = Shown {
         bytes: found.name.as_str().as_bytes(),
     };
     match found.refused {
-        BindRefused::UnknownColumn => unknown(alloc, &found, &left, &right),
+        BindRefused::UnknownColumn => unknown(alloc, found, &columns.left, &columns.right),
         BindRefused::AmbiguousColumn => {
             format!(in alloc;
                 "  {name} at byte {at} of the clause; both tables have it: write L. or R. before it\n"
@@ -143,5 +152,32 @@ pub(crate) fn name_lines(alloc: Global, inputs: &Inputs<'_, '_>) -> Result<Strin
             format!(in alloc; "  {name} at byte {at} of the clause; the column is named before\n")
         }
         BindRefused::TypeMismatch | BindRefused::Memory => Ok(String::new(alloc)),
+    }
+}
+
+// What is told of the first name of a clause that can't be taken, if there is one.
+fn first_refused_line(
+    alloc: Global,
+    clause: &str,
+    columns: &BothColumns,
+) -> Result<String, AllocError> {
+    if clause.len() > LONGEST {
+        return Ok(String::new(alloc));
+    }
+    match refused_column(alloc, clause, &columns.left, &columns.right)? {
+        Some(found) => refused_line(alloc, &found, columns),
+        None => Ok(String::new(alloc)),
+    }
+}
+
+/// What is told of the first name of the clause that can't be taken: the byte at which it begins, and the names that there are.
+///
+/// # Errors
+///
+/// It fails only where memory is refused.
+pub(crate) fn name_lines(alloc: Global, inputs: &Inputs<'_, '_>) -> Result<String, AllocError> {
+    match columns_of_both(alloc, inputs)? {
+        Some(columns) => first_refused_line(alloc, inputs.request.clause, &columns),
+        None => Ok(String::new(alloc)),
     }
 }

@@ -3,7 +3,7 @@
 ghost use Rattle.std.specs.Prelude.{◌≡◌, IfOk, IfSome, true};
 ghost use Rattle.rj_condition.specs.Fits.{fits};
 
-use crate::clause::columns_of;
+use crate::clause::{BothColumns, columns_of_both};
 use crate::inputs::{Inputs, text_of};
 use crate::row::{Row, field_at, find_row};
 use crate::shown::Shown;
@@ -11,6 +11,7 @@ use rj_columns::Table;
 use rj_condition::{BoundJoin, bind, parse, split};
 use rj_engine::{chosen_header, written_names};
 use rj_fault::Side;
+use rj_line::Request;
 use std::alloc::{AllocError, Global};
 
 // The join that a clause asks of two tables, if it is one.
@@ -31,6 +32,58 @@ fn join_of(
     }
 }
 
+// The names under which the columns that are chosen of a join are written, if they can be.
+fn names_of(
+    alloc: Global,
+    columns: &BothColumns,
+    join: &BoundJoin,
+    request: &Request<'_>,
+) -> Result<Option<Vec<String>>, AllocError>
+    requires { fits join.now columns.now.left.types columns.now.right.types ≡ true }
+{
+    let own = chosen_header(alloc, &columns.left, &columns.right, join, &request.choice)?;
+    match written_names(alloc, own.as_slice(), request.choice.repeated) {
+        Ok(names) => Ok(Some(names)),
+        Err(_) => Ok(None),
+    }
+}
+
+// The same of the join that is asked for, if it is one.
+fn names_of_result(
+    alloc: Global,
+    inputs: &Inputs<'_, '_>,
+    columns: &BothColumns,
+) -> Result<Option<Vec<String>>, AllocError> {
+    match join_of(alloc, inputs.request.clause, &columns.left, &columns.right)? {
+        Some(join) => names_of(alloc, columns, &join, inputs.request),
+        None => Ok(None),
+    }
+}
+
+// The line that tells of a cell under these names.
+fn null_text_line(
+    alloc: Global,
+    names: &[String],
+    null: &str,
+    row: u64,
+    column: u64,
+) -> Result<String, AllocError> {
+    let Some(name) = names.get((column as usize).saturating_sub(1)) else {
+        return Ok(String::new(alloc));
+    };
+    let (name, text) = (
+        Shown {
+            bytes: name.as_str().as_bytes(),
+        },
+        Shown {
+            bytes: null.as_bytes(),
+        },
+    );
+    format!(in alloc;
+        "  row {row} of the result, column {name}: {text} is a text, and null is written so too\n"
+    )
+}
+
 /// What is told of a cell of the result whose text is the one that is written for null: its row, the name of its column, counted
 /// from 1, and the text.
 ///
@@ -43,33 +96,19 @@ pub(crate) fn null_text_lines(
     row: u64,
     column: u64,
 ) -> Result<String, AllocError> {
-    let left = columns_of(alloc, inputs, Side::Left)?;
-    let right = columns_of(alloc, inputs, Side::Right)?;
-    let (Some(left), Some(right)) = (left, right) else {
+    let Some(columns) = columns_of_both(alloc, inputs)? else {
         return Ok(String::new(alloc));
     };
-    let Some(join) = join_of(alloc, inputs.request.clause, &left, &right)? else {
-        return Ok(String::new(alloc));
-    };
-    let choice = &inputs.request.choice;
-    let own = chosen_header(alloc, &left, &right, &join, choice)?;
-    let Ok(names) = written_names(alloc, own.as_slice(), choice.repeated) else {
-        return Ok(String::new(alloc));
-    };
-    let Some(name) = names.get((column as usize).saturating_sub(1)) else {
-        return Ok(String::new(alloc));
-    };
-    let (name, text) = (
-        Shown {
-            bytes: name.as_str().as_bytes(),
-        },
-        Shown {
-            bytes: inputs.request.out_null.as_bytes(),
-        },
-    );
-    format!(in alloc;
-        "  row {row} of the result, column {name}: {text} is a text, and null is written so too\n"
-    )
+    match names_of_result(alloc, inputs, &columns)? {
+        Some(names) => null_text_line(
+            alloc,
+            names.as_slice(),
+            inputs.request.out_null,
+            row,
+            column,
+        ),
+        None => Ok(String::new(alloc)),
+    }
 }
 
 // The columns of a side's table, counted from 0, that are keys of a join.
@@ -87,12 +126,10 @@ fn key_columns(
     inputs: &Inputs<'_, '_>,
     side: Side,
 ) -> Result<Vec<usize>, AllocError> {
-    let left = columns_of(alloc, inputs, Side::Left)?;
-    let right = columns_of(alloc, inputs, Side::Right)?;
-    let (Some(left), Some(right)) = (left, right) else {
+    let Some(columns) = columns_of_both(alloc, inputs)? else {
         return Ok(Vec::new(alloc));
     };
-    match join_of(alloc, inputs.request.clause, &left, &right)? {
+    match join_of(alloc, inputs.request.clause, &columns.left, &columns.right)? {
         Some(join) => keys_on(alloc, &join, side),
         None => Ok(Vec::new(alloc)),
     }

@@ -1,12 +1,11 @@
 //! Operands of a clause that can't be compared.
 
-use crate::clause::columns_of;
+use crate::clause::{BothColumns, columns_of_both};
 use crate::inputs::Inputs;
 use crate::shown::{Shown, ShownText, TypeWord};
 use rj_columns::Table;
-use rj_condition::{BoundOperand, DecimalLiteral, Literal, first_mismatch};
+use rj_condition::{BoundOperand, DecimalLiteral, Literal, Mismatch, first_mismatch};
 use rj_decimal::DecimalBuffer;
-use rj_fault::Side;
 use std::alloc::{AllocError, Global};
 use std::{fmt, str};
 
@@ -87,6 +86,42 @@ impl fmt::Display for Typed<'_> {
     }
 }
 
+// The line that tells of two operands that can't be compared.
+fn mismatch_line(
+    alloc: Global,
+    found: &Mismatch,
+    columns: &BothColumns,
+) -> Result<String, AllocError> {
+    let (at, left, right) = (found.at, &columns.left, &columns.right);
+    let (operand, other) = (&found.first, &found.second);
+    let first = Typed {
+        operand,
+        left,
+        right,
+    };
+    let second = Typed {
+        operand: other,
+        left,
+        right,
+    };
+    format!(in alloc; "  {first}, {second}, at byte {at} of the clause\n")
+}
+
+// What is told of the first comparison of a clause whose operands are a number and a text, if there is one.
+fn first_mismatch_line(
+    alloc: Global,
+    clause: &str,
+    columns: &BothColumns,
+) -> Result<String, AllocError> {
+    if clause.len() > LONGEST {
+        return Ok(String::new(alloc));
+    }
+    match first_mismatch(alloc, clause, &columns.left, &columns.right)? {
+        Some(found) => mismatch_line(alloc, &found, columns),
+        None => Ok(String::new(alloc)),
+    }
+}
+
 /// What is told of the first comparison of the clause whose operands are a number and a text: both with their types, and the
 /// byte at which it begins.
 ///
@@ -94,28 +129,8 @@ impl fmt::Display for Typed<'_> {
 ///
 /// It fails only where memory is refused.
 pub(crate) fn mismatch_lines(alloc: Global, inputs: &Inputs<'_, '_>) -> Result<String, AllocError> {
-    let clause = inputs.request.clause;
-    let left = columns_of(alloc, inputs, Side::Left)?;
-    let right = columns_of(alloc, inputs, Side::Right)?;
-    let (Some(left), Some(right)) = (left, right) else {
-        return Ok(String::new(alloc));
-    };
-    if clause.len() > LONGEST {
-        return Ok(String::new(alloc));
+    match columns_of_both(alloc, inputs)? {
+        Some(columns) => first_mismatch_line(alloc, inputs.request.clause, &columns),
+        None => Ok(String::new(alloc)),
     }
-    let Some(found) = first_mismatch(alloc, clause, &left, &right)? else {
-        return Ok(String::new(alloc));
-    };
-    let at = found.at;
-    let first = Typed {
-        operand: &found.first,
-        left: &left,
-        right: &right,
-    };
-    let second = Typed {
-        operand: &found.second,
-        left: &left,
-        right: &right,
-    };
-    format!(in alloc; "  {first}, {second}, at byte {at} of the clause\n")
 }

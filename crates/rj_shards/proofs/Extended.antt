@@ -1,6 +1,6 @@
 -- The numbers that the rows of a shard have in the whole table. Past its last row they go on behind all rows of the table, so that
 -- they rise everywhere, and a joined table that is placed by them rises as it did by its own numbers.
-use Rattle.std.proofs.Common.{◌≡◌, ℕ, zero, suc, ◌+◌, ◌<◌, ◌≤◌, ◌==◌, Bool, List, [], ◌∷◌, map, length, slice_index_or, refl, ap, subst, arith, All}
+use Rattle.std.proofs.Common.{◌≡◌, ℕ, zero, suc, ◌+◌, ◌<◌, ◌≤◌, Bool, List, [], ◌∷◌, length, slice_index_or, refl, ap, subst, arith, All}
 use mathlib.Core.Logic.{⊎_elim}
 use Rattle.std.specs.List.{filter, range_with_len}
 use Rattle.std.specs.declared.cmp.Ordering.TheVariants.{Less}

@@ -1,3 +1,8 @@
+pub mod ShardRows
+pub mod ShardPairs
+pub mod ShardLone
+pub mod ShardMerges
+pub mod ShardFacts
 pub mod Apart
 pub mod Extended
 pub mod Found

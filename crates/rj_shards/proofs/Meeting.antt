@@ -9,7 +9,7 @@ use Rattle.rj_columns.specs.Tables.{TableValue}
 use Rattle.rj_condition.specs.Joins.{keeps}
 use Rattle.rj_condition.specs.declared.bound.BoundJoin.{BoundJoin}
 use Rattle.rj_engine.specs.Results.{kept_pairs}
-use Rattle.rj_engine.specs.Shards.{IsLawful, left_shard, places, right_shard, rows_at}
+use Rattle.rj_shards.specs.Shards.{IsLawful, left_shard, places, right_shard, rows_at}
 use Rattle.rj_shards.proofs.Own.{IsPairBelow, pairs_below}
 use Rattle.rj_shards.proofs.Whole.{ShardIsPart}
 

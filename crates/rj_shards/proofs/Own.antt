@@ -6,7 +6,7 @@ use Rattle.std.proofs.lemmas.List.Elements.{All-append, All-cons, All-filter, Al
 use Rattle.rj_engine.specs.declared.joined.JoinedRow.{JoinedRow}
 use Rattle.rj_engine.specs.declared.joined.JoinedRow.TheVariants.{Both, LeftOnly, RightOnly}
 use Rattle.rj_engine.specs.Join.{JoinedValue, absent, pairs, product, row_of, rows_in}
-use Rattle.rj_engine.specs.Shards.{mapped_back}
+use Rattle.rj_shards.specs.Shards.{mapped_back}
 use Rattle.rj_shards.specs.Rows.{member_back}
 
 -- a pair of rows below these numbers

@@ -8,7 +8,7 @@ use Rattle.std.proofs.lemmas.List.Sorted.{IsPermutation-append, IsPermutation-ap
 use Rattle.rj_engine.specs.declared.joined.JoinedRow.{JoinedRow}
 use Rattle.rj_engine.specs.declared.joined.JoinedRow.TheVariants.{Both, LeftOnly, RightOnly}
 use Rattle.rj_engine.specs.Join.{JoinedValue, rows_in}
-use Rattle.rj_engine.specs.Shards.{AreMerged}
+use Rattle.rj_shards.specs.Shards.{AreMerged}
 
 -- two lists of two parts each, part by part
 by_parts : {X : Type 0} (a b c d : List X) → IsPermutation ((a ++ b) ++ (c ++ d)) ((a ++ c) ++ (b ++ d))

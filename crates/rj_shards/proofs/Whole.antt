@@ -20,7 +20,7 @@ use Rattle.rj_engine.specs.Cells.{IsMemberOf, coalesced_scale, columns_of, joine
 use Rattle.rj_engine.specs.Chosen.{are_all_columns, are_all_rows, by_left_row, chosen_columns, chosen_view, in_order, is_of_columns, rows_of_kinds}
 use Rattle.rj_engine.specs.Join.{JoinedValue, adds_left, adds_right, rows_in}
 use Rattle.rj_engine.specs.Results.{joined_of, kept_pairs, result_of}
-use Rattle.rj_engine.specs.Shards.{AreMerged, IsLawful, joined_at, joined_shard, joined_shards, left_shard, members_in, places, right_shard, rows_at}
+use Rattle.rj_shards.specs.Shards.{AreMerged, IsLawful, joined_at, joined_shard, joined_shards, left_shard, members_in, places, right_shard, rows_at}
 use Rattle.rj_engine.specs.declared.joined.JoinedRow.{JoinedRow}
 use Rattle.rj_engine.specs.declared.joined.JoinedRow.TheVariants.{Both, LeftOnly, RightOnly}
 use Rattle.rj_engine.specs.declared.origin.Origin.{Origin}

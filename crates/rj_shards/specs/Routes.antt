@@ -1,7 +1,7 @@
 -- The shard that the cells of a row lead to.
 use Rattle.std.specs.Prelude.{ℕ, List, map, slice_index_or}
 use Rattle.rj_columns.specs.Contents.{Content, nothing}
-use Rattle.rj_engine.specs.Shards.{shard_of_hash}
+use Rattle.rj_shards.specs.Shards.{shard_of_hash}
 use Rattle.rj_radix.specs.Hashes.{hash_of}
 
 -- the shard of a row of these cells, of so many shards, by its key at these columns

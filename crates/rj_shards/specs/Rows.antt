@@ -8,7 +8,7 @@ use Rattle.rj_settings.specs.declared.choice.RowOrder.{RowOrder}
 use Rattle.rj_engine.specs.Cells.{columns_of, joined_cells}
 use Rattle.rj_engine.specs.Chosen.{in_order}
 use Rattle.rj_engine.specs.Results.{result_of}
-use Rattle.rj_engine.specs.Shards.{IsLawful, left_shard, places, right_shard, rows_at}
+use Rattle.rj_shards.specs.Shards.{IsLawful, left_shard, places, right_shard, rows_at}
 use Rattle.rj_engine.specs.declared.joined.JoinedRow.{JoinedRow}
 use Rattle.rj_engine.specs.declared.joined.JoinedRow.TheVariants.{Both, LeftOnly, RightOnly}
 use Rattle.rj_merge.specs.Places.{lone_left_place}

@@ -11,7 +11,7 @@ ghost use Rattle.rj_condition.specs.declared.bound.BoundJoin.{BoundJoin};
 ghost use Rattle.rj_engine.specs.Cells.{view_of};
 ghost use Rattle.rj_engine.specs.Chosen.{are_all_columns, are_all_rows, chosen_view};
 ghost use Rattle.rj_engine.specs.Results.{kept_pairs};
-ghost use Rattle.rj_engine.specs.Shards.{IsLawful, left_shard, right_shard};
+ghost use Rattle.rj_shards.specs.Shards.{IsLawful, left_shard, right_shard};
 ghost use Rattle.rj_engine.specs.declared.joined.JoinedRow.{JoinedRow};
 ghost use Rattle.rj_merge.specs.Wholes.{HasTwice, IsMerge, RisesFrom};
 ghost use Rattle.rj_merge.specs.declared.place.Place.{Place};
@@ -19,7 +19,8 @@ ghost use Rattle.rj_merge.specs.declared.place.Placed.{Placed};
 ghost use Rattle.rj_shards.specs.Renumbered.{Rises, all_renumbered};
 ghost use Rattle.rj_shards.specs.Rows.{AreShards, placed, placed_rows};
 
-use rj_engine::{left_order, shard_is_part, shards_merge};
+use crate::joins::{shard_is_part, shards_merge};
+use rj_engine::left_order;
 use rj_merge::one_merge;
 
 /// The rows of a kept pair have one shard, by the key columns of the join and each lawful hash, whatever the number of shards.

@@ -3,11 +3,13 @@
 //! joined table of SQL-92 (7.5).
 #![tactic(auto)]
 
+mod joins;
 mod laws;
 mod merging;
 mod route;
 mod shards;
 
+pub use joins::{rows_stand_once, shard_is_part, shard_of_row, shards_merge};
 pub use laws::{
     kept_rows_meet, no_place_twice, renumbered_shards_merge_to_whole, rows_are_shown,
     shards_merge_to_whole, shards_rise,

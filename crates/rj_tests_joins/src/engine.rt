@@ -7,6 +7,6 @@ mod naming;
 mod once;
 mod parts;
 mod reports;
-mod shards;
 mod stripes;
 mod tables;
+mod violations;

@@ -9,6 +9,8 @@ mod divide;
 #[cfg(test)]
 mod engine;
 #[cfg(test)]
+mod explain;
+#[cfg(test)]
 mod listed;
 #[cfg(test)]
 mod merge;

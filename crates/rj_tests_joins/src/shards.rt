@@ -5,7 +5,7 @@ use rj_columns::{Cell, ColumnType, Table, TableBuilder};
 use rj_condition::{BoundJoin, Clause, bind, parse, split};
 use rj_merge::Place;
 use rj_radix::{KeyRef, Plain};
-use rj_shards::{Shards, merge_shards};
+use rj_shards::{Shards, merge_shards, shard_of_row};
 use std::alloc::Global;
 use std::test::Fail;
 
@@ -83,6 +83,8 @@ fn routes_of_rows(rt: HostRuntime) -> Result<(), Fail> {
     };
     assert_eq!(rt; shards.route(first, &Plain), 2);
     assert_eq!(rt; shards.route(KeyRef { row: 1, ..first }, &Plain), 0);
+    assert_eq!(rt; shard_of_row(first, 4, &Plain), 2);
+    assert_eq!(rt; shard_of_row(KeyRef { row: 1, ..first }, 4, &Plain), 0);
     let none = shards.rows(rt.alloc(), &table, columns.as_slice(), 1, &Plain)?;
     assert_eq!(rt; none.len(), 0);
     let some = shards.rows(rt.alloc(), &table, columns.as_slice(), 2, &Plain)?;

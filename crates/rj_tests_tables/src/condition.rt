@@ -2,6 +2,7 @@
 
 mod binding;
 mod parsing;
+mod refusals;
 mod samples;
 mod splitting;
 mod truths;

@@ -1,6 +1,6 @@
 //! The lines of a report.
 
-ghost use Rattle.std.specs.Prelude.{◌≡◌, ◌<◌, ◌++◌, ◌^◌, [], All, IfOk, OnOk, length, map, string_bytes, true, unsigned_abs};
+ghost use Rattle.std.specs.Prelude.{◌≡◌, ◌<◌, ◌++◌, ◌^◌, [], All, IfOk, OnOk, codes, length, map, string_bytes, true, unsigned_abs};
 ghost use Rattle.std.specs.List.{flat_map};
 ghost use Rattle.std.specs.Option.{ForSome};
 ghost use Rattle.rj_columns.specs.Contents.{content_of, IsInLimits};
@@ -11,8 +11,10 @@ ghost use Rattle.rj_decimal.specs.Written.{text_of};
 ghost use Rattle.rj_engine.specs.Reports.{AreKeysOf};
 ghost use Rattle.rj_engine.specs.Results.{joined_of};
 ghost use Rattle.rj_command.specs.Reported.{IsReported, cell_part, counts_text, keys_text, largest_text, report_text, spread_text};
+ghost use Rattle.rj_command.specs.ShownTexts.{shown_text};
 
 use crate::join::operands::Operands;
+use crate::join::shown::shown_text;
 use rj_columns::{Cell, Table};
 use rj_condition::{BoundJoin, split};
 use rj_decimal::DecimalBuffer;
@@ -68,6 +70,25 @@ fn cell_text(alloc: Global, cell: Cell<'_>) -> Result<String, AllocError>
     }
 }
 
+// A name and a cell, as they are shown.
+fn part_text(alloc: Global, name: &str, cell: &str) -> Result<String, AllocError>
+    ensures { IfOk result (λ s. string_bytes s ≡ codes ", " ++ (shown_text name.now ++ (codes " = " ++ shown_text cell.now))) }
+{
+    let name = shown_text(alloc, name)?;
+    let value = shown_text(alloc, cell)?;
+    format!(in alloc; ", {name} = {value}")
+}
+
+// The name of a column and its cell at a row, as they are shown.
+fn cell_part(alloc: Global, table: &Table, column: usize, row: u32) -> Result<String, AllocError>
+    requires row { row < length table.now.rows }
+    requires column { column < length table.now.types }
+    ensures { IfOk result (λ s. string_bytes s ≡ cell_part table.now row column) }
+{
+    let cell = cell_text(alloc, table.cell(u64::from(row), column))?;
+    part_text(alloc, table.name(column), &cell)
+}
+
 // Adds the names of these columns and their cells at a row.
 fn add_cells(
     text: &mut String,
@@ -81,9 +102,7 @@ fn add_cells(
     ensures { OnOk result (string_bytes text.new ≡ string_bytes text.old ++ flat_map (λ c. cell_part table.now row c) columns.now) }
 {
     for column in columns {
-        let name = table.name(*column);
-        let value = cell_text(alloc, table.cell(u64::from(row), *column))?;
-        let part = format!(in alloc; ", {name} = {value}")?;
+        let part = cell_part(alloc, table, *column, row)?;
         text.push_str(&part)?;
     }
     Ok(())

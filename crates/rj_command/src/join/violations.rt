@@ -1,6 +1,7 @@
 //! By what the joined table of two files isn't as expected.
 
-ghost use Rattle.std.specs.Prelude.{IfOk};
+ghost use Rattle.std.specs.Prelude.{◌≢◌, IfErr, IfOk};
+ghost use Rattle.rj_command.specs.Operands.{IsFirstFault};
 ghost use Rattle.rj_command.specs.Violations.{HasViolation};
 
 use crate::join::operands::read_operands;
@@ -18,7 +19,8 @@ use std::time::Clock;
 ///
 /// # Errors
 ///
-/// The first fault of the tables and of the clause. `Memory` comes only where a growth was refused.
+/// The first fault in the order left table, right table, clause. `Memory` comes only where a growth was refused, in place of any
+/// fault that would be told later.
 pub fn first_violation<R: Threads + Wait + Clock + Sync, G: Gate + Sync>(
     rt: &R,
     alloc: Global,
@@ -27,7 +29,8 @@ pub fn first_violation<R: Threads + Wait + Clock + Sync, G: Gate + Sync>(
     request: &Request<'_>,
     gate: &G,
 ) -> Result<Option<Violation>, Fault>
-    ensures { IfOk result (HasViolation left.now right.now request.now) }
+    ensures violation { IfOk result (HasViolation left.now right.now request.now) }
+    ensures fault { IfErr result (λ f. f ≢ Fault.Memory → IsFirstFault left.now right.now request.now f) }
 {
     let operands = read_operands(rt, alloc, left, right, request, &Open)?;
     let (left, right, join) = (&operands.left, &operands.right, &operands.join);

@@ -1,19 +1,17 @@
-use Rattle.std.proofs.Common.{◌∙◌, refl, arith}
-use Rattle.rj_divide.proofs.RangeFacts.{are-cuts, cutting-none}
+use Rattle.std.proofs.Common.{rules, ◌∙◌, refl, arith}
+use Rattle.rj_divide.proofs.RangeFacts.{cutting-none}
 use Rattle.rj_divide.proofs.UnderwayFacts.{if-some}
 use Rattle.rj_divide.proofs.cuts.find_cuts.Goals as goal
 
 pub loop-turn-init : goal.loop-turn-init
 loop-turn-init g c = record {
-  cutting = λ text e. cutting-none c.args.size text (g.I.Input.tells c.args.input.now) _ e c.new.ensures.items refl refl c.new-2.ensures.items refl;
+  cutting = λ text e. cutting-none c.args.size c.args.block text (g.I.Input.tells c.args.input.now) _ e c.new.ensures.items refl refl c.new-2.ensures.items refl;
   reads = refl;
 }
 
 pub returns-in-Ok-true-clause-cuts : goal.returns-in-Ok-true-clause-cuts
 returns-in-Ok-true-clause-cuts g c =
-    if-some (g.I.Input.tells c.args.input.now) _ (λ text e.
-    let u = c.in-Ok-true.ensures.cuts text c.loop-turn._turn (c.loop-turn.invariant.cutting text e) in
-    are-cuts c.args.size text c.cut_next.new.cutting.cuts.items c.cut_next.new.cutting.last u.rise u.cuts)
+    if-some (g.I.Input.tells c.args.input.now) _ (λ text e. c.in-Ok-true.ensures.last (search rules) text c.loop-turn._turn (c.loop-turn.invariant.cutting text e))
 
 pub returns-in-Err-clause-fault : goal.returns-in-Err-clause-fault
 returns-in-Err-clause-fault g c =
@@ -21,7 +19,7 @@ returns-in-Err-clause-fault g c =
 
 pub loop-turn-preserved : goal.loop-turn-preserved
 loop-turn-preserved g c = record {
-  cutting = λ text e. rw c.in-Ok-false.field-0-test at (c.in-Ok-false.ensures.cuts text c.loop-turn._turn (c.loop-turn.invariant.cutting text e));
+  cutting = λ text e. c.in-Ok-false.ensures.more (search rules) text c.loop-turn._turn (c.loop-turn.invariant.cutting text e);
   reads = c.in-Ok-false.ensures.reads ∙ c.loop-turn.invariant.reads;
 }
 

@@ -1,5 +1,6 @@
-use Rattle.std.proofs.Common.{◌≡◌, ◌≤◌, ◌-◌, ◌^◌, ℕ, List, Option}
+use Rattle.std.proofs.Common.{◌≡◌, ◌≤◌, ◌+◌, ◌-◌, ◌*◌, ◌^◌, ℕ, List, Option}
 use Rattle.std.specs.Io.KnownBytes.{Consumes}
+use Rattle.rj_divide.specs.Ranges.{IsReadFor}
 use Rattle.rj_divide.proofs.next.next_piece.Given as goal
 
 abbrev pub invariant-reading : goal.invariant-reading
@@ -8,6 +9,7 @@ invariant-reading g l = record {
   count : g.I.Input.count l.input ≡ g.I.Input.count l.fn.input;
   some : 1 ≤ l.size;
   least : l.fn.block ≤ l.size;
+  read : (r : IsReadFor l.fn.block l.fn.bytes.items l.bytes.items) × (l.size ≤ l.fn.block + 2 * r.plain + 1);
 }
 
 abbrev pub decreases-reading : goal.decreases-reading

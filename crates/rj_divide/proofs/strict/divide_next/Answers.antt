@@ -25,7 +25,7 @@ returns-clause-more g c = λ e text before blocks u.
     (read-more (null_texts d.nulls.now) d.types.now (g.W.Route.part d.route.now) d.first text before c.joined_texts.ensures
     c.args.rest.now.bytes.items bytes (g.I.Input.tells c.args.input.now) (g.I.Input.tells c.next_piece.new.input)
     (map g.O.Output.told c.args.outputs.now) (map g.O.Output.told c.divide_block.new.outputs) c.args.rest.now.rows c.in-Ok-divide_block.rows p.end blocks u c.in-Ok.ensures.bytes
-    found.0 many (c.in-Ok.ensures.some is) within whole found.2)
+    found.0 many (c.in-Ok.ensures.line is).behind within whole found.2)
 
 pub returns-clause-last : goal.returns-clause-last
 returns-clause-last g c = λ e text before blocks u.
@@ -65,7 +65,7 @@ returns-in-Err-divide_block-clause-fault g c = λ t text before blocks begins u.
     c.reads_records.ensures c.args.full asked (length c.args.outputs.now) c.in-Err-divide_block.refused
     (elim (cases_Bool p.is_last) [
       | inl is ↦ let end = c.in-Ok.ensures.last is in let all : p.end ≡ length bytes = search (rules, end.0) in inl (all, end.1, ap (λ (b : Bool). c.args.full || not b) is ∙ last-block c.args.full)
-      | inr is ↦ inr (c.in-Ok.ensures.feed is, c.in-Ok.ensures.some is, within, c.in-Ok.ensures.ends is, ap (λ (b : Bool). c.args.full || not b) is ∙ full-block c.args.full)
+      | inr is ↦ let line = c.in-Ok.ensures.line is in inr (line.feed, line.behind, within, line.ends, ap (λ (b : Bool). c.args.full || not b) is ∙ full-block c.args.full)
     ])
     (subst (λ (x : List ℕ). IsBlockFault (null_texts d.nulls.now) d.types.now asked (take p.end x) c.args.rest.now.rows (length c.args.outputs.now) c.in-Err-divide_block.refused)
     c.deref.ensures.value (c.in-Err-divide_block.ensures.fault t begins))

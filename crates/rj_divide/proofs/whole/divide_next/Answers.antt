@@ -15,7 +15,7 @@ returns-in-Ok-divide_front-clause-divided g c = λ is_first all before n u.
     go-on (null_texts d.nulls.now) d.types.now (g.R.Route.part d.route.now) d.first is_first all before c.args.rest.now c.next_piece.new.bytes.items
     (g.I.Input.tells c.args.input.now) (g.I.Input.tells c.next_piece.new.input) (map g.O.Output.told c.args.outputs.now) n p.end p.is_last u
     c.in-Ok.ensures.bytes (λ e. (c.in-Ok.ensures.last e).1) c.in-Ok.ensures.records
-    c.divide_front.new.rest (map g.O.Output.told c.divide_front.new.outputs) rows.0 many within c.in-Ok.ensures.some
+    c.divide_front.new.rest (map g.O.Output.told c.divide_front.new.outputs) rows.0 many within (λ e. (c.in-Ok.ensures.line e).behind)
     c.in-Ok-divide_front.ensures.header c.in-Ok-divide_front.ensures.bytes rows.1 rows.2
 
 pub returns-in-Err-divide_front-clause-reads : goal.returns-in-Err-divide_front-clause-reads

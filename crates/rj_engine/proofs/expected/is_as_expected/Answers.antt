@@ -1,4 +1,4 @@
-use Rattle.std.proofs.Common.{rules, ◌≡◌, ◌∙◌, ◌<◌, ℕ, List, Option, Some, All, IsTrue, ap, sym, subst}
+use Rattle.std.proofs.Common.{rules, ◌≡◌, ◌∙◌, Option, Some, IsTrue, ap, sym, subst}
 use Rattle.std.proofs.lemmas.Result.{IfOk-weaker}
 use Rattle.rj_settings.specs.declared.expectation.Matching.{Matching}
 use Rattle.rj_engine.specs.Expected.{AreMatched, HasAtMost}
@@ -9,21 +9,11 @@ use Rattle.rj_engine.proofs.expected.is_as_expected.Goals as goal
 
 pub are_matched-requires-clause-left : goal.are_matched-requires-clause-left
 are_matched-requires-clause-left c =
-    let join = c.args.join.now in
-    let l = c.args.left.now in
-    let r = c.args.right.now in
-    let same : c.kept_pairs.result.now ≡ kept_pairs join l r = c.kept_pairs.ensures ∙ ap (λ (j : JoinedValue). j.pairs) c.requires in
-    let Within : List (ℕ × ℕ) → ℕ → Type 0 = λ ps n. All (λ p. p.0 < n) ps in
-    subst (λ ps. Within ps c.rows.result) (sym same) (subst (Within (kept_pairs join l r)) (sym c.rows.ensures.count) (lefts_there join l r))
+    lefts_there c.args.join.now c.args.left.now c.args.right.now c.args.joined.now.members c.kept_pairs.result.now c.rows.result c.requires c.kept_pairs.ensures c.rows.ensures.count
 
 pub are_matched-requires-clause-right : goal.are_matched-requires-clause-right
 are_matched-requires-clause-right c =
-    let join = c.args.join.now in
-    let l = c.args.left.now in
-    let r = c.args.right.now in
-    let same : c.kept_pairs.result.now ≡ kept_pairs join l r = c.kept_pairs.ensures ∙ ap (λ (j : JoinedValue). j.pairs) c.requires in
-    let Within : List (ℕ × ℕ) → ℕ → Type 0 = λ ps n. All (λ p. p.1 < n) ps in
-    subst (λ ps. Within ps c.rows-2.result) (sym same) (subst (Within (kept_pairs join l r)) (sym c.rows-2.ensures.count) (rights_there join l r))
+    rights_there c.args.join.now c.args.left.now c.args.right.now c.args.joined.now.members c.kept_pairs.result.now c.rows-2.result c.requires c.kept_pairs.ensures c.rows-2.ensures.count
 
 pub returns : goal.returns
 returns c =

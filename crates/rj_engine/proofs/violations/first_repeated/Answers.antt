@@ -1,4 +1,4 @@
-use Rattle.std.proofs.Common.{◌≡◌, ◌<◌, ◌≤◌, ◌∙◌, ℕ, length, get_or, arith, below_more, sym}
+use Rattle.std.proofs.Common.{◌≡◌, ◌<◌, ◌∙◌, length, arith, below_more}
 use Rattle.std.proofs.lemmas.List.{get_or_read}
 use Rattle.rj_engine.specs.Violations.{times}
 use Rattle.rj_engine.proofs.Repeats.{at-most-once}

@@ -1,4 +1,4 @@
-use Rattle.std.proofs.Common.{◌≡◌, ◌<◌, ◌≤◌, ℕ}
+use Rattle.std.proofs.Common.{◌<◌, ◌≤◌, ℕ}
 use Rattle.rj_engine.specs.Violations.{times}
 use Rattle.rj_engine.proofs.violations.first_repeated.Given as goal
 

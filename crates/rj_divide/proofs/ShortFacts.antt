@@ -1,0 +1,136 @@
+-- Line ends of bytes in a text, and ranges that end soon.
+use Rattle.std.proofs.Common.{◌≡◌, ◌<◌, ◌≤◌, ◌+◌, ◌-◌, ◌*◌, ◌^◌, inl, inr, ℕ, List, [], ◌∷◌, ◌++◌, refl, sym, ap, subst, ◌∙◌, arith, length, take, drop, get_or}
+use Rattle.std.proofs.lemmas.Bool.{cases_lt}
+use Rattle.std.proofs.lemmas.List.{append-nil, get_or-append-add, get_or-take, get_or_append_left, length-drop, length-take, length-take-le, take-append-drop, take-append-le, take-take, take_all}
+use Rattle.std.proofs.Math.Seq.{drop-append_seam, take-add, take-append_seam}
+use Rattle.csv.specs.declared.parser.State.TheVariants as st
+use Rattle.rj_csv_io.specs.Cuts.{state_after}
+use Rattle.rj_csv_io.specs.Pieces.{IsLastEnd, IsLineEnd}
+use Rattle.rj_csv_io.proofs.CutFacts.{after-append}
+use Rattle.rj_csv_io.proofs.InputFacts.{front-on}
+use Rattle.rj_csv_io.proofs.PieceFacts.{no-end}
+use Rattle.rj_divide.specs.Ranges.{AreShort, EndIn, IsCutPlace, IsReadFor, IsShort, RiseTo}
+
+-- ---- line ends
+
+-- bytes behind others that end where a record does
+module _ (taken bytes left : List ℕ) (ends : state_after st.StartRecord taken ≡ st.StartRecord) where
+  abbrev whole : List ℕ
+  whole = taken ++ (bytes ++ left)
+
+  front-is : (k : ℕ) → k ≤ length bytes → take (length taken + k) whole ≡ taken ++ take k bytes
+  front-is k h =
+      take-add (length taken) k whole
+      ∙ ((λ i. take-append_seam taken (bytes ++ left) i ++ take k (drop-append_seam taken (bytes ++ left) i))
+      ∙ ap (λ l. taken ++ l) (take-append-le k bytes left h))
+
+  state-is : (k : ℕ) → k ≤ length bytes → state_after st.StartRecord (take (length taken + k) whole) ≡ state_after st.StartRecord (take k bytes)
+  state-is k h = ap (state_after st.StartRecord) (front-is k h) ∙ (after-append st.StartRecord taken (take k bytes) ∙ ap (λ s. state_after s (take k bytes)) ends)
+
+  byte-is : (k : ℕ) → 0 < k → k ≤ length bytes → get_or whole (length taken + k - 1) 0 ≡ get_or bytes (k - 1) 0
+  byte-is k some h =
+      let e : length taken + k - 1 ≡ length taken + (k - 1) = omega (arith, some) in
+      ap (λ n. get_or whole n 0) e ∙ (get_or-append-add taken (bytes ++ left) (k - 1) 0 ∙ get_or_append_left bytes left 0 (k - 1) (omega (arith, some, h)))
+
+  pub line-in : (k : ℕ) → k ≤ length bytes → 0 < k → IsLineEnd whole (length taken + k) → IsLineEnd bytes k
+  line-in k h some e = record { behind = some; feed = sym (byte-is k some h) ∙ e.feed; ends = sym (state-is k h) ∙ e.ends }
+
+  pub line-out : (k : ℕ) → k ≤ length bytes → IsLineEnd bytes k → IsLineEnd whole (length taken + k)
+  line-out k h e = record { behind = omega (arith, e.behind); feed = byte-is k e.behind h ∙ e.feed; ends = state-is k h ∙ e.ends }
+
+-- a line end among the first bytes
+pub line-front : (bytes next : List ℕ) (k : ℕ) → take (length bytes) next ≡ bytes → k ≤ length bytes → IsLineEnd next k → IsLineEnd bytes k
+line-front bytes next k front h e = record {
+  behind = e.behind;
+  feed = ap (λ l. get_or l (k - 1) 0) (sym front) ∙ (get_or-take (length bytes) next (k - 1) 0 (omega (arith, h, e.behind)) ∙ e.feed);
+  ends = ap (λ l. state_after st.StartRecord (take k l)) (sym front) ∙ (ap (state_after st.StartRecord) (take-take k (length bytes) next h) ∙ e.ends);
+}
+
+-- behind the last line end there is none
+pub line-rest : (bytes : List ℕ) (end : ℕ) → end ≤ length bytes → IsLineEnd bytes end → ((at : ℕ) → end < at → at ≤ length bytes → IsLineEnd bytes at → ⊥)
+    → (at : ℕ) → at ≤ length (drop end bytes) → IsLineEnd (drop end bytes) at → ⊥
+line-rest bytes end within line none at h e =
+    let front = length-take-le end bytes within in let back = length-drop end bytes in
+    let parts : take end bytes ++ (drop end bytes ++ []) ≡ bytes = ap (λ l. take end bytes ++ l) (append-nil (drop end bytes)) ∙ take-append-drop end bytes in
+    let there = line-out (take end bytes) (drop end bytes) [] line.ends at h e in
+    let is : length (take end bytes) + at ≡ end + at = omega (arith, front) in
+    none (end + at) (omega (arith, e.behind)) (omega (arith, back, h, within)) (subst (λ n. IsLineEnd bytes n) is (subst (λ l. IsLineEnd l (length (take end bytes) + at)) parts there))
+
+-- ---- bytes that are read for a piece
+
+module _ (block : ℕ) (old : List ℕ) where
+  -- nothing was read
+  pub read-none : IsReadFor block old old
+  read-none = record {
+    front = take_all (length old) old (omega arith);
+    plain = 0;
+    within = omega arith;
+    none = no-end old;
+    most = λ h. absurd (omega (arith, h));
+  }
+
+  -- more bytes were read
+  module _ (bytes next : List ℕ) (size : ℕ) (r : IsReadFor block old bytes) (few : size ≤ block + 2 * r.plain + 1) (front : take (length bytes) next ≡ bytes)
+      (bound : length bytes < length next → length next < size + 2 ^ 16) where
+    longer : length bytes ≤ length next
+    longer = let a = length-take (length bytes) next in let b = ap length front in omega (arith, a, b)
+
+    pub read-next : IsReadFor block old next
+    read-next = record {
+      front = front-on old bytes next r.front front;
+      plain = r.plain;
+      within = omega (arith, r.within, longer);
+      none = record {
+        within = omega arith;
+        here = inl refl;
+        none = λ at low high e. r.none.none at low high (line-front bytes next at front (omega (arith, high, r.within)) e);
+      };
+      most = λ h. elim (cases_lt (length bytes) (length next)) [
+        | inl more ↦ let b = bound more in omega (arith, few, b)
+        | inr same ↦ let m = r.most (omega (arith, h, same)) in omega (arith, m, same)
+      ];
+    }
+
+    -- no record ends in them
+    pub read-plain : IsLastEnd next (length next) 0 → (all : IsReadFor block old next) × (all.plain ≡ length next)
+    read-plain none = (record { front = front-on old bytes next r.front front; plain = length next; within = omega arith; none = none; most = λ h. omega arith }, refl)
+
+-- so many of the bytes that were read for a piece are those of a block and of the first ones, in which no record ends, where none ended before
+pub read-bound : (block : ℕ) (old bytes : List ℕ) → IsReadFor block old bytes → ((at : ℕ) → at ≤ length old → IsLineEnd old at → ⊥)
+    → (plain : ℕ) × (plain ≤ length bytes) × ((at : ℕ) → at ≤ plain → IsLineEnd bytes at → ⊥) × (length bytes ≤ block + 2 * plain + 2 ^ 16)
+read-bound block old bytes r none = elim (cases_lt (length old) (length bytes)) [
+  | inl more ↦ (r.plain, r.within, (λ at h e. r.none.none at e.behind h e), r.most more)
+  | inr same ↦ (
+      let all : bytes ≡ old = sym (take_all (length old) bytes same) ∙ r.front in
+      (length bytes, omega arith, (λ at h e. none at (let size = ap length all in omega (arith, h, size)) (subst (λ l. IsLineEnd l at) all e)), omega arith))
+]
+
+-- ---- ranges that end soon
+
+-- one more range
+pub short-more : (size block : ℕ) (text : List ℕ) (from : ℕ) (cuts : List ℕ) (last next : ℕ) → RiseTo size from cuts last → AreShort size block text from cuts → IsShort size block text last next
+    → AreShort size block text from (cuts ++ next ∷ [])
+unfolding RiseTo AreShort
+short-more size block text from [] last next rise short one = (subst (λ n. IsShort size block text n next) (sym rise) one, tt)
+short-more size block text from (cut ∷ cuts) last next rise short one = (short.0, short-more size block text cut cuts last next rise.1 short.1 one)
+
+pub short-none : (size block : ℕ) (text : List ℕ) → AreShort size block text 0 []
+unfolding AreShort
+short-none size block text = tt
+
+-- a range that ends in the bytes that were read for a piece, no place for a cut behind it
+pub short-to : (size block : ℕ) (text taken bytes left : List ℕ) (last place end plain : ℕ) → text ≡ taken ++ (bytes ++ left) → place ≡ length taken → state_after st.StartRecord taken ≡ st.StartRecord
+    → last ≤ place → ((at : ℕ) → last + size ≤ at → IsCutPlace text at → place ≤ at) → end ≤ length bytes → plain ≤ end → ((at : ℕ) → at ≤ plain → IsLineEnd bytes at → ⊥)
+    → length bytes ≤ block + 2 * plain + 2 ^ 16 → IsShort size block text last (place + end)
+short-to size block text taken bytes left last place end plain order is ends behind passed within some none most = λ at run far here each.
+    let late = passed at far here in
+    let more : plain < run = elim (cases_lt plain run) [ inl less ↦ less | inr few ↦ absurd (stuck run few each) ] in
+    omega (arith, late, more, within, most)
+  where
+    stuck : (run : ℕ) → run ≤ plain → EndIn text last (place + end) run → ⊥
+    stuck run few each =
+        let found = each place behind (omega (arith, few, some)) in
+        let k = found.0 - place in
+        let at : found.0 ≡ length taken + k = omega (arith, found.1, is) in
+        let line : IsLineEnd (taken ++ (bytes ++ left)) (length taken + k) = subst (λ n. IsLineEnd (taken ++ (bytes ++ left)) n) at (subst (λ l. IsLineEnd l found.0) order found.3) in
+        none k (omega (arith, found.2, few)) (line-in taken bytes left ends k (omega (arith, found.2, few, some, within)) (omega (arith, found.1)) line)

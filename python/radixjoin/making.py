@@ -1,0 +1,68 @@
+"""What tasks make: new names until it is whole, folders beside it, and programs' processes that end with their own."""
+from __future__ import annotations
+
+import contextlib
+import ctypes
+import os
+import resource
+import shutil
+import signal
+import time
+import uuid
+from typing import Callable, Iterator, Optional
+
+# How often, and after how many seconds, it is tried again to remove what is half made.
+TRIES, SECONDS = 20, 0.1
+
+
+def beginning(memory: Optional[int]) -> Callable[[], None]:
+    """What a program's process does before it becomes the program: it ends when the process that began it does, and takes no more than its memory."""
+
+    def begin() -> None:
+        ctypes.CDLL(None).prctl(1, signal.SIGKILL)  # PR_SET_PDEATHSIG
+        most = resource.getrlimit(resource.RLIMIT_NOFILE)[1]
+        resource.setrlimit(resource.RLIMIT_NOFILE, (most, most))  # `merges` opens the file of each part
+        if memory:
+            resource.setrlimit(resource.RLIMIT_AS, (memory, memory))
+
+    return begin
+
+
+@contextlib.contextmanager
+def made(path: str, begin: Optional[str] = None) -> Iterator[str]:
+    """A new name for what is to stand at a path. It is renamed at the end, and removed after a fault. A folder isn't, where another
+    try of the task was faster."""
+    new = f"{begin or path}.{uuid.uuid4().hex}"
+    try:
+        yield new
+        try:
+            os.rename(new, path)
+        except OSError:
+            if not (os.path.isdir(new) and os.path.isdir(path)):
+                raise
+    finally:
+        remove(new)
+
+
+@contextlib.contextmanager
+def folder_beside(path: str) -> Iterator[str]:
+    """A new folder for the parts that are put into a file. It is removed at the end."""
+    folder = f"{path}.parts"
+    os.mkdir(folder)
+    try:
+        yield folder
+    finally:
+        remove(folder)
+
+
+def remove(path: str) -> None:
+    """Removes a file or a folder, if it is there. A program that is just being ended may still write into it."""
+    for _ in range(TRIES):
+        if os.path.isdir(path) and not os.path.islink(path):
+            shutil.rmtree(path, ignore_errors=True)
+        else:
+            with contextlib.suppress(OSError):
+                os.remove(path)
+        if not os.path.lexists(path):
+            return
+        time.sleep(SECONDS)
