@@ -269,7 +269,7 @@ def outputs(folder):
 def explanations(_):
     """With `explain=True` a fault has the lines that the program told below its own."""
     fault = telling.raised(radixjoin.join, ROWS, ROWS, on="L.idd = R.id", explain=True)
-    wanted = '  "idd" at byte 10 of the clause; left has id, name; right has id, name; did you mean "id"?'
+    wanted = '  "idd" at byte 10 of the clause; left has id, name; did you mean "id"?'
     yield from telling.differs("of a clause", (type(fault), getattr(fault, "explanation", None)), (radixjoin.ClauseFault, wanted))
     fault = telling.raised(radixjoin.join, ROWS, ROWS, on="L.idd = R.id")
     yield from telling.differs("without it", getattr(fault, "explanation", None), "")
