@@ -1,15 +1,11 @@
-//! The tests of joins: the join by workers, its command line, and joins in shards, their rows divided and merged: worked
-//! examples, and what no contract says. The crate holds nothing but tests, so that none of the libraries is proved a second time.
+//! The tests of joins: the join by workers, and joins in shards, their rows divided and merged: worked examples, and what no
+//! contract says. The crate holds nothing but tests, so that none of the libraries is proved a second time.
 #![tactic(auto)]
 
-#[cfg(test)]
-mod command;
 #[cfg(test)]
 mod divide;
 #[cfg(test)]
 mod engine;
-#[cfg(test)]
-mod explain;
 #[cfg(test)]
 mod listed;
 #[cfg(test)]
