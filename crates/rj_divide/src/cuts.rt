@@ -75,8 +75,8 @@ fn cut_next<I: Input>(
 /// A text's own byte order mark is left out already.
 ///
 /// The text is read to its end, in pieces of about `block` bytes, or more where a record is longer; only the ends of pieces are
-/// places. So a range, the last one too, ends at most `block` bytes, 64 KiB and twice the bytes of its longest line behind the
-/// first place, `size` bytes or more from its begin, where it could.
+/// places. So where a record ends in each run of so many bytes, a range, the last one too, ends at most `block` bytes, twice
+/// such a run and 64 KiB behind the first place, `size` bytes or more from its begin, where it could.
 ///
 /// # Errors
 ///

@@ -13,7 +13,7 @@ use rj_csv_io::{Input, ReadRefused, last_cut, read_up_to};
 /// A piece of a text, at the start of the bytes that were read.
 #[derive(Clone, Copy)]
 pub struct Piece {
-    /// Where it ends.
+    /// How many bytes it has, from the first of those that were read.
     pub end: usize,
     /// Whether the text ends there too.
     pub is_last: bool,
