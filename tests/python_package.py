@@ -57,6 +57,7 @@ def tasks_of_scripts(programs):
     frames = python_with("pandas")
     yield run_script(frames or sys.executable, "faults")
     yield run_script(frames or sys.executable, "nulls")
+    yield run_script(frames or sys.executable, "chosen")
     needed = {"values": ("pandas", "hypothesis"), "memory": ("pandas",), "pages": ("pandas",), "clusters": ("distributed",)}
     words = {"pages": [harness.ROOT / "docs" / "python.md"], "clusters": [programs]}
     for script, modules in needed.items():

@@ -42,7 +42,7 @@ class LineFault(Fault):
 
 
 class InputFault(Fault):
-    """A table's content or the null text was refused (status 3)."""
+    """A table's content, a null text, or a cell or a name of the result was refused (status 3)."""
 
 
 class ClauseFault(Fault):
@@ -57,7 +57,11 @@ class DeviceFault(Fault):
     """A file couldn't be read, or the result not be written (status 6)."""
 
 
-_CLASSES: Dict[int, Type[Fault]] = {2: LineFault, 3: InputFault, 4: ClauseFault, 5: MemoryFault, 6: DeviceFault}
+class ExpectationFault(Fault):
+    """The joined table isn't as `expect=` or `max_rows=` says (status 7)."""
+
+
+_CLASSES: Dict[int, Type[Fault]] = {2: LineFault, 3: InputFault, 4: ClauseFault, 5: MemoryFault, 6: DeviceFault, 7: ExpectationFault}
 
 
 def _made(of: Type[Fault], line: str, status: int, explanation: str) -> Fault:

@@ -215,7 +215,7 @@ def _stats_in(told: str) -> Stats:
 def _columns(asked: _Asked, names: Sequence[str], which: str) -> List[Column]:
     """The columns of the result, whose header has these names."""
     left, right = ([Column(None, word) for word in table.words()] if not _has_names(asked, table) else table.columns() for table in asked.tables)
-    columns = {"left": left, "right": right}.get(which) or result_columns(asked.clause, left, right)
+    columns = result_columns(asked.clause, left, right, which)
     if len(columns) != len(names):
         raise RuntimeError(f"radixjoin wrote {len(names)} columns, and not {len(columns)}")
     return columns

@@ -47,7 +47,7 @@ def cases_of_status(folder):
     many = [(number, "x" * 100) for number in range(200_000)]
     left, right = {"side": "left"}, {"side": "right"}
     line, table, clause = radixjoin.LineFault, radixjoin.InputFault, radixjoin.ClauseFault
-    memory, device = radixjoin.MemoryFault, radixjoin.DeviceFault
+    memory, device, expectation = radixjoin.MemoryFault, radixjoin.DeviceFault, radixjoin.ExpectationFault
     yield line, "bad type list left", left, bad, ROWS, {**of_left, "left_types": "int,texts"}
     yield table, "E6 BadInteger left row 2 column 1", {**left, "row": 2, "column": 1}, bad, ROWS, of_left
     yield table, "E4 TypeCount left", left, good, ROWS, {**of_left, "left_types": "int"}
@@ -67,9 +67,11 @@ def cases_of_status(folder):
     yield device, "E19 ReadDevice left", left, folder, ROWS, of_left
     yield device, "E20 WriteDevice", {}, ROWS, ROWS, {**by_id, "output": "/dev/full"}
     yield device, "E20 WriteDevice", {}, ROWS, ROWS, {**by_id, "output": folder / "none" / "out.csv"}
+    yield expectation, "E30 NotAsExpected", {}, ROWS, ROWS, {**cross, "expect": "many-to-one"}
+    yield expectation, "E30 NotAsExpected", {}, ROWS, ROWS, {**cross, "max_rows": 3, "output": folder / "out.csv"}
 
 
-STATUSES = {"LineFault": 2, "InputFault": 3, "ClauseFault": 4, "MemoryFault": 5, "DeviceFault": 6}
+STATUSES = {"LineFault": 2, "InputFault": 3, "ClauseFault": 4, "MemoryFault": 5, "DeviceFault": 6, "ExpectationFault": 7}
 
 
 def faults_of_each_status(folder):
