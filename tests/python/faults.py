@@ -195,6 +195,31 @@ def broken_off(folder):
     yield from telling.differs("what is left", (sorted(os.listdir(folder)), len(os.listdir("/proc/self/fd"))), before)
 
 
+def cut_off(folder, text):
+    """A program that writes a text and is killed then."""
+    program = folder / "cut_off"
+    (folder / "text").write_bytes(text)
+    program.write_text(f'#!/bin/sh\n[ "$1" = --help ] && exec "{os.environ["RADIXJOIN"]}" --help\ncat "{folder}/text"\nkill -9 $$\n')
+    program.chmod(0o755)
+    return program
+
+
+def killed(folder):
+    """A program that is killed while it writes: rows that are given are whole, and why there are no more is told, whatever it broke off in."""
+    long = "x" * 60
+    texts = ("", "i", 'id,"na', 'id,"na\nme', "id,name\n", "id,name\n1,ann\n-", f'id,name\n1,"{long}', f'id,name\n1,"{long}""', "id,name\n1,\u00e9")
+    frames = [pandas.DataFrame(ROWS)] if pandas is not None else []
+    for text, table in ((text, table) for text in texts for table in (ROWS, *frames)):
+        program = cut_off(folder, text.encode()[: len(text)])
+        error = telling.raised(lambda: list(radixjoin.join(table, ROWS, using=["id", "name"], program=program)))
+        yield from telling.differs(f"{text!r} of {type(table).__name__}", repr(error), repr(RuntimeError("radixjoin was ended by signal 9")))
+    got = radixjoin.join(ROWS, ROWS, using=["id", "name"], program=cut_off(folder, b"id,name\n" + b"1,ann\n" * 2_000_000 + b"1,an"))
+    given = []
+    error = telling.raised(lambda: given.extend(map(tuple, map(dict.values, got))))
+    yield from telling.differs("rows before the end", (set(given), len(given), str(error)), ({(1, "ann")}, 2_000_000, "radixjoin was ended by signal 9"))
+    yield from [f"the program {number} still runs" for number in children()]
+
+
 # (the interrupt may be ignored where these tests run, as in a shell's background, and what a process ignores its children do)
 INTERRUPTED = """
 import itertools, signal, sys, radixjoin
@@ -244,6 +269,13 @@ def interrupted(folder):
     yield from interrupted_at("joining", True, folder)
 
 
+def of_streams(folder):
+    """A result that goes to a stream by its name."""
+    code = f"import radixjoin; radixjoin.join([{{'id': 1}}], [{{'id': 1}}], using='id', output='/dev/stdout')"
+    ran = subprocess.run([sys.executable, "-c", code], cwd=folder, capture_output=True, check=False)
+    yield from telling.differs("/dev/stdout", (ran.returncode, ran.stdout, ran.stderr), (0, b"id\n1\n", b""))
+
+
 def outputs(folder):
     """A file of the result: whole, or what was there before."""
     path = folder / "out.csv"
@@ -256,7 +288,10 @@ def outputs(folder):
     yield from telling.differs("the path", gave, link)
     yield from telling.differs("the result", (path.read_text(), link.is_symlink()), ("id,name\n1,ann\n1,ann\n", True))
     yield from telling.differs("the result's mode", path.stat().st_mode & 0o777, 0o666 & ~os.umask(os.umask(0o022)) & 0o777)
+    gave = radixjoin.join(ROWS, [(1,)], using="id", output=os.fsencode(path), right_columns=["id"])
+    yield from telling.differs("a path of bytes", (gave, path.read_text()), (os.fsencode(path), "id,name\n1,ann\n"))
     yield from telling.differs("files", sorted(os.listdir(folder)), ["link.csv", "out.csv"])
+    yield from of_streams(folder)
     told = radixjoin.stats(ROWS, ROWS, using="id", how="left", bits1=0, piece=10)
     yield from telling.differs("statistics", told, radixjoin.Stats(((2, 2),), 2, 0, 0, 1))
     yield from telling.differs("all rows", told.rows, 2)
@@ -281,7 +316,7 @@ def explanations(_):
 
 
 def main():
-    tests = [faults_of_each_status, refused_arguments, outputs, explanations, broken_off, interrupted]
+    tests = [faults_of_each_status, refused_arguments, outputs, explanations, broken_off, killed, interrupted]
     for test in tests + ([dtypes_that_have_no_type] if pandas is not None else []):
         with tempfile.TemporaryDirectory(prefix="radixjoin-test-") as name:
             telling.attempt(test.__name__.replace("_", " "), test, pathlib.Path(name))
