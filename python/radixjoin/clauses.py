@@ -34,6 +34,8 @@ def clause_of(clause: Optional[str], using: Union[str, Sequence[str], None], on:
     if natural:
         return f"NATURAL {_HOW[how]}JOIN"
     if on is not None:
+        if not isinstance(on, str):
+            raise TypeError("on= is a condition, as 'L.id = R.id'; names of columns that both tables have are given by using=")
         return f"{_HOW[how]}JOIN ON {on}"
     names = [using] if isinstance(using, str) else list(using or ())
     if not names or not all(isinstance(name, str) for name in names):

@@ -22,10 +22,10 @@ class Fault(Exception):
         told = re.match(r"[\w-]+: (E\d+) (\w+)", line)
         self.code: Optional[str] = told[1] if told else None
         self.name: Optional[str] = told[2] if told else None
+        side = re.match(r"[\w-]+: (?:E\d+ \w+|bad type list|more than four null texts|the) (left|right)\b", line)
+        self.side: Optional[str] = side[1] if side else None
         # (a name of a list of types, or of a folder, stands between double quotes, and may have any words)
         place = line.partition('"')[0]
-        side = re.search(r"\b(left|right)\b", place)
-        self.side: Optional[str] = side[1] if side else None
         self.row = _number(place, "row")
         self.column = _number(place, "column")
         self.byte = _number(place, "byte")

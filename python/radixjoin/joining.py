@@ -58,7 +58,7 @@ class _Asked:
         try:
             for side, table in (("left", left), ("right", right)):
                 self.tables.append(_table(side, table, types[side], names[side], watched))
-            self.nulls.choose(self.tables, self.output is None)
+            self.nulls.choose(self.tables, self.output is None, bool(strict) and "strict" in known)
             self.words: List[Union[str, bytes]] = [*words, *self._strict(strict, known), b"--join=" + given(clause)]
             self.words += [f"--{table.side}-types={table.types_given()}" for table in self.tables]
             self.words += self.nulls.words(known)

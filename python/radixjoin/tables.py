@@ -1,6 +1,7 @@
 """The tables that are joined: of a path, an open file or rows. Frames stand in `frames`."""
 from __future__ import annotations
 
+import errno
 import io
 import numbers
 import os
@@ -143,14 +144,21 @@ class FileTable(_Given):
         if number is not None:
             return os.pread(number, _CHUNK, 0)
         if self.begun is None:
-            self.begun = self._read()
+            self.begun = read = self._read()
+            while read and len(self.begun) < _CHUNK and text.end_of_record(self.begun) == len(self.begun):
+                # (a pipe gives what it has, which may be a part of the header)
+                read = self._read()
+                self.begun += read
         return self.begun
 
     def _read(self) -> bytes:
+        """The next bytes, none at the end."""
         read = self.file.read(_CHUNK)
-        if read is not None and not isinstance(read, (bytes, bytearray, memoryview)):
+        if read is None:
+            raise BlockingIOError(errno.EAGAIN, f"the {self.side} file doesn't wait for what comes later; it has to be one that does (os.set_blocking)")
+        if not isinstance(read, (bytes, bytearray, memoryview)):
             raise TypeError(f"the {self.side} file is open for text; it has to be opened with mode 'rb'")
-        return bytes(read or b"")
+        return bytes(read)
 
     def chunks(self, null: str) -> Iterator[bytes]:
         read = self._read() if self.begun is None else self.begun

@@ -89,6 +89,10 @@ def faults_of_each_status(folder):
     yield from telling.differs("files", sorted(it.name for it in folder.iterdir()), ["bad.csv", "good.csv", "limited"])
     number = telling.raised(radixjoin.join, ROWS, ROWS, using="id", bits1=11)
     yield from telling.differs("a number that is too large", (type(number).__name__, number.code), ("LineFault", None))
+    rows = telling.raised(radixjoin.join, ROWS, ROWS, using="id", rows="matched-left")
+    yield from telling.differs("a line that names an option of a side", (type(rows).__name__, rows.side), ("LineFault", None))
+    for line, side in (("radixjoin: more than four null texts right", "right"), ("radixjoin-cluster: the left file has a column x", "left"), ('radixjoin: E27 TypeName left "right"', "left")):
+        yield from telling.differs(line, radixjoin.Fault(line, 2).side, side)
     explained = radixjoin.faults.fault_of("radixjoin: E13 UnknownColumn\n  one\n  two\n", 4)
     yield from telling.differs("an explanation", (explained.line, explained.explanation), ("radixjoin: E13 UnknownColumn", "  one\n  two"))
 
@@ -113,6 +117,7 @@ def cases_that_are_refused(folder):
     yield ValueError, "clause", ROWS, ROWS, {}
     yield ValueError, "clause", ROWS, ROWS, {"clause": "CROSS JOIN", **by_id}
     yield ValueError, "how", ROWS, ROWS, {**by_id, "how": "anti"}
+    yield TypeError, "using=", ROWS, ROWS, {"on": ["id"]}
     yield ValueError, "'id'", ROWS, ROWS, {"on": "L.id = R.id"}
     yield NotImplementedError, "--no-such-option", ROWS, ROWS, {**by_id, "no_such_option": 1}
     yield TypeError, "stats", ROWS, ROWS, {**by_id, "stats": True}
@@ -160,6 +165,36 @@ def children():
         return file.read().split()
 
 
+class File(io.RawIOBase):
+    """A file that gives some parts one after another, and raises an error behind them, if there is one."""
+
+    def __init__(self, parts, error=None):
+        super().__init__()
+        self.parts = list(parts)
+        self.error = error
+
+    def read(self, size=-1):
+        if not self.parts and self.error is not None:
+            raise self.error
+        return self.parts.pop(0) if self.parts else b""
+
+
+def open_files(folder):
+    """Files that give a part of their header at first, and pipes that don't wait for what comes later."""
+    for parts in ([b"na", b"me,id\nann,", b"1\n"], [b'"na', b'me",id\n', b"ann,1\n"], [b"name,id\nann,1"]):
+        for types in ({"id": "int", "*": "text"}, "*=text,id=int", "text,int"):
+            got = list(radixjoin.join(File(parts), [(1,)], using="id", left_types=types, right_columns=["id"], null="~"))
+            yield from telling.differs(f"{parts} {types}", got, [(1, "ann")])
+    for types in ("int", {"id": "int"}):
+        ends = os.pipe()
+        os.set_blocking(ends[0], False)
+        with open(ends[0], "rb", buffering=0) as reads, open(ends[1], "wb", buffering=0) as writes:
+            writes.write(b"id\n1\n")
+            error = telling.raised(radixjoin.join, reads, ROWS, using="id", left_types=types, null="~", output=folder / "out.csv")
+            yield from [] if isinstance(error, BlockingIOError) and "left" in str(error) else [f"a pipe that doesn't wait: {error!r}"]
+    yield from telling.differs("files", os.listdir(folder), [])
+
+
 def broken_off(folder):
     """Rows that aren't read to their end, and tables that fail: the program ends, and nothing stays."""
     gc.collect()
@@ -181,17 +216,14 @@ def broken_off(folder):
         gc.collect()
         yield from [f"{end}: the program {number} still runs" for number in children()]
 
-    class Failing(io.RawIOBase):
-        def read(self, size=-1):
-            raise KeyError("of the caller's own")
-
-    def failing():
+    def failing(error):
         yield {"id": 1}
-        raise KeyError("of the caller's own")
+        raise error
 
-    for table in (Failing(), failing()):
-        error = telling.raised(radixjoin.join, table, ROWS, how="cross", left_types="int", strict=False, null="~", output=folder / "out.csv")
-        yield from telling.differs("what the caller's table raises", repr(error), repr(KeyError("of the caller's own")))
+    for error in (KeyError("of the caller's own"), BrokenPipeError("of the caller's own")):
+        for table in (File([], error), File([b"id\n1\n"], error), failing(error)):
+            got = telling.raised(radixjoin.join, table, ROWS, how="cross", left_types="int", strict=False, null="~", output=folder / "out.csv")
+            yield from telling.differs("what the caller's table raises", repr(got), repr(error))
     yield from telling.differs("what is left", (sorted(os.listdir(folder)), len(os.listdir("/proc/self/fd"))), before)
 
 
@@ -316,7 +348,7 @@ def explanations(_):
 
 
 def main():
-    tests = [faults_of_each_status, refused_arguments, outputs, explanations, broken_off, killed, interrupted]
+    tests = [faults_of_each_status, refused_arguments, outputs, explanations, open_files, broken_off, killed, interrupted]
     for test in tests + ([dtypes_that_have_no_type] if pandas is not None else []):
         with tempfile.TemporaryDirectory(prefix="radixjoin-test-") as name:
             telling.attempt(test.__name__.replace("_", " "), test, pathlib.Path(name))
