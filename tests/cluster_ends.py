@@ -49,7 +49,9 @@ def programs_in(folder, name, does, is_once=True):
 def begun(python, words, folder, *more):
     """Starts the script."""
     words = [python, cluster.SCRIPT, *words, "--parts", "3", *([] if "--out" in more else ["--out", "out.csv"]), *more]
-    return subprocess.Popen([str(word) for word in words], cwd=folder, stdin=subprocess.DEVNULL, stdout=subprocess.DEVNULL, stderr=subprocess.PIPE)
+    # (these tests may be run by nohup, which has the script go on when its terminal is gone)
+    how = {"stdin": subprocess.DEVNULL, "stdout": subprocess.DEVNULL, "stderr": subprocess.PIPE, "preexec_fn": lambda: signal.signal(signal.SIGHUP, signal.SIG_DFL)}
+    return subprocess.Popen([str(word) for word in words], cwd=folder, **how)
 
 
 def number_in(programs, name):
@@ -125,6 +127,26 @@ def run_output(on, tally):
             line = f'radixjoin-cluster: E20 WriteDevice "{missing.resolve()}": No such file or directory\n'
             faults = harness.differences(harness.Ran(ran.returncode, b"", ran.stderr), b"", line.encode(), 6)
             tally.check(f"cluster_ends: {option} in no folder", faults + [f"{it} was left behind" for it in cluster.left_behind(folder, known)])
+        os.mkfifo(folder / "pipe")
+        ran = cluster.ended(begun(on.python, words, folder, *how, on.programs, "--out", "pipe"))
+        line = f'radixjoin-cluster: E20 WriteDevice "{folder.resolve()}/pipe": it is no regular file\n'
+        faults = harness.differences(harness.Ran(ran.returncode, b"", ran.stderr), b"", line.encode(), 6)
+        faults += [] if (folder / "pipe").is_fifo() else ["the pipe is gone"]
+        tally.check("cluster_ends: the result is a pipe", faults + [f"{it} was left behind" for it in cluster.left_behind(folder, known | {"pipe"})])
+
+
+def run_without_dask(python, tally):
+    """Where Dask isn't installed that is told in a line, and nothing is left."""
+    with harness.folder() as place:
+        folder = pathlib.Path(place)
+        words = write_tables(folder)
+        (folder / "none").mkdir()
+        (folder / "none" / "distributed.py").write_text("raise ImportError(\"No module named 'distributed'\")\n")
+        known = {it.name for it in folder.iterdir()}
+        how = {**os.environ, "PYTHONPATH": str(folder / "none"), "PYTHONDONTWRITEBYTECODE": "1"}
+        ran = harness.run([python, cluster.SCRIPT, *words, "--out", "out.csv"], folder, environment=how)
+        faults = harness.differences(ran, b"", b"radixjoin-cluster: No module named 'distributed'\n", 1)
+        tally.check("cluster_ends: no Dask", faults + [f"{it} was left behind" for it in cluster.left_behind(folder, known)])
 
 
 @contextlib.contextmanager
@@ -190,7 +212,8 @@ def run_all(tally):
                     run_killed(on, pathlib.Path(place), write_tables(pathlib.Path(place)), name, more, tally)
             run_output(on, tally)
             run_full(on, tally)
+            run_without_dask(python, tally)
         finally:
             on.close()
-    tasks = [(name, number) for name in STEPS for number in (signal.SIGTERM, signal.SIGINT)]
+    tasks = [*((name, number) for name in STEPS for number in (signal.SIGTERM, signal.SIGINT)), ("merges", signal.SIGHUP)]
     harness.side_by_side(tally, [lambda own, it=it: run_told_to_end(python, *it, own) for it in tasks])
