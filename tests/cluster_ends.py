@@ -3,7 +3,6 @@ killed while it divides, joins or merges; the script is told to end; the folder 
 full; the result can't be renamed. The result is there whole or not at all, what stood there before stays, and nothing is left.
 
 It needs Dask, as tests/cluster.py does."""
-import contextlib
 import os
 import pathlib
 import signal
@@ -149,24 +148,11 @@ def run_without_dask(python, tally):
         tally.check("cluster_ends: no Dask", faults + [f"{it} was left behind" for it in cluster.left_behind(folder, known)])
 
 
-@contextlib.contextmanager
-def disk(folder, size):
-    """A small file system, or None where none can be mounted."""
-    place = folder / "disk"
-    place.mkdir(exist_ok=True)
-    if subprocess.run(["mount", "-t", "tmpfs", "-o", f"size={size}k", "none", place], capture_output=True, check=False).returncode:
-        yield None
-        return
-    try:
-        yield place
-    finally:
-        subprocess.run(["umount", place], check=True)
-
-
 def run_on_disk(folder, words, size, option, merges, tally):
     """Joins with what is half made, or the result, on a disk of some KiB, merged in so many ranges. It gives how it ended."""
-    with disk(folder, size) as place:
-        if place is None:
+    place = folder / "disk"
+    with harness.disk(place, size) as is_mounted:
+        if not is_mounted:
             return None
         out, scratch = (folder / "out.csv", place) if option == "scratch" else (place / "out.csv", folder)
         wanted = harness.run([harness.program("radixjoin"), *words], folder)
@@ -191,7 +177,8 @@ def run_full(on, tally):
                 return
             tally.check(f"cluster_ends: {option} on disks that are full, and not", [] if {*ends} == {0, 6} else [f"they end by {ends}"])
         (folder / "out.csv").unlink(missing_ok=True)
-        with disk(folder, 1_024) as place:
+        place = folder / "disk"
+        with harness.disk(place, 1_024):
             known = {it.name for it in folder.iterdir()}
             ran = cluster.ended(begun(on.python, words, folder, "--scheduler", on.address, "--programs", on.programs, "--scratch", place))
             told = harness.Ran(6, b"", f'radixjoin-cluster: E20 WriteDevice "{place.resolve()}": {NO_ROOM}\n'.encode())
@@ -200,7 +187,7 @@ def run_full(on, tally):
 
 
 def run_all(tally):
-    python = cluster.python_with_dask()
+    python = harness.python_with("distributed")
     if python is None:
         print("cluster_ends: left out, since there is no Dask (Debian's python3-dask and python3-distributed)")
         return

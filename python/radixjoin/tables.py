@@ -11,7 +11,7 @@ import tempfile
 from abc import ABC, abstractmethod
 from decimal import Decimal
 from itertools import chain, islice
-from typing import Any, BinaryIO, Dict, FrozenSet, Iterable, Iterator, List, Mapping, Optional, Sequence, Set, Tuple
+from typing import Any, BinaryIO, Dict, FrozenSet, Iterable, Iterator, List, Mapping, Optional, Sequence, Set
 
 from . import text
 from .columns import Column, Types, by_name, declared_of, list_of_types, text_of, words_under
