@@ -95,8 +95,9 @@ def _table(side: str, table: Any, types: Types, names: Any, watched: FrozenSet[s
         return table_of_path(side, table, types)
     if hasattr(table, "read"):
         return FileTable(side, table, types)
-    if isinstance(table, Mapping) or not hasattr(table, "__iter__"):
-        raise TypeError(f"{side} is {type(table).__name__}, and neither a path, an open file, a DataFrame nor rows")
+    if isinstance(table, Mapping) or not hasattr(table, "__iter__") or hasattr(table, "dtypes"):
+        # (a frame that isn't pandas' gives its columns one by one)
+        raise TypeError(f"{side} is {type(table).__module__}.{type(table).__qualname__}, and neither a path, an open file, a pandas.DataFrame nor rows")
     return RowsTable(side, table, names, types, watched)
 
 
@@ -129,7 +130,7 @@ def join(
     **options: Any,
 ) -> Any:
     """Joins two tables as SQL-92 says, in the order that the program fixes: pairs by left, then right row, then the rows of
-    either side that are in no pair.
+    either side that are in no pair; or, with `order="left"`, each left row at its place.
 
     `left` and `right` are each a path, a file open for reading bytes, a pandas.DataFrame, or rows: an iterable of mappings, or of
     sequences with `columns=` (a list for both sides, or a pair of lists; or `left_columns=`, `right_columns=`).
@@ -147,7 +148,8 @@ def join(
 
     `strict` has files read by RFC 4180's grammar alone. `null` is the text that stands for null in files, read and written (the
     empty field unless given); `left_null` and `right_null` are those of one table, a text or up to four, and `out_null` is the one
-    that is written. `program` is the path of the program. All other options are the program's own, as `bits1=6`.
+    that is written. `program` is the path of the program. All other options are the program's own, as `bits1=6`,
+    `rows="lone-left"`, `columns="left"`, `repeated="_right"` or `expect="many-to-one"`.
 
     Raises:
         Fault: the program told a fault; a subclass for each exit status.
