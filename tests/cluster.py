@@ -170,6 +170,7 @@ def run_all(tally):
     with harness.folder() as programs:
         cluster = Cluster(python, programs)
         try:
+            tally.check("cluster: its processes", [] if len(cluster.numbers()) == PROCESSES else [f"they are {cluster.numbers()}"])
             run_examples(cluster, tally)
             run_large(cluster, tally)
         finally:

@@ -47,7 +47,7 @@ def programs_in(folder, name, does, is_once=True):
 
 def begun(python, words, folder, *more):
     """Starts the script."""
-    words = [python, cluster.SCRIPT, *words, "--parts", "3", *([] if "--out" in more else ["--out", "out.csv"]), *more]
+    words = [python, cluster.SCRIPT, *words, *([] if "--parts" in more else ["--parts", "3"]), *([] if "--out" in more else ["--out", "out.csv"]), *more]
     # (these tests may be run by nohup, which has the script go on when its terminal is gone)
     how = {"stdin": subprocess.DEVNULL, "stdout": subprocess.DEVNULL, "stderr": subprocess.PIPE, "preexec_fn": lambda: signal.signal(signal.SIGHUP, signal.SIG_DFL)}
     return subprocess.Popen([str(word) for word in words], cwd=folder, **how)
@@ -134,6 +134,37 @@ def run_output(on, tally):
         tally.check("cluster_ends: the result is a pipe", faults + [f"{it} was left behind" for it in cluster.left_behind(folder, known | {"pipe"})])
 
 
+# Joins a shard, and notes in the folder LOG how many do meanwhile.
+COUNTS = """#!/bin/sh
+case "$*" in *"/radixjoin-"*) ;; *) exec "PROGRAM" "$@";; esac
+touch "LOG/$$.runs"
+ls LOG | grep -c runs > "LOG/$$.counted"
+sleep 0.3
+ls LOG | grep -c runs >> "LOG/$$.counted"
+"PROGRAM" "$@"
+status=$?
+rm "LOG/$$.runs"
+exit $status
+"""
+
+
+def run_processes(python, count, tally):
+    """As many shards are joined side by side as there are to be processes."""
+    with harness.folder() as place:
+        folder = pathlib.Path(place)
+        words = write_tables(folder)
+        log = folder / "log"
+        log.mkdir()
+        programs = programs_in(folder / "counts", "radixjoin", "")
+        (programs / "radixjoin").write_text(COUNTS.replace("PROGRAM", str(harness.program("radixjoin"))).replace("LOG", str(log)))
+        known = {it.name for it in folder.iterdir()}
+        wanted = harness.run([harness.program("radixjoin"), *words], folder)
+        ran = cluster.ended(begun(python, [*words, "--processes", count], folder, "--programs", programs, "--parts", "12"))
+        counts = [int(line) for it in log.glob("*.counted") for line in it.read_text().split()]
+        faults = cluster.faults_of_run(ran, folder, known, wanted)
+        tally.check(f"cluster_ends: {count} processes", faults + ([] if max(counts, default=0) == count else [f"{max(counts, default=0)} shards at once"]))
+
+
 def run_without_dask(python, tally):
     """Where Dask isn't installed that is told in a line, and nothing is left."""
     with harness.folder() as place:
@@ -202,5 +233,7 @@ def run_all(tally):
             run_without_dask(python, tally)
         finally:
             on.close()
+    for count in (1, 2, 3):
+        run_processes(python, count, tally)
     tasks = [*((name, number) for name in STEPS for number in (signal.SIGTERM, signal.SIGINT)), ("merges", signal.SIGHUP)]
     harness.side_by_side(tally, [lambda own, it=it: run_told_to_end(python, *it, own) for it in tasks])

@@ -499,7 +499,7 @@ class Cluster:
 
     def processes(self) -> int:
         """How many there are."""
-        return max(1, len(self.client.scheduler_info()["workers"]))
+        return max(1, len(self.client.nthreads()))
 
 
 def first_fault(answers: Sequence[Any]) -> None:
@@ -650,7 +650,7 @@ def cluster_of(asked: argparse.Namespace) -> Iterator[Cluster]:
         with Client(asked.scheduler) as client:
             yield Cluster(client, asked.progress)
         return
-    with LocalCluster(asked.processes, threads_per_worker=1, memory_limit=0, dashboard_address=":0", silence_logs=50) as cluster, Client(cluster) as client:
+    with LocalCluster(n_workers=asked.processes, threads_per_worker=1, memory_limit=0, dashboard_address=":0", silence_logs=50) as cluster, Client(cluster) as client:
         yield Cluster(client, asked.progress)
 
 

@@ -94,7 +94,7 @@ def main(programs):
     for name in ("asyncio", "tornado", "distributed"):
         logging.getLogger(name).setLevel(logging.CRITICAL)
     with tempfile.TemporaryDirectory(prefix="radixjoin-test-") as name:
-        with LocalCluster(2, threads_per_worker=1, memory_limit=0, dashboard_address=":0", silence_logs=50) as local, Client(local) as client:
+        with LocalCluster(n_workers=2, threads_per_worker=1, memory_limit=0, dashboard_address=":0", silence_logs=50) as local, Client(local) as client:
             telling.attempt("radixjoin.cluster.join", joins, client, programs, pathlib.Path(name))
             with tempfile.TemporaryDirectory(prefix="radixjoin-test-left-") as other:
                 telling.attempt("radixjoin.cluster.join, null texts by side and types by name", by_side, client, programs, pathlib.Path(other))
