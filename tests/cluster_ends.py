@@ -87,7 +87,8 @@ def run_killed(on, folder, words, name, more, tally):
 
 
 def run_told_to_end(python, name, number, tally):
-    """The script is told to end while a program runs: what stood at the result's place stays, and no program goes on."""
+    """The script is told to end while a program runs, and once more while it ends: what stood at the result's place stays, and no
+    program goes on."""
     with harness.folder() as place:
         folder = pathlib.Path(place)
         words = write_tables(folder)
@@ -96,6 +97,8 @@ def run_told_to_end(python, name, number, tally):
         known = {it.name for it in folder.iterdir()}
         running = begun(python, words, folder, "--processes", "1", "--programs", programs)
         is_running = number_in(programs, name) is not None
+        running.send_signal(number)
+        time.sleep(0.1)
         running.send_signal(number)
         ran = cluster.ended(running)
         faults = [] if is_running else [f"{name} didn't run"]

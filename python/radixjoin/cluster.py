@@ -730,7 +730,8 @@ def _types(side: str, types: Types) -> str:
 
 
 def ended_by(number: int, _: Any) -> None:
-    """Ends the script where a signal asks for it: what is half made is removed."""
+    """Ends the script where a signal asks for it: what is half made is removed, and goes on being so where it asks again."""
+    signal.signal(number, signal.SIG_IGN)
     sys.exit(128 + number)
 
 

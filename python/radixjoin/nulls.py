@@ -56,7 +56,8 @@ class Nulls:
         is_open = any(self.given.values()) if self.written is None else not is_told
         if is_read and is_free and all(table.is_written for table in tables):
             self.null = _free(tables)
-        elif is_read and is_open:
+            return
+        if is_read and is_open:
             common = [text for text in [self.out, *self.of("left")] if all(text in self.of(side) for side in SIDES)]
             self.written = common[0] if common else "~" + "".join(random.SystemRandom().choices(string.ascii_lowercase, k=15))
         for table in tables:

@@ -71,7 +71,7 @@ class _Given(Table):
 
     def __init__(self, side: str, types: Types) -> None:
         if types is None:
-            raise ValueError(f"{side}_types has to be given: of a file types are declared, never guessed")
+            raise ValueError(f"{side}_types has to be given: of a file types are declared, never guessed (radixjoin --suggest-types FILE prints a list to look at)")
         self.side = side
         # The types by Python's own names of columns, or the program's list of them.
         self.by_name = types if isinstance(types, Mapping) else {}

@@ -97,6 +97,15 @@ def faults_of_each_status(folder):
     yield from telling.differs("an explanation", (explained.line, explained.explanation), ("radixjoin: E13 UnknownColumn", "  one\n  two"))
 
 
+class OtherFrame:
+    """A frame of another library than pandas, which gives the names of its columns one by one."""
+
+    dtypes = ("int64",)
+
+    def __iter__(self):
+        return iter(["id"])
+
+
 def cases_that_are_refused(folder):
     """What isn't for the program to judge: the class and a word of each error, the two tables, and the other arguments."""
     path = folder / "a.csv"
@@ -125,6 +134,7 @@ def cases_that_are_refused(folder):
     yield TypeError, "radixjoin.stats(.., report=True)", ROWS, ROWS, {**by_id, "report": True}
     yield TypeError, "rb", io.StringIO("id\n1\n"), ROWS, {**by_id, **LOOSE, "left_types": "int"}
     yield TypeError, "neither", 7, ROWS, by_id
+    yield TypeError, "OtherFrame", OtherFrame(), ROWS, {**by_id, "left_columns": ["id"]}
     yield FileNotFoundError, "nowhere", ROWS, ROWS, {**by_id, "program": "nowhere"}
     yield ValueError, "null", [{"id": 1, "x": ""}], ROWS, {**by_id, "output": folder / "out.csv"}
     if "strict" not in radixjoin.programs.options(os.environ["RADIXJOIN"]):
