@@ -19,6 +19,8 @@ from .lists import is_by_name
 
 _CHUNK = 1 << 20
 _ROWS = 8_192
+# What the names of a process's own files begin with.
+_OWN = ("/dev/stdin", "/dev/fd/", "/proc/self/")
 
 
 class Table(ABC):
@@ -172,12 +174,13 @@ class FileTable(_Given):
 
 
 def table_of_path(side: str, path: Any, types: Types) -> Table:
-    """The table of a path. A pipe that has a name is opened here, since its header can be read only once."""
+    """The table of a path. A pipe that has a name is opened here, since its header can be read only once, and so is what has another
+    meaning for the program, as its own standard input."""
     try:
-        is_pipe = stat.S_ISFIFO(os.stat(path).st_mode)
+        is_opened = stat.S_ISFIFO(os.stat(path).st_mode) or os.fsdecode(path).startswith(_OWN)
     except OSError:
-        is_pipe = False
-    return FileTable(side, open(path, "rb"), types, owned=True) if is_pipe else PathTable(side, path, types)
+        is_opened = False
+    return FileTable(side, open(path, "rb"), types, owned=True) if is_opened else PathTable(side, path, types)
 
 
 def _anonymous() -> BinaryIO:

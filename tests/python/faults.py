@@ -312,7 +312,16 @@ def interrupted(folder):
 
 
 def of_streams(folder):
-    """A result that goes to a stream by its name."""
+    """Tables and results that are streams of this process, by their names."""
+    path = folder / "in.csv"
+    path.write_text("id\n1\n2\n")
+    for types in ("int", {"id": "int"}):
+        code = f"import radixjoin; print(*radixjoin.join('/dev/stdin', [{{'id': 1}}], using='id', left_types={types!r}))"
+        with open(path, "rb") as file:
+            for how in ({"stdin": file}, {"input": path.read_bytes()}):
+                ran = subprocess.run([sys.executable, "-c", code], cwd=folder, capture_output=True, check=False, **how)
+                yield from telling.differs(f"/dev/stdin {types} {how}", (ran.returncode, ran.stdout, ran.stderr), (0, b"{'id': 1}\n", b""))
+    path.unlink()
     code = f"import radixjoin; radixjoin.join([{{'id': 1}}], [{{'id': 1}}], using='id', output='/dev/stdout')"
     ran = subprocess.run([sys.executable, "-c", code], cwd=folder, capture_output=True, check=False)
     yield from telling.differs("/dev/stdout", (ran.returncode, ran.stdout, ran.stderr), (0, b"id\n1\n", b""))
