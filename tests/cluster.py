@@ -3,7 +3,6 @@
 
 It needs Dask, which `./test` installs (Debian's python3-dask and python3-distributed). Where it can't be had, this part is
 left out and says so."""
-import contextlib
 import os
 import pathlib
 import random
@@ -20,15 +19,6 @@ SCRIPT = harness.ROOT / "cluster" / "radixjoin-cluster"
 PROCESSES = 3
 SECONDS = 120
 NO_KEY = b"shards: the clause has no key, so that its tables can't be divided\n"
-
-
-def python_with_dask():
-    """A Python that has Dask, or None."""
-    for python in ("python3", "/usr/bin/python3"):
-        with contextlib.suppress(OSError):
-            if subprocess.run([python, "-c", "import distributed"], capture_output=True, check=False).returncode == 0:
-                return python
-    return None
 
 
 class Cluster:
@@ -173,13 +163,14 @@ def run_with_fault(cluster, folder, words, row, tally):
 
 
 def run_all(tally):
-    python = python_with_dask()
+    python = harness.python_with("distributed")
     if python is None:
         print("cluster: left out, since there is no Dask (Debian's python3-dask and python3-distributed)")
         return
     with harness.folder() as programs:
         cluster = Cluster(python, programs)
         try:
+            tally.check("cluster: its processes", [] if len(cluster.numbers()) == PROCESSES else [f"they are {cluster.numbers()}"])
             run_examples(cluster, tally)
             run_large(cluster, tally)
         finally:

@@ -3,7 +3,6 @@ killed while it divides, joins or merges; the script is told to end; the folder 
 full; the result can't be renamed. The result is there whole or not at all, what stood there before stays, and nothing is left.
 
 It needs Dask, as tests/cluster.py does."""
-import contextlib
 import os
 import pathlib
 import signal
@@ -48,8 +47,10 @@ def programs_in(folder, name, does, is_once=True):
 
 def begun(python, words, folder, *more):
     """Starts the script."""
-    words = [python, cluster.SCRIPT, *words, "--parts", "3", *([] if "--out" in more else ["--out", "out.csv"]), *more]
-    return subprocess.Popen([str(word) for word in words], cwd=folder, stdin=subprocess.DEVNULL, stdout=subprocess.DEVNULL, stderr=subprocess.PIPE)
+    words = [python, cluster.SCRIPT, *words, *([] if "--parts" in more else ["--parts", "3"]), *([] if "--out" in more else ["--out", "out.csv"]), *more]
+    # (these tests may be run by nohup, which has the script go on when its terminal is gone)
+    how = {"stdin": subprocess.DEVNULL, "stdout": subprocess.DEVNULL, "stderr": subprocess.PIPE, "preexec_fn": lambda: signal.signal(signal.SIGHUP, signal.SIG_DFL)}
+    return subprocess.Popen([str(word) for word in words], cwd=folder, **how)
 
 
 def number_in(programs, name):
@@ -86,7 +87,8 @@ def run_killed(on, folder, words, name, more, tally):
 
 
 def run_told_to_end(python, name, number, tally):
-    """The script is told to end while a program runs: what stood at the result's place stays, and no program goes on."""
+    """The script is told to end while a program runs, and once more while it ends: what stood at the result's place stays, and no
+    program goes on."""
     with harness.folder() as place:
         folder = pathlib.Path(place)
         words = write_tables(folder)
@@ -95,6 +97,8 @@ def run_told_to_end(python, name, number, tally):
         known = {it.name for it in folder.iterdir()}
         running = begun(python, words, folder, "--processes", "1", "--programs", programs)
         is_running = number_in(programs, name) is not None
+        running.send_signal(number)
+        time.sleep(0.1)
         running.send_signal(number)
         ran = cluster.ended(running)
         faults = [] if is_running else [f"{name} didn't run"]
@@ -125,26 +129,64 @@ def run_output(on, tally):
             line = f'radixjoin-cluster: E20 WriteDevice "{missing.resolve()}": No such file or directory\n'
             faults = harness.differences(harness.Ran(ran.returncode, b"", ran.stderr), b"", line.encode(), 6)
             tally.check(f"cluster_ends: {option} in no folder", faults + [f"{it} was left behind" for it in cluster.left_behind(folder, known)])
+        os.mkfifo(folder / "pipe")
+        ran = cluster.ended(begun(on.python, words, folder, *how, on.programs, "--out", "pipe"))
+        line = f'radixjoin-cluster: E20 WriteDevice "{folder.resolve()}/pipe": it is no regular file\n'
+        faults = harness.differences(harness.Ran(ran.returncode, b"", ran.stderr), b"", line.encode(), 6)
+        faults += [] if (folder / "pipe").is_fifo() else ["the pipe is gone"]
+        tally.check("cluster_ends: the result is a pipe", faults + [f"{it} was left behind" for it in cluster.left_behind(folder, known | {"pipe"})])
 
 
-@contextlib.contextmanager
-def disk(folder, size):
-    """A small file system, or None where none can be mounted."""
-    place = folder / "disk"
-    place.mkdir(exist_ok=True)
-    if subprocess.run(["mount", "-t", "tmpfs", "-o", f"size={size}k", "none", place], capture_output=True, check=False).returncode:
-        yield None
-        return
-    try:
-        yield place
-    finally:
-        subprocess.run(["umount", place], check=True)
+# Joins a shard, and notes in the folder LOG how many do meanwhile.
+COUNTS = """#!/bin/sh
+case "$*" in *"/radixjoin-"*) ;; *) exec "PROGRAM" "$@";; esac
+touch "LOG/$$.runs"
+ls LOG | grep -c runs > "LOG/$$.counted"
+sleep 0.3
+ls LOG | grep -c runs >> "LOG/$$.counted"
+"PROGRAM" "$@"
+status=$?
+rm "LOG/$$.runs"
+exit $status
+"""
+
+
+def run_processes(python, count, tally):
+    """As many shards are joined side by side as there are to be processes."""
+    with harness.folder() as place:
+        folder = pathlib.Path(place)
+        words = write_tables(folder)
+        log = folder / "log"
+        log.mkdir()
+        programs = programs_in(folder / "counts", "radixjoin", "")
+        (programs / "radixjoin").write_text(COUNTS.replace("PROGRAM", str(harness.program("radixjoin"))).replace("LOG", str(log)))
+        known = {it.name for it in folder.iterdir()}
+        wanted = harness.run([harness.program("radixjoin"), *words], folder)
+        ran = cluster.ended(begun(python, [*words, "--processes", count], folder, "--programs", programs, "--parts", "12"))
+        counts = [int(line) for it in log.glob("*.counted") for line in it.read_text().split()]
+        faults = cluster.faults_of_run(ran, folder, known, wanted)
+        tally.check(f"cluster_ends: {count} processes", faults + ([] if max(counts, default=0) == count else [f"{max(counts, default=0)} shards at once"]))
+
+
+def run_without_dask(python, tally):
+    """Where Dask isn't installed that is told in a line, and nothing is left."""
+    with harness.folder() as place:
+        folder = pathlib.Path(place)
+        words = write_tables(folder)
+        (folder / "none").mkdir()
+        (folder / "none" / "distributed.py").write_text("raise ImportError(\"No module named 'distributed'\")\n")
+        known = {it.name for it in folder.iterdir()}
+        how = {**os.environ, "PYTHONPATH": str(folder / "none"), "PYTHONDONTWRITEBYTECODE": "1"}
+        ran = harness.run([python, cluster.SCRIPT, *words, "--out", "out.csv"], folder, environment=how)
+        faults = harness.differences(ran, b"", b"radixjoin-cluster: No module named 'distributed'\n", 1)
+        tally.check("cluster_ends: no Dask", faults + [f"{it} was left behind" for it in cluster.left_behind(folder, known)])
 
 
 def run_on_disk(folder, words, size, option, merges, tally):
     """Joins with what is half made, or the result, on a disk of some KiB, merged in so many ranges. It gives how it ended."""
-    with disk(folder, size) as place:
-        if place is None:
+    place = folder / "disk"
+    with harness.disk(place, size) as is_mounted:
+        if not is_mounted:
             return None
         out, scratch = (folder / "out.csv", place) if option == "scratch" else (place / "out.csv", folder)
         wanted = harness.run([harness.program("radixjoin"), *words], folder)
@@ -169,7 +211,8 @@ def run_full(on, tally):
                 return
             tally.check(f"cluster_ends: {option} on disks that are full, and not", [] if {*ends} == {0, 6} else [f"they end by {ends}"])
         (folder / "out.csv").unlink(missing_ok=True)
-        with disk(folder, 1_024) as place:
+        place = folder / "disk"
+        with harness.disk(place, 1_024):
             known = {it.name for it in folder.iterdir()}
             ran = cluster.ended(begun(on.python, words, folder, "--scheduler", on.address, "--programs", on.programs, "--scratch", place))
             told = harness.Ran(6, b"", f'radixjoin-cluster: E20 WriteDevice "{place.resolve()}": {NO_ROOM}\n'.encode())
@@ -178,7 +221,7 @@ def run_full(on, tally):
 
 
 def run_all(tally):
-    python = cluster.python_with_dask()
+    python = harness.python_with("distributed")
     if python is None:
         print("cluster_ends: left out, since there is no Dask (Debian's python3-dask and python3-distributed)")
         return
@@ -190,7 +233,10 @@ def run_all(tally):
                     run_killed(on, pathlib.Path(place), write_tables(pathlib.Path(place)), name, more, tally)
             run_output(on, tally)
             run_full(on, tally)
+            run_without_dask(python, tally)
         finally:
             on.close()
-    tasks = [(name, number) for name in STEPS for number in (signal.SIGTERM, signal.SIGINT)]
+    for count in (1, 2, 3):
+        run_processes(python, count, tally)
+    tasks = [*((name, number) for name in STEPS for number in (signal.SIGTERM, signal.SIGINT)), ("merges", signal.SIGHUP)]
     harness.side_by_side(tally, [lambda own, it=it: run_told_to_end(python, *it, own) for it in tasks])

@@ -9,7 +9,7 @@ from distributed import Client, LocalCluster
 
 
 def main():
-    with LocalCluster(int(sys.argv[1]), threads_per_worker=1, memory_limit=0, dashboard_address=":0", silence_logs=50) as cluster, Client(cluster) as client:
+    with LocalCluster(n_workers=int(sys.argv[1]), threads_per_worker=1, memory_limit=0, dashboard_address=":0", silence_logs=50) as cluster, Client(cluster) as client:
         print(cluster.scheduler_address, flush=True)
         for _ in sys.stdin:
             print(*client.run(os.getpid).values(), flush=True)

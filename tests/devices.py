@@ -170,14 +170,11 @@ def full_disks(tally):
             tally.check(f"a file of at most {most} bytes", failed_write(run, written_to(run, folder, folder / "out", most)))
         tally.check("a file of as many bytes as are needed", right(run, written_to(run, folder, folder / "out", len(run.stdout))))
         disk = folder / "disk"
-        disk.mkdir()
-        if subprocess.run(["mount", "-t", "tmpfs", "-o", "size=256k", "none", disk], capture_output=True).returncode:
-            print("no small file system can be mounted: a full disk is tried by a limit alone")
-            return
-        try:
-            tally.check("a disk of 256 KB", failed_write(run, written_to(run, folder, disk / "out")))
-        finally:
-            subprocess.run(["umount", disk], check=True)
+        with harness.disk(disk, 256) as is_mounted:
+            if is_mounted:
+                tally.check("a disk of 256 KB", failed_write(run, written_to(run, folder, disk / "out")))
+            else:
+                print("no small file system can be mounted: a full disk is tried by a limit alone")
 
 
 def run_all(tally):

@@ -1,6 +1,5 @@
 """Random cases: a program, its words, its files and its standard input."""
 import fuzz_clauses
-from oracle import scaled
 
 KINDS = ("clauses", "files", "joins", "scripts", "lines")
 # How often each kind comes, of a hundred.
@@ -42,16 +41,18 @@ def mutated(source, content, pieces):
 
 
 FILE_PIECES = [b",", b'"', b'""', b"\n", b"\r", b"\r\n", b"\xef\xbb\xbf", b"\xff", b"\xc3\xa9", b"\xed\xa0\x80", b" ", b"", b"0", b"-", b"+7", b"NULL", b"a", b"A", b"9223372036854775807", b"-9223372036854775808", b"9223372036854775808", b"00000000000000000000012", b"\x00"]
-CELLS = {"int": [b"0", b"1", b"-1", b"+2", b"007", b"-0", b"", b"9223372036854775807", b"-9223372036854775808"], "text": [b"x", b"", b'"a,b"', b'"say ""hi"""', b"\xc3\xa9", b'"line\nbreak"', b"NULL", b"1", b'"\r"']}
+CELLS = {
+    "int": [b"0", b"1", b"-1", b"+2", b"007", b"-0", b"", b"9223372036854775807", b"-9223372036854775808"],
+    "text": [b"x", b"", b'"a,b"', b'"say ""hi"""', b"\xc3\xa9", b'"line\nbreak"', b"NULL", b"1", b'"\r"'],
+    "num(4,2)": [b"1", b"1.5", b"-0.05", b"+99.990", b"007.00", b"", b"-1", b"100", b"1.005", b"1."],
+    "num(18,18)": [b"0", b"0.1", b"-0.000000000000000001", b"0.1000000000000000000", b"1", b"", b"-.1"],
+}
 NAMES = [b"a", b"b", b"c", b"k", b"A", b"B", b"t", b"\xc3\xa9", b'"x y"', b"n" * 128]
 NULLS = [b"", b"", b"NULL", b"-", b"x", b"\\N"]
 BAD_NULLS = [b"7", b"a b", b'"', b",", b"x" * 17, b"\xc3\xa9", b"\x7f"]
 FILE_CLAUSES = [b"CROSS JOIN", b"NATURAL FULL JOIN", b"FULL JOIN USING (a)", b"LEFT JOIN ON L.a = R.a", b"RIGHT JOIN ON L.b IS NULL"]
 FILE_TYPES = [["int"], ["text"], ["int", "text"], ["text", "int"], ["text", "text", "text"], ["int", "int", "int"]]
-if scaled.ARE_TOLD:
-    CELLS["num(4,2)"] = [b"1", b"1.5", b"-0.05", b"+99.990", b"007.00", b"", b"-1", b"100", b"1.005", b"1."]
-    CELLS["num(18,18)"] = [b"0", b"0.1", b"-0.000000000000000001", b"0.1000000000000000000", b"1", b"", b"-.1"]
-    FILE_TYPES += [["num(4,2)"], ["num(4,2)", "text"], ["int", "num(18,18)", "num(4,2)"]]
+FILE_TYPES += [["num(4,2)"], ["num(4,2)", "text"], ["int", "num(18,18)", "num(4,2)"]]
 WORDS = [of for of in CELLS if of != "num(18,18)"]
 
 SCRIPT_PIECES = [b" ", b"  ", b"\n", b"\r\n", b"\r", b"0", b"1", b"-1", b"+1", b"x", b"close", b"rows", b" rows 1", b"\xff", b"4294967295", b"4294967296", b"18446744073709551615", b"18446744073709551616", b"000000000000000000000000001"]

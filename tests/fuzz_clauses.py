@@ -1,12 +1,12 @@
 """Random texts of join clauses: lawful ones, their mutations, and bytes from anywhere. Always UTF-8, as every word is."""
-from oracle import scaled
 
 # The names of the tables that the clauses are over; their types vary.
 COLUMNS = ([b"a", b"t", b"Key", b"x_1"], [b"a", b"T", b"key", b"y"])
 NAMES = ["a", "t", "T", "Key", "kEY", "x_1", "y", '"Key"', '"key"', '"T"', '"x_1"', "zip", '"a""b"', "L.a", "R.a", "l.t", 'r."T"', "L . Key", '"L".a', '"l".a', "Q.a", "R.y", "L.x_1"]
-LITERALS = {"int": ["0", "1", "-1", "+2", "007", "9223372036854775807", "-9223372036854775808"], "text": ["'x'", "''", "'it''s'", "'é'", "'1'", "'\"'"]}
-if scaled.ARE_TOLD:
-    LITERALS["int"] += ["1.5", "-0.05", "2.0", "0.000000000000000001", "0.0000000000000000001", "1.0a"]
+LITERALS = {
+    "int": ["0", "1", "-1", "+2", "007", "9223372036854775807", "-9223372036854775808", "1.5", "-0.05", "2.0", "0.000000000000000001", "0.0000000000000000001", "1.0a"],
+    "text": ["'x'", "''", "'it''s'", "'é'", "'1'", "'\"'"],
+}
 TOKENS = "AND BETWEEN CROSS FALSE FULL IN INNER IS JOIN LEFT NATURAL NOT NULL ON OR OUTER RIGHT TRUE UNKNOWN USING = <> < > <= >= ( ) , . ' \" '' \"\" 1 -1 9223372036854775808 -9223372036854775809 1a + - ! ; a L.a R.a SELECT 'x 'x''y' é \t \n 0x1 1.5 1. .5 _a a_ $ \\ /* -- NOT( IS( '\n'".split(" ")
 OPERATORS = ["=", "=", "<>", "<", ">", "<=", ">="]
 

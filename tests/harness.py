@@ -1,8 +1,10 @@
 """What the tests over the built programs share: running a program, and counting what passed."""
 import concurrent.futures
+import contextlib
 import os
 import pathlib
 import subprocess
+import sys
 import tempfile
 
 ROOT = pathlib.Path(__file__).resolve().parent.parent
@@ -98,3 +100,25 @@ def shorten(value):
 def folder():
     """A new folder for a test's files, gone with it."""
     return tempfile.TemporaryDirectory(prefix="radixjoin-test-")
+
+
+@contextlib.contextmanager
+def disk(place, size):
+    """A small file system of so many KiB at a place, while the block runs. It gives whether one could be mounted."""
+    place.mkdir(exist_ok=True)
+    if subprocess.run(["mount", "-t", "tmpfs", "-o", f"size={size}k", "none", place], capture_output=True, check=False).returncode:
+        yield False
+        return
+    try:
+        yield True
+    finally:
+        subprocess.run(["umount", place], check=True)
+
+
+def python_with(*modules):
+    """A Python that has all of some modules, or None."""
+    for python in (sys.executable, "/usr/bin/python3"):
+        with contextlib.suppress(OSError):
+            if subprocess.run([python, "-c", f"import {', '.join(modules)}"], capture_output=True, check=False).returncode == 0:
+                return python
+    return None

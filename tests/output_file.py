@@ -1,5 +1,4 @@
 """The file of `--output`: it has the whole result, or what it had before, and nothing is left beside it."""
-import contextlib
 import os
 import pathlib
 import signal
@@ -235,27 +234,14 @@ def large(folder):
     return words, run("radixjoin", words, folder).stdout
 
 
-@contextlib.contextmanager
-def disk(place, size):
-    """A small file system at a place, or False where none can be mounted."""
-    place.mkdir()
-    if subprocess.run(["mount", "-t", "tmpfs", "-o", f"size={size}k", "none", place], capture_output=True, check=False).returncode:
-        yield False
-        return
-    try:
-        yield True
-    finally:
-        subprocess.run(["umount", place], check=True)
-
-
 def full_disks(folder):
     """On a disk without room for the result what stood there stays, and with room the result is whole."""
     words, joined = large(folder)
     for share, fits in ((0.02, False), (0.5, False), (0.9, False), (2, True)):
         size = max(4, int(len(joined) * share / 1024))
         place = folder / f"disk-{size}"
-        with disk(place, size) as mounted:
-            if not mounted:
+        with harness.disk(place, size) as is_mounted:
+            if not is_mounted:
                 print("output_file: full disks are left out, since no small file system can be mounted")
                 return
             written = Written(place, b"x")

@@ -3,7 +3,6 @@
 Frames need pandas, values Hypothesis, and the cluster Dask, which `./test` installs (Debian's python3-pandas, python3-hypothesis and
 python3-distributed). What needs one that can't be had is left out, and says so."""
 import ast
-import contextlib
 import json
 import os
 import pathlib
@@ -20,15 +19,6 @@ JOINS = 10_000
 AT_ONCE = 500
 SECONDS = 600
 OLDEST = (3, 9)
-
-
-def python_with(*modules):
-    """A Python that has all of some modules, or None."""
-    for python in (sys.executable, "/usr/bin/python3"):
-        with contextlib.suppress(OSError):
-            if subprocess.run([python, "-c", f"import {', '.join(modules)}"], capture_output=True, check=False).returncode == 0:
-                return python
-    return None
 
 
 def environment(**more):
@@ -54,13 +44,14 @@ def run_script(python, name, *words):
 
 def tasks_of_scripts(programs):
     """All scripts, each by a Python that has what it needs."""
-    frames = python_with("pandas")
+    frames = harness.python_with("pandas")
     yield run_script(frames or sys.executable, "faults")
     yield run_script(frames or sys.executable, "nulls")
+    yield run_script(frames or sys.executable, "chosen")
     needed = {"values": ("pandas", "hypothesis"), "memory": ("pandas",), "pages": ("pandas",), "clusters": ("distributed",)}
     words = {"pages": [harness.ROOT / "docs" / "python.md"], "clusters": [programs]}
     for script, modules in needed.items():
-        python = python_with(*modules)
+        python = harness.python_with(*modules)
         if python is None:
             print(f"skipped: tests/python/{script}.py: not installed: {' or '.join(modules)}")
         else:
@@ -72,7 +63,7 @@ def tasks_of_scripts(programs):
 
 def installed(tally):
     """`pip install` of the folder, without a network: the package that it installs is the one here."""
-    python = python_with("setuptools", "wheel", "pip")
+    python = harness.python_with("setuptools", "wheel", "pip")
     if python is None:
         print("skipped: pip install ./python: pip, setuptools or wheel is not installed")
         return

@@ -6,7 +6,7 @@
 `join` takes DataFrames, rows, open files and paths, and gives what came in; a fault is a `Fault`, of which there is a class for
 each exit status of the program. `radixjoin.cluster` joins what is larger than memory, over a Dask cluster.
 """
-from .faults import ClauseFault, DeviceFault, Fault, InputFault, LineFault, MemoryFault
+from .faults import ClauseFault, DeviceFault, ExpectationFault, Fault, InputFault, LineFault, MemoryFault
 from .joining import Stats, join, stats
 from .programs import ProgramNotFound
 from .rows import Rows
@@ -14,6 +14,7 @@ from .rows import Rows
 __all__ = [
     "ClauseFault",
     "DeviceFault",
+    "ExpectationFault",
     "Fault",
     "InputFault",
     "LineFault",

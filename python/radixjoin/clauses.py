@@ -34,6 +34,8 @@ def clause_of(clause: Optional[str], using: Union[str, Sequence[str], None], on:
     if natural:
         return f"NATURAL {_HOW[how]}JOIN"
     if on is not None:
+        if not isinstance(on, str):
+            raise TypeError("on= is a condition, as 'L.id = R.id'; names of columns that both tables have are given by using=")
         return f"{_HOW[how]}JOIN ON {on}"
     names = [using] if isinstance(using, str) else list(using or ())
     if not names or not all(isinstance(name, str) for name in names):
@@ -89,10 +91,11 @@ def needs_names(clause: str) -> bool:
     return "NATURAL" in tokens or "USING" in tokens
 
 
-def result_columns(clause: str, left: Sequence[Column], right: Sequence[Column]) -> List[Column]:
+def result_columns(clause: str, left: Sequence[Column], right: Sequence[Column], which: str = "all") -> List[Column]:
     """The columns of the result of a clause that the program accepted: those of USING and NATURAL once, then the other left
-    ones, then the other right ones."""
+    ones, then the other right ones. Where `which` names a side, those of the other side alone are left out, as by `--columns`."""
     pairs = _partners(clause, left, right)
     lefts, rights = {i for i, _ in pairs}, {j for _, j in pairs}
     once = [left[i].coalesced(right[j]) for i, j in pairs]
-    return once + [it for i, it in enumerate(left) if i not in lefts] + [it for j, it in enumerate(right) if j not in rights]
+    others = {"left": [it for i, it in enumerate(left) if i not in lefts], "right": [it for j, it in enumerate(right) if j not in rights]}
+    return once + [it for side, some in others.items() if which in ("all", side) for it in some]

@@ -53,7 +53,7 @@ SIDES = ("left", "right")
 # The options that may be given again.
 SEVERAL = ("--left-null", "--right-null")
 PLACES = {"left": LEFT, "right": RIGHT}
-LIMITS = (("parts", 1, 1024), ("processes", 1, 1024), ("ranges", 1, 100_000), ("merges", 1, 1024))
+LIMITS = (("parts", 1, 1024), ("processes", 1, 1024), ("ranges", 1, 100_000), ("merges", 1, 1024), ("memory", 1, 1 << 40))
 PROGRAMS = ("radixjoin", "shards", "merges")
 # What the system tells where there is no room, which no second try changes.
 FULL = (errno.ENOSPC, errno.EDQUOT, errno.EROFS)
@@ -79,8 +79,8 @@ class Told(Exception):
         return re.match(rf"radixjoin: \w+ \w+ {side}\b", self.line) is not None
 
 
-def read_line(words: Sequence[str]) -> argparse.Namespace:
-    """What the words of the command line ask for."""
+def parser() -> argparse.ArgumentParser:
+    """What reads a command line, and has its help."""
     line = argparse.ArgumentParser(prog="radixjoin-cluster", description=__doc__, formatter_class=argparse.RawDescriptionHelpFormatter, allow_abbrev=False)
     for side in SIDES:
         line.add_argument(f"--{side}", required=True, metavar="FILE", help=f"CSV file of the {side} table, which every process can read")
@@ -108,6 +108,12 @@ def read_line(words: Sequence[str]) -> argparse.Namespace:
         line.add_argument(f"--{option}", metavar="X", help=f"as radixjoin's --{option}, for the join of each shard")
     for option in OF_WHOLE_TABLES:
         line.add_argument(f"--{option}", help=argparse.SUPPRESS)
+    return line
+
+
+def read_line(words: Sequence[str]) -> argparse.Namespace:
+    """What the words of the command line ask for."""
+    line = parser()
     asked = line.parse_args(with_lists(words))
     given = [word.partition("=")[0] for word in words if word.startswith("--")]
     for option in given:
@@ -266,6 +272,9 @@ def output_of(job: Job) -> Iterator[None]:
     try:
         if os.path.isdir(job.out):
             raise IsADirectoryError(errno.EISDIR, os.strerror(errno.EISDIR))
+        if os.path.exists(job.out) and not os.path.isfile(job.out):
+            # (a device would be gone behind the rename)
+            raise unwritten(job.out, "it is no regular file")
         with open(job.half, "xb"):
             pass
     except OSError as error:
@@ -490,7 +499,7 @@ class Cluster:
 
     def processes(self) -> int:
         """How many there are."""
-        return max(1, len(self.client.scheduler_info()["workers"]))
+        return max(1, len(self.client.nthreads()))
 
 
 def first_fault(answers: Sequence[Any]) -> None:
@@ -641,7 +650,7 @@ def cluster_of(asked: argparse.Namespace) -> Iterator[Cluster]:
         with Client(asked.scheduler) as client:
             yield Cluster(client, asked.progress)
         return
-    with LocalCluster(asked.processes, threads_per_worker=1, memory_limit=0, dashboard_address=":0", silence_logs=50) as cluster, Client(cluster) as client:
+    with LocalCluster(n_workers=asked.processes, threads_per_worker=1, memory_limit=0, dashboard_address=":0", silence_logs=50) as cluster, Client(cluster) as client:
         yield Cluster(client, asked.progress)
 
 
@@ -721,21 +730,25 @@ def _types(side: str, types: Types) -> str:
 
 
 def ended_by(number: int, _: Any) -> None:
-    """Ends the script where a signal asks for it: what is half made is removed."""
+    """Ends the script where a signal asks for it: what is half made is removed, and goes on being so where it asks again."""
+    signal.signal(number, signal.SIG_IGN)
     sys.exit(128 + number)
 
 
 def main() -> int:
     """The command line."""
-    for number in (signal.SIGTERM, signal.SIGINT):
-        signal.signal(number, ended_by)
+    for number in (signal.SIGTERM, signal.SIGINT, signal.SIGHUP):
+        # (what nohup starts goes on when its terminal is gone)
+        if number != signal.SIGHUP or signal.getsignal(number) != signal.SIG_IGN:
+            signal.signal(number, ended_by)
     try:
         asked = read_line(sys.argv[1:])
         run_in(asked, cluster_of(asked))
     except (Told, Fault) as fault:
         print(fault, file=sys.stderr)
         return fault.status
-    except (OSError, RuntimeError) as error:
+    except (OSError, RuntimeError, ImportError) as error:
+        # (of a module it is Dask that isn't there)
         print(f"radixjoin-cluster: {error}", file=sys.stderr)
         return 6 if isinstance(error, OSError) else 1
     return 0

@@ -22,10 +22,10 @@ class Fault(Exception):
         told = re.match(r"[\w-]+: (E\d+) (\w+)", line)
         self.code: Optional[str] = told[1] if told else None
         self.name: Optional[str] = told[2] if told else None
+        side = re.match(r"[\w-]+: (?:E\d+ \w+|bad type list|more than four null texts|the) (left|right)\b", line)
+        self.side: Optional[str] = side[1] if side else None
         # (a name of a list of types, or of a folder, stands between double quotes, and may have any words)
         place = line.partition('"')[0]
-        side = re.search(r"\b(left|right)\b", place)
-        self.side: Optional[str] = side[1] if side else None
         self.row = _number(place, "row")
         self.column = _number(place, "column")
         self.byte = _number(place, "byte")
@@ -42,7 +42,7 @@ class LineFault(Fault):
 
 
 class InputFault(Fault):
-    """A table's content or the null text was refused (status 3)."""
+    """A table's content, a null text, or a cell or a name of the result was refused (status 3)."""
 
 
 class ClauseFault(Fault):
@@ -57,7 +57,11 @@ class DeviceFault(Fault):
     """A file couldn't be read, or the result not be written (status 6)."""
 
 
-_CLASSES: Dict[int, Type[Fault]] = {2: LineFault, 3: InputFault, 4: ClauseFault, 5: MemoryFault, 6: DeviceFault}
+class ExpectationFault(Fault):
+    """The joined table isn't as `expect=` or `max_rows=` says (status 7)."""
+
+
+_CLASSES: Dict[int, Type[Fault]] = {2: LineFault, 3: InputFault, 4: ClauseFault, 5: MemoryFault, 6: DeviceFault, 7: ExpectationFault}
 
 
 def _made(of: Type[Fault], line: str, status: int, explanation: str) -> Fault:

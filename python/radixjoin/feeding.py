@@ -71,7 +71,8 @@ def _write(feeds: Sequence[_Feed]) -> None:
 
 def run_program(line: Sequence[str], inputs: Sequence[Input], **how: Any) -> "subprocess.CompletedProcess[bytes]":
     """Runs a program whose last words are the names of these inputs, if there are any. What goes wrong with one ends the program first: it
-    never takes the beginning of an input for the whole."""
+    never takes the beginning of an input for the whole. What the program prints isn't read before it has all inputs, so that with
+    inputs more than a pipe holds has to go to a file."""
     if inputs:
         _allow_many_files()
     with contextlib.ExitStack() as stack:

@@ -4,10 +4,10 @@ from __future__ import annotations
 import contextlib
 import os
 import re
-import stat
 import subprocess
 import uuid
 from dataclasses import dataclass
+from itertools import chain
 from typing import Any, Dict, FrozenSet, Iterator, List, Mapping, Optional, Sequence, Tuple, Union
 
 from . import programs, text
@@ -58,7 +58,7 @@ class _Asked:
         try:
             for side, table in (("left", left), ("right", right)):
                 self.tables.append(_table(side, table, types[side], names[side], watched))
-            self.nulls.choose(self.tables, self.output is None)
+            self.nulls.choose(self.tables, self.output is None, bool(strict) and "strict" in known)
             self.words: List[Union[str, bytes]] = [*words, *self._strict(strict, known), b"--join=" + given(clause)]
             self.words += [f"--{table.side}-types={table.types_given()}" for table in self.tables]
             self.words += self.nulls.words(known)
@@ -95,8 +95,9 @@ def _table(side: str, table: Any, types: Types, names: Any, watched: FrozenSet[s
         return table_of_path(side, table, types)
     if hasattr(table, "read"):
         return FileTable(side, table, types)
-    if isinstance(table, Mapping) or not hasattr(table, "__iter__"):
-        raise TypeError(f"{side} is {type(table).__name__}, and neither a path, an open file, a DataFrame nor rows")
+    if isinstance(table, Mapping) or not hasattr(table, "__iter__") or hasattr(table, "dtypes"):
+        # (a frame that isn't pandas' gives its columns one by one)
+        raise TypeError(f"{side} is {type(table).__module__}.{type(table).__qualname__}, and neither a path, an open file, a pandas.DataFrame nor rows")
     return RowsTable(side, table, names, types, watched)
 
 
@@ -129,7 +130,7 @@ def join(
     **options: Any,
 ) -> Any:
     """Joins two tables as SQL-92 says, in the order that the program fixes: pairs by left, then right row, then the rows of
-    either side that are in no pair.
+    either side that are in no pair; or, with `order="left"`, each left row at its place.
 
     `left` and `right` are each a path, a file open for reading bytes, a pandas.DataFrame, or rows: an iterable of mappings, or of
     sequences with `columns=` (a list for both sides, or a pair of lists; or `left_columns=`, `right_columns=`).
@@ -147,7 +148,8 @@ def join(
 
     `strict` has files read by RFC 4180's grammar alone. `null` is the text that stands for null in files, read and written (the
     empty field unless given); `left_null` and `right_null` are those of one table, a text or up to four, and `out_null` is the one
-    that is written. `program` is the path of the program. All other options are the program's own, as `bits1=6`.
+    that is written. `program` is the path of the program. All other options are the program's own, as `bits1=6`,
+    `rows="lone-left"`, `columns="left"`, `repeated="_right"` or `expect="many-to-one"`.
 
     Raises:
         Fault: the program told a fault; a subclass for each exit status.
@@ -215,7 +217,7 @@ def _stats_in(told: str) -> Stats:
 def _columns(asked: _Asked, names: Sequence[str], which: str) -> List[Column]:
     """The columns of the result, whose header has these names."""
     left, right = ([Column(None, word) for word in table.words()] if not _has_names(asked, table) else table.columns() for table in asked.tables)
-    columns = {"left": left, "right": right}.get(which) or result_columns(asked.clause, left, right)
+    columns = result_columns(asked.clause, left, right, which)
     if len(columns) != len(names):
         raise RuntimeError(f"radixjoin wrote {len(names)} columns, and not {len(columns)}")
     return columns
@@ -227,49 +229,63 @@ def _has_names(asked: _Asked, table: Table) -> bool:
 
 
 def _read(asked: _Asked, is_of_frames: bool, are_dicts: bool, which: str) -> Any:
-    """The result, as a frame or as rows. A fault is raised before the first row is given."""
-    for table in asked.tables:
-        if needs_names(asked.clause) or table.needs_names():
-            # (before the program takes what can be read only once)
-            table.columns()
-    run = asked.run()
+    """The result, as a frame or as rows. A fault is raised before the first row is given, unless the program tells it when it has
+    written some."""
     try:
-        pieces = text.blocks(run.stdout)
-        first = next(pieces, None)
-        if first is None:
-            run.end()
-            raise RuntimeError("radixjoin wrote nothing")
-        names, rest = text.split_header(first)
+        for table in asked.tables:
+            if needs_names(asked.clause) or table.needs_names():
+                # (before the program takes what can be read only once)
+                table.columns()
+        run = asked.run()
+    except BaseException:
+        asked.close()
+        raise
+    try:
+        pieces = _written(run)
+        names, rest = text.split_header(next(pieces))
         columns = _columns(asked, names, which)
         if is_of_frames:
             try:
-                return frame_of(names, columns, _fields(rest, pieces, run), asked.nulls.out)
+                return frame_of(names, columns, _fields(rest, pieces), asked.nulls.out)
             finally:
                 run.close()
         if are_dicts and len(set(names)) < len(names):
             twice = next(name for at, name in enumerate(names) if name in names[:at])
-            raise ValueError(f"the result has two columns {twice!r}, and a dict one: join by using=, rename one, or give sequences with columns=")
-        return Rows(names, columns, _fields(rest, pieces, run), asked.nulls.out, are_dicts, run.close)
+            how = "join by using=, say repeated='qualify', rename one, or give sequences with columns="
+            raise ValueError(f"the result has two columns {twice!r}, and a dict one: {how}")
+        return Rows(names, columns, _fields(rest, pieces), asked.nulls.out, are_dicts, run.close)
     except BaseException:
         run.close()
         raise
 
 
-def _fields(rest: str, pieces: Iterator[str], run: Run) -> Iterator[List[str]]:
-    """The fields of the rows, some at a time, and a fault where the program told one at its end."""
-    if rest:
-        yield text.fields_in(rest)
-    for piece in pieces:
-        yield text.fields_in(piece)
+def _written(run: Run) -> Iterator[bytes]:
+    """What the program writes, in pieces of whole records. The last piece is given once the program has ended without a fault: one
+    that was broken off may have ended in the middle of a record."""
+    last = b""
+    for piece in text.pieces(run.stdout):
+        if last:
+            yield last
+        last = piece
     run.end()
+    if not last:
+        raise RuntimeError("radixjoin wrote nothing")
+    yield last
+
+
+def _fields(rest: bytes, pieces: Iterator[bytes]) -> Iterator[List[str]]:
+    """The fields of the rows, some at a time."""
+    for piece in chain([rest] if rest else [], pieces):
+        yield text.fields_in(piece.decode())
 
 
 def _to_file(asked: _Asked, output: Union[str, "os.PathLike[str]"]) -> Any:
     """Writes the result to a path: by a new file beside it that takes its place at the end; what is no regular file, as a
     pipe, is written as it is. It gives the path."""
-    path = os.path.realpath(output)
-    is_other = os.path.exists(path) and not stat.S_ISREG(os.stat(path).st_mode)
-    new = path if is_other else os.path.join(os.path.dirname(path), f".{os.path.basename(path)[:50]}.{uuid.uuid4().hex}")
+    name = os.fsdecode(output)
+    # (asked of the name itself, since the pipe behind /dev/stdout has no path)
+    is_other, path = os.path.exists(name) and not os.path.isfile(name), os.path.realpath(name)
+    new = name if is_other else os.path.join(os.path.dirname(path), f".{os.path.basename(path)[:50]}.{uuid.uuid4().hex}")
     try:
         with _told_as_fault(output):
             file = open(new, "wb" if is_other else "xb")
@@ -297,4 +313,4 @@ def _told_as_fault(output: Union[str, "os.PathLike[str]"]) -> Iterator[None]:
     try:
         yield
     except OSError as error:
-        raise DeviceFault("radixjoin: E20 WriteDevice", 6, f"  {os.fspath(output)}: {error.strerror}") from error
+        raise DeviceFault("radixjoin: E20 WriteDevice", 6, f"  {os.fsdecode(output)}: {error.strerror}") from error

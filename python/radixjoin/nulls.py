@@ -48,14 +48,16 @@ class Nulls:
         """The one that is written for null."""
         return self.written if self.written is not None else self.null or ""
 
-    def choose(self, tables: Sequence[Table], is_read: bool) -> None:
+    def choose(self, tables: Sequence[Table], is_read: bool, is_told: bool) -> None:
         """Chooses what isn't given. Where this package writes all that is read, and reads all that is written, the null text is one
         that no cell has; where it reads what is written, the one written for null is one of both tables, or one that nobody
-        has made before."""
+        has made before. One that is given for it stays where the program tells a cell that has it."""
         is_free = self.null is None and self.written is None and not any(self.given.values())
+        is_open = any(self.given.values()) if self.written is None else not is_told
         if is_read and is_free and all(table.is_written for table in tables):
             self.null = _free(tables)
-        elif is_read and self.written is None and any(self.given.values()):
+            return
+        if is_read and is_open:
             common = [text for text in [self.out, *self.of("left")] if all(text in self.of(side) for side in SIDES)]
             self.written = common[0] if common else "~" + "".join(random.SystemRandom().choices(string.ascii_lowercase, k=15))
         for table in tables:

@@ -45,9 +45,8 @@ class _Feeder(threading.Thread):
             try:
                 with open(number, "wb", buffering=0, closefd=False) as pipe:
                     for chunk in table.chunks(self.nulls[table.side]):
-                        _write(pipe, chunk)
-            except BrokenPipeError:
-                pass
+                        if not _is_taken(pipe, chunk):
+                            break
             except BaseException as error:  # pylint: disable=broad-except
                 self.failed = error
                 cast("subprocess.Popen[bytes]", self.process).kill()
@@ -158,8 +157,12 @@ def _uninterrupted() -> Iterator[None]:
             before(*came[0])
 
 
-def _write(pipe: Any, chunk: bytes) -> None:
-    """Writes all of a chunk."""
+def _is_taken(pipe: Any, chunk: bytes) -> bool:
+    """Writes all of a chunk. It gives whether the program took it, or doesn't read the pipe any more."""
     rest = memoryview(chunk)
-    while rest:
-        rest = rest[pipe.write(rest) :]
+    try:
+        while rest:
+            rest = rest[pipe.write(rest) :]
+    except BrokenPipeError:
+        return False
+    return True

@@ -1,6 +1,7 @@
 """The tables that are joined: of a path, an open file or rows. Frames stand in `frames`."""
 from __future__ import annotations
 
+import errno
 import io
 import numbers
 import os
@@ -10,7 +11,7 @@ import tempfile
 from abc import ABC, abstractmethod
 from decimal import Decimal
 from itertools import chain, islice
-from typing import Any, BinaryIO, Dict, FrozenSet, Iterable, Iterator, List, Mapping, Optional, Sequence, Set, Tuple
+from typing import Any, BinaryIO, Dict, FrozenSet, Iterable, Iterator, List, Mapping, Optional, Sequence, Set
 
 from . import text
 from .columns import Column, Types, by_name, declared_of, list_of_types, text_of, words_under
@@ -18,6 +19,8 @@ from .lists import is_by_name
 
 _CHUNK = 1 << 20
 _ROWS = 8_192
+# What the names of a process's own files begin with.
+_OWN = ("/dev/stdin", "/dev/fd/", "/proc/self/")
 
 
 class Table(ABC):
@@ -70,7 +73,7 @@ class _Given(Table):
 
     def __init__(self, side: str, types: Types) -> None:
         if types is None:
-            raise ValueError(f"{side}_types has to be given: of a file types are declared, never guessed")
+            raise ValueError(f"{side}_types has to be given: of a file types are declared, never guessed (radixjoin --suggest-types FILE prints a list to look at)")
         self.side = side
         # The types by Python's own names of columns, or the program's list of them.
         self.by_name = types if isinstance(types, Mapping) else {}
@@ -143,14 +146,21 @@ class FileTable(_Given):
         if number is not None:
             return os.pread(number, _CHUNK, 0)
         if self.begun is None:
-            self.begun = self._read()
+            self.begun = read = self._read()
+            while read and len(self.begun) < _CHUNK and text.end_of_record(self.begun) == len(self.begun):
+                # (a pipe gives what it has, which may be a part of the header)
+                read = self._read()
+                self.begun += read
         return self.begun
 
     def _read(self) -> bytes:
+        """The next bytes, none at the end."""
         read = self.file.read(_CHUNK)
-        if read is not None and not isinstance(read, (bytes, bytearray, memoryview)):
+        if read is None:
+            raise BlockingIOError(errno.EAGAIN, f"the {self.side} file doesn't wait for what comes later; it has to be one that does (os.set_blocking)")
+        if not isinstance(read, (bytes, bytearray, memoryview)):
             raise TypeError(f"the {self.side} file is open for text; it has to be opened with mode 'rb'")
-        return bytes(read or b"")
+        return bytes(read)
 
     def chunks(self, null: str) -> Iterator[bytes]:
         read = self._read() if self.begun is None else self.begun
@@ -164,12 +174,13 @@ class FileTable(_Given):
 
 
 def table_of_path(side: str, path: Any, types: Types) -> Table:
-    """The table of a path. A pipe that has a name is opened here, since its header can be read only once."""
+    """The table of a path. A pipe that has a name is opened here, since its header can be read only once, and so is what has another
+    meaning for the program, as its own standard input."""
     try:
-        is_pipe = stat.S_ISFIFO(os.stat(path).st_mode)
+        is_opened = stat.S_ISFIFO(os.stat(path).st_mode) or os.fsdecode(path).startswith(_OWN)
     except OSError:
-        is_pipe = False
-    return FileTable(side, open(path, "rb"), types, owned=True) if is_pipe else PathTable(side, path, types)
+        is_opened = False
+    return FileTable(side, open(path, "rb"), types, owned=True) if is_opened else PathTable(side, path, types)
 
 
 def _anonymous() -> BinaryIO:

@@ -7,14 +7,15 @@ from __future__ import annotations
 import csv
 import io
 import re
-from typing import BinaryIO, Iterable, Iterator, List, Sequence
+from typing import BinaryIO, Iterable, Iterator, List, Sequence, Tuple
 
 # Stands for a null in a text that is to be written, until the null text is known: a lone surrogate, which no text has in UTF-8.
 NULL = "\udfff"
 _NULL = NULL.encode("utf-8", "surrogatepass")
 _SPECIAL = re.compile('[,"\r\n]')
 _SURROGATE = re.compile("[\ud800-\udfff]")
-_QUOTED = re.compile('"((?:[^"]+|"")*)"')
+# (each run of other letters ends at a quote, so that a text without a last quote is seen to be none in one pass)
+_QUOTED = re.compile('"([^"]*(?:""[^"]*)*)"')
 _BLOCK = 1 << 22
 _HEADER = 1 << 20
 # The bytes that are neither quotes nor line feeds.
@@ -106,11 +107,6 @@ def pieces(stream: BinaryIO, size: int = _BLOCK) -> Iterator[bytes]:
         yield rest
 
 
-def blocks(stream: BinaryIO) -> Iterator[str]:
-    """What a stream gives to its end, in blocks of whole records."""
-    return (piece.decode() for piece in pieces(stream))
-
-
 def end_of_record(piece: bytes, begin: int = 0) -> int:
     """Behind the line feed of the record that begins at a byte of some bytes; behind all of them where it has none."""
     end, quotes = begin, 0
@@ -175,10 +171,7 @@ def fields_in(block: str) -> List[str]:
     return found
 
 
-def split_header(block: str) -> "tuple[List[str], str]":
-    """The names of a first block's header, and what follows it."""
-    end = 0
-    while True:
-        end = block.index("\n", end) + 1
-        if block.count('"', 0, end) % 2 == 0:
-            return _fields_in(block[: end - 1]), block[end:]
+def split_header(piece: bytes) -> Tuple[List[str], bytes]:
+    """The names of a first piece's header, and what follows it."""
+    end = end_of_record(piece)
+    return fields_in(piece[:end].decode()), piece[end:]

@@ -18,7 +18,7 @@ WHITE = re.compile(rb"[ \t\n\r]*")
 FORMS = [
     ("word", re.compile(rb"[A-Za-z][A-Za-z0-9_]*")),
     ("delimited", re.compile(rb'"(?:[^"]|"")+"(?!")')),
-    ("decimal", re.compile(rb"[+-]?[0-9]+\.[0-9]+" if scaled.ARE_TOLD else rb"(?!)")),
+    ("decimal", re.compile(rb"[+-]?[0-9]+\.[0-9]+")),
     ("integer", re.compile(rb"[+-]?[0-9]+")),
     ("text", re.compile(rb"'(?:[^']|'')*'(?!')")),
     ("sign", re.compile(rb"<>|<=|>=|[=<>(),.]")),

@@ -2,7 +2,6 @@
 import re
 
 from .faults import Fault
-from . import scaled
 from .scaled import Scaled
 
 MOST_ROWS = 2**31 - 1
@@ -186,7 +185,7 @@ def read_row(record, types, nulls, side, row):
 
 def type_called(word):
     """The type of a word of a type list, or None."""
-    found = re.fullmatch(NUM, word) if scaled.ARE_TOLD else None
+    found = re.fullmatch(NUM, word)
     if not found:
         return TYPES.get(word)
     digits, scale = int(found[1]), int(found[2])

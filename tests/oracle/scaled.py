@@ -1,11 +1,6 @@
-"""Numbers with digits after the point, of columns `num(p,s)` and of decimal literals, where docs/specification.md has them."""
+"""Numbers with digits after the point, of columns `num(p,s)` and of decimal literals."""
 import fractions
 import functools
-import pathlib
-
-PAGE = (pathlib.Path(__file__).resolve().parents[2] / "docs" / "specification.md").read_text()
-# Whether the page has the type at all.
-ARE_TOLD = "num(p,s)" in PAGE
 
 
 def value_of(number):

@@ -37,7 +37,7 @@ def joins(client, programs, folder):
     left.write_text(LEFT + "x,y\n")
     error = telling.raised(cluster.join, client, left, right, CLAUSE, ranges=2, **options)
     yield from telling.differs("a fault's place", repr(error), repr(radixjoin.InputFault("radixjoin: E6 BadInteger left row 3001 column 1", 3)))
-    for named in ({"parts": 0}, {"no_such_option": 1}, {"ranges": 0}):
+    for named in ({"parts": 0}, {"no_such_option": 1}, {"ranges": 0}, {"memory": 0}):
         error = telling.raised(cluster.join, client, left, right, CLAUSE, **named, **options)
         yield from [] if isinstance(error, (TypeError, ValueError)) and next(iter(named)) in str(error) else [f"{named}: {error!r}"]
     yield from telling.differs("files", sorted(os.listdir(folder)), ["alone.csv", "left.csv", "right.csv"])
@@ -83,6 +83,7 @@ def command(programs, folder):
         (["--nul", "x"], b"unrecognized arguments"),
         (["--out", "other.csv"], b"--out can be given once"),
         (["--left", "left.csv"], b"--left can be given once"),
+        (["--memory=0"], b"--memory is from 1 to"),
         (["--right-null=a", "--right-null=b", "--null=x", "--null=y"], b"--null can be given once"),
     ):
         ran = subprocess.run([sys.executable, "-m", "radixjoin.cluster", *words, *more], cwd=folder, capture_output=True, check=False)
@@ -93,7 +94,7 @@ def main(programs):
     for name in ("asyncio", "tornado", "distributed"):
         logging.getLogger(name).setLevel(logging.CRITICAL)
     with tempfile.TemporaryDirectory(prefix="radixjoin-test-") as name:
-        with LocalCluster(2, threads_per_worker=1, memory_limit=0, dashboard_address=":0", silence_logs=50) as local, Client(local) as client:
+        with LocalCluster(n_workers=2, threads_per_worker=1, memory_limit=0, dashboard_address=":0", silence_logs=50) as local, Client(local) as client:
             telling.attempt("radixjoin.cluster.join", joins, client, programs, pathlib.Path(name))
             with tempfile.TemporaryDirectory(prefix="radixjoin-test-left-") as other:
                 telling.attempt("radixjoin.cluster.join, null texts by side and types by name", by_side, client, programs, pathlib.Path(other))

@@ -47,7 +47,7 @@ def cases_of_status(folder):
     many = [(number, "x" * 100) for number in range(200_000)]
     left, right = {"side": "left"}, {"side": "right"}
     line, table, clause = radixjoin.LineFault, radixjoin.InputFault, radixjoin.ClauseFault
-    memory, device = radixjoin.MemoryFault, radixjoin.DeviceFault
+    memory, device, expectation = radixjoin.MemoryFault, radixjoin.DeviceFault, radixjoin.ExpectationFault
     yield line, "bad type list left", left, bad, ROWS, {**of_left, "left_types": "int,texts"}
     yield table, "E6 BadInteger left row 2 column 1", {**left, "row": 2, "column": 1}, bad, ROWS, of_left
     yield table, "E4 TypeCount left", left, good, ROWS, {**of_left, "left_types": "int"}
@@ -67,9 +67,11 @@ def cases_of_status(folder):
     yield device, "E19 ReadDevice left", left, folder, ROWS, of_left
     yield device, "E20 WriteDevice", {}, ROWS, ROWS, {**by_id, "output": "/dev/full"}
     yield device, "E20 WriteDevice", {}, ROWS, ROWS, {**by_id, "output": folder / "none" / "out.csv"}
+    yield expectation, "E30 NotAsExpected", {}, ROWS, ROWS, {**cross, "expect": "many-to-one"}
+    yield expectation, "E30 NotAsExpected", {}, ROWS, ROWS, {**cross, "max_rows": 3, "output": folder / "out.csv"}
 
 
-STATUSES = {"LineFault": 2, "InputFault": 3, "ClauseFault": 4, "MemoryFault": 5, "DeviceFault": 6}
+STATUSES = {"LineFault": 2, "InputFault": 3, "ClauseFault": 4, "MemoryFault": 5, "DeviceFault": 6, "ExpectationFault": 7}
 
 
 def faults_of_each_status(folder):
@@ -87,8 +89,21 @@ def faults_of_each_status(folder):
     yield from telling.differs("files", sorted(it.name for it in folder.iterdir()), ["bad.csv", "good.csv", "limited"])
     number = telling.raised(radixjoin.join, ROWS, ROWS, using="id", bits1=11)
     yield from telling.differs("a number that is too large", (type(number).__name__, number.code), ("LineFault", None))
+    rows = telling.raised(radixjoin.join, ROWS, ROWS, using="id", rows="matched-left")
+    yield from telling.differs("a line that names an option of a side", (type(rows).__name__, rows.side), ("LineFault", None))
+    for line, side in (("radixjoin: more than four null texts right", "right"), ("radixjoin-cluster: the left file has a column x", "left"), ('radixjoin: E27 TypeName left "right"', "left")):
+        yield from telling.differs(line, radixjoin.Fault(line, 2).side, side)
     explained = radixjoin.faults.fault_of("radixjoin: E13 UnknownColumn\n  one\n  two\n", 4)
     yield from telling.differs("an explanation", (explained.line, explained.explanation), ("radixjoin: E13 UnknownColumn", "  one\n  two"))
+
+
+class OtherFrame:
+    """A frame of another library than pandas, which gives the names of its columns one by one."""
+
+    dtypes = ("int64",)
+
+    def __iter__(self):
+        return iter(["id"])
 
 
 def cases_that_are_refused(folder):
@@ -111,6 +126,7 @@ def cases_that_are_refused(folder):
     yield ValueError, "clause", ROWS, ROWS, {}
     yield ValueError, "clause", ROWS, ROWS, {"clause": "CROSS JOIN", **by_id}
     yield ValueError, "how", ROWS, ROWS, {**by_id, "how": "anti"}
+    yield TypeError, "using=", ROWS, ROWS, {"on": ["id"]}
     yield ValueError, "'id'", ROWS, ROWS, {"on": "L.id = R.id"}
     yield NotImplementedError, "--no-such-option", ROWS, ROWS, {**by_id, "no_such_option": 1}
     yield TypeError, "stats", ROWS, ROWS, {**by_id, "stats": True}
@@ -118,6 +134,7 @@ def cases_that_are_refused(folder):
     yield TypeError, "radixjoin.stats(.., report=True)", ROWS, ROWS, {**by_id, "report": True}
     yield TypeError, "rb", io.StringIO("id\n1\n"), ROWS, {**by_id, **LOOSE, "left_types": "int"}
     yield TypeError, "neither", 7, ROWS, by_id
+    yield TypeError, "OtherFrame", OtherFrame(), ROWS, {**by_id, "left_columns": ["id"]}
     yield FileNotFoundError, "nowhere", ROWS, ROWS, {**by_id, "program": "nowhere"}
     yield ValueError, "null", [{"id": 1, "x": ""}], ROWS, {**by_id, "output": folder / "out.csv"}
     if "strict" not in radixjoin.programs.options(os.environ["RADIXJOIN"]):
@@ -158,6 +175,36 @@ def children():
         return file.read().split()
 
 
+class File(io.RawIOBase):
+    """A file that gives some parts one after another, and raises an error behind them, if there is one."""
+
+    def __init__(self, parts, error=None):
+        super().__init__()
+        self.parts = list(parts)
+        self.error = error
+
+    def read(self, size=-1):
+        if not self.parts and self.error is not None:
+            raise self.error
+        return self.parts.pop(0) if self.parts else b""
+
+
+def open_files(folder):
+    """Files that give a part of their header at first, and pipes that don't wait for what comes later."""
+    for parts in ([b"na", b"me,id\nann,", b"1\n"], [b'"na', b'me",id\n', b"ann,1\n"], [b"name,id\nann,1"]):
+        for types in ({"id": "int", "*": "text"}, "*=text,id=int", "text,int"):
+            got = list(radixjoin.join(File(parts), [(1,)], using="id", left_types=types, right_columns=["id"], null="~"))
+            yield from telling.differs(f"{parts} {types}", got, [(1, "ann")])
+    for types in ("int", {"id": "int"}):
+        ends = os.pipe()
+        os.set_blocking(ends[0], False)
+        with open(ends[0], "rb", buffering=0) as reads, open(ends[1], "wb", buffering=0) as writes:
+            writes.write(b"id\n1\n")
+            error = telling.raised(radixjoin.join, reads, ROWS, using="id", left_types=types, null="~", output=folder / "out.csv")
+            yield from [] if isinstance(error, BlockingIOError) and "left" in str(error) else [f"a pipe that doesn't wait: {error!r}"]
+    yield from telling.differs("files", os.listdir(folder), [])
+
+
 def broken_off(folder):
     """Rows that aren't read to their end, and tables that fail: the program ends, and nothing stays."""
     gc.collect()
@@ -179,18 +226,40 @@ def broken_off(folder):
         gc.collect()
         yield from [f"{end}: the program {number} still runs" for number in children()]
 
-    class Failing(io.RawIOBase):
-        def read(self, size=-1):
-            raise KeyError("of the caller's own")
-
-    def failing():
+    def failing(error):
         yield {"id": 1}
-        raise KeyError("of the caller's own")
+        raise error
 
-    for table in (Failing(), failing()):
-        error = telling.raised(radixjoin.join, table, ROWS, how="cross", left_types="int", strict=False, null="~", output=folder / "out.csv")
-        yield from telling.differs("what the caller's table raises", repr(error), repr(KeyError("of the caller's own")))
+    for error in (KeyError("of the caller's own"), BrokenPipeError("of the caller's own")):
+        for table in (File([], error), File([b"id\n1\n"], error), failing(error)):
+            got = telling.raised(radixjoin.join, table, ROWS, how="cross", left_types="int", strict=False, null="~", output=folder / "out.csv")
+            yield from telling.differs("what the caller's table raises", repr(got), repr(error))
     yield from telling.differs("what is left", (sorted(os.listdir(folder)), len(os.listdir("/proc/self/fd"))), before)
+
+
+def cut_off(folder, text):
+    """A program that writes a text and is killed then."""
+    program = folder / "cut_off"
+    (folder / "text").write_bytes(text)
+    program.write_text(f'#!/bin/sh\n[ "$1" = --help ] && exec "{os.environ["RADIXJOIN"]}" --help\ncat "{folder}/text"\nkill -9 $$\n')
+    program.chmod(0o755)
+    return program
+
+
+def killed(folder):
+    """A program that is killed while it writes: rows that are given are whole, and why there are no more is told, whatever it broke off in."""
+    long = "x" * 60
+    texts = ("", "i", 'id,"na', 'id,"na\nme', "id,name\n", "id,name\n1,ann\n-", f'id,name\n1,"{long}', f'id,name\n1,"{long}""', "id,name\n1,\u00e9")
+    frames = [pandas.DataFrame(ROWS)] if pandas is not None else []
+    for text, table in ((text, table) for text in texts for table in (ROWS, *frames)):
+        program = cut_off(folder, text.encode()[: len(text)])
+        error = telling.raised(lambda: list(radixjoin.join(table, ROWS, using=["id", "name"], program=program)))
+        yield from telling.differs(f"{text!r} of {type(table).__name__}", repr(error), repr(RuntimeError("radixjoin was ended by signal 9")))
+    got = radixjoin.join(ROWS, ROWS, using=["id", "name"], program=cut_off(folder, b"id,name\n" + b"1,ann\n" * 2_000_000 + b"1,an"))
+    given = []
+    error = telling.raised(lambda: given.extend(map(tuple, map(dict.values, got))))
+    yield from telling.differs("rows before the end", (set(given), len(given), str(error)), ({(1, "ann")}, 2_000_000, "radixjoin was ended by signal 9"))
+    yield from [f"the program {number} still runs" for number in children()]
 
 
 # (the interrupt may be ignored where these tests run, as in a shell's background, and what a process ignores its children do)
@@ -242,6 +311,22 @@ def interrupted(folder):
     yield from interrupted_at("joining", True, folder)
 
 
+def of_streams(folder):
+    """Tables and results that are streams of this process, by their names."""
+    path = folder / "in.csv"
+    path.write_text("id\n1\n2\n")
+    for types in ("int", {"id": "int"}):
+        code = f"import radixjoin; print(*radixjoin.join('/dev/stdin', [{{'id': 1}}], using='id', left_types={types!r}))"
+        with open(path, "rb") as file:
+            for how in ({"stdin": file}, {"input": path.read_bytes()}):
+                ran = subprocess.run([sys.executable, "-c", code], cwd=folder, capture_output=True, check=False, **how)
+                yield from telling.differs(f"/dev/stdin {types} {how}", (ran.returncode, ran.stdout, ran.stderr), (0, b"{'id': 1}\n", b""))
+    path.unlink()
+    code = f"import radixjoin; radixjoin.join([{{'id': 1}}], [{{'id': 1}}], using='id', output='/dev/stdout')"
+    ran = subprocess.run([sys.executable, "-c", code], cwd=folder, capture_output=True, check=False)
+    yield from telling.differs("/dev/stdout", (ran.returncode, ran.stdout, ran.stderr), (0, b"id\n1\n", b""))
+
+
 def outputs(folder):
     """A file of the result: whole, or what was there before."""
     path = folder / "out.csv"
@@ -254,7 +339,10 @@ def outputs(folder):
     yield from telling.differs("the path", gave, link)
     yield from telling.differs("the result", (path.read_text(), link.is_symlink()), ("id,name\n1,ann\n1,ann\n", True))
     yield from telling.differs("the result's mode", path.stat().st_mode & 0o777, 0o666 & ~os.umask(os.umask(0o022)) & 0o777)
+    gave = radixjoin.join(ROWS, [(1,)], using="id", output=os.fsencode(path), right_columns=["id"])
+    yield from telling.differs("a path of bytes", (gave, path.read_text()), (os.fsencode(path), "id,name\n1,ann\n"))
     yield from telling.differs("files", sorted(os.listdir(folder)), ["link.csv", "out.csv"])
+    yield from of_streams(folder)
     told = radixjoin.stats(ROWS, ROWS, using="id", how="left", bits1=0, piece=10)
     yield from telling.differs("statistics", told, radixjoin.Stats(((2, 2),), 2, 0, 0, 1))
     yield from telling.differs("all rows", told.rows, 2)
@@ -279,7 +367,7 @@ def explanations(_):
 
 
 def main():
-    tests = [faults_of_each_status, refused_arguments, outputs, explanations, broken_off, interrupted]
+    tests = [faults_of_each_status, refused_arguments, outputs, explanations, open_files, broken_off, killed, interrupted]
     for test in tests + ([dtypes_that_have_no_type] if pandas is not None else []):
         with tempfile.TemporaryDirectory(prefix="radixjoin-test-") as name:
             telling.attempt(test.__name__.replace("_", " "), test, pathlib.Path(name))

@@ -132,6 +132,12 @@ def in_classes(left, right, join, rows):
     return [[decimal.Decimal(cell) if at in shared and cell is not None else cell for at, cell in enumerate(row)] for row in rows]
 
 
+def of_columns(left, join, row, which):
+    """Those of a result's names or cells that are of one table, with those that stand once for both, or all."""
+    both, end = len(join.partners or []), len(left.names)
+    return {"all": row, "left": row[:end], "right": row[:both] + row[end:]}[which]
+
+
 def dtype_faults(result, sources):
     """Where a column of a result that came from one column of a frame has another dtype than that."""
     for at, (name, dtype) in enumerate(sources):
@@ -148,12 +154,15 @@ def run_join(number, folder):
     forms = [pick.choice(FORMS[:-1]) for _ in range(2)] if form == "mixed" else [form, form]
     if pandas is None:
         forms = ["sequences" if it == "frames" else it for it in forms]
+    which = pick.choice(["all", "all", "left", "right"])
     header, wanted = join.header(left, right), in_classes(left, right, join, reference.joined(left, right, join))
+    header, wanted = of_columns(left, join, header, which), [of_columns(left, join, row, which) for row in wanted]
     options = {} if pick.random() < 0.7 else {"bits1": pick.randrange(4), "workers": pick.choice([1, 2]), "hash": pick.choice(["plain", "mixed"])}
     tables = [given(pick, it, table, folder / f"{side}.csv") for it, table, side in zip(forms, (left, right), ("left", "right"))]
     named = {"left_types": tables[0][1], "right_types": tables[1][1], "left_columns": left.names, "right_columns": right.names}
     if {"paths", "files"} & set(forms):
         options.update(null="~~", strict=False)
+    options.update({} if which == "all" else {"columns": which})
     got = radixjoin.join(tables[0][0], tables[1][0], **arguments_of(pick, join), **named, **options)
     if "frames" in forms:
         rows, columns = got.itertuples(index=False, name=None), list(got.columns)
@@ -163,7 +172,7 @@ def run_join(number, folder):
     faults = telling.differs("the header", columns, header)
     faults += telling.differs("the rows", exact(map(plain, row) for row in rows), exact(wanted))
     if forms == ["frames", "frames"] and not join.partners:
-        sources = [(name, dtype) for frame, _ in tables for name, dtype in zip(frame.columns, frame.dtypes)]
+        sources = [(name, dtype) for side, (frame, _) in zip(("left", "right"), tables) if which in ("all", side) for name, dtype in zip(frame.columns, frame.dtypes)]
         faults += dtype_faults(got, sources)
     return [f"join {number}, {join.clause!r} of {' and '.join(forms)}: {fault}" for fault in faults]
 

@@ -33,6 +33,9 @@ def by_side(folder):
     wanted = [(1, None, None), (2, None, None), (3, "-", None), (None, "y", None), (4, None, None), (None, None, "z")]
     for more in ({}, {"out_null": "~"}, {"strict": False}, {"strict": "full"}):
         yield from telling.differs(f"rows {more}", list(radixjoin.join(left, right, **how, **NULLS, **more)), wanted)
+    for null in ("-", "?", "y"):
+        rows = list(radixjoin.join(left, right, **how, **NULLS, out_null=null, strict=False))
+        yield from telling.differs(f"rows that are told apart though {null} is to be written", rows, wanted)
     alone = {"left_null": "NULL", "right_null": "?"}
     wanted = [(2, ""), (1, None), (3, "-")]
     rows = radixjoin.join(left, [{"id": 2, "n": ""}], using="id", how="left", left_types="int,text", left_null=["NULL", "~", ""], right_null="~")
@@ -56,6 +59,7 @@ def faults(folder):
     cases = [
         ("E28", {**NULLS, "out_null": "-", "output": out}, radixjoin.InputFault, "E28 AmbiguousNull row 3 column 2"),
         ("E10", {**NULLS, "left_null": "a b"}, radixjoin.InputFault, "E10 BadNull"),
+        ("E28 of rows", {**NULLS, "out_null": "-"}, radixjoin.InputFault, "E28 AmbiguousNull row 3 column 2"),
         ("E10 of the result", {**NULLS, "out_null": "1"}, radixjoin.InputFault, "E10 BadNull"),
         ("five", {**NULLS, "right_null": list("~-?*+")}, radixjoin.LineFault, "more than four null texts right"),
         ("a name", {**NULLS, "left_types": 'id=int,"y"=text,*=text'}, radixjoin.InputFault, 'E27 TypeName left "y"'),
