@@ -3,6 +3,7 @@ pub mod PlaceFacts
 pub mod HeadFacts
 pub mod CopyFacts
 pub mod PassFacts
+pub mod TakenFacts
 pub mod WholeFacts
 pub mod CopyLaws
 pub mod TextFacts

@@ -1,6 +1,6 @@
 //! In how many inputs of a merge a row stands.
 
-ghost use Rattle.std.specs.Prelude.{◌≡◌};
+ghost use Rattle.std.specs.Prelude.{◌≡◌, ◌<◌, ◌^◌};
 ghost use Rattle.rj_merge.specs.Copies.{needed, single};
 
 use crate::place::Place;
@@ -27,7 +27,8 @@ impl Copies {
 
     // How often a row of this place has to stand among the rows of all inputs.
     pub(crate) fn needed(self, place: Place) -> u64
-        ensures { result ≡ needed self place }
+        ensures needed { result ≡ needed self place }
+        ensures small { result < 2 ^ 32 }
     {
         match place {
             Place::Pair(_, _) => 1,
