@@ -56,6 +56,13 @@ module _ {T S : Type 0} (copies : S → Copies) (reading : S → Reading T) (hea
   faults_taken new p q = IsPermutation-trans (faults_of_heads reading heads) (faults_of_heads reading (head ∷ rest)) (faults_of_heads reading new)
       (flat_moved faults_of_one heads (head ∷ rest) p) q
 
+  -- a head taken from the heap, with the others
+  pub rows_popped : IsPermutation heads (head ∷ rest) → IsPermutation (rows_of_heads copies reading heads) (rows_of_heads copies reading (head ∷ rest))
+  rows_popped p = flat_moved rows_of_one heads (head ∷ rest) p
+
+  pub faults_popped : IsPermutation heads (head ∷ rest) → IsPermutation (faults_of_heads reading heads) (faults_of_heads reading (head ∷ rest))
+  faults_popped p = flat_moved faults_of_one heads (head ∷ rest) p
+
   first_of : {X : Type 0} (x : X) (xs : List X) → Contains (x ∷ xs) x
   first_of x xs = (0, omega arith, refl)
 

@@ -112,6 +112,10 @@ module _ {T : Type 0} where
         (All-contains (λ (x : Copied T). IsAbove b x.row.place) q.taken e q.above high)) rows more p.merge q.merge;
   }
 
+  -- of the rows that are left, in another order, more is passed
+  pub pass_on : (a b c : Option Place) (old mid turned new : List (Copied T)) (more : List (Placed T)) → Passes a b old mid [] → IsPermutation mid turned → Passes b c turned new more → Passes a c old new more
+  pass_on a b c old mid turned new more p q r = pass_more a b c old mid new [] more p (pass_more b b c mid turned new [] more (pass_none b mid turned q) r)
+
   -- where nothing is left, the whole is merged
   pub pass_all : (a b : Option Place) (old new : List (Copied T)) (rows : List (Placed T)) → Passes a b old new rows → new ≡ [] → IsMergeOf old rows
   pass_all a b old new rows p none =
