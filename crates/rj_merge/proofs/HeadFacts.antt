@@ -5,12 +5,13 @@ use Rattle.std.specs.Option.{option_to_list}
 use Rattle.std.proofs.lemmas.List.Sorted.{All-permutation, Contains-permutation, IsPermutation-append_right, IsPermutation-cons, IsPermutation-sym, IsPermutation-trans}
 use Rattle.std.proofs.lemmas.List.Elements.{All-cons, All-head, All-pop, All-tail, Contains-append_left, Contains-append_right}
 use Rattle.std.proofs.lemmas.List.Concat.{flat_map-append}
+use Rattle.std.proofs.lemmas.List.Folds.{flat_map-map}
 use Rattle.rj_merge.specs.declared.copies.Copies.{Copies}
 use Rattle.rj_merge.specs.declared.head.Head.{Head}
 use Rattle.rj_merge.specs.declared.place.Placed.{Placed}
 use Rattle.rj_merge.specs.declared.refused.MergeRefused.{MergeRefused}
-use Rattle.rj_merge.specs.Copies.{Copied, copied, copy_of}
-use Rattle.rj_merge.specs.Merging.{faults_of_heads, rows_of_heads}
+use Rattle.rj_merge.specs.Copies.{Copied, copied, copied_rows, copy_of}
+use Rattle.rj_merge.specs.Merging.{faults_of_heads, lists_of_inputs, rows_of_heads, rows_of_inputs}
 use Rattle.rj_merge.specs.Sources.{Reading}
 use Rattle.rj_merge.proofs.Moved.{flat_moved}
 
@@ -99,3 +100,7 @@ All-last P inputs rest last e all = All-pop P inputs rest (Some last) e all
 -- a fault is the only one of what has it
 pub fault_first : (fault : Option MergeRefused) (e : MergeRefused) → fault ≡ Some e → Contains (option_to_list fault) e
 fault_first fault e is = subst (λ o. Contains (option_to_list o) e) (sym is) (0, omega arith, refl)
+
+-- the rows of inputs, as those of lists with their copies
+pub rows_listed : {T S : Type 0} (copies : S → Copies) (reading : S → Reading T) (inputs : List S) → copied_rows (lists_of_inputs copies reading inputs) ≡ rows_of_inputs copies reading inputs
+rows_listed copies reading inputs = flat_map-map (λ i. copied i.0 i.1) (λ s. (copies s, (reading s).rows)) inputs

@@ -95,6 +95,10 @@ module _ {T : Type 0} where
     merge = merge_none;
   }
 
+  -- nothing is passed at the start
+  pub pass_start : (passed : Option Place) (old new : List (Copied T)) (rows : List (Placed T)) → passed ≡ None → rows ≡ [] → IsPermutation old new → Passes None passed old new rows
+  pass_start passed old new rows start none p = subst (λ q. Passes None q old new rows) (sym start) (subst (Passes None None old new) (sym none) (pass_none None old new p))
+
   -- what is passed, and then more
   pub pass_more : (a b c : Option Place) (old mid new : List (Copied T)) (rows more : List (Placed T)) → Passes a b old mid rows → Passes b c mid new more → Passes a c old new (rows ++ more)
   pass_more a b c old mid new rows more p q = record {
@@ -115,6 +119,10 @@ module _ {T : Type 0} where
   -- of the rows that are left, in another order, more is passed
   pub pass_on : (a b c : Option Place) (old mid turned new : List (Copied T)) (more : List (Placed T)) → Passes a b old mid [] → IsPermutation mid turned → Passes b c turned new more → Passes a c old new more
   pass_on a b c old mid turned new more p q r = pass_more a b c old mid new [] more p (pass_more b b c mid turned new [] more (pass_none b mid turned q) r)
+
+  -- the end is passed without a row
+  pub pass_end : (a b c : Option Place) (old mid new : List (Copied T)) (rows : List (Placed T)) → Passes a b old mid rows → Passes b c mid new [] → Passes a c old new rows
+  pass_end a b c old mid new rows p q = subst (Passes a c old new) (append-nil rows) (pass_more a b c old mid new rows [] p q)
 
   -- where nothing is left, the whole is merged
   pub pass_all : (a b : Option Place) (old new : List (Copied T)) (rows : List (Placed T)) → Passes a b old new rows → new ≡ [] → IsMergeOf old rows
