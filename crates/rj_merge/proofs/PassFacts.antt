@@ -16,17 +16,12 @@ use Rattle.rj_merge.specs.Merging.{IsPassed, Passes}
 use Rattle.rj_merge.specs.Places.{IsAbove, place_order, place_total}
 use Rattle.rj_merge.specs.Wholes.{IsMergeOf, RisesFrom}
 use Rattle.rj_merge.proofs.CopyFacts.{All-of, merge_both, merge_moved, merge_none, often_moved, rises_both, times_append}
-use Rattle.rj_merge.proofs.PlaceFacts.{same_place}
+use Rattle.rj_merge.proofs.PlaceFacts.{is_less, same_place}
 
 pub not_itself : (place : Place) → place_order place place ≡ Less → ⊥
 not_itself place h = let e : Less ≡ Equal = sym h ∙ tied_itself place_total place in false≢true (sym (ap is_lt e))
 
 -- ---- places that are passed
-
-is_less : (o : Ordering) → is_lt o ≡ true → o ≡ Less
-is_less Less h = refl
-is_less Equal h = absurd (false≢true h)
-is_less Greater h = absurd (false≢true h)
 
 -- a place that is passed is below one that is above
 pub passed_below : (passed : Option Place) (p q : Place) → IsPassed passed p → IsAbove passed q → place_order p q ≡ Less

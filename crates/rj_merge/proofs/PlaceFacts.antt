@@ -9,6 +9,11 @@ use Rattle.rj_merge.specs.declared.place.Place.{Place}
 use Rattle.rj_merge.specs.declared.place.Place.TheVariants.{Pair, LoneAmongPairs, LoneLeft, LoneRight}
 use Rattle.rj_merge.specs.Places.{IsAbove, IsNotBelow, behind_pairs, class, first_number, place_order, place_total, second_number}
 
+pub is_less : (r : Ordering) → is_lt r ≡ true → r ≡ Less
+is_less Less h = refl
+is_less Equal h = absurd (false≢true h)
+is_less Greater h = absurd (false≢true h)
+
 -- an order that is not Less and not Equal, turned, is Less
 turned : (r : Ordering) → is_lt r ≡ false → is_eq (ordering_reverse r) ≡ false → ordering_reverse r ≡ Less
 turned Less h n = absurd (false≢true (sym h))
