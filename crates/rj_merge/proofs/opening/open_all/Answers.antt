@@ -59,3 +59,6 @@ returns-clause-readings g c = λ texts tell.
     let left = into_iter_items c.inputs.left in
     let none = no_length left (sym c.inputs.left.rest.ok.0 ∙ c.in_default-next.ensures.cases.0) in
     opened-all g.R.Read.remaining c.args.how texts (fields_of c.in-Ok.first.header.names) c.inputs.sources.items c.inputs.input left (c.inputs.invariant.opened texts tell) none
+
+pub returns-clause-tells : goal.returns-clause-tells
+returns-clause-tells g c = λ texts tell. (c.inputs.invariant.opened texts tell).tells
