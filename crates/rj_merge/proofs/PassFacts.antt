@@ -1,17 +1,16 @@
 -- What a merge has passed: of rows up to a place, and then of those up to a later one.
-use Rattle.std.proofs.Common.{◌≡◌, ◌<◌, ◌+◌, ℕ, Bool, true, false, List, [], ◌∷◌, ◌++◌, Option, None, Some, All, refl, sym, ap, subst, ◌∙◌, append_assoc, append-nil, arith}
+use Rattle.std.proofs.Common.{◌≡◌, ◌+◌, Bool, true, false, List, [], ◌∷◌, ◌++◌, Option, None, Some, All, refl, sym, ap, subst, ◌∙◌, append_assoc, append-nil, arith}
 use Rattle.std.specs.Cmp.{tied_itself}
-use Rattle.std.specs.List.{Contains}
 use Rattle.std.specs.List.Sorted.{IsPermutation}
 use Rattle.std.specs.Ordering.{is_eq, is_lt, ordering_reverse}
 use Rattle.std.specs.declared.cmp.Ordering.{Ordering}
 use Rattle.std.specs.declared.cmp.Ordering.TheVariants.{Less, Equal, Greater}
 use Rattle.std.proofs.lemmas.Bool.{false≢true}
 use Rattle.std.proofs.lemmas.List.Elements.{All-append, All-cons, All-contains, All-nil, All-push, All-weaker, Contains-append_right}
-use Rattle.std.proofs.lemmas.List.Sorted.{Contains-permutation, IsPermutation-append_right, IsPermutation-sym, IsPermutation-trans}
+use Rattle.std.proofs.lemmas.List.Sorted.{IsPermutation-append_right, IsPermutation-sym, IsPermutation-trans}
 use Rattle.rj_merge.specs.declared.place.Place.{Place}
 use Rattle.rj_merge.specs.declared.place.Placed.{Placed}
-use Rattle.rj_merge.specs.Copies.{Copied, StandsTooOften, times}
+use Rattle.rj_merge.specs.Copies.{Copied, StandsTooOften}
 use Rattle.rj_merge.specs.Merging.{IsPassed, Passes}
 use Rattle.rj_merge.specs.Places.{IsAbove, place_order, place_total}
 use Rattle.rj_merge.specs.Wholes.{IsMergeOf, RisesFrom}

@@ -1,11 +1,11 @@
-use Rattle.std.proofs.Common.{◌≡◌, ◌+◌, ◌<◌, ◌∷◌, ◌∙◌, Some, None, List, refl, sym, ap, subst, inl, inr, arith, min}
+use Rattle.std.proofs.Common.{◌≡◌, ◌+◌, ◌<◌, ◌∷◌, ◌∙◌, Some, refl, sym, ap, subst, inl, inr, arith, min}
 use Rattle.std.specs.List.Sorted.{IsPermutation}
 use Rattle.std.specs.Option.{option_to_list}
 use Rattle.std.specs.BinaryHeap.{heap_items}
 use Rattle.std.proofs.lemmas.List.Elements.{All-head, All-tail}
 use Rattle.std.proofs.lemmas.List.Sorted.{Contains-permutation, IsPermutation-refl, IsPermutation-sym, IsPermutation-trans}
-use Rattle.rj_merge.specs.Copies.{Copied, needed}
-use Rattle.rj_merge.specs.Merging.{AllTell, Passes, faults_of_heads, rows_of_heads}
+use Rattle.rj_merge.specs.Copies.{needed}
+use Rattle.rj_merge.specs.Merging.{Passes, faults_of_heads, rows_of_heads}
 use Rattle.rj_merge.specs.Places.{IsAbove, IsNotBelow}
 use Rattle.rj_merge.proofs.HeadFacts.{faults_taken, has_fault, holds_first, holds_rest, rows_taken}
 use Rattle.rj_merge.proofs.PlaceFacts.{not_below}

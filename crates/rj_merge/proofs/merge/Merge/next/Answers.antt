@@ -1,6 +1,5 @@
-use Rattle.std.proofs.Common.{◌≡◌, ◌∷◌, ◌∙◌, List, [], Bool, false, true, Some, None, Option, refl, sym, subst, inl, inr}
+use Rattle.std.proofs.Common.{◌≡◌, ◌∷◌, ◌∙◌, [], false, true, Some, None, Option, refl, sym, subst, inl, inr}
 use mathlib.Core.Logic.{⊎_elim}
-use Rattle.std.specs.List.Sorted.{IsPermutation}
 use Rattle.std.specs.Option.{is_some, option_to_list}
 use Rattle.std.specs.BinaryHeap.{heap_items}
 use Rattle.std.proofs.lemmas.Bool.{false≢true}
@@ -8,7 +7,7 @@ use Rattle.std.proofs.lemmas.List.Sorted.{All-permutation, Contains-permutation,
 use Rattle.rj_merge.specs.Merging.{Passes, faults_of_heads, rows_of_heads}
 use Rattle.rj_merge.specs.Places.{IsAbove}
 use Rattle.rj_merge.proofs.HeadFacts.{faults_popped, holds_first, rows_popped}
-use Rattle.rj_merge.proofs.PassFacts.{above_on, pass_more, pass_none, pass_often, pass_on}
+use Rattle.rj_merge.proofs.PassFacts.{above_on, pass_none, pass_often, pass_on}
 use Rattle.rj_merge.proofs.merge.Merge.next.Goals as goal
 
 -- where an option has nothing, so has its list
