@@ -37,11 +37,7 @@ fn copies_of(entry: &str) -> Option<Copies> {
 }
 
 // What a list says of each file, or that each stands alone where there is no list. A list has an entry for each file.
-pub fn read_copies(
-    alloc: Global,
-    list: Option<&str>,
-    files: usize,
-) -> Result<Vec<Copies>, Failure>
+pub fn read_copies(alloc: Global, list: Option<&str>, files: usize) -> Result<Vec<Copies>, Failure>
     ensures { IfOk result (λ all. vec_len all ≡ files) }
 {
     let Some(list) = list else {

@@ -192,7 +192,13 @@ fn says(alloc: Global, list: &str, want: &[(u32, u32)]) -> bool {
 fn lists_of_copies(rt: HostRuntime) {
     let alloc = rt.alloc();
     assert!(rt; says(alloc, "1", [(1, 1)].as_slice()));
-    assert!(rt; says(alloc, "1,3x2,1048576x1", [(1, 1), (3, 2), (1_048_576, 1)].as_slice()));
+    assert!(rt;
+        says(
+            alloc,
+            "1,3x2,1048576x1",
+            [(1, 1), (3, 2), (1_048_576, 1)].as_slice()
+        )
+    );
     assert!(rt; says(alloc, "1x1,02x10", [(1, 1), (2, 10)].as_slice()));
     match pairs_of(alloc, None, 2) {
         Some(pairs) => {

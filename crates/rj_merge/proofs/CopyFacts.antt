@@ -134,8 +134,10 @@ module _ {T : Type 0} where
       record {
         rises = m.rises;
         among = All-weaker (λ row. Contains (map (λ c. c.row) xs) row × IsWhole xs row.place) (λ row. Contains (map (λ c. c.row) ys) row × IsWhole ys row.place)
-            (λ row h. (Contains-permutation (map (λ (c : Copied T). c.row) xs) (map (λ (c : Copied T). c.row) ys) row (IsPermutation-map (λ (c : Copied T). c.row) xs ys p) h.0,
-            whole_moved xs ys p row.place h.1)) rows m.among;
+            (λ row h. (
+              Contains-permutation (map (λ (c : Copied T). c.row) xs) (map (λ (c : Copied T). c.row) ys) row (IsPermutation-map (λ (c : Copied T). c.row) xs ys p) h.0,
+              whole_moved xs ys p row.place h.1,
+            )) rows m.among;
         each = λ place w. m.each place (whole_moved ys xs back place w);
         within = λ place w. m.within place (often_moved ys xs back place w);
       }
@@ -147,9 +149,11 @@ module _ {T : Type 0} where
       → All (λ r. All (λ m. place_order r.place m.place ≡ Less) more) rows → RisesFrom before (rows ++ more)
   rises_both before [] [] up high first below = tt
   rises_both before [] (m ∷ more) up high first below = (All-head (λ (n : Placed T). IsAbove before n.place) m more first, high.1)
-  rises_both before (r ∷ rows) more up high first below =
-      (up.0, rises_both (Some r.place) rows more up.1 high (All-head (λ (q : Placed T). All (λ n. place_order q.place n.place ≡ Less) more) r rows below)
-      (All-tail (λ (q : Placed T). All (λ n. place_order q.place n.place ≡ Less) more) r rows below))
+  rises_both before (r ∷ rows) more up high first below = (
+    up.0,
+    rises_both (Some r.place) rows more up.1 high (All-head (λ (q : Placed T). All (λ n. place_order q.place n.place ≡ Less) more) r rows below)
+        (All-tail (λ (q : Placed T). All (λ n. place_order q.place n.place ≡ Less) more) r rows below),
+  )
 
   -- each of the first rows stands below each of the others
   abbrev pub AreApart : List (Copied T) → List (Copied T) → Type 0

@@ -121,14 +121,7 @@ fn open_next<'n, R: Read + Drop>(
     if !are_same(&header, &first.names) {
         return Err(MergeRefused::OtherHeader(input));
     }
-    Ok(TextSource::new(
-        alloc,
-        reader,
-        first.columns,
-        how,
-        input,
-        copies,
-    ))
+    Ok(TextSource::new(alloc, reader, first.columns, how, input, copies))
 }
 
 /// Inputs whose headers were read, and the header that all of them have.

@@ -50,9 +50,9 @@ returns-in_default-clause-rows g c = λ all passed up.
     let taken = c.heads.invariant.rows all in
     subst (λ l. Passes passed (Some first.next.place) before (rows_of_heads g.S.Source.copies g.S.Source.reading l) (option_to_list c.if-times-needed.result)) (sym c.in_default.ensures.none)
     (elim c.if-times-needed.branch [
-      then-times-needed w ↦ subst (λ o. Passes passed (Some first.next.place) before (rows_of_heads g.S.Source.copies g.S.Source.reading kept) (option_to_list o)) (sym w.result-is)
+      | then-times-needed w ↦ subst (λ o. Passes passed (Some first.next.place) before (rows_of_heads g.S.Source.copies g.S.Source.reading kept) (option_to_list o)) (sym w.result-is)
           (passes_whole first.next c.heads.needed c.heads.times before (rows_of_heads g.S.Source.copies g.S.Source.reading kept) taken passed up w.if-times-needed.true)
-    | else-times-needed w ↦
+      | else-times-needed w ↦
           let test = c.heads-test.true in
           let other = w.if-times-needed.false in
           let low : c.heads.times < c.heads.needed = omega arith in

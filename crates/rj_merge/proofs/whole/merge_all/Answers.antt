@@ -49,8 +49,12 @@ returns-in-Err-next-clause-fault g c = λ out all.
     let later = faults_of_heads reading (heap_items c.rows.merge.heads) in
     ⊎_elim
     (λ f. inl (Contains-permutation later faults c.in-Err-next.e (IsPermutation-sym faults later (c.rows.invariant.faults all)) f))
-    (λ r. inr (r.0, r.1, subst (λ l. StandsTooOften l r.0) (sym (rows_listed copies reading inputs))
-    (pass_often None c.rows.merge.passed (rows_of_inputs copies reading inputs) (rows_of_heads copies reading (heap_items c.rows.merge.heads)) c.rows.rows.items (c.rows.invariant.rows all) r.0 r.2)))
+    (λ r. inr (
+      r.0,
+      r.1,
+      subst (λ l. StandsTooOften l r.0) (sym (rows_listed copies reading inputs))
+          (pass_often None c.rows.merge.passed (rows_of_inputs copies reading inputs) (rows_of_heads copies reading (heap_items c.rows.merge.heads)) c.rows.rows.items (c.rows.invariant.rows all) r.0 r.2),
+    ))
     (c.in-Err-next.ensures.fault out (c.rows.invariant.tells all))
 
 pub rows-preserved : goal.rows-preserved

@@ -41,9 +41,13 @@ returns-in-Err-clause-fault g c = λ out all.
     let moved = IsPermutation-trans (faults_of_heads reading before) (faults_of_heads reading heads) (faults_of_heads reading (head ∷ rest)) (c.places.invariant.faults all) (faults_popped copies reading heads rest head popped) in
     ⊎_elim
     (λ f. inl (Contains-permutation (faults_of_heads reading (head ∷ rest)) (faults_of_heads reading before) c.in-Err.e (IsPermutation-sym (faults_of_heads reading before) (faults_of_heads reading (head ∷ rest)) moved) f))
-    (λ r. inr (r.0, r.1, pass_often c.args.self.now.passed c.places.self.passed (rows_of_heads copies reading before) (rows_of_heads copies reading heads) [] (c.places.invariant.rows all) r.0
-    (pass_often c.places.self.passed c.places.self.passed (rows_of_heads copies reading heads) (rows_of_heads copies reading (head ∷ rest)) []
-    (pass_none c.places.self.passed (rows_of_heads copies reading heads) (rows_of_heads copies reading (head ∷ rest)) (rows_popped copies reading heads rest head popped)) r.0 r.2)))
+    (λ r. inr (
+      r.0,
+      r.1,
+      pass_often c.args.self.now.passed c.places.self.passed (rows_of_heads copies reading before) (rows_of_heads copies reading heads) [] (c.places.invariant.rows all) r.0
+          (pass_often c.places.self.passed c.places.self.passed (rows_of_heads copies reading heads) (rows_of_heads copies reading (head ∷ rest)) []
+          (pass_none c.places.self.passed (rows_of_heads copies reading heads) (rows_of_heads copies reading (head ∷ rest)) (rows_popped copies reading heads rest head popped)) r.0 r.2),
+    ))
     (c.in-Err.ensures.fault out tell)
 
 pub returns-then-is_some-clause-tells : goal.returns-then-is_some-clause-tells
