@@ -1,7 +1,8 @@
 pub mod Places
 pub mod Sources
-pub mod Merging
+pub mod Copies
 pub mod Wholes
+pub mod Merging
 pub mod Ranges
 pub mod Texts
 pub mod Headers

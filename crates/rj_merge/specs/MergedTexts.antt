@@ -1,5 +1,6 @@
 -- The merge of texts, as a text, and what stands in the way of it.
 use Rattle.std.specs.Prelude.{◌≡◌, ◌⊎◌, ℕ, List, [], ◌∷◌, ◌++◌, map, Option, None, Some, Contains}
+use Rattle.std.specs.List.{zip}
 use Rattle.std.specs.Io.KnownBytes.{Appends}
 use Rattle.std.specs.declared.alloc.Global.{Global}
 use Rattle.std.specs.declared.vec.Vec.{Vec}
@@ -7,16 +8,18 @@ use Rattle.csv.specs.declared.writer.Writer.{Writer}
 use Rattle.rj_csv_io.specs.Shown.{rows_text}
 use Rattle.rj_csv_io.specs.Written.{HasWritten}
 use Rattle.rj_merge.specs.declared.columns.Columns.{Columns}
+use Rattle.rj_merge.specs.declared.copies.Copies.{Copies}
 use Rattle.rj_merge.specs.declared.options.MergeOptions.{MergeOptions}
 use Rattle.rj_merge.specs.declared.place.Place.{Place}
 use Rattle.rj_merge.specs.declared.place.Placed.{Placed}
 use Rattle.rj_merge.specs.declared.refused.MergeRefused.{MergeRefused}
 use Rattle.rj_merge.specs.declared.refused.MergeRefused.TheVariants as refused
+use Rattle.rj_merge.specs.Copies.{StandsTooOften, copied_rows}
 use Rattle.rj_merge.specs.Headers.{place_columns}
-use Rattle.rj_merge.specs.Inputs.{faults_of_readings, first_header, readings, rows_of_readings}
+use Rattle.rj_merge.specs.Inputs.{faults_of_readings, first_header, readings}
 use Rattle.rj_merge.specs.Ranges.{between}
 use Rattle.rj_merge.specs.Texts.{others}
-use Rattle.rj_merge.specs.Wholes.{HasTwice, IsMerge}
+use Rattle.rj_merge.specs.Wholes.{IsMergeOf}
 
 -- the records of rows, one after the other
 abbrev pub records_text : List (Placed (List (List ℕ))) → List ℕ
@@ -27,31 +30,36 @@ abbrev pub head_rows : Option Place → List (List ℕ) → List (List (List ℕ
 head_rows None header = header ∷ []
 head_rows (Some from) header = []
 
--- the text of a merge of texts within a range: their header without the columns of the places, if the range begins nowhere, and
--- under it the merge of their rows within it
-pub record IsMergedText (how : MergeOptions) (texts : List (List ℕ)) (text : List ℕ) : Type 0 where
+-- what texts with these copies give
+abbrev pub lists_of_texts : MergeOptions → List Copies → List (List ℕ) → List (Copies × List (Placed (List (List ℕ))))
+lists_of_texts how copies texts = zip copies (map (λ r. r.rows) (readings how texts))
+
+-- the text of a merge of texts with these copies within a range: their header without the columns of the places, if the range
+-- begins nowhere, and under it the merge of their rows within it
+pub record IsMergedText (how : MergeOptions) (copies : List Copies) (texts : List (List ℕ)) (text : List ℕ) : Type 0 where
   pub columns : Columns
   pub rows : List (Placed (List (List ℕ)))
   pub places : place_columns (first_header texts) ≡ Some columns
-  pub merge : IsMerge (map (λ r. r.rows) (readings how texts)) rows
+  pub merge : IsMergeOf (copied_rows (lists_of_texts how copies texts)) rows
   pub shown : text ≡ rows_text (head_rows how.from (others columns (first_header texts)) ++ map (λ p. p.row) rows)
 
 -- texts are those of the merges of the ranges between these cuts, the first from this place on, the last to the end
-abbrev pub AreRanges : MergeOptions → List (List ℕ) → Option Place → List Place → List (List ℕ) → Type 0
-AreRanges how texts from [] [] = ⊥
-AreRanges how texts from [] (part ∷ []) = IsMergedText (between how from None) texts part
-AreRanges how texts from [] (part ∷ more ∷ parts) = ⊥
-AreRanges how texts from (cut ∷ cuts) [] = ⊥
-AreRanges how texts from (cut ∷ cuts) (part ∷ parts) = IsMergedText (between how from (Some cut)) texts part × AreRanges how texts (Some cut) cuts parts
+abbrev pub AreRanges : MergeOptions → List Copies → List (List ℕ) → Option Place → List Place → List (List ℕ) → Type 0
+AreRanges how copies texts from [] [] = ⊥
+AreRanges how copies texts from [] (part ∷ []) = IsMergedText (between how from None) copies texts part
+AreRanges how copies texts from [] (part ∷ more ∷ parts) = ⊥
+AreRanges how copies texts from (cut ∷ cuts) [] = ⊥
+AreRanges how copies texts from (cut ∷ cuts) (part ∷ parts) = IsMergedText (between how from (Some cut)) copies texts part × AreRanges how copies texts (Some cut) cuts parts
 
 -- no text has a fault
 abbrev pub HaveNoFault : MergeOptions → List (List ℕ) → Type 0
 HaveNoFault how texts = faults_of_readings (readings how texts) ≡ []
 
--- a fault of one of the texts, or that two of their rows have one place
-abbrev pub IsFaultOfTexts : MergeOptions → List (List ℕ) → MergeRefused → Type 0
-IsFaultOfTexts how texts e =
-    Contains (faults_of_readings (readings how texts)) e ⊎ ((place : Place) × (e ≡ refused.RepeatedPlace place) × HasTwice (rows_of_readings (readings how texts)) place)
+-- a fault of one of the texts, or that a place stands too often among their rows
+abbrev pub IsFaultOfTexts : MergeOptions → List Copies → List (List ℕ) → MergeRefused → Type 0
+IsFaultOfTexts how copies texts e =
+    Contains (faults_of_readings (readings how texts)) e
+    ⊎ ((place : Place) × (e ≡ refused.RepeatedPlace place) × StandsTooOften (copied_rows (lists_of_texts how copies texts)) place)
 
 -- an output got all of a text behind what it had, but for the records that still stand in a block
 pub record IsTold (start : Option (List ℕ)) (text : List ℕ) (block : Writer (Vec ℕ Global)) (told : Option (List ℕ)) : Type 0 where

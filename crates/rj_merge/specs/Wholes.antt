@@ -1,9 +1,10 @@
 -- A whole merge.
-use Rattle.std.specs.Prelude.{◌≡◌, List, [], ◌∷◌, Option, None, Some}
+use Rattle.std.specs.Prelude.{◌≡◌, List, [], ◌∷◌, Option, None, Some, map, All, Contains}
 use Rattle.std.specs.List.{flat_map}
 use Rattle.std.specs.List.Sorted.{IsPermutation}
 use Rattle.rj_merge.specs.declared.place.Place.{Place}
 use Rattle.rj_merge.specs.declared.place.Placed.{Placed}
+use Rattle.rj_merge.specs.Copies.{Copied, IsWhole, StandsTooOften}
 use Rattle.rj_merge.specs.Places.{IsAbove}
 
 -- each row stands above the one before it, the first one above this place, if there is one
@@ -11,7 +12,20 @@ abbrev pub RisesFrom : {T : Type 0} → Option Place → List (Placed T) → Typ
 RisesFrom before [] = Unit {0}
 RisesFrom before (row ∷ rows) = IsAbove before row.place × RisesFrom (Some row.place) rows
 
--- rows are the merge of lists: they are the rows of all of them, and each stands above the one before it
+-- a row of this place is among the rows
+abbrev pub HasPlace : {T : Type 0} → List (Placed T) → Place → Type 0
+HasPlace {T} rows place = (row : Placed T) × Contains rows row × (row.place ≡ place)
+
+-- rows are the merge of copied rows: each stands above the one before it; each is one of them, and its place stands among them as
+-- often as it has to; each such place is that of a row; and none of them stands more often than it has to
+pub record IsMergeOf {T : Type 0} (all : List (Copied T)) (rows : List (Placed T)) : Type 0 where
+  pub rises : RisesFrom None rows
+  pub among : All (λ row. Contains (map (λ c. c.row) all) row × IsWhole all row.place) rows
+  pub each : (place : Place) → IsWhole all place → HasPlace rows place
+  pub within : (place : Place) → StandsTooOften all place → ⊥
+
+-- rows are the merge of lists whose rows all are rows of the whole: they are the rows of all lists, and each stands above the one
+-- before it
 pub record IsMerge {T : Type 0} (lists : List (List (Placed T))) (rows : List (Placed T)) : Type 0 where
   pub all : IsPermutation (flat_map (λ l. l) lists) rows
   pub rises : RisesFrom None rows

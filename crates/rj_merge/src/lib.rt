@@ -3,6 +3,7 @@
 
 mod block;
 mod columns;
+mod copies;
 mod fields;
 mod head;
 mod header;
@@ -19,6 +20,7 @@ mod source;
 mod texts;
 mod whole;
 
+pub use copies::{Copies, MergeInput};
 pub use fields::Fields;
 pub use merge::Merge;
 pub use options::MergeOptions;
@@ -29,4 +31,4 @@ pub use refused::{MergeRefused, MergeTextsRefused};
 pub use rj_settings::RowOrder;
 pub use source::Source;
 pub use texts::merge_texts;
-pub use whole::{merge_all, one_merge};
+pub use whole::{merge_all, one_merge, single_copies};

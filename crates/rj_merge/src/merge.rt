@@ -1,11 +1,12 @@
 //! Merging inputs.
 
-ghost use Rattle.std.specs.Prelude.{◌≡◌, ◌++◌, ◌∷◌, false, true, [], None, Some, Ok, IfOk, IfErr, IfSome, OnOk, Option, All, Contains};
+ghost use Rattle.std.specs.Prelude.{◌≡◌, ◌++◌, ◌∷◌, false, [], None, Some, Ok, IfOk, IfErr, IfNone, IfSome, OnOk, Option, All, Contains};
 ghost use Rattle.std.specs.Option.{option_to_list};
 ghost use Rattle.std.specs.List.Sorted.{IsPermutation};
-ghost use Rattle.std.specs.BinaryHeap.{KeepsHeap, heap_items};
+ghost use Rattle.std.specs.BinaryHeap.{IsHeap, KeepsHeap, heap_items};
 ghost use Rattle.rj_merge.specs.declared.place.Place.{Place};
-ghost use Rattle.rj_merge.specs.Merging.{AllTell, AreHeads, AreNewest, AreNotBelow, IsFaultOf, faults_of_heads, faults_of_inputs, head_order, rows_of_heads, rows_of_inputs};
+ghost use Rattle.rj_merge.specs.Copies.{copied};
+ghost use Rattle.rj_merge.specs.Merging.{AllTell, AreAbove, AreHeads, AreNewest, AreNotBelow, IsFaultOf, Passes, faults_of_heads, faults_of_inputs, head_order, rows_of_heads, rows_of_inputs};
 ghost use Rattle.rj_merge.specs.Places.{IsAbove, IsNotBelow};
 ghost use Rattle.rj_merge.specs.Sources.{is_outside};
 
@@ -16,22 +17,11 @@ use crate::source::Source;
 use std::alloc::Global;
 use std::collections::BinaryHeap;
 
-/// A merge of inputs. It holds the next row of each, and gives the one of the least place.
+/// A merge of inputs. It holds the next row of each, and gives those that stand as often as they have to, in order.
 #[derive(Drop)]
 pub struct Merge<S: Source> {
     heads: BinaryHeap<Head<S::Row, S>>,
-    given: Option<Place>,
-}
-
-// Whether a place is that of the row that was given last; a place that isn't, and isn't below it, is above it.
-fn is_repeated(given: Option<Place>, place: Place) -> bool
-    ensures yes { result ≡ true → given ≡ Some place }
-    ensures no { result ≡ false → IsNotBelow given place → IsAbove given place }
-{
-    match given {
-        Some(before) => before == place,
-        None => false,
-    }
+    passed: Option<Place>,
 }
 
 // Reads the next row of an input, and puts both among the heads: where it has none, nothing.
@@ -45,7 +35,7 @@ fn put_next<S: Source>(
         → AreNotBelow given (heap_items heads.old) → AreNotBelow given (heap_items heads.new)) }
     ensures tells { OnOk result (S.tells source → AllTell S.tells (heap_items heads.old) → AllTell S.tells (heap_items heads.new)) }
     ensures rows { OnOk result (S.tells source
-        → IsPermutation ((S.reading source).rows ++ rows_of_heads S.reading (heap_items heads.old)) (rows_of_heads S.reading (heap_items heads.new))) }
+        → IsPermutation (copied (S.copies source) (S.reading source).rows ++ rows_of_heads S.copies S.reading (heap_items heads.old)) (rows_of_heads S.copies S.reading (heap_items heads.new))) }
     ensures faults { OnOk result (S.tells source
         → IsPermutation (option_to_list (S.reading source).fault ++ faults_of_heads S.reading (heap_items heads.old))
         (faults_of_heads S.reading (heap_items heads.new))) }
@@ -64,16 +54,76 @@ fn put_next<S: Source>(
     Ok(())
 }
 
+// The head with the least place, if that is this one.
+fn pop_at<T, S>(heads: &mut BinaryHeap<Head<T, S>>, place: Place) -> Option<Head<T, S>>
+    ensures taken { IfSome result (λ h. IsPermutation (heap_items heads.old) (h ∷ heap_items heads.new)) }
+    ensures place { IfSome result (λ h. h.next.place ≡ place) }
+    ensures heap { IsHeap head_order (heap_items heads.old) → IsHeap head_order (heap_items heads.new) }
+    ensures none { IfNone result (heap_items heads.new ≡ heap_items heads.old) }
+    ensures above { IfNone result (IsHeap head_order (heap_items heads.old) → AreNotBelow (Some place) (heap_items heads.old)
+        → AreAbove (Some place) (heap_items heads.new)) }
+{
+    match heads.peek() {
+        Some(head) => {
+            if head.next.place != place {
+                return None;
+            }
+        }
+        None => return None,
+    }
+    heads.pop()
+}
+
+// Takes all rows of a place of heads, this head's first, and gives that row, if they are as many as they have to be.
+fn take_place<S: Source>(
+    heads: &mut BinaryHeap<Head<S::Row, S>>,
+    first: Head<S::Row, S>,
+) -> Result<Option<Placed<S::Row>>, MergeRefused>
+    requires heap { IsHeap head_order (heap_items heads.old) }
+    requires newest { AreNewest S.last (first ∷ heap_items heads.old) }
+    requires low { AreNotBelow (Some first.next.place) (heap_items heads.old) }
+    ensures lawful { OnOk result (AreHeads S.last (Some first.next.place) (heap_items heads.new)) }
+    ensures row { IfOk result (λ o. IfSome o (λ r. r ≡ first.next)) }
+    ensures tells { OnOk result (AllTell S.tells (first ∷ heap_items heads.old) → AllTell S.tells (heap_items heads.new)) }
+    ensures rows { IfOk result (λ o. AllTell S.tells (first ∷ heap_items heads.old) → (passed : Option Place) → IsAbove passed first.next.place
+        → Passes passed (Some first.next.place) (rows_of_heads S.copies S.reading (first ∷ heap_items heads.old))
+        (rows_of_heads S.copies S.reading (heap_items heads.new)) (option_to_list o)) }
+    ensures faults { OnOk result (AllTell S.tells (first ∷ heap_items heads.old)
+        → IsPermutation (faults_of_heads S.reading (first ∷ heap_items heads.old)) (faults_of_heads S.reading (heap_items heads.new))) }
+    ensures fault { IfErr result (λ e. is_outside e ≡ false → AllTell S.tells (first ∷ heap_items heads.old)
+        → IsFaultOf (rows_of_heads S.copies S.reading (first ∷ heap_items heads.old)) (faults_of_heads S.reading (first ∷ heap_items heads.old)) e) }
+{
+    let Head { next, source } = first;
+    let mut needed = source.copies().needed(next.place);
+    let mut times = 1;
+    match put_next(heads, source) {
+        Ok(()) => {}
+        Err(e) => return Err(e),
+    }
+    'heads: while times <= needed {
+        let Some(head) = pop_at(heads, next.place) else {
+            return Ok(if times == needed { Some(next) } else { None });
+        };
+        needed = needed.min(head.source.copies().needed(next.place));
+        times += 1;
+        match put_next(heads, head.source) {
+            Ok(()) => {}
+            Err(e) => return Err(e),
+        }
+    }
+    Err(MergeRefused::RepeatedPlace(next.place))
+}
+
 impl<S: Source> Merge<S> {
     /// A merge of no inputs.
     pub fn new(alloc: Global) -> Merge<S>
         ensures heads { heap_items result.heads ≡ [] }
-        ensures lawful { AreHeads S.last result.given (heap_items result.heads) }
-        ensures given { result.given ≡ None }
+        ensures lawful { AreHeads S.last result.passed (heap_items result.heads) }
+        ensures passed { result.passed ≡ None }
     {
         Merge {
             heads: BinaryHeap::new(alloc),
-            given: None,
+            passed: None,
         }
     }
 
@@ -83,14 +133,14 @@ impl<S: Source> Merge<S> {
     ///
     /// The fault of the input. The merge is of no more use then.
     pub fn add(&mut self, source: S) -> Result<(), MergeRefused>
-        requires lawful { AreHeads S.last self.old.given (heap_items self.old.heads) }
-        requires given { self.old.given ≡ None }
-        ensures lawful { OnOk result (AreHeads S.last self.new.given (heap_items self.new.heads)) }
-        ensures given { self.new.given ≡ None }
+        requires lawful { AreHeads S.last self.old.passed (heap_items self.old.heads) }
+        requires passed { self.old.passed ≡ None }
+        ensures lawful { OnOk result (AreHeads S.last self.new.passed (heap_items self.new.heads)) }
+        ensures passed { self.new.passed ≡ None }
         ensures tells { OnOk result (S.tells source → AllTell S.tells (heap_items self.old.heads) → AllTell S.tells (heap_items self.new.heads)) }
         ensures rows { OnOk result (S.tells source
-            → IsPermutation ((S.reading source).rows ++ rows_of_heads S.reading (heap_items self.old.heads))
-            (rows_of_heads S.reading (heap_items self.new.heads))) }
+            → IsPermutation (copied (S.copies source) (S.reading source).rows ++ rows_of_heads S.copies S.reading (heap_items self.old.heads))
+            (rows_of_heads S.copies S.reading (heap_items self.new.heads))) }
         ensures faults { OnOk result (S.tells source
             → IsPermutation (option_to_list (S.reading source).fault ++ faults_of_heads S.reading (heap_items self.old.heads))
             (faults_of_heads S.reading (heap_items self.new.heads))) }
@@ -105,11 +155,11 @@ impl<S: Source> Merge<S> {
     ///
     /// The fault of an input.
     pub fn open(alloc: Global, inputs: Vec<S>) -> Result<Merge<S>, MergeRefused>
-        ensures lawful { IfOk result (λ m. AreHeads S.last m.given (heap_items m.heads)) }
-        ensures given { IfOk result (λ m. m.given ≡ None) }
+        ensures lawful { IfOk result (λ m. AreHeads S.last m.passed (heap_items m.heads)) }
+        ensures passed { IfOk result (λ m. m.passed ≡ None) }
         ensures tells { IfOk result (λ m. All S.tells inputs.items → AllTell S.tells (heap_items m.heads)) }
         ensures rows { IfOk result (λ m. All S.tells inputs.items
-            → IsPermutation (rows_of_inputs S.reading inputs.items) (rows_of_heads S.reading (heap_items m.heads))) }
+            → IsPermutation (rows_of_inputs S.copies S.reading inputs.items) (rows_of_heads S.copies S.reading (heap_items m.heads))) }
         ensures faults { IfOk result (λ m. All S.tells inputs.items
             → IsPermutation (faults_of_inputs S.reading inputs.items) (faults_of_heads S.reading (heap_items m.heads))) }
         ensures fault { IfErr result (λ e. is_outside e ≡ false → All S.tells inputs.items → Contains (faults_of_inputs S.reading inputs.items) e) }
@@ -125,37 +175,42 @@ impl<S: Source> Merge<S> {
         Ok(merge)
     }
 
-    /// The row of the least place of all that are left, or `None` where none is left.
+    /// The row of the least place of all that are left and that stand as often as they have to, or `None` where there is none.
+    /// Places that stand less often are passed over.
     ///
     /// # Errors
     ///
-    /// The fault of an input, or `RepeatedPlace` where the row has the place of the one before. The merge is of no more use
-    /// then: the row that would have come is lost.
+    /// The fault of an input, or `RepeatedPlace` where a place stands more often than it has to. The merge is of no more use
+    /// then: the row that would have come is lost. `Memory` and `ReadDevice` come from the machine alone.
     pub fn next(&mut self) -> Result<Option<Placed<S::Row>>, MergeRefused>
-        requires { AreHeads S.last self.old.given (heap_items self.old.heads) }
-        ensures lawful { OnOk result (AreHeads S.last self.new.given (heap_items self.new.heads)) }
-        ensures rises { IfOk result (λ o. IfSome o (λ r. IsAbove self.old.given r.place × (self.new.given ≡ Some r.place))) }
+        requires { AreHeads S.last self.old.passed (heap_items self.old.heads) }
+        ensures lawful { OnOk result (AreHeads S.last self.new.passed (heap_items self.new.heads)) }
+        ensures rises { IfOk result (λ o. IfSome o (λ r. IsAbove self.old.passed r.place × (self.new.passed ≡ Some r.place))) }
         ensures tells { OnOk result (AllTell S.tells (heap_items self.old.heads) → AllTell S.tells (heap_items self.new.heads)) }
         ensures rows { IfOk result (λ o. AllTell S.tells (heap_items self.old.heads)
-            → IsPermutation (rows_of_heads S.reading (heap_items self.old.heads)) (option_to_list o ++ rows_of_heads S.reading (heap_items self.new.heads))) }
+            → Passes self.old.passed self.new.passed (rows_of_heads S.copies S.reading (heap_items self.old.heads))
+            (rows_of_heads S.copies S.reading (heap_items self.new.heads)) (option_to_list o)) }
         ensures faults { OnOk result (AllTell S.tells (heap_items self.old.heads)
             → IsPermutation (faults_of_heads S.reading (heap_items self.old.heads)) (faults_of_heads S.reading (heap_items self.new.heads))) }
         ensures end { result ≡ Ok None
-            → (rows_of_heads S.reading (heap_items self.old.heads) ≡ []) × (faults_of_heads S.reading (heap_items self.old.heads) ≡ []) }
+            → (rows_of_heads S.copies S.reading (heap_items self.new.heads) ≡ []) × (faults_of_heads S.reading (heap_items self.new.heads) ≡ []) }
         ensures fault { IfErr result (λ e. is_outside e ≡ false → AllTell S.tells (heap_items self.old.heads)
-            → IsFaultOf self.old.given (rows_of_heads S.reading (heap_items self.old.heads)) (faults_of_heads S.reading (heap_items self.old.heads)) e) }
+            → IsFaultOf (rows_of_heads S.copies S.reading (heap_items self.old.heads)) (faults_of_heads S.reading (heap_items self.old.heads)) e) }
     {
-        let Some(Head { next, source }) = self.heads.pop() else {
-            return Ok(None);
-        };
-        if is_repeated(self.given, next.place) {
-            return Err(MergeRefused::RepeatedPlace(next.place));
+        'places: for _turn in 0..u64::MAX {
+            let Some(head) = self.heads.pop() else {
+                return Ok(None);
+            };
+            let place = head.next.place;
+            let row = match take_place(&mut self.heads, head) {
+                Ok(row) => row,
+                Err(e) => return Err(e),
+            };
+            self.passed = Some(place);
+            if row.is_some() {
+                return Ok(row);
+            }
         }
-        match put_next(&mut self.heads, source) {
-            Ok(()) => {}
-            Err(e) => return Err(e),
-        }
-        self.given = Some(next.place);
-        Ok(Some(next))
+        Err(MergeRefused::Memory)
     }
 }

@@ -3,8 +3,10 @@
 ghost use Rattle.std.specs.Prelude.{◌≡◌, Option, IfOk, IfSome, OnOk, Some};
 ghost use Rattle.rj_merge.specs.Places.{IsAbove};
 ghost use Rattle.rj_merge.specs.Sources.{Gives, Reading};
+ghost use Rattle.rj_merge.specs.declared.copies.Copies.{Copies};
 ghost use Rattle.rj_merge.specs.declared.place.Place.{Place};
 
+use crate::copies::Copies;
 use crate::place::Placed;
 use crate::refused::MergeRefused;
 
@@ -22,9 +24,17 @@ pub trait Source: Drop {
     // The place of the row that it gave last.
     ghost last: { Self → Option Place };
 
+    // In how many inputs its lone rows stand.
+    ghost copies: { Self → Copies };
+
+    /// In how many inputs of the merge a row that it gives stands, if it is a row of the whole.
+    fn copies(&self) -> Copies
+        ensures { result ≡ copies self.now };
+
     /// The next row, or `None` behind the last one. After an error nothing is known of it.
     fn next(&mut self) -> Result<Option<Placed<Self::Row>>, MergeRefused>
         ensures tells { OnOk result (tells self.old → tells self.new) }
         ensures gives { tells self.old → Gives (reading self.old) result (reading self.new) }
-        ensures rises { IfOk result (λ o. IfSome o (λ r. IsAbove (last self.old) r.place × (last self.new ≡ Some r.place))) };
+        ensures rises { IfOk result (λ o. IfSome o (λ r. IsAbove (last self.old) r.place × (last self.new ≡ Some r.place))) }
+        ensures copies { OnOk result (copies self.new ≡ copies self.old) };
 }
