@@ -7,6 +7,7 @@ use Rattle.rj_engine.specs.declared.joined.JoinedRow.{JoinedRow}
 use Rattle.rj_engine.specs.declared.joined.JoinedRow.TheVariants.{Both, LeftOnly, RightOnly}
 use Rattle.rj_engine.specs.Join.{JoinedValue, absent, pairs, product, row_of, rows_in}
 use Rattle.rj_shards.specs.Shards.{mapped_back}
+use Rattle.rj_shards.proofs.Together.{map_map}
 use Rattle.rj_shards.specs.Rows.{member_back}
 
 -- a pair of rows below these numbers
@@ -45,10 +46,6 @@ same_of_all P f g h each (x ∷ xs) all =
     let first = each x (All-head P x xs all) in
     let rest = same_of_all P f g h each xs (All-tail P x xs all) in
     λ t. first t ∷ rest t
-
-pub map_map : {A B X : Type 0} (g : B → X) (h : A → B) (xs : List A) → map g (map h xs) ≡ map (λ x. g (h x)) xs
-map_map g h [] = refl
-map_map g h (x ∷ xs) = ap (λ ys. g (h x) ∷ ys) (map_map g h xs)
 
 -- what is made of members, kind by kind
 of_kinds : {X : Type 0} (f : JoinedRow → X) (v : JoinedValue) → map f (rows_in v) ≡ map (λ p. f (Both p.0 p.1)) v.pairs ++ map (λ i. f (LeftOnly i)) v.lone_left ++ map (λ j. f (RightOnly j)) v.lone_right
