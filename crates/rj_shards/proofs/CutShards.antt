@@ -6,7 +6,7 @@ use Rattle.std.specs.List.Sorted.{IsPermutation}
 use Rattle.std.specs.Ordering.{is_eq}
 use Rattle.std.proofs.lemmas.Bool.{eqb-true}
 use Rattle.std.proofs.lemmas.List.Concat.{flat_map_single}
-use Rattle.std.proofs.lemmas.List.Elements.{All-append, All-filter, All-head, All-map, All-nil, All-tail, All-weaker, filter_passes}
+use Rattle.std.proofs.lemmas.List.Elements.{All-filter, All-head, All-map, All-nil, All-tail, All-weaker, filter_passes}
 use Rattle.std.proofs.lemmas.List.Folds.{flat_map-map}
 use Rattle.std.proofs.lemmas.List.Sorted.{IsPermutation-map}
 use Rattle.rj_columns.specs.Contents.{Content}
@@ -44,7 +44,7 @@ use Rattle.rj_shards.proofs.Own.{range_all}
 use Rattle.rj_shards.proofs.Renumbered.{again, all_again, same_order}
 use Rattle.rj_shards.proofs.Rising.{Rise, number_place, range_rises, right_up, rise_filter, rises_from, runs_rise}
 use Rattle.rj_shards.proofs.ShardRows.{kept_in_one, shard_below}
-use Rattle.rj_shards.proofs.Together.{All-flat_map, all_runs, flat_each, flat_flat, map_flat, map_map}
+use Rattle.rj_shards.proofs.Together.{All-flat_map, all_members, all_runs, flat_each, flat_flat, map_flat, map_map}
 use Rattle.rj_shards.proofs.Whole.{LeftOrder, ShardsMerge, ordered_same, placed_members, placed_rises, row_of, whole_rises}
 
 -- lists for each run with each other run, with the same elements each
@@ -61,15 +61,6 @@ map_within f g (x ∷ xs) same =
     let first = All-head (λ x. f x ≡ g x) x xs same in
     let rest = map_within f g xs (All-tail (λ x. f x ≡ g x) x xs same) in
     λ t. first t ∷ rest t
-
--- what holds of the members of each kind
-all_members : (P : JoinedRow → Type 0) (v : JoinedValue) → All (λ q. P (Both q.0 q.1)) v.pairs → All (λ i. P (LeftOnly i)) v.lone_left → All (λ j. P (RightOnly j)) v.lone_right → All P (rows_in v)
-unfolding rows_in
-all_members P v h i j =
-    let boths = map (λ q. Both q.0 q.1) v.pairs in
-    let lefts = map (λ i. LeftOnly i) v.lone_left in
-    let rights = map (λ j. RightOnly j) v.lone_right in
-    All-append P (boths ++ lefts) rights (All-append P boths lefts (All-map P (λ q. Both q.0 q.1) v.pairs h) (All-map P (λ i. LeftOnly i) v.lone_left i)) (All-map P (λ j. RightOnly j) v.lone_right j)
 
 all_if : (P : ℕ → Type 0) (adds : Bool) (xs : List ℕ) → All P xs → All P (cond adds xs [])
 all_if P true xs h = h

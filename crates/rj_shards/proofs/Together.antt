@@ -58,6 +58,15 @@ unfolding rows_in
 members_of_all [] = IsPermutation-refl []
 members_of_all (v ∷ vs) = with_one v (flat_map rows_in vs) (flat_map (λ v. v.pairs) vs) (flat_map (λ v. v.lone_left) vs) (flat_map (λ v. v.lone_right) vs) (members_of_all vs)
 
+-- what holds of the members of each kind
+pub all_members : (P : JoinedRow → Type 0) (v : JoinedValue) → All (λ q. P (Both q.0 q.1)) v.pairs → All (λ i. P (LeftOnly i)) v.lone_left → All (λ j. P (RightOnly j)) v.lone_right → All P (rows_in v)
+unfolding rows_in
+all_members P v h i j =
+    let boths = map (λ q. Both q.0 q.1) v.pairs in
+    let lefts = map (λ i. LeftOnly i) v.lone_left in
+    let rights = map (λ j. RightOnly j) v.lone_right in
+    All-append P (boths ++ lefts) rights (All-append P boths lefts (All-map P (λ q. Both q.0 q.1) v.pairs h) (All-map P (λ i. LeftOnly i) v.lone_left i)) (All-map P (λ j. RightOnly j) v.lone_right j)
+
 module _ {A B : Type 0} where
   -- lists that are made of each element, with the same elements each
   pub flat_each : (f g : A → List B) (xs : List A) → All (λ a. IsPermutation (f a) (g a)) xs → IsPermutation (flat_map f xs) (flat_map g xs)

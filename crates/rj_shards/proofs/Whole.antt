@@ -3,7 +3,6 @@ use Rattle.std.proofs.Common.{◌≡◌, ℕ, ◌<◌, true, List, [], ◌∷◌
 use Rattle.std.specs.List.{filter}
 use Rattle.std.specs.List.Sorted.{IsPermutation}
 use Rattle.std.proofs.lemmas.List.{get_or-map, length-map}
-use Rattle.std.proofs.lemmas.List.Elements.{All-weaker}
 use Rattle.std.proofs.lemmas.List.Sorted.{All-permutation, IsPermutation-map, IsPermutation-refl, IsPermutation-sym}
 use Rattle.rj_columns.specs.Contents.{Content, nothing}
 use Rattle.rj_columns.specs.Scales.{coalesced, in_scale}
@@ -15,7 +14,7 @@ use Rattle.rj_settings.specs.declared.choice.RowOrder.{RowOrder}
 use Rattle.rj_settings.specs.declared.choice.RowOrder.TheVariants.{LeftFirst, PairsFirst}
 use Rattle.rj_condition.specs.Joins.{keeps, kind_of_join}
 use Rattle.rj_condition.specs.declared.bound.BoundJoin.{BoundJoin}
-use Rattle.rj_engine.specs.Cells.{IsMemberOf, coalesced_scale, columns_of, joined_cell, joined_cells, left_cell, right_cell, view_of}
+use Rattle.rj_engine.specs.Cells.{coalesced_scale, columns_of, joined_cell, joined_cells, left_cell, right_cell, view_of}
 use Rattle.rj_engine.specs.Chosen.{are_all_columns, are_all_rows, by_left_row, chosen_columns, chosen_view, in_order, is_of_columns, rows_of_kinds}
 use Rattle.rj_engine.specs.Join.{adds_left, adds_right, rows_in}
 use Rattle.rj_engine.specs.Results.{joined_of, kept_pairs, result_of}
@@ -25,14 +24,13 @@ use Rattle.rj_engine.specs.declared.joined.JoinedRow.TheVariants.{Both, LeftOnly
 use Rattle.rj_engine.specs.declared.origin.Origin.{Origin}
 use Rattle.rj_engine.specs.declared.origin.Origin.TheVariants.{Coalesced, Left, Right}
 use Rattle.rj_engine.proofs.ChosenFacts.{all_rows as all_rows_of}
-use Rattle.rj_engine.proofs.Sources.{members-there}
 use Rattle.rj_merge.specs.Wholes.{RisesFrom}
 use Rattle.rj_merge.specs.declared.place.Place.{Place}
 use Rattle.rj_merge.specs.declared.place.Place.TheVariants.{LoneAmongPairs, LoneLeft, LoneRight}
 use Rattle.rj_merge.specs.declared.place.Placed.{Placed}
 use Rattle.rj_shards.specs.Renumbered.{Rises, renumbered_place}
 use Rattle.rj_shards.specs.Rows.{member_back, place_of, placed, placed_at, placed_rows}
-use Rattle.rj_shards.proofs.Together.{map_map}
+use Rattle.rj_shards.proofs.Together.{all_members, map_map}
 use Rattle.rj_shards.proofs.Own.{Agree, AreBelow, added_below, own_as_back, pairs_below}
 use Rattle.rj_shards.proofs.Extended.{IsWithin, extended, placed_back, rise_as, rise_kept}
 use Rattle.rj_shards.proofs.LeftOrder.{left_rows_rise}
@@ -91,13 +89,9 @@ module _ (law : LeftOrder) (join : BoundJoin) (l r : TableValue) where
 
   ordered_within : (order : RowOrder) → All (IsWithin (length l.rows) (length r.rows)) (in_order order (length l.rows) (result_of join l r))
   ordered_within order =
+      let low = below join l r in
       All-permutation (IsWithin (length l.rows) (length r.rows)) (result_of join l r) (in_order order (length l.rows) (result_of join l r)) (ordered_same order)
-      (All-weaker (IsMemberOf l r) (IsWithin (length l.rows) (length r.rows)) is_within (result_of join l r) (members-there join l r))
-    where
-      is_within : (row : JoinedRow) → IsMemberOf l r row → IsWithin (length l.rows) (length r.rows) row
-      is_within (Both i j) h = h
-      is_within (LeftOnly i) h = h.0
-      is_within (RightOnly j) h = h.1
+      (all_members (IsWithin (length l.rows) (length r.rows)) (joined_of join l r) low.pairs low.lone_left low.lone_right)
 
 module _ {T : Type 0} (order : RowOrder) (text : List Content → T) (join : BoundJoin) (l r : TableValue) where
   -- a member's row, at its place
