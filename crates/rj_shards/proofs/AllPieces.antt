@@ -1,5 +1,5 @@
 -- How often each member of a join stands among those of all pieces of all shards.
-use Rattle.std.proofs.Common.{◌≡◌, ℕ, ◌<◌, ◌≤◌, ◌==◌, Bool, true, false, cond, List, [], ◌∷◌, length, map, refl, ap, sym, subst, ◌∙◌, arith}
+use Rattle.std.proofs.Common.{◌≡◌, ℕ, ◌<◌, ◌≤◌, ◌==◌, Bool, true, false, cond, List, [], length, map, refl, ap, sym, subst, ◌∙◌, arith}
 use Rattle.std.specs.List.{count_by, filter, flat_map, range_with_len}
 use Rattle.std.specs.List.Sorted.{IsPermutation}
 use Rattle.std.proofs.lemmas.Bool.{eqb-true}
@@ -19,18 +19,11 @@ use Rattle.rj_shards.proofs.LoneRows.{lone_of}
 use Rattle.rj_shards.proofs.Needed.{AreCut, IsNeeded, is_at, left_times, lone_if_added, often_needed, pair_times, right_times, same_member}
 use Rattle.rj_shards.proofs.Own.{range_all}
 use Rattle.rj_shards.proofs.Rising.{kept_rise, number_place, once, pair_place, range_rises, right_up}
-use Rattle.rj_shards.proofs.Together.{flat_each, flat_flat, members_of, members_of_all}
+use Rattle.rj_shards.proofs.Together.{flat_each, flat_flat, flat_none, members_of, members_of_all}
 
 -- what is made of each run of left rows with each run of right rows
 abbrev pub of_runs : {X : Type 0} → (List ℕ → List ℕ → List X) → List (List ℕ) → List (List ℕ) → List X
 of_runs f lefts rights = flat_map (λ left. flat_map (f left) rights) lefts
-
-abbrev none : {X Y : Type 0} → X → List Y
-none x = []
-
-nothing_of : {X Y : Type 0} (xs : List X) → flat_map (none {Y = Y}) xs ≡ []
-nothing_of [] = refl
-nothing_of (x ∷ xs) = nothing_of xs
 
 often_if : (adds : Bool) (i : ℕ) (xs : List ℕ) → often i (cond adds xs []) ≡ cond adds (often i xs) 0
 often_if true i xs = refl
@@ -62,7 +55,9 @@ module _ (test : ℕ → ℕ → Bool) (adds adds' : Bool) where
     if_added : (given : Bool) (f : List ℕ → List ℕ → List ℕ) (ss : List ℕ)
         → flat_map (λ s. of_runs (λ xs ys. cond given (f xs ys) []) (lefts s) (rights s)) ss ≡ cond given (flat_map (λ s. of_runs f (lefts s) (rights s)) ss) []
     if_added true f ss = refl
-    if_added false f ss = (λ t. flat_map (λ s. flat_map (λ xs. nothing_of {Y = ℕ} (rights s) t) (lefts s)) ss) ∙ ((λ t. flat_map (λ s. nothing_of {Y = ℕ} (lefts s) t) ss) ∙ nothing_of ss)
+    if_added false f ss =
+        let none_of : List ℕ → List ℕ → List ℕ = λ xs ys. [] in
+        flat_none (λ s. of_runs none_of (lefts s) (rights s)) (λ s. flat_none (λ xs. flat_map (none_of xs) (rights s)) (λ xs. flat_none (none_of xs) (λ ys. refl) (rights s)) (lefts s)) ss
 
     -- the whole, and how often a member has to stand among those of all pieces
     abbrev pub whole : JoinedValue

@@ -1,5 +1,5 @@
 -- What shards give, each joined whole or in pieces, is merged to the rows of the whole, and what each piece gives rises.
-use Rattle.std.proofs.Common.{◌≡◌, ℕ, ◌+◌, ◌<◌, ◌==◌, Bool, true, false, cond, List, [], ◌∷◌, ◌++◌, length, map, None, refl, ap, sym, subst, ◌∙◌, append-nil, slice_index_or, arith, All}
+use Rattle.std.proofs.Common.{◌≡◌, ℕ, ◌<◌, ◌==◌, Bool, true, false, cond, List, [], ◌∷◌, length, map, None, refl, ap, sym, subst, ◌∙◌, append-nil, slice_index_or, arith, All}
 use Rattle.std.specs.Cmp.{tied_itself}
 use Rattle.std.specs.List.{flat_map, range_with_len}
 use Rattle.std.specs.List.Sorted.{IsPermutation}
@@ -44,7 +44,7 @@ use Rattle.rj_shards.proofs.Own.{range_all}
 use Rattle.rj_shards.proofs.Renumbered.{again, all_again, same_order}
 use Rattle.rj_shards.proofs.Rising.{Rise, number_place, range_rises, right_up, rise_filter, rises_from, runs_rise}
 use Rattle.rj_shards.proofs.ShardRows.{kept_in_one, shard_below}
-use Rattle.rj_shards.proofs.Together.{All-flat_map, all_members, all_runs, flat_each, flat_flat, map_flat, map_map}
+use Rattle.rj_shards.proofs.Together.{All-flat_map, all_members, all_runs, flat_each, flat_flat, map_flat, map_map, map_within}
 use Rattle.rj_shards.proofs.Whole.{LeftOrder, ShardsMerge, ordered_same, placed_members, placed_rises, row_of, whole_rises}
 
 -- lists for each run with each other run, with the same elements each
@@ -54,13 +54,6 @@ each_run f g P Q same lefts rights h i =
     flat_each (λ left. flat_map (f left) rights) (λ left. flat_map (g left) rights) lefts
     (All-weaker P (λ left. IsPermutation (flat_map (f left) rights) (flat_map (g left) rights))
     (λ left p. flat_each (f left) (g left) rights (All-weaker Q (λ right. IsPermutation (f left right) (g left right)) (λ right q. same left right p q) rights i)) lefts h)
-
-map_within : {X Y : Type 0} (f g : X → Y) (xs : List X) → All (λ x. f x ≡ g x) xs → map f xs ≡ map g xs
-map_within f g [] same = refl
-map_within f g (x ∷ xs) same =
-    let first = All-head (λ x. f x ≡ g x) x xs same in
-    let rest = map_within f g xs (All-tail (λ x. f x ≡ g x) x xs same) in
-    λ t. first t ∷ rest t
 
 all_if : (P : ℕ → Type 0) (adds : Bool) (xs : List ℕ) → All P xs → All P (cond adds xs [])
 all_if P true xs h = h

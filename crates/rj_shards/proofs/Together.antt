@@ -1,6 +1,6 @@
 -- Members of several joined tables together, and lists that are made of each element of a list.
-use Rattle.std.proofs.Common.{◌≡◌, ℕ, ◌<◌, List, [], ◌∷◌, ◌++◌, length, map, refl, ap, sym, subst, ◌∙◌, append_assoc, arith, All}
-use Rattle.std.specs.List.{Contains, flat_map}
+use Rattle.std.proofs.Common.{◌≡◌, ℕ, ◌<◌, Bool, cond, List, [], ◌∷◌, ◌++◌, length, map, refl, ap, sym, subst, ◌∙◌, append_assoc, arith, All}
+use Rattle.std.specs.List.{Contains, filter, flat_map}
 use Rattle.std.specs.List.Sorted.{IsPermutation}
 use Rattle.std.proofs.lemmas.Grind.{flat_map-append}
 use Rattle.std.proofs.lemmas.List.{get_or-map, length-map, map-append}
@@ -68,7 +68,12 @@ all_members P v h i j =
     All-append P (boths ++ lefts) rights (All-append P boths lefts (All-map P (λ q. Both q.0 q.1) v.pairs h) (All-map P (λ i. LeftOnly i) v.lone_left i)) (All-map P (λ j. RightOnly j) v.lone_right j)
 
 module _ {A B : Type 0} where
-  -- lists that are made of each element, with the same elements each
+  -- lists that are made of each element, none of which has any
+  pub flat_none : (f : A → List B) → ((a : A) → f a ≡ []) → (xs : List A) → flat_map f xs ≡ []
+  flat_none f none [] = refl
+  flat_none f none (x ∷ xs) = ap (λ ys. ys ++ flat_map f xs) (none x) ∙ flat_none f none xs
+
+  -- with the same elements each
   pub flat_each : (f g : A → List B) (xs : List A) → All (λ a. IsPermutation (f a) (g a)) xs → IsPermutation (flat_map f xs) (flat_map g xs)
   flat_each f g [] each = IsPermutation-refl []
   flat_each f g (x ∷ xs) each =
@@ -89,6 +94,21 @@ module _ {A B : Type 0} where
   All-flat_map P f [] each = All-nil P
   All-flat_map P f (x ∷ xs) each =
       All-append P (f x) (flat_map f xs) (All-head (λ a. All P (f a)) x xs each) (All-flat_map P f xs (All-tail (λ a. All P (f a)) x xs each))
+
+-- two tests, or two functions, that agree on the elements of a list
+pub filter_within : {X : Type 0} (p q : X → Bool) (xs : List X) → All (λ x. p x ≡ q x) xs → filter p xs ≡ filter q xs
+filter_within p q [] same = refl
+filter_within p q (x ∷ xs) same =
+    let first = All-head (λ x. p x ≡ q x) x xs same in
+    let rest = filter_within p q xs (All-tail (λ x. p x ≡ q x) x xs same) in
+    λ t. cond (first t) (x ∷ rest t) (rest t)
+
+pub map_within : {X Y : Type 0} (f g : X → Y) (xs : List X) → All (λ x. f x ≡ g x) xs → map f xs ≡ map g xs
+map_within f g [] same = refl
+map_within f g (x ∷ xs) same =
+    let first = All-head (λ x. f x ≡ g x) x xs same in
+    let rest = map_within f g xs (All-tail (λ x. f x ≡ g x) x xs same) in
+    λ t. first t ∷ rest t
 
 pub map_map : {A B X : Type 0} (g : B → X) (h : A → B) (xs : List A) → map g (map h xs) ≡ map (λ x. g (h x)) xs
 map_map g h [] = refl
