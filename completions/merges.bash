@@ -1,6 +1,6 @@
 # Completion of merges for bash: options that were not given yet, files, and the words of --order.
 _merges() {
-    local options="--null --order --from --to --help --version"
+    local options="--null --order --from --to --copies --help --version"
     local word=${COMP_WORDS[COMP_CWORD]} before=${COMP_WORDS[COMP_CWORD - 1]}
     # `--null=a` is three words here: --null, = and a.
     if [[ $word == = ]]; then
@@ -9,7 +9,7 @@ _merges() {
         before=${COMP_WORDS[COMP_CWORD - 2]}
     fi
     COMPREPLY=()
-    if [[ $before == --null || $before == --from || $before == --to ]]; then
+    if [[ $before == --null || $before == --from || $before == --to || $before == --copies ]]; then
         return
     elif [[ $before == --order ]]; then
         mapfile -t COMPREPLY < <(compgen -W "pairs left" -- "$word")

@@ -65,7 +65,7 @@ def help_of_each_option(folder):
         "radixjoin": ["left", "right", "left-types", "right-types", "join", "null", "bits1", "bits2", "hash", "workers", "block", "lanes", "capacity", "retries", "piece", "stats", "explain", "output", "order", "rows", "columns", "repeated", "expect", "max-rows", "count", "report", "progress", "help", "version"],
         "arrivals": ["partition", "senders", "block", "gaps", "help", "version"],
         "shards": ["side", "left", "right", "left-types", "right-types", "join", "null", "parts", "from", "to", "out", "cuts", "explain", "help", "version"],
-        "merges": ["null", "help", "version"],
+        "merges": ["null", "order", "from", "to", "copies", "help", "version"],
     }
     for name, told in options.items():
         for word in ("--help", "-h"):

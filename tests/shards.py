@@ -235,6 +235,18 @@ def run_shards_alone(tally):
             tally.check(f"shards: {more}, explained", harness.differences(ran, None, told, status))
 
 
+# The joins of two runs of left rows, 0 and 1, with one run of right rows, and a shard that isn't cut; and those of one run of left
+# rows with two of right rows, in order of left rows.
+GRID = [
+    "left_place,a,right_place\n0,p,5\n1,l,\n,u,6\n,x,7\n",
+    "left_place,a,right_place\n3,r,6\n4,m,\n,v,5\n,x,7\n",
+    "left_place,a,right_place\n9,n,\n,z,8\n",
+]
+TURNED = [
+    "left_place,a,right_place\n0,l,\n1,p,5\n2,no,\n,x,6\n",
+    "left_place,a,right_place\n0,l,\n1,no,\n2,q,9\n,y,7\n",
+]
+
 # Inputs of `merges`, and how it ends: its status, and what it writes or tells; and its options.
 MERGES = (
     ("two inputs", ["left_place,a,right_place\n0,x,5\n1,y,\n", "left_place,a,right_place\n0,z,7\n,w,2\n"], 0, b"a\nx\nz\ny\nw\n"),
@@ -261,6 +273,20 @@ MERGES = (
     ("a row before a range that has no place", ["left_place,a,right_place\nb,a,d\n1,y,0\n"], 3, None, "--from=1"),
     ("a range that begins nowhere", ["left_place,right_place,a\n"], 2, None, "--from=-1"),
     ("an order that is none", ["left_place,right_place,a\n"], 2, None, "--order=right"),
+    ("a grid of two runs of left rows", GRID[:2], 0, b"a\np\nr\nl\nm\nx\n", "--copies=1x2,1x2"),
+    ("a grid of two runs of right rows, in order of left rows", TURNED, 0, b"a\nl\np\nq\nx\ny\n", "--copies", "2x1,2x1", "--order=left"),
+    ("the first rows of a grid", TURNED, 0, b"a\nl\n", "--copies=2x1,2x1", "--order=left", "--to=1"),
+    ("the last rows of a grid", TURNED, 0, b"p\nq\nx\ny\n", "--copies=2x1,2x1", "--order=left", "--from=1"),
+    ("a grid beside a shard that isn't cut", GRID, 0, b"a\np\nr\nl\nm\nn\nx\nz\n", "--copies=1x2,1x2,1"),
+    ("copies of one file each", GRID[:2], 3, None, "--copies=1,1"),
+    ("a pair twice", [GRID[0], GRID[0]], 3, None, "--copies=2x2,2x2"),
+    ("a lone row in three files of two", [TURNED[0], TURNED[1], TURNED[1]], 3, None, "--copies=2x1,2x1,2x1", "--order=left"),
+    ("too few copies", GRID, 2, None, "--copies=1x2,1x2"),
+    ("too many copies", GRID, 2, None, "--copies=1,1,1,1"),
+    ("copies that are none", GRID, 2, None, "--copies=1,2,1"),
+    ("copies of no file", GRID, 2, None, "--copies=1,0x1,1"),
+    ("copies past the limit", GRID, 2, None, "--copies=1,1x1048577,1"),
+    ("an empty list of copies", GRID, 2, None, "--copies="),
 )
 
 

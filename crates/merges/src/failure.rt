@@ -30,6 +30,8 @@ pub enum Failure {
     NotText,
     #[error("merges: the number of files is none that can be merged")]
     FileCount,
+    #[error("merges: --copies has to have an entry for each file: 1, or LxR, of numbers from 1 to 1,048,576")]
+    BadCopies,
     #[error("merges: E1 NoHeader {0}")]
     NoHeader(String),
     #[error("merges: E5 RaggedRow {0} row {1}")]
@@ -83,7 +85,7 @@ impl Told for Failure {
     fn status(&self) -> u8 {
         match self {
             Failure::CommandLine(error) => { if error.use_stderr() { 2 } else { 0 } }
-            Failure::NotText | Failure::FileCount => 2,
+            Failure::NotText | Failure::FileCount | Failure::BadCopies => 2,
             Failure::Memory => 5,
             Failure::ReadDevice(_) | Failure::WriteDevice => 6,
             _ => 3,

@@ -2,13 +2,17 @@
 //! the places. Faults go to standard error.
 #![tactic(auto)]
 
+ghost use Rattle.std.specs.Prelude.{◌≡◌, length};
+
+mod copies;
 mod failure;
 
+use crate::copies::read_copies;
 use crate::failure::Failure;
 use clap::{Arg, ArgAction, ArgMatches, Command, value_parser};
 use rj_csv_io::{CountedWriter, is_lawful_null};
 use rj_fault::{VERSION, read_words, tell, texts_of};
-use rj_merge::{MergeOptions, Patient, Place, RowOrder, merge_texts};
+use rj_merge::{Copies, MergeInput, MergeOptions, Patient, Place, RowOrder, merge_texts};
 use std::alloc::{AllocError, Global};
 use std::env::Env;
 use std::fs::{self, Files};
@@ -49,6 +53,13 @@ fn line_command<'a>(alloc: Global) -> Result<Command<'a>, AllocError> {
         "to",
         "Left place that the rows end before [default: the end]",
     );
+    let copies = Arg::new(alloc, "copies")
+        .long("copies")
+        .value_name("LIST")
+        .action(ArgAction::Set)
+        .help(
+            "In how many of the files the lone rows of each have to stand: 1, or left rows x right rows, as 3x2; one entry for each file, separated by commas, of numbers from 1 to 1,048,576 [default: 1 for each]",
+        );
     let files = Arg::new(alloc, "files")
         .value_name("FILE")
         .num_args(1..)
@@ -62,6 +73,7 @@ fn line_command<'a>(alloc: Global) -> Result<Command<'a>, AllocError> {
         .arg(order)?
         .arg(from)?
         .arg(to)?
+        .arg(copies)?
         .arg(files)
 }
 
@@ -91,22 +103,29 @@ fn options_of<'n>(matches: &ArgMatches<'_>, null: &'n str) -> MergeOptions<'n> {
     }
 }
 
-// Opens the files, in order.
+// Opens the files, in order, each with its copies.
 fn open_files<R: Files + AllocGlobal>(
     rt: &R,
     files: &[&str],
-) -> Result<Vec<Patient<R::File>>, Failure>
+    copies: &[Copies],
+) -> Result<Vec<MergeInput<Patient<R::File>>>, Failure>
 where
     R::File: Drop,
+    requires { length copies.now ≡ length files.now }
 {
     let mut inputs = Vec::new(rt.alloc());
-    for name in files {
-        let file = match fs::open(rt, *name) {
+    for i in 0..files.len() {
+        let name = files[i];
+        let file = match fs::open(rt, name) {
             Ok(file) => file,
             Err(error) if error.kind() == io::ErrorKind::OutOfMemory => return Err(Failure::Memory),
             Err(_) => return Err(Failure::ReadDevice(String::from_str(rt.alloc(), name)?)),
         };
-        if inputs.push(Patient::new(file)).is_err() {
+        let input = MergeInput {
+            reader: Patient::new(file),
+            copies: copies[i],
+        };
+        if inputs.push(input).is_err() {
             return Err(Failure::Memory);
         }
     }
@@ -119,14 +138,16 @@ fn merge_files<R: Files + AllocGlobal + Print>(
     null: &str,
     how: MergeOptions<'_>,
     files: &[&str],
+    copies: &[Copies],
 ) -> Result<(), Failure>
 where
     R::File: Drop,
+    requires { length copies.now ≡ length files.now }
 {
     if !is_lawful_null(null) {
         return Err(Failure::BadNull);
     }
-    let inputs = open_files(rt, files)?;
+    let inputs = open_files(rt, files, copies)?;
     if inputs.is_empty() || u32::try_from(inputs.len()).is_err() {
         return Err(Failure::FileCount);
     }
@@ -152,7 +173,14 @@ where
     };
     let null = matches.get_str("null").unwrap_or("");
     let files = matches.get_strs("files").unwrap_or(&[]);
-    merge_files(rt, null, options_of(&matches, null), files)
+    let copies = read_copies(rt.alloc(), matches.get_str("copies"), files.len())?;
+    merge_files(
+        rt,
+        null,
+        options_of(&matches, null),
+        files,
+        copies.as_slice(),
+    )
 }
 
 // Reads the command line, and merges.

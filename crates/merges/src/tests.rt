@@ -1,5 +1,6 @@
 //! The line and the exit status of each failure, typed from docs/cluster.md.
 
+use crate::copies::read_copies;
 use crate::failure::Failure;
 use crate::read_and_merge;
 use rj_fault::Told;
@@ -137,6 +138,14 @@ fn lines_without_a_file(rt: HostRuntime) {
             2
         )
     );
+    assert!(rt;
+        is_line(
+            alloc,
+            &Failure::BadCopies,
+            "merges: --copies has to have an entry for each file: 1, or LxR, of numbers from 1 to 1,048,576",
+            2
+        )
+    );
 }
 
 // The exit status of a command line that fails before any file is opened, or none.
@@ -154,5 +163,81 @@ fn command_lines(rt: HostRuntime) -> Result<(), Fail> {
     assert!(rt; status_of(&rt, [].as_slice()) == Some(2));
     assert!(rt; status_of(&rt, ["--null"].as_slice()) == Some(2));
     assert!(rt; status_of(&rt, ["--null", "0", "a.csv"].as_slice()) == Some(3));
+    assert!(rt; status_of(&rt, ["--copies", "2x", "--null", "0", "a.csv"].as_slice()) == Some(2));
+    assert!(rt; status_of(&rt, ["--copies", "1,1", "--null", "0", "a.csv"].as_slice()) == Some(2));
+    assert!(rt; status_of(&rt, ["--copies", "3x2", "--null", "0", "a.csv"].as_slice()) == Some(3));
     Ok(())
+}
+
+// The left and right copies that a list says of each file, in order, or none.
+fn pairs_of(alloc: Global, list: Option<&str>, files: usize) -> Option<Vec<(u32, u32)>> {
+    let Ok(all) = read_copies(alloc, list, files) else {
+        return None;
+    };
+    match all.iter().map(|it| (it.left, it.right)).collect(alloc) {
+        Ok(pairs) => Some(pairs),
+        Err(_) => None,
+    }
+}
+
+// Whether a list says these copies.
+fn says(alloc: Global, list: &str, want: &[(u32, u32)]) -> bool {
+    match pairs_of(alloc, Some(list), want.len()) {
+        Some(pairs) => pairs.as_slice() == want,
+        None => false,
+    }
+}
+
+#[test]
+fn lists_of_copies(rt: HostRuntime) {
+    let alloc = rt.alloc();
+    assert!(rt; says(alloc, "1", [(1, 1)].as_slice()));
+    assert!(rt;
+        says(
+            alloc,
+            "1,3x2,1048576x1",
+            [(1, 1), (3, 2), (1_048_576, 1)].as_slice()
+        )
+    );
+    assert!(rt; says(alloc, "1x1,02x10", [(1, 1), (2, 10)].as_slice()));
+    match pairs_of(alloc, None, 2) {
+        Some(pairs) => {
+            assert!(rt; pairs.as_slice() == [(1, 1), (1, 1)].as_slice());
+        }
+        None => {
+            assert!(rt; false);
+        }
+    }
+}
+
+#[test]
+fn lists_that_are_none(rt: HostRuntime) {
+    let alloc = rt.alloc();
+    let entries = [
+        "",
+        "2",
+        "0x1",
+        "1x0",
+        "1x",
+        "x1",
+        "x",
+        "1X1",
+        "+1x1",
+        "1x-1",
+        "1x1x1",
+        " 1",
+        "1 ",
+        "1048577x1",
+        "1x1048577",
+        "1x4294967297",
+        "1;1",
+    ];
+    for entry in entries {
+        assert!(rt; pairs_of(alloc, Some(entry), 1).is_none());
+    }
+    assert!(rt; pairs_of(alloc, Some("1,2"), 2).is_none());
+    assert!(rt; pairs_of(alloc, Some("1"), 2).is_none());
+    assert!(rt; pairs_of(alloc, Some("1,1"), 1).is_none());
+    assert!(rt; pairs_of(alloc, Some("1,"), 1).is_none());
+    assert!(rt; pairs_of(alloc, Some("1,1,"), 2).is_none());
 }

@@ -2,7 +2,7 @@
 use Rattle.std.proofs.Common.{◌≡◌, Bool, true, false, cond, List, [], ◌∷◌, ◌++◌, Option, None, Some, All, refl, sym, ap, subst, ◌∙◌}
 use Rattle.std.specs.Prelude.{not, filter}
 use Rattle.std.proofs.lemmas.Bool.{false≢true}
-use Rattle.std.proofs.lemmas.List.Elements.{All-cons, All-head, All-nil, All-tail}
+use Rattle.std.proofs.lemmas.List.Elements.{All-cons, All-nil}
 use Rattle.std.specs.Ordering.{is_eq, is_lt, ordering_reverse}
 use Rattle.std.specs.declared.cmp.Ordering.{Ordering}
 use Rattle.std.specs.declared.cmp.Ordering.TheVariants.{Less, Equal, Greater}
@@ -12,7 +12,7 @@ use Rattle.rj_merge.specs.declared.refused.MergeRefused.{MergeRefused}
 use Rattle.rj_merge.specs.Places.{IsAbove, place_order, place_total}
 use Rattle.rj_merge.specs.Ranges.{fault_before, is_before, is_from, rows_before}
 use Rattle.rj_merge.specs.Wholes.{RisesFrom}
-use Rattle.rj_merge.proofs.PlaceFacts.{same_place}
+use Rattle.rj_merge.proofs.PlaceFacts.{is_less, same_place}
 
 -- ---- places
 
@@ -23,11 +23,6 @@ not_below_if Greater h = refl
 
 not_less : (o : Ordering) → is_lt o ≡ false → o ≡ Less → ⊥
 not_less o h e = false≢true (sym h ∙ ap is_lt e)
-
-pub is_less : (o : Ordering) → is_lt o ≡ true → o ≡ Less
-is_less Less h = refl
-is_less Equal h = absurd (false≢true h)
-is_less Greater h = absurd (false≢true h)
 
 from_if : (p first : Place) → (place_order p first ≡ Less → ⊥) → is_from (Some first) p ≡ true
 from_if p first h = ap not (not_below_if (place_order p first) h)
@@ -56,14 +51,9 @@ less_through p cut q low high = by_order (place_order p q) refl
         absurd (not_less (place_order q cut) high (subst (λ r. place_order r cut ≡ Less) same low))
     by_order Greater e = absurd (not_less (place_order q cut) high (place_total.trans q p cut (place_total.antisymm q p ∙ ap ordering_reverse e) low))
 
--- a place stands below a cut, if there is that place
-abbrev pub StandsBelow : Option Place → Place → Type 0
-StandsBelow None cut = Unit {0}
-StandsBelow (Some before) cut = place_order before cut ≡ Less
-
-above_before : (before : Option Place) (cut p : Place) → StandsBelow before cut → is_from (Some cut) p ≡ true → IsAbove before p
-above_before None cut p low high = tt
-above_before (Some before) cut p low high = less_through before cut p low (not_below_if (place_order p cut) (not_before p cut high))
+-- and so it is where the other is of a range from the cut on
+pub below_from : (p cut q : Place) → is_lt (place_order p cut) ≡ true → is_from (Some cut) q ≡ true → place_order p q ≡ Less
+below_from p cut q low high = less_through p cut q (is_less (place_order p cut) low) (not_below_if (place_order q cut) (not_before q cut high))
 
 module _ {T : Type 0} where
   abbrev from_rows : Option Place → List (Placed T) → List (Placed T)
@@ -120,17 +110,3 @@ module _ {T : Type 0} where
       by_test : All (λ r. is_lt (place_order r.place cut) ≡ true) (rows_before (Some cut) rows) → (b : Bool) → is_lt (place_order row.place cut) ≡ b → All (λ r. is_lt (place_order r.place cut) ≡ true) (rows_before (Some cut) (row ∷ rows))
       by_test rest true e = rw e (All-cons (λ (r : Placed T). is_lt (place_order r.place cut) ≡ true) row (rows_before (Some cut) rows) e rest)
       by_test rest false e = rw e (All-nil (λ (r : Placed T). is_lt (place_order r.place cut) ≡ true))
-
-  -- ---- rows below a cut, and rows that aren't, one after the other
-
-  rises_behind : (cut : Place) (before : Option Place) (rows : List (Placed T)) → StandsBelow before cut → RisesFrom None rows → All (λ row. is_from (Some cut) row.place ≡ true) rows → RisesFrom before rows
-  rises_behind cut before [] low rises high = tt
-  rises_behind cut before (row ∷ rows) low rises high =
-      (above_before before cut row.place low (All-head (λ (r : Placed T). is_from (Some cut) r.place ≡ true) row rows high), rises.1)
-
-  pub rises_joined : (cut : Place) (before : Option Place) (rows more : List (Placed T)) → StandsBelow before cut → RisesFrom before rows → RisesFrom None more
-      → All (λ row. is_lt (place_order row.place cut) ≡ true) rows → All (λ row. is_from (Some cut) row.place ≡ true) more → RisesFrom before (rows ++ more)
-  rises_joined cut before [] more low rises up below high = rises_behind cut before more low up high
-  rises_joined cut before (row ∷ rows) more low rises up below high =
-      let here = is_less (place_order row.place cut) (All-head (λ (r : Placed T). is_lt (place_order r.place cut) ≡ true) row rows below) in
-      (rises.0, rises_joined cut (Some row.place) rows more here rises.1 up (All-tail (λ (r : Placed T). is_lt (place_order r.place cut) ≡ true) row rows below) high)

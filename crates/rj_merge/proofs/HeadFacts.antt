@@ -5,10 +5,13 @@ use Rattle.std.specs.Option.{option_to_list}
 use Rattle.std.proofs.lemmas.List.Sorted.{All-permutation, Contains-permutation, IsPermutation-append_right, IsPermutation-cons, IsPermutation-sym, IsPermutation-trans}
 use Rattle.std.proofs.lemmas.List.Elements.{All-cons, All-head, All-pop, All-tail, Contains-append_left, Contains-append_right}
 use Rattle.std.proofs.lemmas.List.Concat.{flat_map-append}
+use Rattle.std.proofs.lemmas.List.Folds.{flat_map-map}
+use Rattle.rj_merge.specs.declared.copies.Copies.{Copies}
 use Rattle.rj_merge.specs.declared.head.Head.{Head}
 use Rattle.rj_merge.specs.declared.place.Placed.{Placed}
 use Rattle.rj_merge.specs.declared.refused.MergeRefused.{MergeRefused}
-use Rattle.rj_merge.specs.Merging.{faults_of_heads, rows_of_heads}
+use Rattle.rj_merge.specs.Copies.{Copied, copied, copied_rows, copy_of}
+use Rattle.rj_merge.specs.Merging.{faults_of_heads, lists_of_inputs, rows_of_heads, rows_of_inputs}
 use Rattle.rj_merge.specs.Sources.{Reading}
 use Rattle.rj_merge.proofs.Moved.{flat_moved}
 
@@ -22,27 +25,31 @@ module _ {T S : Type 0} (P : Head T S → Type 0) (heads rest : List (Head T S))
   pub holds_rest : IsPermutation heads (head ∷ rest) → All P heads → All P rest
   holds_rest p all = All-tail P head rest (All-permutation P heads (head ∷ rest) p all)
 
-module _ {T S : Type 0} (reading : S → Reading T) (heads rest : List (Head T S)) (head : Head T S) where
-  abbrev rows_of_one : Head T S → List (Placed T)
-  rows_of_one h = h.next ∷ (reading h.source).rows
+module _ {T S : Type 0} (copies : S → Copies) (reading : S → Reading T) (heads rest : List (Head T S)) (head : Head T S) where
+  abbrev rows_of_one : Head T S → List (Copied T)
+  rows_of_one h = copied (copies h.source) (h.next ∷ (reading h.source).rows)
 
   abbrev faults_of_one : Head T S → List MergeRefused
   faults_of_one h = option_to_list (reading h.source).fault
 
-  pub rows_put : (rows : List (Placed T)) → rows ≡ head.next ∷ (reading head.source).rows → IsPermutation (head ∷ rest) heads
-      → IsPermutation (rows ++ rows_of_heads reading rest) (rows_of_heads reading heads)
-  rows_put rows e p = subst (λ l. IsPermutation (l ++ rows_of_heads reading rest) (rows_of_heads reading heads)) (sym e) (flat_moved rows_of_one (head ∷ rest) heads p)
+  pub rows_put : (own : Copies) → copies head.source ≡ own → (rows : List (Placed T)) → rows ≡ head.next ∷ (reading head.source).rows → IsPermutation (head ∷ rest) heads
+      → IsPermutation (copied own rows ++ rows_of_heads copies reading rest) (rows_of_heads copies reading heads)
+  rows_put own same rows e p =
+      subst (λ k. IsPermutation (copied k rows ++ rows_of_heads copies reading rest) (rows_of_heads copies reading heads)) same
+      (subst (λ l. IsPermutation (copied (copies head.source) l ++ rows_of_heads copies reading rest) (rows_of_heads copies reading heads)) (sym e) (flat_moved rows_of_one (head ∷ rest) heads p))
 
   pub faults_put : (fault : Option MergeRefused) → fault ≡ (reading head.source).fault → IsPermutation (head ∷ rest) heads
       → IsPermutation (option_to_list fault ++ faults_of_heads reading rest) (faults_of_heads reading heads)
   faults_put fault e p = subst (λ f. IsPermutation (option_to_list f ++ faults_of_heads reading rest) (faults_of_heads reading heads)) (sym e) (flat_moved faults_of_one (head ∷ rest) heads p)
 
   pub rows_taken : (new : List (Head T S)) → IsPermutation heads (head ∷ rest)
-      → IsPermutation ((reading head.source).rows ++ rows_of_heads reading rest) (rows_of_heads reading new)
-      → IsPermutation (rows_of_heads reading heads) (head.next ∷ rows_of_heads reading new)
-  rows_taken new p q = IsPermutation-trans (rows_of_heads reading heads) (rows_of_heads reading (head ∷ rest)) (head.next ∷ rows_of_heads reading new)
+      → IsPermutation (copied (copies head.source) (reading head.source).rows ++ rows_of_heads copies reading rest) (rows_of_heads copies reading new)
+      → IsPermutation (rows_of_heads copies reading heads) (copy_of (copies head.source) head.next ∷ rows_of_heads copies reading new)
+  rows_taken new p q =
+      let own : Copied T = copy_of (copies head.source) head.next in
+      IsPermutation-trans (rows_of_heads copies reading heads) (rows_of_heads copies reading (head ∷ rest)) (own ∷ rows_of_heads copies reading new)
       (flat_moved rows_of_one heads (head ∷ rest) p)
-      (IsPermutation-cons head.next ((reading head.source).rows ++ rows_of_heads reading rest) (rows_of_heads reading new) q)
+      (IsPermutation-cons own (copied (copies head.source) (reading head.source).rows ++ rows_of_heads copies reading rest) (rows_of_heads copies reading new) q)
 
   pub faults_taken : (new : List (Head T S)) → IsPermutation heads (head ∷ rest)
       → IsPermutation (option_to_list (reading head.source).fault ++ faults_of_heads reading rest) (faults_of_heads reading new)
@@ -50,14 +57,15 @@ module _ {T S : Type 0} (reading : S → Reading T) (heads rest : List (Head T S
   faults_taken new p q = IsPermutation-trans (faults_of_heads reading heads) (faults_of_heads reading (head ∷ rest)) (faults_of_heads reading new)
       (flat_moved faults_of_one heads (head ∷ rest) p) q
 
+  -- a head taken from the heap, with the others
+  pub rows_popped : IsPermutation heads (head ∷ rest) → IsPermutation (rows_of_heads copies reading heads) (rows_of_heads copies reading (head ∷ rest))
+  rows_popped p = flat_moved rows_of_one heads (head ∷ rest) p
+
+  pub faults_popped : IsPermutation heads (head ∷ rest) → IsPermutation (faults_of_heads reading heads) (faults_of_heads reading (head ∷ rest))
+  faults_popped p = flat_moved faults_of_one heads (head ∷ rest) p
+
   first_of : {X : Type 0} (x : X) (xs : List X) → Contains (x ∷ xs) x
   first_of x xs = (0, omega arith, refl)
-
-  -- the row of a head is among the rows
-  pub has_row : IsPermutation heads (head ∷ rest) → Contains (rows_of_heads reading heads) head.next
-  has_row p = Contains-permutation (rows_of_heads reading (head ∷ rest)) (rows_of_heads reading heads) head.next
-      (IsPermutation-sym (rows_of_heads reading heads) (rows_of_heads reading (head ∷ rest)) (flat_moved rows_of_one heads (head ∷ rest) p))
-      (first_of head.next ((reading head.source).rows ++ rows_of_heads reading rest))
 
   -- the fault of a head's input is among the faults
   pub has_fault : (e : MergeRefused) → IsPermutation heads (head ∷ rest) → (reading head.source).fault ≡ Some e → Contains (faults_of_heads reading heads) e
@@ -92,3 +100,7 @@ All-last P inputs rest last e all = All-pop P inputs rest (Some last) e all
 -- a fault is the only one of what has it
 pub fault_first : (fault : Option MergeRefused) (e : MergeRefused) → fault ≡ Some e → Contains (option_to_list fault) e
 fault_first fault e is = subst (λ o. Contains (option_to_list o) e) (sym is) (0, omega arith, refl)
+
+-- the rows of inputs, as those of lists with their copies
+pub rows_listed : {T S : Type 0} (copies : S → Copies) (reading : S → Reading T) (inputs : List S) → copied_rows (lists_of_inputs copies reading inputs) ≡ rows_of_inputs copies reading inputs
+rows_listed copies reading inputs = flat_map-map (λ i. copied i.0 i.1) (λ s. (copies s, (reading s).rows)) inputs

@@ -1,7 +1,11 @@
 pub mod Moved
 pub mod PlaceFacts
 pub mod HeadFacts
+pub mod CopyFacts
+pub mod PassFacts
+pub mod TakenFacts
 pub mod WholeFacts
+pub mod CopyLaws
 pub mod TextFacts
 pub mod NumberFacts
 pub mod HeaderFacts

@@ -11,12 +11,14 @@ use Rattle.std.proofs.lemmas.List.Concat.{flat_map-append}
 use Rattle.std.proofs.lemmas.List.Elements.{All-cons, All-nil, All-push, Contains-append_left, Contains-append_right}
 use Rattle.rj_csv_io.specs.Cuts.{records_in}
 use Rattle.rj_merge.specs.declared.columns.Columns.{Columns}
+use Rattle.rj_merge.specs.declared.copies.Copies.{Copies}
+use Rattle.rj_merge.specs.declared.copies.MergeInput.{MergeInput}
 use Rattle.rj_merge.specs.declared.input.TextSource.{TextSource}
 use Rattle.rj_merge.specs.declared.options.MergeOptions.{MergeOptions}
 use Rattle.rj_merge.specs.declared.refused.MergeRefused.{MergeRefused}
 use Rattle.rj_merge.specs.declared.refused.MergeRefused.TheVariants as refused
 use Rattle.rj_merge.specs.Headers.{place_columns}
-use Rattle.rj_merge.specs.Inputs.{faults_of_readings, first_header, first_record, input_reading, input_tells, reading_of, reading_of_records, readings, readings_from}
+use Rattle.rj_merge.specs.Inputs.{copies_of, faults_of_readings, first_header, first_record, input_reading, input_tells, own_copies, reading_of, reading_of_records, readings, readings_from, told_by}
 use Rattle.rj_merge.specs.Ranges.{fault_before, reading_within, rows_before}
 use Rattle.rj_merge.specs.Sources.{Reading}
 use Rattle.rj_merge.specs.Texts.{read_rows}
@@ -56,34 +58,34 @@ later_fault before more e c =
     (Contains-append_right (faults_of_readings before) (faults_of_readings more) e c)
 
 -- these inputs were opened, the last of which has this number, and those are left
-pub record HasOpened {R : Type 0} (known : R → Option (List ℕ)) (how : MergeOptions) (texts : List (List ℕ)) (names : List (List ℕ)) (sources : List (TextSource R)) (input : ℕ) (left : List R) : Type 0 where
+pub record HasOpened {R : Type 0} (known : R → Option (List ℕ)) (how : MergeOptions) (texts : List (List ℕ)) (names : List (List ℕ)) (sources : List (TextSource R)) (input : ℕ) (left : List (MergeInput R)) : Type 0 where
   pub rest : List (List ℕ)
-  pub tell : map known left ≡ map Some rest
+  pub tell : map (told_by known) left ≡ map Some rest
   pub header : names ≡ first_header texts
   pub given : readings how texts ≡ map (input_reading known) sources ++ readings_from how names (input + 1) rest
   pub tells : All (input_tells known) sources
 
 module _ {R : Type 0} (known : R → Option (List ℕ)) (how : MergeOptions) where
   -- the text of the input at hand, and those behind it
-  pub record Heard (texts : List (List ℕ)) (x : R) (left : List R) : Type 0 where
+  pub record Heard (texts : List (List ℕ)) (x : MergeInput R) (left : List (MergeInput R)) : Type 0 where
     pub text : List ℕ
     pub rest : List (List ℕ)
     pub texts_are : texts ≡ text ∷ rest
-    pub here : known x ≡ Some text
-    pub later : map known left ≡ map Some rest
+    pub here : told_by known x ≡ Some text
+    pub later : map (told_by known) left ≡ map Some rest
 
-  pub heard : (texts : List (List ℕ)) (x : R) (left : List R) → map known (x ∷ left) ≡ map Some texts → Heard texts x left
+  pub heard : (texts : List (List ℕ)) (x : MergeInput R) (left : List (MergeInput R)) → map (told_by known) (x ∷ left) ≡ map Some texts → Heard texts x left
   heard [] x left e = absurd (cc)
-  heard (text ∷ rest) x left e = let here : known x ≡ Some text = cc in let later : map known left ≡ map Some rest = cc in
+  heard (text ∷ rest) x left e = let here : told_by known x ≡ Some text = cc in let later : map (told_by known) left ≡ map Some rest = cc in
       record { text = text; rest = rest; texts_are = refl; here = here; later = later }
 
-  module _ (inputs : List R) (x : R) (left : List R) (texts : List (List ℕ)) (is : inputs ≡ x ∷ left) (tell : map known inputs ≡ map Some texts) where
+  module _ (inputs : List (MergeInput R)) (x : MergeInput R) (left : List (MergeInput R)) (texts : List (List ℕ)) (is : inputs ≡ x ∷ left) (tell : map (told_by known) inputs ≡ map Some texts) where
     from_first : Heard texts x left
-    from_first = heard texts x left (subst (λ l. map known l ≡ map Some texts) is tell)
+    from_first = heard texts x left (subst (λ l. map (told_by known) l ≡ map Some texts) is tell)
 
     -- the first input was opened, or has a fault
-    pub opened-first : (names : List (List ℕ)) (s : TextSource R) → ((text : List ℕ) → known x ≡ Some text → names ≡ first_record (records_in text))
-        → ((text : List ℕ) → known x ≡ Some text → input_tells known s × (input_reading known s ≡ reading_of how (first_record (records_in text)) 1 text))
+    pub opened-first : (names : List (List ℕ)) (s : TextSource R) → ((text : List ℕ) → told_by known x ≡ Some text → names ≡ first_record (records_in text))
+        → ((text : List ℕ) → told_by known x ≡ Some text → input_tells known s × (input_reading known s ≡ reading_of how (first_record (records_in text)) 1 text))
         → HasOpened known how texts names (s ∷ []) 1 left
     unfolding readings_from
     opened-first names s header given = by_text from_first
@@ -102,7 +104,7 @@ module _ {R : Type 0} (known : R → Option (List ℕ)) (how : MergeOptions) whe
               tells = All-cons (input_tells known) s [] gives.0 (All-nil (input_tells known));
             }
 
-    pub fault-first : (e : MergeRefused) → ((text : List ℕ) → known x ≡ Some text → (reading_of how (first_record (records_in text)) 1 text).fault ≡ Some e)
+    pub fault-first : (e : MergeRefused) → ((text : List ℕ) → told_by known x ≡ Some text → (reading_of how (first_record (records_in text)) 1 text).fault ≡ Some e)
         → Contains (faults_of_readings (readings how texts)) e
     unfolding readings_from
     fault-first e fault = by_text from_first
@@ -112,16 +114,16 @@ module _ {R : Type 0} (known : R → Option (List ℕ)) (how : MergeOptions) whe
             let names = first_record (records_in h.text) in
             subst (λ l. Contains (faults_of_readings (readings how l)) e) (sym h.texts_are) (first_fault (reading_of how names 1 h.text) (readings_from how names 2 h.rest) e (fault h.text h.here))
 
-  module _ (texts : List (List ℕ)) (names : List (List ℕ)) (sources : List (TextSource R)) (input : ℕ) (left more : List R) (x : R) (h : HasOpened known how texts names sources input left) (is : left ≡ x ∷ more) where
+  module _ (texts : List (List ℕ)) (names : List (List ℕ)) (sources : List (TextSource R)) (input : ℕ) (left more : List (MergeInput R)) (x : MergeInput R) (h : HasOpened known how texts names sources input left) (is : left ≡ x ∷ more) where
     from_next : Heard h.rest x more
-    from_next = heard h.rest x more (subst (λ l. map known l ≡ map Some h.rest) is h.tell)
+    from_next = heard h.rest x more (subst (λ l. map (told_by known) l ≡ map Some h.rest) is h.tell)
 
     given_next : (n : Heard h.rest x more) → readings how texts ≡ map (input_reading known) sources ++ (reading_of how names (input + 1) n.text ∷ readings_from how names (input + 1 + 1) n.rest)
     unfolding readings_from
     given_next n = h.given ∙ ap (λ l. map (input_reading known) sources ++ readings_from how names (input + 1) l) n.texts_are
 
     -- a further input was opened, or has a fault
-    pub opened-next : (s : TextSource R) → ((text : List ℕ) → known x ≡ Some text → input_tells known s × (input_reading known s ≡ reading_of how names (input + 1) text))
+    pub opened-next : (s : TextSource R) → ((text : List ℕ) → told_by known x ≡ Some text → input_tells known s × (input_reading known s ≡ reading_of how names (input + 1) text))
         → HasOpened known how texts names (sources ++ s ∷ []) (input + 1) more
     opened-next s given = by_text from_next
       where
@@ -138,7 +140,7 @@ module _ {R : Type 0} (known : R → Option (List ℕ)) (how : MergeOptions) whe
               tells = All-push (input_tells known) sources s h.tells gives.0;
             }
 
-    pub fault-next : (e : MergeRefused) → ((text : List ℕ) → known x ≡ Some text → (reading_of how names (input + 1) text).fault ≡ Some e)
+    pub fault-next : (e : MergeRefused) → ((text : List ℕ) → told_by known x ≡ Some text → (reading_of how names (input + 1) text).fault ≡ Some e)
         → Contains (faults_of_readings (readings how texts)) e
     fault-next e fault = by_text from_next
       where
@@ -149,15 +151,28 @@ module _ {R : Type 0} (known : R → Option (List ℕ)) (how : MergeOptions) whe
             subst (λ l. Contains (faults_of_readings l) e) (sym (given_next n)) (later_fault (map (input_reading known) sources) (reading ∷ behind) e (first_fault reading behind e (fault n.text n.here)))
 
   -- all inputs were opened
-  pub opened-all : (texts : List (List ℕ)) (names : List (List ℕ)) (sources : List (TextSource R)) (input : ℕ) (left : List R) → HasOpened known how texts names sources input left → left ≡ []
+  pub opened-all : (texts : List (List ℕ)) (names : List (List ℕ)) (sources : List (TextSource R)) (input : ℕ) (left : List (MergeInput R)) → HasOpened known how texts names sources input left → left ≡ []
       → readings how texts ≡ map (input_reading known) sources
   unfolding readings_from
-  opened-all texts names sources input left h none = by_rest h.rest (sym (ap (map known) none) ∙ h.tell) h.given
+  opened-all texts names sources input left h none = by_rest h.rest (sym (ap (map (told_by known)) none) ∙ h.tell) h.given
     where
       by_rest : (rest : List (List ℕ)) → [] ≡ map Some rest → readings how texts ≡ map (input_reading known) sources ++ readings_from how names (input + 1) rest
           → readings how texts ≡ map (input_reading known) sources
       by_rest [] e given = given ∙ append-nil (map (input_reading known) sources)
       by_rest (text ∷ rest) e given = absurd (cc)
+
+-- the copies of inputs that were opened, and of those that are left
+module _ {R : Type 0} (sources : List (TextSource R)) (left : List (MergeInput R)) (all : List Copies) (are : map own_copies sources ++ copies_of left ≡ all) where
+  pub copies-next : (s : TextSource R) (x : MergeInput R) (more : List (MergeInput R)) → left ≡ x ∷ more → s.copies ≡ x.copies → map own_copies (sources ++ s ∷ []) ++ copies_of more ≡ all
+  copies-next s x more is same =
+      ap (λ l. l ++ copies_of more) (map-append own_copies sources (s ∷ []))
+      ∙ append_assoc (map own_copies sources) (own_copies s ∷ []) (copies_of more)
+      ∙ ap (λ k. map own_copies sources ++ (k ∷ copies_of more)) same
+      ∙ sym (ap (λ l. map own_copies sources ++ copies_of l) is)
+      ∙ are
+
+  pub copies-all : left ≡ [] → map own_copies sources ≡ all
+  copies-all none = sym (append-nil (map own_copies sources)) ∙ sym (ap (λ l. map own_copies sources ++ copies_of l) none) ∙ are
 
 -- a list of no length
 pub no_length : {A : Type 0} (xs : List A) → length xs ≡ 0 → xs ≡ []

@@ -9,23 +9,17 @@ use Rattle.rj_merge.specs.declared.place.Place.{Place}
 use Rattle.rj_merge.specs.declared.place.Place.TheVariants.{Pair, LoneAmongPairs, LoneLeft, LoneRight}
 use Rattle.rj_merge.specs.Places.{IsAbove, IsNotBelow, behind_pairs, class, first_number, place_order, place_total, second_number}
 
--- an order that is not Less and not Equal, turned, is Less
-turned : (r : Ordering) → is_lt r ≡ false → is_eq (ordering_reverse r) ≡ false → ordering_reverse r ≡ Less
-turned Less h n = absurd (false≢true (sym h))
-turned Equal h n = absurd (false≢true (sym n))
-turned Greater h n = refl
+-- what an order's test says
+pub is_less : (r : Ordering) → is_lt r ≡ true → r ≡ Less
+is_less Less h = refl
+is_less Equal h = absurd (false≢true h)
+is_less Greater h = absurd (false≢true h)
 
--- the same, where the turned one is Less
+-- an order that is Less when it is turned isn't Less
 not_less : (r : Ordering) → ordering_reverse r ≡ Less → is_lt r ≡ false
 not_less Less h = absurd (false≢true (ap is_lt h))
 not_less Equal h = refl
 not_less Greater h = refl
-
--- a place that is not below another and not the same is above it
-pub above_if : (given : Place) (place : Place) → is_lt (place_order place given) ≡ false → is_eq (place_order given place) ≡ false → place_order given place ≡ Less
-above_if given place low other =
-    let turn = place_total.antisymm given place in
-    turn ∙ turned (place_order place given) low (ap is_eq (sym turn) ∙ other)
 
 -- a place that is above another is not below it
 pub not_below : (given : Option Place) (place : Place) → IsAbove given place → IsNotBelow given place

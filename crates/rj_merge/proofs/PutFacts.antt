@@ -1,10 +1,10 @@
 -- The rows of a merge that were put on an output so far.
-use Rattle.std.proofs.Common.{◌≡◌, ℕ, List, [], ◌∷◌, ◌++◌, map, Option, Some, None, All, Vec, Global, Result, Err, sym, ap, subst, ◌∙◌, append-nil, inl, inr, ◌⊎◌, IsPermutation}
+use Rattle.std.proofs.Common.{◌≡◌, ℕ, List, [], ◌∷◌, ◌++◌, Option, Some, None, All, Vec, Global, Result, Err, refl, sym, ap, subst, ◌∙◌, append-nil, inl, inr, ◌⊎◌, IsPermutation}
 use mathlib.Core.Logic.{⊎_elim}
 use Rattle.std.specs.Prelude.{◌≢◌, false, IfErr}
 use Rattle.std.proofs.lemmas.Bool.{false≢true}
 use Rattle.std.specs.List.{Contains}
-use Rattle.std.proofs.lemmas.List.Sorted.{Contains-permutation, IsPermutation-pop_more, IsPermutation-sym, IsPermutation-trans}
+use Rattle.std.proofs.lemmas.List.Sorted.{Contains-permutation, IsPermutation-sym, IsPermutation-trans}
 use Rattle.csv.specs.declared.writer.Writer.{Writer}
 use Rattle.csv.specs.Writing.{default_writer, row_text}
 use Rattle.rj_csv_io.specs.Written.{HasWritten}
@@ -16,13 +16,15 @@ use Rattle.rj_merge.specs.declared.refused.MergeRefused.{MergeRefused}
 use Rattle.rj_merge.specs.declared.refused.MergeRefused.TheVariants as refused
 use Rattle.rj_merge.specs.declared.refused.MergeTextsRefused.{MergeTextsRefused}
 use Rattle.rj_merge.specs.declared.refused.MergeTextsRefused.TheVariants as texts_refused
-use Rattle.rj_merge.specs.Inputs.{input_reading, input_tells}
+use Rattle.rj_merge.specs.Copies.{Copied, StandsTooOften, copied_rows}
+use Rattle.rj_merge.specs.Inputs.{input_reading, input_tells, own_copies}
 use Rattle.rj_merge.specs.MergedTexts.{IsTold, records_text}
-use Rattle.rj_merge.specs.Merging.{AllTell, IsFaultOf, faults_of_heads, faults_of_inputs, rows_of_heads, rows_of_inputs}
-use Rattle.rj_merge.specs.Places.{IsAbove}
+use Rattle.rj_merge.specs.Merging.{AllTell, IsFaultOf, Passes, faults_of_heads, faults_of_inputs, lists_of_inputs, rows_of_heads, rows_of_inputs}
 use Rattle.rj_merge.specs.Sources.{is_outside}
-use Rattle.rj_merge.specs.Wholes.{HasTwice, IsMerge}
-use Rattle.rj_merge.proofs.WholeFacts.{RisesTo, none_given, rises_from, rises_more, twice, whole_given}
+use Rattle.rj_merge.specs.Wholes.{IsMergeOf}
+use Rattle.rj_merge.proofs.HeadFacts.{rows_listed}
+use Rattle.rj_merge.proofs.PassFacts.{pass_all, pass_end, pass_more, pass_often, pass_start}
+use Rattle.rj_merge.proofs.WholeFacts.{none_given}
 use Rattle.rj_merge.proofs.WrittenFacts.{no_records, records-more, told-none}
 
 -- beside a failed output memory alone is refused, which is no fault of a text
@@ -39,66 +41,75 @@ not_memory {T} r h e is out =
 abbrev pub source_last : {R : Type 0} → TextSource R → Option Place
 source_last s = s.last
 
--- rows that were put: with those that are left they are all rows of the inputs
-pub record HasPut {R : Type 0} (known : R → Option (List ℕ)) (sources : List (TextSource R)) (given : Option Place) (heads : List (Head (List (List ℕ)) (TextSource R)))
+-- rows that were put: the merge of the rows of the inputs that were passed
+pub record HasPut {R : Type 0} (known : R → Option (List ℕ)) (sources : List (TextSource R)) (passed : Option Place) (heads : List (Head (List (List ℕ)) (TextSource R)))
     (start : Option (List ℕ)) (begun block : Writer (Vec ℕ Global)) (told : Option (List ℕ)) : Type 0 where
   pub rows : List (Placed (List (List ℕ)))
-  pub rises : RisesTo None rows given
   pub tells : All (input_tells known) sources → AllTell (input_tells known) heads
-  pub all : All (input_tells known) sources → IsPermutation (rows_of_inputs (input_reading known) sources) (rows ++ rows_of_heads (input_reading known) heads)
+  pub all : All (input_tells known) sources → Passes None passed (rows_of_inputs own_copies (input_reading known) sources) (rows_of_heads own_copies (input_reading known) heads) rows
   pub faults : All (input_tells known) sources → IsPermutation (faults_of_inputs (input_reading known) sources) (faults_of_heads (input_reading known) heads)
   pub shown : (text : List ℕ) → HasWritten begun text [] → IsTold start (text ++ records_text rows) block told
 
 module _ {R : Type 0} (known : R → Option (List ℕ)) (sources : List (TextSource R)) (start : Option (List ℕ)) (begun : Writer (Vec ℕ Global)) where
+  abbrev whole : List (Copied (List (List ℕ)))
+  whole = rows_of_inputs own_copies (input_reading known) sources
+
+  abbrev left_of : List (Head (List (List ℕ)) (TextSource R)) → List (Copied (List (List ℕ)))
+  left_of heads = rows_of_heads own_copies (input_reading known) heads
+
   -- no row was put
-  pub put-none : (given : Option Place) (heads : List (Head (List (List ℕ)) (TextSource R))) → given ≡ None → (All (input_tells known) sources → AllTell (input_tells known) heads)
-      → (All (input_tells known) sources → IsPermutation (rows_of_inputs (input_reading known) sources) (rows_of_heads (input_reading known) heads))
+  pub put-none : (passed : Option Place) (heads : List (Head (List (List ℕ)) (TextSource R))) → passed ≡ None → (All (input_tells known) sources → AllTell (input_tells known) heads)
+      → (All (input_tells known) sources → IsPermutation whole (left_of heads))
       → (All (input_tells known) sources → IsPermutation (faults_of_inputs (input_reading known) sources) (faults_of_heads (input_reading known) heads))
-      → HasPut known sources given heads start begun begun start
-  put-none given heads none tells all faults = record {
+      → HasPut known sources passed heads start begun begun start
+  put-none passed heads none tells all faults = record {
     rows = [];
-    rises = sym none;
     tells = tells;
-    all = all;
+    all = λ t. pass_start passed whole (left_of heads) [] none refl (all t);
     faults = faults;
     shown = λ text h. told-none start (text ++ records_text []) begun (subst (λ t. HasWritten begun t []) (sym (ap (λ t. text ++ t) no_records ∙ append-nil text)) h);
   }
 
-  module _ (given : Option Place) (heads : List (Head (List (List ℕ)) (TextSource R))) (block : Writer (Vec ℕ Global)) (told : Option (List ℕ)) (h : HasPut known sources given heads start begun block told) where
+  module _ (passed : Option Place) (heads : List (Head (List (List ℕ)) (TextSource R))) (block : Writer (Vec ℕ Global)) (told : Option (List ℕ)) (h : HasPut known sources passed heads start begun block told) where
     -- a row more
     pub put-more : (next : Option Place) (row : Placed (List (List ℕ))) (left : List (Head (List (List ℕ)) (TextSource R))) (new : Writer (Vec ℕ Global)) (tells : Option (List ℕ))
-        → IsAbove given row.place → next ≡ Some row.place → (AllTell (input_tells known) heads → AllTell (input_tells known) left)
-        → (AllTell (input_tells known) heads → IsPermutation (rows_of_heads (input_reading known) heads) (row ∷ rows_of_heads (input_reading known) left))
+        → (AllTell (input_tells known) heads → AllTell (input_tells known) left)
+        → (AllTell (input_tells known) heads → Passes passed next (left_of heads) (left_of left) (row ∷ []))
         → (AllTell (input_tells known) heads → IsPermutation (faults_of_heads (input_reading known) heads) (faults_of_heads (input_reading known) left))
         → ((text : List ℕ) → IsTold start text block told → IsTold start (text ++ row_text default_writer row.row) new tells)
         → HasPut known sources next left start begun new tells
-    put-more next row left new tells above is keeps taken same write = record {
+    put-more next row left new tells keeps taken same write = record {
       rows = h.rows ++ row ∷ [];
-      rises = subst (λ o. RisesTo None (h.rows ++ row ∷ []) o) (sym is) (rises_more None given h.rows row h.rises above);
       tells = λ all. keeps (h.tells all);
-      all = λ all. IsPermutation-pop_more (rows_of_inputs (input_reading known) sources) h.rows (rows_of_heads (input_reading known) heads) (rows_of_heads (input_reading known) left) row (h.all all) (taken (h.tells all));
+      all = λ all. pass_more None passed next whole (left_of heads) (left_of left) h.rows (row ∷ []) (h.all all) (taken (h.tells all));
       faults = λ all.
           IsPermutation-trans (faults_of_inputs (input_reading known) sources) (faults_of_heads (input_reading known) heads) (faults_of_heads (input_reading known) left) (h.faults all) (same (h.tells all));
       shown = λ text w. subst (λ t. IsTold start t new tells) (records-more text h.rows row) (write (text ++ records_text h.rows) (h.shown text w));
     }
 
     -- no row is left
-    pub put-all : rows_of_heads (input_reading known) heads ≡ [] → All (input_tells known) sources → IsMerge (map (λ s. (input_reading known s).rows) sources) h.rows
-    put-all none all = record {
-      all = whole_given (λ s. (input_reading known s).rows) sources h.rows (rows_of_heads (input_reading known) heads) (h.all all) none;
-      rises = rises_from None given h.rows h.rises;
-    }
+    pub put-all : (last : Option Place) (left : List (Head (List (List ℕ)) (TextSource R))) → (AllTell (input_tells known) heads → Passes passed last (left_of heads) (left_of left) []) → left_of left ≡ []
+        → All (input_tells known) sources → IsMergeOf (copied_rows (lists_of_inputs own_copies (input_reading known) sources)) h.rows
+    put-all last left taken none all =
+        subst (λ l. IsMergeOf l h.rows) (sym (rows_listed own_copies (input_reading known) sources))
+        (pass_all None last whole (left_of left) h.rows (pass_end None passed last whole (left_of heads) (left_of left) h.rows (h.all all) (taken (h.tells all))) none)
 
-    pub put-faultless : faults_of_heads (input_reading known) heads ≡ [] → All (input_tells known) sources → faults_of_inputs (input_reading known) sources ≡ []
-    put-faultless none all = none_given (faults_of_inputs (input_reading known) sources) (faults_of_heads (input_reading known) heads) (h.faults all) none
+    pub put-faultless : (left : List (Head (List (List ℕ)) (TextSource R)))
+        → (AllTell (input_tells known) heads → IsPermutation (faults_of_heads (input_reading known) heads) (faults_of_heads (input_reading known) left)) → faults_of_heads (input_reading known) left ≡ []
+        → All (input_tells known) sources → faults_of_inputs (input_reading known) sources ≡ []
+    put-faultless left same none all =
+        let faults = faults_of_inputs (input_reading known) sources in
+        let later = faults_of_heads (input_reading known) left in
+        none_given faults later (IsPermutation-trans faults (faults_of_heads (input_reading known) heads) later (h.faults all) (same (h.tells all))) none
 
     -- a fault of what is left
-    pub put-fault : (e : MergeRefused) → IsFaultOf given (rows_of_heads (input_reading known) heads) (faults_of_heads (input_reading known) heads) e → All (input_tells known) sources
-        → Contains (faults_of_inputs (input_reading known) sources) e ⊎ ((place : Place) × (e ≡ refused.RepeatedPlace place) × HasTwice (rows_of_inputs (input_reading known) sources) place)
+    pub put-fault : (e : MergeRefused) → IsFaultOf (left_of heads) (faults_of_heads (input_reading known) heads) e → All (input_tells known) sources
+        → Contains (faults_of_inputs (input_reading known) sources) e
+        ⊎ ((place : Place) × (e ≡ refused.RepeatedPlace place) × StandsTooOften (copied_rows (lists_of_inputs own_copies (input_reading known) sources)) place)
     put-fault e fault all =
         let faults = faults_of_inputs (input_reading known) sources in
         let later = faults_of_heads (input_reading known) heads in
         ⊎_elim
         (λ f. inl (Contains-permutation later faults e (IsPermutation-sym faults later (h.faults all)) f))
-        (λ r. inr (r.0, r.1, twice (rows_of_inputs (input_reading known) sources) h.rows (rows_of_heads (input_reading known) heads) r.0 (h.all all) (subst (λ o. RisesTo None h.rows o) r.2 h.rises) r.3))
+        (λ r. inr (r.0, r.1, subst (λ l. StandsTooOften l r.0) (sym (rows_listed own_copies (input_reading known) sources)) (pass_often None passed whole (left_of heads) h.rows (h.all all) r.0 r.2)))
         fault

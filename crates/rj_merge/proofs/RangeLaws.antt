@@ -2,34 +2,37 @@
 use Rattle.std.proofs.Common.{◌≡◌, ◌∙◌, ℕ, ◌+◌, Bool, true, false, List, [], ◌∷◌, ◌++◌, map, Option, None, Some, Result, Ok, Err, All, refl, sym, ap, subst, append_assoc, append-nil}
 use Rattle.std.specs.Prelude.{filter, if◌then◌else◌, IfOk, length, ◌==◌}
 use Rattle.std.specs.Cmp.Lexicographic.{pointwise}
-use Rattle.std.specs.List.{flat_map}
+use Rattle.std.specs.List.{flat_map, zip}
 use Rattle.std.specs.List.Sorted.{IsPermutation}
 use Rattle.std.specs.Option.{option_to_list}
 use Rattle.std.specs.Ordering.{is_lt}
 use Rattle.std.specs.Str.{bytes_eq}
 use mathlib.Core.List.{map-map}
 use Rattle.std.proofs.lemmas.List.{map-append}
-use Rattle.std.proofs.lemmas.List.Elements.{All-append, All-cons, All-filter, All-head, All-nil, All-tail, filter_passes}
+use Rattle.std.proofs.lemmas.List.Elements.{All-append, All-cons, All-contains, All-filter, All-head, All-map, All-nil, All-tail, filter_passes}
 use Rattle.std.proofs.lemmas.List.Folds.{flat_map-map}
-use Rattle.std.proofs.lemmas.List.Sorted.{All-permutation, IsPermutation-append, IsPermutation-append_comm, IsPermutation-append_left, IsPermutation-append_right, IsPermutation-refl, IsPermutation-sym, IsPermutation-trans}
+use Rattle.std.proofs.lemmas.List.Sorted.{IsPermutation-append_comm, IsPermutation-append_left, IsPermutation-append_right, IsPermutation-refl, IsPermutation-sym, IsPermutation-trans}
 use Rattle.rj_csv_io.specs.Cuts.{records_in}
 use Rattle.rj_csv_io.specs.Shown.{rows_text}
 use Rattle.rj_merge.specs.declared.columns.Columns.{Columns}
+use Rattle.rj_merge.specs.declared.copies.Copies.{Copies}
 use Rattle.rj_merge.specs.declared.options.MergeOptions.{MergeOptions}
 use Rattle.rj_merge.specs.declared.place.Place.{Place}
 use Rattle.rj_merge.specs.declared.place.Placed.{Placed}
 use Rattle.rj_merge.specs.declared.refused.MergeRefused.{MergeRefused}
 use Rattle.rj_merge.specs.declared.refused.MergeRefused.TheVariants as refused
+use Rattle.rj_merge.specs.Copies.{Copied, copied, copied_rows, copy_of}
 use Rattle.rj_merge.specs.Headers.{place_columns}
 use Rattle.rj_merge.specs.Inputs.{faults_of_readings, first_header, only_fault, reading_of, reading_of_records, readings, readings_from, under_header}
-use Rattle.rj_merge.specs.MergedTexts.{AreRanges, HaveNoFault, IsMergedText, head_rows}
+use Rattle.rj_merge.specs.MergedTexts.{AreRanges, HaveNoFault, IsMergedText, head_rows, lists_of_texts}
 use Rattle.rj_merge.specs.Places.{IsAbove, place_order}
 use Rattle.rj_merge.specs.Ranges.{AreCuts, between, fault_before, is_from, reading_within, rows_before}
 use Rattle.rj_merge.specs.Sources.{Reading}
 use Rattle.rj_merge.specs.Texts.{in_order, is_above, others, place_in, read_row, read_rows, reading_then}
-use Rattle.rj_merge.specs.Wholes.{IsMerge, RisesFrom}
-use Rattle.rj_merge.proofs.CutFacts.{below_cut, cut_rows, is_less, rises_joined, whole_before, whole_fault}
-use Rattle.rj_merge.proofs.Moved.{flat_moved}
+use Rattle.rj_merge.specs.Wholes.{IsMergeOf, RisesFrom}
+use Rattle.rj_merge.proofs.CutFacts.{below_cut, below_from, cut_rows, whole_before, whole_fault}
+use Rattle.rj_merge.proofs.CopyFacts.{AreApart, merge_both, merge_moved}
+use Rattle.rj_merge.proofs.PlaceFacts.{is_less}
 use Rattle.rj_merge.proofs.WrittenFacts.{rows_text-append}
 
 abbrev Row : Type 0
@@ -161,12 +164,6 @@ module _ (how : MergeOptions) (texts : List (List ℕ)) where
   abbrev rows_in_range : Option Place → Option Place → Rows → List Row
   rows_in_range from to r = (reading_within (between how from to) r).rows
 
-  given : (from to : Option Place) → flat_map (λ l. l) (map (λ (r : Rows). r.rows) (readings (between how from to) texts)) ≡ flat_map (rows_in_range from to) raws
-  given from to =
-      ap (λ l. flat_map (λ l. l) (map (λ (r : Rows). r.rows) l)) (readings_between how from to (first_header texts) 1 texts)
-      ∙ (flat_map-map (λ l. l) (λ (r : Rows). r.rows) (map (reading_within (between how from to)) raws)
-      ∙ flat_map-map (λ (r : Rows). r.rows) (reading_within (between how from to)) raws)
-
   faults_given : (from : Option Place) → faults_of_readings (readings (between how from None) texts) ≡ flat_map (λ (r : Rows). option_to_list r.fault) raws
   faults_given from =
       ap (λ l. flat_map (λ (r : Rows). option_to_list r.fault) l) (readings_between how from None (first_header texts) 1 texts)
@@ -177,37 +174,83 @@ module _ (how : MergeOptions) (texts : List (List ℕ)) where
   pub last_fault : (from other : Option Place) → HaveNoFault (between how from None) texts → HaveNoFault (between how other None) texts
   last_fault from other none = faults_given other ∙ (sym (faults_given from) ∙ none)
 
+-- what is true of the second of two lists, side by side
+All-zip : {A B : Type 0} (P : B → Type 0) (xs : List A) (ys : List B) → All P ys → All (λ (i : A × B). P i.1) (zip xs ys)
+All-zip P [] ys all = All-nil (λ i. P i.1)
+All-zip P (x ∷ xs) [] all = All-nil (λ i. P i.1)
+All-zip P (x ∷ xs) (y ∷ ys) all = All-cons (λ i. P i.1) (x, y) (zip xs ys) (All-head P y ys all) (All-zip P xs ys (All-tail P y ys all))
+
+zip_second : {A B C : Type 0} (f : B → C) (xs : List A) (ys : List B) → zip xs (map f ys) ≡ map (λ (i : A × B). (i.0, f i.1)) (zip xs ys)
+zip_second f [] ys = refl
+zip_second f (x ∷ xs) [] = refl
+zip_second f (x ∷ xs) (y ∷ ys) = ap (λ l. (x, f y) ∷ l) (zip_second f xs ys)
+
+module _ (how : MergeOptions) (copies : List Copies) (texts : List (List ℕ)) where
+  -- what texts give without a range, with their copies
+  abbrev all_raws : List (Copies × Rows)
+  all_raws = zip copies (raws how texts)
+
+  -- the rows of one of them within a range
+  abbrev copied_in_range : Option Place → Option Place → Copies × Rows → List (Copied (List (List ℕ)))
+  copied_in_range from to i = copied i.0 (rows_in_range how texts from to i.1)
+
+  -- the rows of all of them
+  abbrev all_in_range : Option Place → Option Place → List (Copied (List (List ℕ)))
+  all_in_range from to = copied_rows (lists_of_texts (between how from to) copies texts)
+
+  given : (from to : Option Place) → all_in_range from to ≡ flat_map (copied_in_range from to) all_raws
+  given from to =
+      ap (λ l. copied_rows (zip copies (map (λ (r : Rows). r.rows) l))) (readings_between how from to (first_header texts) 1 texts)
+      ∙ (ap (λ l. copied_rows (zip copies l)) (map-map (λ (r : Rows). r.rows) (reading_within (between how from to)) (raws how texts))
+      ∙ (ap copied_rows (zip_second (rows_in_range how texts from to) copies (raws how texts))
+      ∙ flat_map-map (λ (i : Copies × List Row). copied i.0 i.1) (λ (i : Copies × Rows). (i.0, rows_in_range how texts from to i.1)) all_raws))
+
   module _ (from : Option Place) (cut : Place) (up : IsAbove from cut) where
-    cut_one : (r : Rows) → RisesFrom None r.rows → rows_in_range from None r ≡ rows_in_range from (Some cut) r ++ rows_in_range (Some cut) None r
-    cut_one r rises =
-        ap (filter (λ (row : Row). is_from from row.place)) (whole_before r.rows)
-        ∙ (cut_rows from cut None r.rows up rises
-        ∙ ap (λ l. rows_in_range from (Some cut) r ++ filter (λ (row : Row). is_from (Some cut) row.place) l) (sym (whole_before r.rows)))
+    cut_one : (i : Copies × Rows) → RisesFrom None i.1.rows → copied_in_range from None i ≡ copied_in_range from (Some cut) i ++ copied_in_range (Some cut) None i
+    cut_one i rises =
+        let r = i.1 in
+        ap (λ l. copied i.0 (filter (λ (row : Row). is_from from row.place) l)) (whole_before r.rows)
+        ∙ (ap (copied i.0) (cut_rows from cut None r.rows up rises)
+        ∙ (map-append (copy_of i.0) (rows_in_range how texts from (Some cut) r) (filter (λ (row : Row). is_from (Some cut) row.place) r.rows)
+        ∙ ap (λ l. copied_in_range from (Some cut) i ++ copied i.0 (filter (λ (row : Row). is_from (Some cut) row.place) l)) (sym (whole_before r.rows))))
 
     -- the rows of both are those of the whole
-    joined : (low high : List Row) → IsMerge (map (λ (r : Rows). r.rows) (readings (between how from (Some cut)) texts)) low
-        → IsMerge (map (λ (r : Rows). r.rows) (readings (between how (Some cut) None) texts)) high
-        → IsMerge (map (λ (r : Rows). r.rows) (readings (between how from None) texts)) (low ++ high)
+    both_ranges : IsPermutation (all_in_range from None) (all_in_range from (Some cut) ++ all_in_range (Some cut) None)
+    both_ranges =
+        let split = two_parts (λ (i : Copies × Rows). RisesFrom None i.1.rows) (copied_in_range from None) (copied_in_range from (Some cut)) (copied_in_range (Some cut) None) cut_one all_raws
+        (All-zip (λ (r : Rows). RisesFrom None r.rows) copies (raws how texts) (raws_rise how (first_header texts) 1 texts)) in
+        subst (λ l. IsPermutation l (all_in_range from (Some cut) ++ all_in_range (Some cut) None)) (sym (given from None))
+        (subst (IsPermutation (flat_map (copied_in_range from None) all_raws)) (sym (λ t. given from (Some cut) t ++ given (Some cut) None t)) split)
+
+    -- those of the lower range stand below the cut, and those of the higher one don't
+    low_below : All (λ (c : Copied (List (List ℕ))). is_lt (place_order c.row.place cut) ≡ true) (all_in_range from (Some cut))
+    low_below =
+        let P : Copied (List (List ℕ)) → Type 0 = λ c. is_lt (place_order c.row.place cut) ≡ true in
+        subst (All P) (sym (given from (Some cut)))
+        (All-flat P (copied_in_range from (Some cut))
+        (λ i. All-map P (copy_of i.0) (rows_in_range how texts from (Some cut) i.1)
+        (All-filter (λ (row : Row). is_from from row.place) (λ (row : Row). is_lt (place_order row.place cut) ≡ true) (rows_before (Some cut) i.1.rows) (below_cut cut i.1.rows))) all_raws)
+
+    high_from : All (λ (c : Copied (List (List ℕ))). is_from (Some cut) c.row.place ≡ true) (all_in_range (Some cut) None)
+    high_from =
+        let P : Copied (List (List ℕ)) → Type 0 = λ c. is_from (Some cut) c.row.place ≡ true in
+        subst (All P) (sym (given (Some cut) None))
+        (All-flat P (copied_in_range (Some cut) None)
+        (λ i. All-map P (copy_of i.0) (rows_in_range how texts (Some cut) None i.1) (filter_passes (λ (row : Row). is_from (Some cut) row.place) (rows_before None i.1.rows))) all_raws)
+
+    -- so the merges of both are the merge of the whole
+    joined : (low high : List Row) → IsMergeOf (all_in_range from (Some cut)) low → IsMergeOf (all_in_range (Some cut) None) high → IsMergeOf (all_in_range from None) (low ++ high)
     joined low high m n =
-        let all_low = flat_map (rows_in_range from (Some cut)) raws in
-        let all_high = flat_map (rows_in_range (Some cut) None) raws in
-        let low_all : IsPermutation all_low low = subst (λ l. IsPermutation l low) (given from (Some cut)) m.all in
-        let high_all : IsPermutation all_high high = subst (λ l. IsPermutation l high) (given (Some cut) None) n.all in
-        let below = All-permutation (λ (row : Row). is_lt (place_order row.place cut) ≡ true) all_low low low_all
-        (All-flat (λ (row : Row). is_lt (place_order row.place cut) ≡ true) (rows_in_range from (Some cut))
-        (λ r. All-filter (λ (row : Row). is_from from row.place) (λ (row : Row). is_lt (place_order row.place cut) ≡ true) (rows_before (Some cut) r.rows) (below_cut cut r.rows)) raws) in
-        let above = All-permutation (λ (row : Row). is_from (Some cut) row.place ≡ true) all_high high high_all
-        (All-flat (λ (row : Row). is_from (Some cut) row.place ≡ true) (rows_in_range (Some cut) None) (λ r. filter_passes (λ (row : Row). is_from (Some cut) row.place) (rows_before None r.rows)) raws) in
-        record {
-          all = subst (λ l. IsPermutation l (low ++ high)) (sym (given from None))
-              (IsPermutation-trans (flat_map (rows_in_range from None) raws) (all_low ++ all_high) (low ++ high)
-              (two_parts (λ (r : Rows). RisesFrom None r.rows) (rows_in_range from None) (rows_in_range from (Some cut)) (rows_in_range (Some cut) None) cut_one raws (raws_rise how (first_header texts) 1 texts))
-              (IsPermutation-append all_low low all_high high low_all high_all));
-          rises = rises_joined cut None low high tt m.rises n.rises below above;
-        }
+        let lower = all_in_range from (Some cut) in
+        let higher = all_in_range (Some cut) None in
+        let apart : AreApart lower higher = λ c d here there. below_from c.row.place cut d.row.place
+        (All-contains (λ (x : Copied (List (List ℕ))). is_lt (place_order x.row.place cut) ≡ true) lower c low_below here)
+        (All-contains (λ (x : Copied (List (List ℕ))). is_from (Some cut) x.row.place ≡ true) higher d high_from there) in
+        merge_moved (lower ++ higher) (all_in_range from None) (low ++ high) (IsPermutation-sym (all_in_range from None) (lower ++ higher) both_ranges) (merge_both lower higher apart low high m n)
 
     -- and so are their texts
-    texts_joined : (part rest : List ℕ) → IsMergedText (between how from (Some cut)) texts part → IsMergedText (between how (Some cut) None) texts rest → IsMergedText (between how from None) texts (part ++ rest)
+    texts_joined : (part rest : List ℕ) → IsMergedText (between how from (Some cut)) copies texts part → IsMergedText (between how (Some cut) None) copies texts rest
+        → IsMergedText (between how from None) copies texts (part ++ rest)
     texts_joined part rest m n =
         let row : Row → List (List ℕ) = λ p. p.row in
         let head = head_rows from (others m.columns (first_header texts)) in
@@ -222,9 +265,10 @@ module _ (how : MergeOptions) (texts : List (List ℕ)) where
         }
 
   -- all ranges from a place on
-  pub ranges_joined : (from : Option Place) (cuts : List Place) (parts : List (List ℕ)) → AreCuts from cuts → AreRanges how texts from cuts parts → IsMergedText (between how from None) texts (flat_map (λ part. part) parts)
+  pub ranges_joined : (from : Option Place) (cuts : List Place) (parts : List (List ℕ)) → AreCuts from cuts → AreRanges how copies texts from cuts parts
+      → IsMergedText (between how from None) copies texts (flat_map (λ part. part) parts)
   ranges_joined from [] [] up are = absurd are
-  ranges_joined from [] (part ∷ []) up are = subst (IsMergedText (between how from None) texts) (sym (append-nil part)) are
+  ranges_joined from [] (part ∷ []) up are = subst (IsMergedText (between how from None) copies texts) (sym (append-nil part)) are
   ranges_joined from [] (part ∷ more ∷ parts) up are = absurd are
   ranges_joined from (cut ∷ cuts) [] up are = absurd are
   ranges_joined from (cut ∷ cuts) (part ∷ parts) up are =

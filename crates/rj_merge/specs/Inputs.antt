@@ -1,5 +1,5 @@
 -- What texts of placed rows give as the inputs of a merge.
-use Rattle.std.specs.Prelude.{◌≡◌, ℕ, ◌+◌, false, List, [], ◌∷◌, if◌then◌else◌, Option, None, Some}
+use Rattle.std.specs.Prelude.{◌≡◌, ℕ, ◌+◌, false, List, [], ◌∷◌, map, if◌then◌else◌, Option, None, Some}
 use Rattle.std.specs.Cmp.Lexicographic.{pointwise}
 use Rattle.std.specs.List.{flat_map}
 use Rattle.std.specs.Option.{option_to_list}
@@ -7,15 +7,31 @@ use Rattle.std.specs.Str.{bytes_eq}
 use Rattle.rj_csv_io.specs.Cuts.{records_in}
 use Rattle.rj_csv_io.specs.Remaining.{IsBetween, records_remaining}
 use Rattle.rj_merge.specs.declared.columns.Columns.{Columns}
+use Rattle.rj_merge.specs.declared.copies.Copies.{Copies}
+use Rattle.rj_merge.specs.declared.copies.MergeInput.{MergeInput}
 use Rattle.rj_merge.specs.declared.input.TextSource.{TextSource}
 use Rattle.rj_merge.specs.declared.options.MergeOptions.{MergeOptions}
-use Rattle.rj_merge.specs.declared.place.Placed.{Placed}
 use Rattle.rj_merge.specs.declared.refused.MergeRefused.{MergeRefused}
 use Rattle.rj_merge.specs.declared.refused.MergeRefused.TheVariants as refused
 use Rattle.rj_merge.specs.Headers.{place_columns}
 use Rattle.rj_merge.specs.Ranges.{reading_within}
 use Rattle.rj_merge.specs.Sources.{Reading}
 use Rattle.rj_merge.specs.Texts.{read_rows}
+
+-- what the reader of an input tells
+abbrev pub told_by : {R : Type 0} → (R → Option (List ℕ)) → MergeInput R → Option (List ℕ)
+told_by known i = known i.reader
+
+-- the readers of inputs tell these texts
+abbrev pub TellTexts : {R : Type 0} → (R → Option (List ℕ)) → List (MergeInput R) → List (List ℕ) → Type 0
+TellTexts known inputs texts = map (told_by known) inputs ≡ map Some texts
+
+-- the copies of inputs, and of those whose headers were read
+abbrev pub copies_of : {R : Type 0} → List (MergeInput R) → List Copies
+copies_of inputs = map (λ i. i.copies) inputs
+
+abbrev pub own_copies : {R : Type 0} → TextSource R → Copies
+own_copies s = s.copies
 
 -- an input whose header was read tells the bytes of its text
 abbrev pub input_tells : {R : Type 0} → (R → Option (List ℕ)) → TextSource R → Type 0
@@ -68,9 +84,6 @@ first_header (text ∷ texts) = first_record (records_in text)
 abbrev pub readings : MergeOptions → List (List ℕ) → List (Reading (List (List ℕ)))
 readings how texts = readings_from how (first_header texts) 1 texts
 
--- the rows that readings have, list by list and all of them, and their faults
-abbrev pub rows_of_readings : {T : Type 0} → List (Reading T) → List (Placed T)
-rows_of_readings all = flat_map (λ r. r.rows) all
-
+-- the faults that readings have
 abbrev pub faults_of_readings : {T : Type 0} → List (Reading T) → List MergeRefused
 faults_of_readings all = flat_map (λ r. option_to_list r.fault) all

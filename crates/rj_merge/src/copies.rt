@@ -1,6 +1,6 @@
 //! In how many inputs of a merge a row stands.
 
-ghost use Rattle.std.specs.Prelude.{◌≡◌};
+ghost use Rattle.std.specs.Prelude.{◌≡◌, ◌<◌, ◌^◌};
 ghost use Rattle.rj_merge.specs.Copies.{needed, single};
 
 use crate::place::Place;
@@ -17,6 +17,15 @@ pub struct Copies {
     pub right: u32,
 }
 
+/// A text that is merged, with its copies.
+#[derive(Drop)]
+pub struct MergeInput<R: Drop> {
+    /// What reads the text.
+    pub reader: R,
+    /// In how many of the texts its lone rows stand.
+    pub copies: Copies,
+}
+
 impl Copies {
     /// Those of an input whose rows stand in no other input.
     pub fn single() -> Copies
@@ -27,7 +36,8 @@ impl Copies {
 
     // How often a row of this place has to stand among the rows of all inputs.
     pub(crate) fn needed(self, place: Place) -> u64
-        ensures { result ≡ needed self place }
+        ensures needed { result ≡ needed self place }
+        ensures small { result < 2 ^ 32 }
     {
         match place {
             Place::Pair(_, _) => 1,

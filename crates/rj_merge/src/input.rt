@@ -3,13 +3,14 @@
 ghost use Rattle.std.specs.Prelude.{◌≡◌, ◌+◌, ◌∷◌, [], None, Some, false, true, Ok, Err, IfOk, IfErr, IfSome, OnOk, MatchBool, if◌then◌else◌, IsTrue};
 ghost use Rattle.csv.specs.Records.{fields_of};
 ghost use Rattle.rj_csv_io.specs.Remaining.{IsBetween, records_remaining};
-ghost use Rattle.rj_merge.specs.Inputs.{input_reading, input_tells, records_reading};
+ghost use Rattle.rj_merge.specs.Inputs.{input_reading, input_tells, own_copies, records_reading};
 ghost use Rattle.rj_merge.specs.Places.{IsAbove};
 ghost use Rattle.rj_merge.specs.Ranges.{reading_within};
 ghost use Rattle.rj_merge.specs.Sources.{is_outside};
 ghost use Rattle.rj_merge.specs.Texts.{others, read_row, read_rows};
 
 use crate::columns::Columns;
+use crate::copies::Copies;
 use crate::fields::Fields;
 use crate::number::{read_place, stands_above};
 use crate::options::MergeOptions;
@@ -77,6 +78,7 @@ pub(crate) struct TextSource<'n, R: Read + Drop> {
     columns: Columns,
     how: MergeOptions<'n>,
     input: u32,
+    copies: Copies,
     row: u64,
     last: Option<Place>,
     ended: bool,
@@ -90,7 +92,9 @@ impl<'n, R: Read + Drop> TextSource<'n, R> {
         columns: Columns,
         how: MergeOptions<'n>,
         input: u32,
+        copies: Copies,
     ) -> TextSource<'n, R>
+        ensures copies { result.copies ≡ copies }
         ensures tells { IsBetween R.remaining reader.value → input_tells R.remaining result }
         ensures reading { input_reading R.remaining result
             ≡ reading_within how.entry (read_rows how.entry columns input 0 None (records_remaining R.remaining reader.value)) }
@@ -102,6 +106,7 @@ impl<'n, R: Read + Drop> TextSource<'n, R> {
             columns,
             how,
             input,
+            copies,
             row: 0,
             last: None,
             ended: false,
@@ -114,6 +119,7 @@ impl<'n, R: Read + Drop> TextSource<'n, R> {
         ensures how { OnOk result (self.new.how ≡ self.old.how) }
         ensures columns { OnOk result (self.new.columns ≡ self.old.columns) }
         ensures alloc { OnOk result (self.new.alloc ≡ self.old.alloc) }
+        ensures copies { OnOk result (self.new.copies ≡ self.old.copies) }
         ensures some { IfOk result (λ o. IfSome o (λ p. input_tells R.remaining self.old
             → ((records_reading R.remaining self.old).rows
             ≡ record { place = p; row = others self.old.columns (fields_of self.new.fields) } ∷ (records_reading R.remaining self.new).rows)
@@ -164,6 +170,12 @@ impl<'n, R: Read + Drop> Source for TextSource<'n, R> {
     ghost reading = { input_reading R.remaining };
 
     ghost last = { λ s. s.last };
+
+    ghost copies = { own_copies };
+
+    fn copies(&self) -> Copies {
+        self.copies
+    }
 
     fn next(&mut self) -> Result<Option<Placed<Fields>>, MergeRefused> {
         'rows: for _turn in 0..u64::MAX {

@@ -20,7 +20,7 @@ mod source;
 mod texts;
 mod whole;
 
-pub use copies::Copies;
+pub use copies::{Copies, MergeInput};
 pub use fields::Fields;
 pub use merge::Merge;
 pub use options::MergeOptions;

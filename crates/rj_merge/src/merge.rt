@@ -17,7 +17,7 @@ use crate::source::Source;
 use std::alloc::Global;
 use std::collections::BinaryHeap;
 
-/// A merge of inputs. It holds the next row of each, and gives the one of the least place.
+/// A merge of inputs. It holds the next row of each, and gives those that stand as often as they have to, in order.
 #[derive(Drop)]
 pub struct Merge<S: Source> {
     heads: BinaryHeap<Head<S::Row, S>>,

@@ -5,9 +5,10 @@ ghost use Rattle.csv.specs.Records.{fields_of};
 ghost use Rattle.rj_csv_io.specs.Cuts.{records_in};
 ghost use Rattle.rj_csv_io.specs.Remaining.{IsBetween, records_remaining};
 ghost use Rattle.rj_merge.specs.Headers.{place_columns};
-ghost use Rattle.rj_merge.specs.Inputs.{faults_of_readings, first_header, first_record, input_reading, input_tells, reading_of, readings};
+ghost use Rattle.rj_merge.specs.Inputs.{TellTexts, copies_of, faults_of_readings, first_header, first_record, input_reading, input_tells, own_copies, reading_of, readings};
 ghost use Rattle.rj_merge.specs.Sources.{is_outside};
 
+use crate::copies::MergeInput;
 use crate::header::{Header, are_same, columns_of};
 use crate::input::{TextSource, next_record};
 use crate::options::MergeOptions;
@@ -64,17 +65,22 @@ struct First<'n, R: Read + Drop> {
 // Opens the first input.
 fn open_first<'n, R: Read + Drop>(
     alloc: Global,
-    source: R,
+    first: MergeInput<R>,
     how: MergeOptions<'n>,
 ) -> Result<First<'n, R>, MergeRefused>
+    ensures copies { IfOk result (λ f. f.source.copies ≡ first.copies) }
     ensures places { IfOk result (λ f. place_columns (fields_of f.header.names) ≡ Some f.header.columns) }
-    ensures header { IfOk result (λ f. (text : List ℕ) → R.remaining source ≡ Some text → fields_of f.header.names ≡ first_record (records_in text)) }
-    ensures input { IfOk result (λ f. (text : List ℕ) → R.remaining source ≡ Some text → input_tells R.remaining f.source
+    ensures header { IfOk result (λ f. (text : List ℕ) → R.remaining first.reader ≡ Some text → fields_of f.header.names ≡ first_record (records_in text)) }
+    ensures input { IfOk result (λ f. (text : List ℕ) → R.remaining first.reader ≡ Some text → input_tells R.remaining f.source
         × (input_reading R.remaining f.source ≡ reading_of how.entry (first_record (records_in text)) 1 text)) }
-    ensures fault { IfErr result (λ e. is_outside e ≡ false → (text : List ℕ) → R.remaining source ≡ Some text
+    ensures fault { IfErr result (λ e. is_outside e ≡ false → (text : List ℕ) → R.remaining first.reader ≡ Some text
         → (reading_of how.entry (first_record (records_in text)) 1 text).fault ≡ Some e) }
 {
-    let Begun { header, reader } = match begin(alloc, 1, source) {
+    let MergeInput {
+        reader: text,
+        copies,
+    } = first;
+    let Begun { header, reader } = match begin(alloc, 1, text) {
         Ok(begun) => begun,
         Err(e) => return Err(e),
     };
@@ -85,7 +91,7 @@ fn open_first<'n, R: Read + Drop>(
         names: header,
         columns,
     };
-    let source = TextSource::new(alloc, reader, columns, how, 1);
+    let source = TextSource::new(alloc, reader, columns, how, 1, copies);
     Ok(First { header, source })
 }
 
@@ -93,24 +99,29 @@ fn open_first<'n, R: Read + Drop>(
 fn open_next<'n, R: Read + Drop>(
     alloc: Global,
     input: u32,
-    source: R,
+    next: MergeInput<R>,
     first: &Header,
     how: MergeOptions<'n>,
 ) -> Result<TextSource<'n, R>, MergeRefused>
     requires { place_columns (fields_of first.now.names) ≡ Some first.now.columns }
-    ensures input { IfOk result (λ s. (text : List ℕ) → R.remaining source ≡ Some text → input_tells R.remaining s
+    ensures copies { IfOk result (λ s. s.copies ≡ next.copies) }
+    ensures input { IfOk result (λ s. (text : List ℕ) → R.remaining next.reader ≡ Some text → input_tells R.remaining s
         × (input_reading R.remaining s ≡ reading_of how.entry (fields_of first.now.names) input text)) }
-    ensures fault { IfErr result (λ e. is_outside e ≡ false → (text : List ℕ) → R.remaining source ≡ Some text
+    ensures fault { IfErr result (λ e. is_outside e ≡ false → (text : List ℕ) → R.remaining next.reader ≡ Some text
         → (reading_of how.entry (fields_of first.now.names) input text).fault ≡ Some e) }
 {
-    let Begun { header, reader } = match begin(alloc, input, source) {
+    let MergeInput {
+        reader: text,
+        copies,
+    } = next;
+    let Begun { header, reader } = match begin(alloc, input, text) {
         Ok(begun) => begun,
         Err(e) => return Err(e),
     };
     if !are_same(&header, &first.names) {
         return Err(MergeRefused::OtherHeader(input));
     }
-    Ok(TextSource::new(alloc, reader, first.columns, how, input))
+    Ok(TextSource::new(alloc, reader, first.columns, how, input, copies))
 }
 
 /// Inputs whose headers were read, and the header that all of them have.
@@ -127,19 +138,20 @@ pub(crate) struct Opened<'n, R: Read + Drop> {
 /// The first fault of a header. `Memory` and `ReadDevice` come from the machine alone.
 pub(crate) fn open_all<'n, R: Read + Drop>(
     alloc: Global,
-    inputs: Vec<R>,
+    inputs: Vec<MergeInput<R>>,
     how: MergeOptions<'n>,
 ) -> Result<Opened<'n, R>, MergeRefused>
     requires some { 0 < vec_len inputs }
     requires count { vec_len inputs < 2 ^ 32 }
     ensures places { IfOk result (λ o. place_columns (fields_of o.header.names) ≡ Some o.header.columns) }
-    ensures header { IfOk result (λ o. (texts : List (List ℕ)) → map R.remaining inputs.items ≡ map Some texts
+    ensures header { IfOk result (λ o. (texts : List (List ℕ)) → TellTexts R.remaining inputs.items texts
         → fields_of o.header.names ≡ first_header texts) }
-    ensures tells { IfOk result (λ o. (texts : List (List ℕ)) → map R.remaining inputs.items ≡ map Some texts
+    ensures copies { IfOk result (λ o. map own_copies o.sources.items ≡ copies_of inputs.items) }
+    ensures tells { IfOk result (λ o. (texts : List (List ℕ)) → TellTexts R.remaining inputs.items texts
         → All (input_tells R.remaining) o.sources.items) }
-    ensures readings { IfOk result (λ o. (texts : List (List ℕ)) → map R.remaining inputs.items ≡ map Some texts
+    ensures readings { IfOk result (λ o. (texts : List (List ℕ)) → TellTexts R.remaining inputs.items texts
         → readings how.entry texts ≡ map (input_reading R.remaining) o.sources.items) }
-    ensures fault { IfErr result (λ e. is_outside e ≡ false → (texts : List (List ℕ)) → map R.remaining inputs.items ≡ map Some texts
+    ensures fault { IfErr result (λ e. is_outside e ≡ false → (texts : List (List ℕ)) → TellTexts R.remaining inputs.items texts
         → Contains (faults_of_readings (readings how.entry texts)) e) }
 {
     let mut left = inputs.into_iter();

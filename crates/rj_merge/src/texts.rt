@@ -8,14 +8,16 @@ ghost use Rattle.rj_csv_io.specs.Written.{HasWritten};
 ghost use Rattle.rj_merge.specs.declared.place.Place.{Place};
 ghost use Rattle.rj_merge.specs.declared.place.Placed.{Placed};
 ghost use Rattle.rj_merge.specs.declared.refused.MergeRefused.{MergeRefused};
-ghost use Rattle.rj_merge.specs.Inputs.{input_reading, input_tells};
+ghost use Rattle.rj_merge.specs.Copies.{StandsTooOften, copied_rows};
+ghost use Rattle.rj_merge.specs.Inputs.{TellTexts, copies_of, input_reading, input_tells, own_copies};
 ghost use Rattle.rj_merge.specs.MergedTexts.{HaveNoFault, IsFaultOfTexts, IsMergedText, head_rows, records_text};
-ghost use Rattle.rj_merge.specs.Merging.{faults_of_inputs, rows_of_inputs};
+ghost use Rattle.rj_merge.specs.Merging.{faults_of_inputs, lists_of_inputs};
 ghost use Rattle.rj_merge.specs.Sources.{is_outside};
 ghost use Rattle.rj_merge.specs.Texts.{others};
-ghost use Rattle.rj_merge.specs.Wholes.{HasTwice, IsMerge};
+ghost use Rattle.rj_merge.specs.Wholes.{IsMergeOf};
 
 use crate::block::{add_row, empty_block, put_block};
+use crate::copies::MergeInput;
 use crate::fields::Fields;
 use crate::header::Header;
 use crate::input::TextSource;
@@ -38,12 +40,12 @@ fn put_rows<'n, R: Read + Drop, O: Output>(
 ) -> Result<(), MergeTextsRefused>
     requires { O.count output.old < 2 ^ 64 - 1 }
     ensures merge { OnOk result ((text : List ℕ) → HasWritten block text [] → All (input_tells R.remaining) sources.entry.items
-        → (rows : List (Placed (List (List ℕ)))) × IsMerge (map (λ s. (input_reading R.remaining s).rows) sources.entry.items) rows
+        → (rows : List (Placed (List (List ℕ)))) × IsMergeOf (copied_rows (lists_of_inputs own_copies (input_reading R.remaining) sources.entry.items)) rows
         × Appends (O.told output.old) (O.told output.new) (text ++ records_text rows)) }
     ensures faults { OnOk result (All (input_tells R.remaining) sources.entry.items → faults_of_inputs (input_reading R.remaining) sources.entry.items ≡ []) }
     ensures fault { (e : MergeRefused) → result ≡ Err (MergeTextsRefused.Merge e) → is_outside e ≡ false → All (input_tells R.remaining) sources.entry.items
         → Contains (faults_of_inputs (input_reading R.remaining) sources.entry.items) e
-        ⊎ ((place : Place) × (e ≡ MergeRefused.RepeatedPlace place) × HasTwice (rows_of_inputs (input_reading R.remaining) sources.entry.items) place) }
+        ⊎ ((place : Place) × (e ≡ MergeRefused.RepeatedPlace place) × StandsTooOften (copied_rows (lists_of_inputs own_copies (input_reading R.remaining) sources.entry.items)) place) }
     ensures device { result ≡ Err MergeTextsRefused.WriteDevice → O.count output.new ≡ O.count output.old + 1 }
     ensures kept { result ≢ Err MergeTextsRefused.WriteDevice → O.count output.new ≡ O.count output.old }
 {
@@ -83,10 +85,11 @@ fn begin_block(
     Ok(block)
 }
 
-/// Merges texts of placed rows, and puts the merge on the output: their header and their rows in order, without the two
-/// columns of the places, as csv's default writer writes records, block by block. The options say in which order rows stand,
-/// which field of a place tells no number, and between which places rows are merged. The header stands above rows that begin
-/// nowhere: so the texts of ranges, one after another, are the text of the whole (`ranges_are_whole`).
+/// Merges texts of placed rows, and puts the merge on the output: their header, and their rows that stand in as many of them
+/// as their copies say, each once and in order, without the two columns of the places, as csv's default writer writes records,
+/// block by block. The options say in which order rows stand, which field of a place tells no number, and between which places
+/// rows are merged. The header stands above rows that begin nowhere: so the texts of ranges, one after another, are the text
+/// of the whole (`ranges_are_whole`).
 ///
 /// It holds a block and one row of each text.
 ///
@@ -96,18 +99,18 @@ fn begin_block(
 /// it come from the machine alone. `WriteDevice` where the output failed. Nothing is known then of how much was put.
 pub fn merge_texts<R: Read + Drop, O: Output>(
     alloc: Global,
-    inputs: Vec<R>,
+    inputs: Vec<MergeInput<R>>,
     how: MergeOptions<'_>,
     output: &mut O,
 ) -> Result<(), MergeTextsRefused>
     requires some { 0 < vec_len inputs }
     requires count { vec_len inputs < 2 ^ 32 }
     requires failures { O.count output.old < 2 ^ 64 - 1 }
-    ensures merge { OnOk result ((texts : List (List ℕ)) → map R.remaining inputs.items ≡ map Some texts
-        → (text : List ℕ) × IsMergedText how.entry texts text × Appends (O.told output.old) (O.told output.new) text) }
-    ensures faults { OnOk result ((texts : List (List ℕ)) → map R.remaining inputs.items ≡ map Some texts → HaveNoFault how.entry texts) }
+    ensures merge { OnOk result ((texts : List (List ℕ)) → TellTexts R.remaining inputs.items texts
+        → (text : List ℕ) × IsMergedText how.entry (copies_of inputs.items) texts text × Appends (O.told output.old) (O.told output.new) text) }
+    ensures faults { OnOk result ((texts : List (List ℕ)) → TellTexts R.remaining inputs.items texts → HaveNoFault how.entry texts) }
     ensures fault { (e : MergeRefused) → result ≡ Err (MergeTextsRefused.Merge e) → is_outside e ≡ false
-        → (texts : List (List ℕ)) → map R.remaining inputs.items ≡ map Some texts → IsFaultOfTexts how.entry texts e }
+        → (texts : List (List ℕ)) → TellTexts R.remaining inputs.items texts → IsFaultOfTexts how.entry (copies_of inputs.items) texts e }
     ensures device { result ≡ Err MergeTextsRefused.WriteDevice → O.count output.new ≡ O.count output.old + 1 }
     ensures kept { result ≢ Err MergeTextsRefused.WriteDevice → O.count output.new ≡ O.count output.old }
 {

@@ -2,13 +2,14 @@
 
 ghost use Rattle.std.specs.Prelude.{[], None};
 
-use rj_merge::{MergeRefused, Place, Placed, Source};
+use rj_merge::{Copies, MergeRefused, Place, Placed, Source};
 use std::alloc::{AllocError, Global};
 
 /// An input that gives rows from the end of a list.
 #[derive(Drop)]
 pub struct Listed {
     rows: Vec<(Place, u32)>,
+    copies: Copies,
     last: Option<Place>,
 }
 
@@ -20,6 +21,12 @@ impl Source for Listed {
     ghost reading = { λ _. record { rows = []; fault = None } };
 
     ghost last = { λ s. s.last };
+
+    ghost copies = { λ s. s.copies };
+
+    fn copies(&self) -> Copies {
+        self.copies
+    }
 
     fn next(&mut self) -> Result<Option<Placed<u32>>, MergeRefused> {
         let Some((place, row)) = self.rows.pop() else {
@@ -37,14 +44,24 @@ impl Source for Listed {
     }
 }
 
-/// The input that gives these rows in their order.
+/// The input that gives these rows in their order, which stand in no other input.
 pub fn make_listed(alloc: Global, rows: &[(Place, u32)]) -> Result<Listed, AllocError> {
+    make_copied(alloc, rows, Copies::single())
+}
+
+/// The same with these copies.
+pub fn make_copied(
+    alloc: Global,
+    rows: &[(Place, u32)],
+    copies: Copies,
+) -> Result<Listed, AllocError> {
     let mut all = Vec::new(alloc);
     for row in rows.iter().rev() {
         all.push(*row)?;
     }
     Ok(Listed {
         rows: all,
+        copies,
         last: None,
     })
 }

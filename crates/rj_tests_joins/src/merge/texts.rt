@@ -2,7 +2,8 @@
 
 use rj_csv_io::{CountedWriter, Output};
 use rj_merge::{
-    MergeOptions, MergeRefused, MergeTextsRefused, Patient, Place, RowOrder, merge_texts,
+    Copies, MergeInput, MergeOptions, MergeRefused, MergeTextsRefused, Patient, Place, RowOrder,
+    merge_texts,
 };
 use std::alloc::Global;
 use std::fmt::Write as Format;
@@ -10,12 +11,19 @@ use std::io;
 use std::io::{Read, Write};
 use std::test::Fail;
 
-// The merge of inputs, or why there is none.
-fn merge_inputs<R: Read + Drop>(
+// The merge of the texts that readers tell, with these copies, or why there is none.
+fn merge_copied<R: Read + Drop>(
     alloc: Global,
-    inputs: Vec<R>,
+    readers: Vec<R>,
+    copies: Copies,
     how: MergeOptions<'_>,
 ) -> Result<Vec<u8>, MergeTextsRefused> {
+    let mut inputs = Vec::new(alloc);
+    for reader in readers {
+        if inputs.push(MergeInput { reader, copies }).is_err() {
+            return Err(MergeTextsRefused::Merge(MergeRefused::Memory));
+        }
+    }
     if inputs.is_empty() || inputs.len() > 1000 {
         return Err(MergeTextsRefused::Merge(MergeRefused::Memory));
     }
@@ -24,6 +32,15 @@ fn merge_inputs<R: Read + Drop>(
         Ok(()) => Ok(output.into_inner()),
         Err(e) => Err(e),
     }
+}
+
+// The same where no row stands in two of them.
+fn merge_inputs<R: Read + Drop>(
+    alloc: Global,
+    readers: Vec<R>,
+    how: MergeOptions<'_>,
+) -> Result<Vec<u8>, MergeTextsRefused> {
+    merge_copied(alloc, readers, Copies::single(), how)
 }
 
 // Pairs first, and this null text.
@@ -168,6 +185,51 @@ fn ranges_of_left_rows(rt: HostRuntime) -> Result<(), Fail> {
     Ok(())
 }
 
+// The merge of two texts of a grid, of one run of left rows and two of right rows.
+fn merge_grid(
+    alloc: Global,
+    first: &str,
+    second: &str,
+    from: Option<Place>,
+    to: Option<Place>,
+) -> Result<Vec<u8>, MergeTextsRefused> {
+    let readers = [first.as_bytes(), second.as_bytes()];
+    let mut all = Vec::new(alloc);
+    for reader in readers {
+        if all.push(reader).is_err() {
+            return Err(MergeTextsRefused::Merge(MergeRefused::Memory));
+        }
+    }
+    let how = MergeOptions {
+        null: b"".as_slice(),
+        order: RowOrder::LeftFirst,
+        from,
+        to,
+    };
+    merge_copied(alloc, all, Copies { left: 2, right: 1 }, how)
+}
+
+#[test]
+fn texts_of_a_grid(rt: HostRuntime) -> Result<(), Fail> {
+    let alloc = rt.alloc();
+    let first = "left_place,right_place,v\n0,,a\n1,,no\n2,0,c\n3,,d\n,4,e\n";
+    let second = "left_place,right_place,v\n0,,a\n1,7,b\n2,,no\n3,,d\n,9,f\n";
+    let whole = merge_grid(alloc, first, second, None, None)?;
+    assert!(rt; whole.as_slice() == b"v\na\nb\nc\nd\ne\nf\n".as_slice());
+    let turned = merge_grid(alloc, second, first, None, None)?;
+    assert!(rt; turned.as_slice() == whole.as_slice());
+    let two = Some(Place::Pair(2, 0));
+    let start = merge_grid(alloc, first, second, None, two)?;
+    assert!(rt; start.as_slice() == b"v\na\nb\n".as_slice());
+    let end = merge_grid(alloc, first, second, two, None)?;
+    assert!(rt; end.as_slice() == b"c\nd\ne\nf\n".as_slice());
+    let pairs = "left_place,right_place,v\n2,0,c\n";
+    let twice = merge_grid(alloc, first, pairs, None, None).map(|_| ());
+    let repeated = MergeTextsRefused::Merge(MergeRefused::RepeatedPlace(Place::Pair(2, 0)));
+    assert_eq!(rt; twice, Err(repeated));
+    Ok(())
+}
+
 #[test]
 fn faults_of_headers(rt: HostRuntime) {
     let alloc = rt.alloc();
@@ -291,7 +353,11 @@ fn patient_readers(rt: HostRuntime) -> Result<(), Fail> {
 #[test]
 fn an_output_that_takes_nothing(rt: HostRuntime) -> Result<(), Fail> {
     let alloc = rt.alloc();
-    let inputs = vec![in alloc; FIRST.as_bytes()]?;
+    let input = MergeInput {
+        reader: FIRST.as_bytes(),
+        copies: Copies::single(),
+    };
+    let inputs = vec![in alloc; input]?;
     let mut output = CountedWriter::new(Full);
     let refused = merge_texts(alloc, inputs, pairs_first(""), &mut output);
     assert_eq!(rt; refused, Err(MergeTextsRefused::WriteDevice));

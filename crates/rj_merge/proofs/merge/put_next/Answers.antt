@@ -20,9 +20,9 @@ returns-clause-tells g c = λ here all.
 pub returns-clause-rows : goal.returns-clause-rows
 returns-clause-rows g c = λ here.
     let gives = rw c.in-Ok-Some.field-0-is at (c.in-Ok-Some.ensures.gives here) in
-    rows_put g.S.Source.reading _ _ _ _ gives.0 c.in-Ok.ensures.permutation
+    rows_put g.S.Source.copies g.S.Source.reading _ _ _ _ c.in-Ok-Some.ensures.copies _ gives.0 c.in-Ok.ensures.permutation
 
 pub returns-clause-faults : goal.returns-clause-faults
 returns-clause-faults g c = λ here.
     let gives = rw c.in-Ok-Some.field-0-is at (c.in-Ok-Some.ensures.gives here) in
-    faults_put g.S.Source.reading _ _ _ _ gives.1 c.in-Ok.ensures.permutation
+    faults_put g.S.Source.copies g.S.Source.reading _ _ _ _ gives.1 c.in-Ok.ensures.permutation

@@ -1,8 +1,9 @@
-use Rattle.std.proofs.Common.{◌≡◌, ◌∙◌, ◌++◌, ◌+◌, ◌∷◌, [], true, sym, ap, subst, arith, rules}
+use Rattle.std.proofs.Common.{◌≡◌, ◌∙◌, ◌++◌, ◌+◌, ◌∷◌, [], map, true, sym, ap, subst, arith, rules}
 use Rattle.std.specs.Result.{is_ok}
 use Rattle.std.specs.Vec.Iter.{into_iter_items}
 use Rattle.csv.specs.Records.{fields_of}
-use Rattle.rj_merge.proofs.OpeningFacts.{HasOpened, fault-first, fault-next, no_length, opened-all, opened-first, opened-next}
+use Rattle.rj_merge.specs.Inputs.{copies_of, own_copies}
+use Rattle.rj_merge.proofs.OpeningFacts.{HasOpened, copies-all, copies-next, fault-first, fault-next, no_length, opened-all, opened-first, opened-next}
 use Rattle.rj_merge.proofs.opening.open_all.Goals as goal
 
 pub returns-in-Err-clause-fault : goal.returns-in-Err-clause-fault
@@ -18,6 +19,8 @@ inputs-init g c =
     let pushed = (rw good at c.push.ensures.items) ∙ ap (λ l. l ++ source ∷ []) c.new-sources.ensures.items in
     record {
       count = omega (arith, c.in-Some.ensures.cases.1, c.into_iter-left.ensures.len, c.requires.count);
+      copies = ap (λ l. map own_copies l ++ copies_of left) pushed ∙ ap (λ k. k ∷ copies_of left) c.in-Ok.ensures.copies
+          ∙ sym (ap copies_of (sym c.into_iter-left.ensures.rest ∙ c.in-Some.ensures.items));
       opened = λ texts tell.
           subst (λ l. HasOpened g.R.Read.remaining c.args.how texts names l 1 left) (sym pushed)
           (opened-first g.R.Read.remaining c.args.how c.args.inputs.items c.in-Some.first left texts (sym c.into_iter-left.ensures.rest ∙ c.in-Some.ensures.items) tell names source
@@ -38,14 +41,24 @@ inputs-preserved g c =
     let pushed = rw good at c.push-in-Some-next.ensures.items in
     record {
       count = omega (arith, c.in-Some-next.ensures.cases.1, c.inputs.invariant.count);
+      copies = ap (λ l. map own_copies l ++ copies_of more) pushed
+          ∙ copies-next c.inputs.sources.items (into_iter_items c.inputs.left) (copies_of c.args.inputs.items) c.inputs.invariant.copies source c.in-Some-next.next more c.in-Some-next.ensures.items c.in-Ok-open_next.ensures.copies;
       opened = λ texts tell.
           subst (λ l. HasOpened g.R.Read.remaining c.args.how texts names l (c.inputs.input + 1) more) (sym pushed)
           (opened-next g.R.Read.remaining c.args.how texts names c.inputs.sources.items c.inputs.input (into_iter_items c.inputs.left) more c.in-Some-next.next (c.inputs.invariant.opened texts tell)
           c.in-Some-next.ensures.items source (λ text here. c.in-Ok-open_next.ensures.input text here));
     }
 
+pub returns-clause-copies : goal.returns-clause-copies
+returns-clause-copies g c =
+    let left = into_iter_items c.inputs.left in
+    copies-all c.inputs.sources.items left (copies_of c.args.inputs.items) c.inputs.invariant.copies (no_length left (sym c.inputs.left.rest.ok.0 ∙ c.in_default-next.ensures.cases.0))
+
 pub returns-clause-readings : goal.returns-clause-readings
 returns-clause-readings g c = λ texts tell.
     let left = into_iter_items c.inputs.left in
     let none = no_length left (sym c.inputs.left.rest.ok.0 ∙ c.in_default-next.ensures.cases.0) in
     opened-all g.R.Read.remaining c.args.how texts (fields_of c.in-Ok.first.header.names) c.inputs.sources.items c.inputs.input left (c.inputs.invariant.opened texts tell) none
+
+pub returns-clause-tells : goal.returns-clause-tells
+returns-clause-tells g c = λ texts tell. (c.inputs.invariant.opened texts tell).tells

@@ -2,6 +2,7 @@ use Rattle.std.proofs.Common.{◌≡◌, ◌++◌}
 use Rattle.csv.specs.Records.{fields_of}
 use Rattle.rj_csv_io.specs.Shown.{rows_text}
 use Rattle.rj_csv_io.proofs.WriteFacts.{ok-holds}
+use Rattle.rj_merge.specs.Inputs.{copies_of}
 use Rattle.rj_merge.specs.MergedTexts.{head_rows, records_text}
 use Rattle.rj_merge.specs.Texts.{others}
 use Rattle.rj_merge.proofs.MergedFacts.{fault_of_texts, faultless, merged}
@@ -18,7 +19,7 @@ returns-clause-merge g c =
     ok-if c.put_rows.result (λ well. λ texts tell.
     let put = ok-holds c.put_rows.result well c.put_rows.ensures.merge head c.in-Ok-begin_block.ensures (opened.tells texts tell) in (
       head ++ records_text put.0,
-      merged known c.args.how texts sources (opened.readings texts tell) header.columns (fields_of header.names) put.0 (opened.header texts tell) opened.places put.1,
+      merged known c.args.how (copies_of c.args.inputs.items) texts sources opened.copies (opened.readings texts tell) header.columns (fields_of header.names) put.0 (opened.header texts tell) opened.places put.1,
       put.2,
     ))
 
@@ -26,9 +27,9 @@ pub returns-clause-faults : goal.returns-clause-faults
 returns-clause-faults g c =
     let opened = c.in-Ok.ensures in
     ok-if c.put_rows.result (λ well. λ texts tell.
-    faultless g.R.Read.remaining c.args.how texts c.in-Ok.opened.sources.items (opened.readings texts tell) (ok-holds c.put_rows.result well c.put_rows.ensures.faults (opened.tells texts tell)))
+    faultless g.R.Read.remaining c.args.how (copies_of c.args.inputs.items) texts c.in-Ok.opened.sources.items opened.copies (opened.readings texts tell) (ok-holds c.put_rows.result well c.put_rows.ensures.faults (opened.tells texts tell)))
 
 pub returns-clause-fault : goal.returns-clause-fault
 returns-clause-fault g c = λ e is out texts tell.
     let opened = c.in-Ok.ensures in
-    fault_of_texts g.R.Read.remaining c.args.how texts c.in-Ok.opened.sources.items (opened.readings texts tell) e (c.put_rows.ensures.fault e is out (opened.tells texts tell))
+    fault_of_texts g.R.Read.remaining c.args.how (copies_of c.args.inputs.items) texts c.in-Ok.opened.sources.items opened.copies (opened.readings texts tell) e (c.put_rows.ensures.fault e is out (opened.tells texts tell))

@@ -6,7 +6,7 @@ use Rattle.rj_merge.proofs.texts.put_rows.Given as goal
 
 abbrev pub invariant-rows : goal.invariant-rows
 invariant-rows g l = record {
-  lawful : AreHeads source_last l.merge.given (heap_items l.merge.heads);
-  put : HasPut g.R.Read.remaining l.fn.sources.items l.merge.given (heap_items l.merge.heads) (g.O.Output.told l.fn.output) l.fn.block l.block (g.O.Output.told l.output);
+  lawful : AreHeads source_last l.merge.passed (heap_items l.merge.heads);
+  put : HasPut g.R.Read.remaining l.fn.sources.items l.merge.passed (heap_items l.merge.heads) (g.O.Output.told l.fn.output) l.fn.block l.block (g.O.Output.told l.output);
   count : g.O.Output.count l.output ≡ g.O.Output.count l.fn.output;
 }

@@ -51,6 +51,7 @@ rows-preserved g c =
       fault = λ t.
           let step = some (c.rows.invariant.tells t) in
           c.rows.invariant.fault t ∙ ((within-below s.how old new record { place = c.in-Ok-Some.place; row = others s.columns (fields_of now.fields) } step.0 step.1 before below).1 ∙ ap (λ (r : Reading (List (List ℕ))). r.fault) same);
+      copies = c.in-Ok-Some.ensures.copies ∙ c.rows.invariant.copies;
       above = λ p h. c.rows.invariant.above p (above_again s.last c.in-Ok-Some.place p now.last rises.0 rises.1 h);
     }
 

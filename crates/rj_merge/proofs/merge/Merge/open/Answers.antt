@@ -1,12 +1,13 @@
 use Rattle.std.proofs.Common.{◌∷◌, []}
 use Rattle.std.specs.Option.{option_to_list}
+use Rattle.rj_merge.specs.Copies.{copied}
 use Rattle.rj_merge.proofs.HeadFacts.{All-last, fault_first, last_in, last_put}
 use Rattle.rj_merge.proofs.merge.Merge.open.Goals as goal
 
 pub inputs-preserved : goal.inputs-preserved
 inputs-preserved g c = record {
   lawful = c.in-Ok.ensures.lawful;
-  given = c.in-Ok.ensures.given;
+  passed = c.in-Ok.ensures.passed;
   tells = λ all.
       let t = c.inputs.invariant.tells all in
       let p = All-last g.S.Source.tells _ _ c.in-Some.source c.in-Some.ensures.items t.0 in
@@ -14,7 +15,7 @@ inputs-preserved g c = record {
   rows = λ all.
       let t = c.inputs.invariant.tells all in
       let p = All-last g.S.Source.tells _ _ c.in-Some.source c.in-Some.ensures.items t.0 in
-      last_put (λ s. (g.S.Source.reading s).rows) (λ h. h.next ∷ (g.S.Source.reading h.source).rows) _ _ c.in-Some.source _ _ _ c.in-Some.ensures.items (c.inputs.invariant.rows all) (c.in-Ok.ensures.rows p.1);
+      last_put (λ s. copied (g.S.Source.copies s) (g.S.Source.reading s).rows) (λ h. copied (g.S.Source.copies h.source) (h.next ∷ (g.S.Source.reading h.source).rows)) _ _ c.in-Some.source _ _ _ c.in-Some.ensures.items (c.inputs.invariant.rows all) (c.in-Ok.ensures.rows p.1);
   faults = λ all.
       let t = c.inputs.invariant.tells all in
       let p = All-last g.S.Source.tells _ _ c.in-Some.source c.in-Some.ensures.items t.0 in

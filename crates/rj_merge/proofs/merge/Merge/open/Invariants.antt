@@ -6,11 +6,11 @@ use Rattle.rj_merge.proofs.merge.Merge.open.Given as goal
 
 abbrev pub invariant-inputs : goal.invariant-inputs
 invariant-inputs g l = record {
-  lawful : AreHeads g.S.Source.last l.merge.given (heap_items l.merge.heads);
-  given : l.merge.given ≡ None;
+  lawful : AreHeads g.S.Source.last l.merge.passed (heap_items l.merge.heads);
+  passed : l.merge.passed ≡ None;
   tells : All g.S.Source.tells l.fn.inputs.items → All g.S.Source.tells l.inputs.items × AllTell g.S.Source.tells (heap_items l.merge.heads);
   rows : All g.S.Source.tells l.fn.inputs.items
-      → IsPermutation (rows_of_inputs g.S.Source.reading l.fn.inputs.items) (rows_of_inputs g.S.Source.reading l.inputs.items ++ rows_of_heads g.S.Source.reading (heap_items l.merge.heads));
+      → IsPermutation (rows_of_inputs g.S.Source.copies g.S.Source.reading l.fn.inputs.items) (rows_of_inputs g.S.Source.copies g.S.Source.reading l.inputs.items ++ rows_of_heads g.S.Source.copies g.S.Source.reading (heap_items l.merge.heads));
   faults : All g.S.Source.tells l.fn.inputs.items
       → IsPermutation (faults_of_inputs g.S.Source.reading l.fn.inputs.items) (faults_of_inputs g.S.Source.reading l.inputs.items ++ faults_of_heads g.S.Source.reading (heap_items l.merge.heads));
 }
