@@ -10,7 +10,7 @@ use Rattle.rj_merge.specs.declared.place.Place.{Place}
 use Rattle.rj_merge.specs.declared.place.Placed.{Placed}
 use Rattle.rj_merge.specs.declared.refused.MergeRefused.{MergeRefused}
 use Rattle.rj_merge.specs.Places.{IsAbove, place_order, place_total}
-use Rattle.rj_merge.specs.Ranges.{fault_before, is_before, is_from, rows_before}
+use Rattle.rj_merge.specs.Ranges.{fault_before, is_from, rows_before}
 use Rattle.rj_merge.specs.Wholes.{RisesFrom}
 use Rattle.rj_merge.proofs.PlaceFacts.{is_less, same_place}
 

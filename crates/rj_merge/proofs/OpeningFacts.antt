@@ -19,7 +19,7 @@ use Rattle.rj_merge.specs.declared.refused.MergeRefused.{MergeRefused}
 use Rattle.rj_merge.specs.declared.refused.MergeRefused.TheVariants as refused
 use Rattle.rj_merge.specs.Headers.{place_columns}
 use Rattle.rj_merge.specs.Inputs.{copies_of, faults_of_readings, first_header, first_record, input_reading, input_tells, own_copies, reading_of, reading_of_records, readings, readings_from, told_by}
-use Rattle.rj_merge.specs.Ranges.{fault_before, reading_within, rows_before}
+use Rattle.rj_merge.specs.Ranges.{reading_within}
 use Rattle.rj_merge.specs.Sources.{Reading}
 use Rattle.rj_merge.specs.Texts.{read_rows}
 use Rattle.rj_merge.proofs.HeadFacts.{fault_first}

@@ -1,5 +1,5 @@
 -- The rows of a merge that were put on an output so far.
-use Rattle.std.proofs.Common.{◌≡◌, ℕ, List, [], ◌∷◌, ◌++◌, Option, Some, None, All, Vec, Global, Result, Err, refl, sym, ap, subst, ◌∙◌, append-nil, inl, inr, ◌⊎◌, IsPermutation}
+use Rattle.std.proofs.Common.{◌≡◌, ℕ, List, [], ◌∷◌, ◌++◌, Option, None, All, Vec, Global, Result, Err, refl, sym, ap, subst, ◌∙◌, append-nil, inl, inr, ◌⊎◌, IsPermutation}
 use mathlib.Core.Logic.{⊎_elim}
 use Rattle.std.specs.Prelude.{◌≢◌, false, IfErr}
 use Rattle.std.proofs.lemmas.Bool.{false≢true}

@@ -1,8 +1,7 @@
 -- What is read of a range, step by step.
-use Rattle.std.proofs.Common.{◌≡◌, ◌∙◌, true, false, List, [], ◌∷◌, Option, None, Some, refl, sym, ap, subst}
-use Rattle.std.specs.declared.cmp.Ordering.TheVariants.{Less}
+use Rattle.std.proofs.Common.{◌≡◌, true, false, List, [], ◌∷◌, Option, None, Some, refl, sym, ap, subst}
 use Rattle.rj_merge.specs.declared.place.Place.{Place}
-use Rattle.rj_merge.specs.Places.{IsAbove, place_order, place_total}
+use Rattle.rj_merge.specs.Places.{IsAbove, place_total}
 use Rattle.rj_merge.specs.declared.options.MergeOptions.{MergeOptions}
 use Rattle.rj_merge.specs.declared.place.Placed.{Placed}
 use Rattle.rj_merge.specs.declared.refused.MergeRefused.{MergeRefused}

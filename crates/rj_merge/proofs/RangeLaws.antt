@@ -23,7 +23,7 @@ use Rattle.rj_merge.specs.declared.refused.MergeRefused.{MergeRefused}
 use Rattle.rj_merge.specs.declared.refused.MergeRefused.TheVariants as refused
 use Rattle.rj_merge.specs.Copies.{Copied, copied, copied_rows, copy_of}
 use Rattle.rj_merge.specs.Headers.{place_columns}
-use Rattle.rj_merge.specs.Inputs.{faults_of_readings, first_header, only_fault, reading_of, reading_of_records, readings, readings_from, under_header}
+use Rattle.rj_merge.specs.Inputs.{faults_of_readings, first_header, only_fault, reading_of_records, readings, readings_from, under_header}
 use Rattle.rj_merge.specs.MergedTexts.{AreRanges, HaveNoFault, IsMergedText, head_rows, lists_of_texts}
 use Rattle.rj_merge.specs.Places.{IsAbove, place_order}
 use Rattle.rj_merge.specs.Ranges.{AreCuts, between, fault_before, is_from, reading_within, rows_before}

@@ -17,15 +17,6 @@ pub struct Copies {
     pub right: u32,
 }
 
-/// A text that is merged, with its copies.
-#[derive(Drop)]
-pub struct MergeInput<R: Drop> {
-    /// What reads the text.
-    pub reader: R,
-    /// In how many of the texts its lone rows stand.
-    pub copies: Copies,
-}
-
 impl Copies {
     /// Those of an input whose rows stand in no other input.
     pub fn single() -> Copies
@@ -45,4 +36,13 @@ impl Copies {
             Place::LoneRight(_) => u64::from(self.right),
         }
     }
+}
+
+/// A text that is merged, with its copies.
+#[derive(Drop)]
+pub struct MergeInput<R: Drop> {
+    /// What reads the text.
+    pub reader: R,
+    /// In how many of the texts its lone rows stand.
+    pub copies: Copies,
 }

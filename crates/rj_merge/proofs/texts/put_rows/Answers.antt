@@ -25,11 +25,10 @@ rows-init g c = record {
 pub returns-in-Ok-None-clause-merge : goal.returns-in-Ok-None-clause-merge
 returns-in-Ok-None-clause-merge g c =
     let end = rw c.in-Ok-None.field-0-is at c.in-Ok-None.ensures.end in
-    let last = λ t. rw c.in-Ok-None.field-0-is at (c.in-Ok-None.ensures.rows t) in
     let h = c.rows.invariant.put in
     ok-if c.put_block.result (λ good. λ text w all.
     let put = ok-holds c.put_block.result good (c.put_block.ensures.told (g.O.Output.told c.args.output.now) (text ++ records_text h.rows) (h.shown text w)) in
-    (h.rows, put-all g.R.Read.remaining c.args.sources.items _ _ _ _ _ _ h c.next.new.self.passed (heap_items c.next.new.self.heads) last (end refl).0 all, put.0))
+    (h.rows, put-all g.R.Read.remaining c.args.sources.items _ _ _ _ _ _ h c.next.new.self.passed (heap_items c.next.new.self.heads) (λ t. rw c.in-Ok-None.field-0-is at (c.in-Ok-None.ensures.rows t)) (end refl).0 all, put.0))
 
 pub returns-in-Ok-None-clause-faults : goal.returns-in-Ok-None-clause-faults
 returns-in-Ok-None-clause-faults g c =

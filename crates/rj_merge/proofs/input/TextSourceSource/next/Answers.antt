@@ -1,4 +1,4 @@
-use Rattle.std.proofs.Common.{◌≡◌, ◌∙◌, ◌∷◌, ℕ, List, None, Some, refl, sym, ap, rules}
+use Rattle.std.proofs.Common.{◌≡◌, ◌∙◌, ◌∷◌, ℕ, List, None, Some, refl, sym, ap}
 use Rattle.csv.specs.Records.{fields_of}
 use Rattle.rj_merge.specs.Inputs.{records_reading}
 use Rattle.rj_merge.specs.Sources.{Reading}

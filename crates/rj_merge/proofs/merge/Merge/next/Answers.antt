@@ -1,4 +1,4 @@
-use Rattle.std.proofs.Common.{◌≡◌, ◌∷◌, ◌∙◌, [], false, true, Some, None, Option, refl, sym, subst, inl, inr}
+use Rattle.std.proofs.Common.{◌≡◌, ◌∷◌, ◌∙◌, [], false, Some, None, Option, refl, sym, subst, inl, inr}
 use mathlib.Core.Logic.{⊎_elim}
 use Rattle.std.specs.Option.{is_some, option_to_list}
 use Rattle.std.specs.BinaryHeap.{heap_items}
