@@ -1,10 +1,8 @@
--- The numbers that the rows of a shard have in the whole table. Past its last row they go on behind all rows of the table, so that
--- they rise everywhere, and a joined table that is placed by them rises as it did by its own numbers.
-use Rattle.std.proofs.Common.{◌≡◌, ℕ, zero, suc, ◌+◌, ◌<◌, ◌≤◌, Bool, List, [], ◌∷◌, length, slice_index_or, refl, ap, subst, arith, All}
-use mathlib.Core.Logic.{⊎_elim}
-use Rattle.std.specs.List.{filter, range_with_len}
+-- The numbers that some rows of a table have in it. Past the last of these rows they go on behind all rows of the table, so that they
+-- rise everywhere, and a joined table that is placed by them rises as it did by its own numbers.
+use Rattle.std.proofs.Common.{◌≡◌, ℕ, zero, suc, ◌+◌, ◌<◌, ◌≤◌, List, [], ◌∷◌, length, slice_index_or, refl, ap, subst, arith, All}
 use Rattle.std.specs.declared.cmp.Ordering.TheVariants.{Less}
-use Rattle.std.proofs.lemmas.List.Elements.{All-filter, All-head, All-tail}
+use Rattle.std.proofs.lemmas.List.Elements.{All-head, All-tail}
 use Rattle.rj_settings.specs.declared.choice.RowOrder.{RowOrder}
 use Rattle.rj_settings.specs.declared.choice.RowOrder.TheVariants.{LeftFirst, PairsFirst}
 use Rattle.rj_engine.specs.declared.joined.JoinedRow.{JoinedRow}
@@ -12,17 +10,10 @@ use Rattle.rj_engine.specs.declared.joined.JoinedRow.TheVariants.{Both, LeftOnly
 use Rattle.rj_merge.specs.Places.{place_order}
 use Rattle.rj_merge.specs.declared.place.Place.{Place}
 use Rattle.rj_merge.specs.declared.place.Place.TheVariants.{Pair, LoneAmongPairs, LoneLeft, LoneRight}
-use Rattle.rj_shards.proofs.Own.{range_all}
-use Rattle.rj_shards.proofs.Renumbered.{less_by, order_kept}
-use Rattle.rj_shards.proofs.Rising.{IsBelow, Rise, range_rises, right_up, rise_filter}
+use Rattle.rj_shards.proofs.Renumbered.{order_kept}
+use Rattle.rj_shards.proofs.Rising.{IsBelow, Rise, is_less, number_place}
 use Rattle.rj_shards.specs.Renumbered.{Rises, renumbered_place}
 use Rattle.rj_shards.specs.Rows.{member_back, place_of}
-
-abbrev number_place : ℕ → Place
-number_place j = LoneRight j
-
-is_less : (a b : ℕ) → place_order (LoneRight a) (LoneRight b) ≡ Less → a < b
-is_less a b h = ⊎_elim (λ low. low) (λ same. absurd (let l : 0 < 0 = same.1 in omega (arith, l))) (less_by a b 0 0 h)
 
 -- the numbers of a list, and behind it such as go on from n
 abbrev pub extended : List ℕ → ℕ → ℕ → ℕ
@@ -39,11 +30,9 @@ later_up n d e (x ∷ xs) h all over up i zero low = absurd (omega (arith, low))
 later_up n d e (x ∷ xs) h all over up zero (suc k) low = first_up x n e k xs h.0 (All-head (λ x. x < n) x xs all) (omega (arith, over, up))
 later_up n d e (x ∷ xs) h all over up (suc i) (suc k) low = later_up n d e xs h.1 (All-tail (λ x. x < n) x xs all) over up i k (omega (arith, low))
 
--- the numbers below n that pass a test, extended, rise
-pub extended_up : (p : ℕ → Bool) (n : ℕ) → Rises (extended (filter p (range_with_len 0 n)) n)
-extended_up p n i k low =
-    later_up n (n + i) (n + k) (filter p (range_with_len 0 n)) (rise_filter number_place p (range_with_len 0 n) (range_rises number_place right_up 0 n))
-    (All-filter p (λ x. x < n) (range_with_len 0 n) (range_all (λ x. x < n) 0 n (λ x from to. omega (arith, to)))) (omega arith) (omega (arith, low)) i k low
+-- numbers that rise and are below n, extended, rise
+pub extended_up : (xs : List ℕ) (n : ℕ) → Rise number_place xs → All (λ x. x < n) xs → Rises (extended xs n)
+extended_up xs n h all i k low = later_up n (n + i) (n + k) xs h all (omega arith) (omega (arith, low)) i k low
 
 same_inside : (xs : List ℕ) (i d e : ℕ) → i < length xs → slice_index_or xs i d ≡ slice_index_or xs i e
 same_inside [] i d e low = absurd (omega (arith, low))
@@ -56,7 +45,7 @@ IsWithin m n (Both i j) = (i < m) × (j < n)
 IsWithin m n (LeftOnly i) = i < m
 IsWithin m n (RightOnly j) = j < n
 
--- a member of a shard stands by these numbers where it stands in the whole
+-- a member of a join of these rows stands by these numbers where it stands in the whole
 module _ (lefts rights : List ℕ) (m n : ℕ) where
   pub placed_back : (order : RowOrder) (row : JoinedRow) → IsWithin (length lefts) (length rights) row
       → renumbered_place (extended lefts m) (extended rights n) (place_of order row) ≡ place_of order (member_back lefts rights row)

@@ -1,12 +1,13 @@
 -- What a shard makes of its own members is what the whole makes of them, with their row numbers mapped back.
-use Rattle.std.proofs.Common.{◌≡◌, ℕ, zero, suc, ◌+◌, ◌<◌, ◌≤◌, Bool, true, false, cond, List, [], ◌∷◌, ◌++◌, map, length, slice_index_or, refl, ap, sym, ◌∙◌, arith, All}
+use Rattle.std.proofs.Common.{◌≡◌, ℕ, zero, suc, ◌+◌, ◌<◌, ◌≤◌, Bool, true, false, cond, List, [], ◌++◌, map, length, slice_index_or, ap, sym, ◌∙◌, arith, All}
 use Rattle.std.specs.List.{flat_map, range_with_len}
 use Rattle.std.proofs.lemmas.List.{map-append}
-use Rattle.std.proofs.lemmas.List.Elements.{All-append, All-cons, All-filter, All-head, All-map, All-nil, All-tail}
+use Rattle.std.proofs.lemmas.List.Elements.{All-append, All-cons, All-filter, All-map, All-nil, All-weaker}
 use Rattle.rj_engine.specs.declared.joined.JoinedRow.{JoinedRow}
 use Rattle.rj_engine.specs.declared.joined.JoinedRow.TheVariants.{Both, LeftOnly, RightOnly}
 use Rattle.rj_engine.specs.Join.{JoinedValue, absent, pairs, product, row_of, rows_in}
 use Rattle.rj_shards.specs.Shards.{mapped_back}
+use Rattle.rj_shards.proofs.Together.{map_map, map_within}
 use Rattle.rj_shards.specs.Rows.{member_back}
 
 -- a pair of rows below these numbers
@@ -40,15 +41,7 @@ added_below false numbers n = All-nil (λ i. i < n)
 
 -- two functions that agree on the elements of a list, of which the other one takes what is made of them
 same_of_all : {A B X : Type 0} (P : A → Type 0) (f : A → X) (g : B → X) (h : A → B) → ((a : A) → P a → f a ≡ g (h a)) → (xs : List A) → All P xs → map f xs ≡ map g (map h xs)
-same_of_all P f g h each [] all = refl
-same_of_all P f g h each (x ∷ xs) all =
-    let first = each x (All-head P x xs all) in
-    let rest = same_of_all P f g h each xs (All-tail P x xs all) in
-    λ t. first t ∷ rest t
-
-pub map_map : {A B X : Type 0} (g : B → X) (h : A → B) (xs : List A) → map g (map h xs) ≡ map (λ x. g (h x)) xs
-map_map g h [] = refl
-map_map g h (x ∷ xs) = ap (λ ys. g (h x) ∷ ys) (map_map g h xs)
+same_of_all P f g h each xs all = map_within f (λ x. g (h x)) xs (All-weaker P (λ x. f x ≡ g (h x)) each xs all) ∙ sym (map_map g h xs)
 
 -- what is made of members, kind by kind
 of_kinds : {X : Type 0} (f : JoinedRow → X) (v : JoinedValue) → map f (rows_in v) ≡ map (λ p. f (Both p.0 p.1)) v.pairs ++ map (λ i. f (LeftOnly i)) v.lone_left ++ map (λ j. f (RightOnly j)) v.lone_right

@@ -1,18 +1,25 @@
 -- The rows of a joined table stand each above the one before it.
-use Rattle.std.proofs.Common.{◌≡◌, ℕ, zero, suc, ◌+◌, ◌<◌, Bool, true, false, cond, List, [], ◌∷◌, ◌++◌, map, None, Some, refl, arith}
-use Rattle.std.specs.List.{filter, flat_map, range_with_len}
-use Rattle.std.specs.declared.cmp.Ordering.TheVariants.{Less}
-use Rattle.std.specs.Ordering.{nat_cmp, ordering_then}
+use Rattle.std.proofs.Common.{◌≡◌, ℕ, zero, suc, ◌+◌, ◌<◌, ◌≤◌, Bool, true, false, cond, List, [], ◌∷◌, ◌++◌, map, None, Some, refl, ap, sym, subst, ◌∙◌, slice_index, slice_index_or, arith, All}
+use Rattle.std.specs.Cmp.{tied_itself}
+use Rattle.std.specs.List.{count_by, filter, flat_map, range_with_len}
+use Rattle.std.specs.List.Sorted.{IsSorted, IsStrictlyIncreasing}
+use Rattle.std.specs.declared.cmp.Ordering.TheVariants.{Less, Equal}
+use Rattle.std.specs.Ordering.{is_lt, nat_cmp, ordering_then}
+use Rattle.std.proofs.lemmas.Bool.{false≢true}
 use Rattle.std.proofs.lemmas.Bool.Decides.{nat_tests}
+use Rattle.std.proofs.lemmas.List.Elements.{All-cons, All-nil}
 use Rattle.rj_settings.specs.declared.choice.RowOrder.TheVariants.{PairsFirst}
 use Rattle.rj_merge.specs.declared.place.Place.{Place}
 use Rattle.rj_merge.specs.declared.place.Place.TheVariants.{Pair, LoneAmongPairs, LoneLeft, LoneRight}
 use Rattle.rj_merge.specs.declared.place.Placed.{Placed}
-use Rattle.rj_merge.specs.Places.{place_order}
+use Rattle.rj_merge.specs.Places.{place_order, place_total}
 use Rattle.rj_merge.specs.Wholes.{RisesFrom}
 use Rattle.rj_engine.specs.declared.joined.JoinedRow.TheVariants.{Both, LeftOnly, RightOnly}
 use Rattle.rj_engine.specs.Join.{JoinedValue, pairs, product, row_of, absent, rows_in}
+use Rattle.rj_hashjoin.specs.Joining.{cross, kept_of}
 use Rattle.rj_shards.specs.Rows.{place_of}
+use Rattle.rj_shards.specs.Shards.{by_left_then_right}
+use Rattle.rj_shards.proofs.Counted.{count_cons}
 
 module _ {X : Type 0} (place : X → Place) where
   -- a place is below those of a list
@@ -85,40 +92,6 @@ before_second a c d h = grind (arith, nat_tests)
 abbrev pub pair_place : ℕ × ℕ → Place
 pair_place p = Pair p.0 p.1
 
--- a pair is below those of later left rows
-below_row : (i j b a n : ℕ) → i < b → IsBelow pair_place (Pair i j) (map (λ k. (b, k)) (range_with_len a n))
-below_row i j b a zero h = tt
-below_row i j b a (suc n) h = (before_first i b j a h, below_row i j b (a + 1) n h)
-
-below_rows : (i j n a m : ℕ) → i < a → IsBelow pair_place (Pair i j) (flat_map (row_of n) (range_with_len a m))
-unfolding row_of
-below_rows i j n a zero h = tt
-below_rows i j n a (suc m) h =
-    below_append pair_place (Pair i j) (row_of n a) (flat_map (row_of n) (range_with_len (a + 1) m)) (below_row i j a 0 n h) (below_rows i j n (a + 1) m (omega (arith, h)))
-
-row_below : (i n m b c k : ℕ) → i < b → AreBelow pair_place (map (λ j. (i, j)) (range_with_len c k)) (flat_map (row_of n) (range_with_len b m))
-row_below i n m b c zero h = tt
-row_below i n m b c (suc k) h = (below_rows i c n b m h, row_below i n m b (c + 1) k h)
-
--- and of later right rows
-below_later : (i j a n : ℕ) → j < a → IsBelow pair_place (Pair i j) (map (λ k. (i, k)) (range_with_len a n))
-below_later i j a zero h = tt
-below_later i j a (suc n) h = (before_second i j a h, below_later i j (a + 1) n (omega (arith, h)))
-
-row_rises : (i a n : ℕ) → Rise pair_place (map (λ k. (i, k)) (range_with_len a n))
-row_rises i a zero = tt
-row_rises i a (suc n) = (below_later i a (a + 1) n (omega arith), row_rises i (a + 1) n)
-
-rows_rise : (n a m : ℕ) → Rise pair_place (flat_map (row_of n) (range_with_len a m))
-unfolding row_of
-rows_rise n a zero = tt
-rows_rise n a (suc m) =
-    rise_append pair_place (row_of n a) (flat_map (row_of n) (range_with_len (a + 1) m)) (row_rises a 0 n) (rows_rise n (a + 1) m) (row_below a n m (a + 1) 0 n (omega arith))
-
-pub pairs_rise : (keeps : ℕ → ℕ → Bool) (m n : ℕ) → Rise pair_place (pairs keeps m n)
-unfolding pairs product
-pairs_rise keeps m n = rise_filter pair_place (λ p. keeps p.0 p.1) (product m n) (rows_rise n 0 m)
-
 -- numbers that rise, as places of one kind
 module _ (place : ℕ → Place) (up : (a b : ℕ) → a < b → place_order (place a) (place b) ≡ Less) where
   range_below : (p a n : ℕ) → p < a → IsBelow place (place p) (range_with_len a n)
@@ -145,6 +118,116 @@ among_up a b h = before_first a b 0 0 h
 
 pub right_up : (a b : ℕ) → a < b → place_order (LoneRight a) (LoneRight b) ≡ Less
 right_up a b h = before_first a b 0 0 h
+
+-- a number as a place
+abbrev pub number_place : ℕ → Place
+number_place j = LoneRight j
+
+pub is_less : (a b : ℕ) → place_order (number_place a) (number_place b) ≡ Less → a < b
+is_less a b h = grind (arith, nat_tests)
+
+-- a pair is below those of later left rows
+below_row : (i j b : ℕ) (ys : List ℕ) → i < b → IsBelow pair_place (Pair i j) (map (λ k. (b, k)) ys)
+below_row i j b [] h = tt
+below_row i j b (y ∷ ys) h = (before_first i b j y h, below_row i j b ys h)
+
+below_rows : (i j : ℕ) (xs ys : List ℕ) → IsBelow number_place (number_place i) xs → IsBelow pair_place (Pair i j) (cross xs ys)
+below_rows i j [] ys h = tt
+below_rows i j (x ∷ xs) ys h = below_append pair_place (Pair i j) (map (λ k. (x, k)) ys) (cross xs ys) (below_row i j x ys (is_less i x h.0)) (below_rows i j xs ys h.1)
+
+row_below : (i : ℕ) (xs ys zs : List ℕ) → IsBelow number_place (number_place i) xs → AreBelow pair_place (map (λ k. (i, k)) zs) (cross xs ys)
+row_below i xs ys [] h = tt
+row_below i xs ys (z ∷ zs) h = (below_rows i z xs ys h, row_below i xs ys zs h)
+
+-- and of later right rows
+below_later : (i j : ℕ) (ys : List ℕ) → IsBelow number_place (number_place j) ys → IsBelow pair_place (Pair i j) (map (λ k. (i, k)) ys)
+below_later i j [] h = tt
+below_later i j (y ∷ ys) h = (before_second i j y (is_less j y h.0), below_later i j ys h.1)
+
+row_rises : (i : ℕ) (ys : List ℕ) → Rise number_place ys → Rise pair_place (map (λ k. (i, k)) ys)
+row_rises i [] h = tt
+row_rises i (y ∷ ys) h = (below_later i y ys h.0, row_rises i ys h.1)
+
+rows_rise : (xs ys : List ℕ) → Rise number_place xs → Rise number_place ys → Rise pair_place (cross xs ys)
+rows_rise [] ys h i = tt
+rows_rise (x ∷ xs) ys h i = rise_append pair_place (map (λ k. (x, k)) ys) (cross xs ys) (row_rises x ys i) (rows_rise xs ys h.1 i) (row_below x xs ys ys h.0)
+
+-- the pairs that are kept of rows that rise
+pub kept_rise : (keeps : ℕ → ℕ → Bool) (xs ys : List ℕ) → Rise number_place xs → Rise number_place ys → Rise pair_place (kept_of keeps xs ys)
+kept_rise keeps xs ys h i = rise_filter pair_place (λ p. keeps p.0 p.1) (cross xs ys) (rows_rise xs ys h i)
+
+pub pairs_rise : (keeps : ℕ → ℕ → Bool) (m n : ℕ) → Rise pair_place (pairs keeps m n)
+unfolding pairs product row_of
+pairs_rise keeps m n = kept_rise keeps (range_with_len 0 m) (range_with_len 0 n) (range_rises number_place right_up 0 m) (range_rises number_place right_up 0 n)
+
+not_above : (a b c d : ℕ) → ordering_then (nat_cmp a b) (nat_cmp c d) ≡ Less → is_lt (ordering_then (nat_cmp b a) (nat_cmp d c)) ≡ false
+not_above a b c d h = grind (arith, nat_tests)
+
+-- pairs that rise are sorted
+pub sorted_pairs : (ps : List (ℕ × ℕ)) → Rise pair_place ps → IsSorted by_left_then_right ps
+sorted_pairs [] h k d low within = absurd (omega (arith, within))
+sorted_pairs (p ∷ []) h k d low within = absurd (omega (arith, within))
+sorted_pairs (p ∷ q ∷ ps) h zero d low within = not_above p.0 q.0 p.1 q.1 h.0.0
+sorted_pairs (p ∷ q ∷ ps) h (suc k) d low within =
+    let e : suc k + 1 ≡ suc (k + 1) = omega arith in
+    subst (λ i. is_lt (by_left_then_right (slice_index_or (p ∷ q ∷ ps) i d) (slice_index_or (q ∷ ps) k d)) ≡ false) (sym e)
+    (sorted_pairs (q ∷ ps) h.1 k d (omega arith) (omega (arith, within)))
+
+-- numbers each of which is greater than the one before are below all behind them
+later_numbers : (x : ℕ) (xs : List ℕ) → IsStrictlyIncreasing (x ∷ xs) → IsStrictlyIncreasing xs
+later_numbers x xs up k within =
+    let e : suc k + 1 ≡ suc (k + 1) = omega arith in
+    subst (λ i. slice_index xs k < slice_index (x ∷ xs) i) e (up (suc k) (omega (arith, within)))
+
+numbers_above : (p x : ℕ) (xs : List ℕ) → p < x → IsStrictlyIncreasing (x ∷ xs) → IsBelow number_place (number_place p) (x ∷ xs)
+numbers_above p x [] low up = (right_up p x low, tt)
+numbers_above p x (y ∷ ys) low up = let next : x < y = up 0 (omega arith) in (right_up p x low, numbers_above p y ys (omega (arith, low, next)) (later_numbers x (y ∷ ys) up))
+
+pub increasing_rise : (xs : List ℕ) → IsStrictlyIncreasing xs → Rise number_place xs
+increasing_rise [] up = tt
+increasing_rise (x ∷ []) up = (tt, tt)
+increasing_rise (x ∷ y ∷ ys) up = let next : x < y = up 0 (omega arith) in let rest = later_numbers x (y ∷ ys) up in (numbers_above x y ys next rest, increasing_rise (y ∷ ys) rest)
+
+-- a place isn't below itself
+pub not_itself : (p : Place) → place_order p p ≡ Less → ⊥
+not_itself p h = let e : Less ≡ Equal = sym h ∙ tied_itself place_total p in false≢true (sym (ap is_lt e))
+
+-- of elements whose places rise one at most has this place
+module _ {X : Type 0} (place : X → Place) (test : X → Bool) (p : Place) (of : (x : X) → test x ≡ true → place x ≡ p) where
+  none_above : (xs : List X) → IsBelow place p xs → count_by test xs ≡ 0
+  none_above [] h = refl
+  none_above (x ∷ xs) h = by_test (test x) refl (count_cons test x xs) (none_above xs h.1)
+    where
+      by_test : (b : Bool) → test x ≡ b → count_by test (x ∷ xs) ≡ cond b 1 0 + count_by test xs → count_by test xs ≡ 0 → count_by test (x ∷ xs) ≡ 0
+      by_test true passes e rest = absurd (not_itself p (subst (λ q. place_order p q ≡ Less) (of x passes) h.0))
+      by_test false passes e rest = omega (arith, e, rest)
+
+  pub once : (xs : List X) → Rise place xs → count_by test xs ≤ 1
+  once [] h = omega arith
+  once (x ∷ xs) h = by_test (test x) refl (count_cons test x xs) (once xs h.1)
+    where
+      by_test : (b : Bool) → test x ≡ b → count_by test (x ∷ xs) ≡ cond b 1 0 + count_by test xs → count_by test xs ≤ 1 → count_by test (x ∷ xs) ≤ 1
+      by_test true passes e rest = let none = none_above xs (subst (λ q. IsBelow place q xs) (of x passes) h.0) in omega (arith, e, none)
+      by_test false passes e rest = omega (arith, e, rest)
+
+-- runs of what rises rise
+module _ {X : Type 0} (place : X → Place) where
+  below_front : (p : Place) (xs ys : List X) → IsBelow place p (xs ++ ys) → IsBelow place p xs
+  below_front p [] ys h = tt
+  below_front p (x ∷ xs) ys h = (h.0, below_front p xs ys h.1)
+
+  rise_front : (xs ys : List X) → Rise place (xs ++ ys) → Rise place xs
+  rise_front [] ys h = tt
+  rise_front (x ∷ xs) ys h = (below_front (place x) xs ys h.0, rise_front xs ys h.1)
+
+  rise_back : (xs ys : List X) → Rise place (xs ++ ys) → Rise place ys
+  rise_back [] ys h = h
+  rise_back (x ∷ xs) ys h = rise_back xs ys h.1
+
+  pub runs_rise : (runs : List (List X)) → Rise place (flat_map (λ run. run) runs) → All (Rise place) runs
+  runs_rise [] h = All-nil (Rise place)
+  runs_rise (run ∷ runs) h =
+      All-cons (Rise place) run runs (rise_front run (flat_map (λ run. run) runs) h) (runs_rise runs (rise_back run (flat_map (λ run. run) runs) h))
 
 -- kept pairs stand before lone left rows, and both before lone right rows
 lefts_above : (i j : ℕ) (xs : List ℕ) → IsBelow (place_of PairsFirst) (Pair i j) (map (λ k. LeftOnly k) xs)

@@ -1,11 +1,9 @@
--- What shards give is merged to the rows of the whole, and each shard's rows rise.
-use Rattle.std.proofs.Common.{◌≡◌, ℕ, ◌<◌, ◌==◌, true, List, [], ◌∷◌, length, map, slice_index_or, None, refl, ap, sym, subst, ◌∙◌, All}
-use Rattle.std.specs.List.{filter, flat_map, range_with_len}
+-- What a join of rows at some places gives: the rows of its members, in an order in which they rise.
+use Rattle.std.proofs.Common.{◌≡◌, ℕ, ◌<◌, true, List, [], ◌∷◌, length, map, slice_index_or, None, refl, ap, sym, subst, ◌∙◌, All}
+use Rattle.std.specs.List.{filter}
 use Rattle.std.specs.List.Sorted.{IsPermutation}
 use Rattle.std.proofs.lemmas.List.{get_or-map, length-map}
-use Rattle.std.proofs.lemmas.List.Elements.{All-map, All-weaker}
-use Rattle.std.proofs.lemmas.List.Folds.{flat_map-map}
-use Rattle.std.proofs.lemmas.List.Sorted.{All-permutation, IsPermutation-append, IsPermutation-map, IsPermutation-refl, IsPermutation-sym, IsPermutation-trans}
+use Rattle.std.proofs.lemmas.List.Sorted.{All-permutation, IsPermutation-map, IsPermutation-refl, IsPermutation-sym}
 use Rattle.rj_columns.specs.Contents.{Content, nothing}
 use Rattle.rj_columns.specs.Scales.{coalesced, in_scale}
 use Rattle.rj_columns.specs.Tables.{TableValue, cell_of}
@@ -16,26 +14,25 @@ use Rattle.rj_settings.specs.declared.choice.RowOrder.{RowOrder}
 use Rattle.rj_settings.specs.declared.choice.RowOrder.TheVariants.{LeftFirst, PairsFirst}
 use Rattle.rj_condition.specs.Joins.{keeps, kind_of_join}
 use Rattle.rj_condition.specs.declared.bound.BoundJoin.{BoundJoin}
-use Rattle.rj_engine.specs.Cells.{IsMemberOf, coalesced_scale, columns_of, joined_cell, joined_cells, left_cell, right_cell, view_of}
+use Rattle.rj_engine.specs.Cells.{coalesced_scale, columns_of, joined_cell, joined_cells, left_cell, right_cell, view_of}
 use Rattle.rj_engine.specs.Chosen.{are_all_columns, are_all_rows, by_left_row, chosen_columns, chosen_view, in_order, is_of_columns, rows_of_kinds}
-use Rattle.rj_engine.specs.Join.{JoinedValue, adds_left, adds_right, rows_in}
+use Rattle.rj_engine.specs.Join.{adds_left, adds_right, rows_in}
 use Rattle.rj_engine.specs.Results.{joined_of, kept_pairs, result_of}
-use Rattle.rj_shards.specs.Shards.{AreMerged, IsLawful, joined_at, joined_shard, joined_shards, left_shard, members_in, places, right_shard, rows_at}
+use Rattle.rj_shards.specs.Shards.{AreMerged, IsLawful, joined_at, joined_shard, joined_shards, left_shard, members_in, right_shard, rows_at}
 use Rattle.rj_engine.specs.declared.joined.JoinedRow.{JoinedRow}
 use Rattle.rj_engine.specs.declared.joined.JoinedRow.TheVariants.{Both, LeftOnly, RightOnly}
 use Rattle.rj_engine.specs.declared.origin.Origin.{Origin}
 use Rattle.rj_engine.specs.declared.origin.Origin.TheVariants.{Coalesced, Left, Right}
 use Rattle.rj_engine.proofs.ChosenFacts.{all_rows as all_rows_of}
-use Rattle.rj_engine.proofs.Sources.{members-there}
-use Rattle.rj_merge.specs.Wholes.{IsMerge, RisesFrom}
+use Rattle.rj_merge.specs.Wholes.{RisesFrom}
 use Rattle.rj_merge.specs.declared.place.Place.{Place}
 use Rattle.rj_merge.specs.declared.place.Place.TheVariants.{LoneAmongPairs, LoneLeft, LoneRight}
 use Rattle.rj_merge.specs.declared.place.Placed.{Placed}
 use Rattle.rj_shards.specs.Renumbered.{Rises, renumbered_place}
-use Rattle.rj_shards.specs.Rows.{AreShards, member_back, place_of, placed, placed_at, placed_rows, placed_shard, placed_shards}
-use Rattle.rj_shards.proofs.Together.{map_of_all, members_merged}
-use Rattle.rj_shards.proofs.Own.{Agree, AreBelow, added_below, own_as_back, pairs_below, map_map}
-use Rattle.rj_shards.proofs.Extended.{IsWithin, extended, extended_up, placed_back, rise_as, rise_kept}
+use Rattle.rj_shards.specs.Rows.{member_back, place_of, placed, placed_at, placed_rows}
+use Rattle.rj_shards.proofs.Together.{all_members, map_map}
+use Rattle.rj_shards.proofs.Own.{Agree, AreBelow, added_below, own_as_back, pairs_below}
+use Rattle.rj_shards.proofs.Extended.{IsWithin, extended, placed_back, rise_as, rise_kept}
 use Rattle.rj_shards.proofs.LeftOrder.{left_rows_rise}
 use Rattle.rj_shards.proofs.Rising.{Rise, added_rise, among_up, left_up, members_rise, pair_place, pairs_rise, right_up, rise_map, rises_from}
 
@@ -86,24 +83,15 @@ LeftOrder = (join : BoundJoin) (l r : TableValue) → IsPermutation (result_of j
 
 -- so each order has them
 module _ (law : LeftOrder) (join : BoundJoin) (l r : TableValue) where
-  ordered_same : (order : RowOrder) → IsPermutation (result_of join l r) (in_order order (length l.rows) (result_of join l r))
+  pub ordered_same : (order : RowOrder) → IsPermutation (result_of join l r) (in_order order (length l.rows) (result_of join l r))
   ordered_same PairsFirst = IsPermutation-refl (result_of join l r)
   ordered_same LeftFirst = law join l r
 
   ordered_within : (order : RowOrder) → All (IsWithin (length l.rows) (length r.rows)) (in_order order (length l.rows) (result_of join l r))
   ordered_within order =
+      let low = below join l r in
       All-permutation (IsWithin (length l.rows) (length r.rows)) (result_of join l r) (in_order order (length l.rows) (result_of join l r)) (ordered_same order)
-      (All-weaker (IsMemberOf l r) (IsWithin (length l.rows) (length r.rows)) is_within (result_of join l r) (members-there join l r))
-    where
-      is_within : (row : JoinedRow) → IsMemberOf l r row → IsWithin (length l.rows) (length r.rows) row
-      is_within (Both i j) h = h
-      is_within (LeftOnly i) h = h.0
-      is_within (RightOnly j) h = h.1
-
--- lists that are made of each element, with the same elements each
-flat_each : {A B : Type 0} (f g : A → List B) → ((a : A) → IsPermutation (f a) (g a)) → (xs : List A) → IsPermutation (flat_map f xs) (flat_map g xs)
-flat_each f g each [] = IsPermutation-refl []
-flat_each f g each (x ∷ xs) = IsPermutation-append (f x) (g x) (flat_map f xs) (flat_map g xs) (each x) (flat_each f g each xs)
+      (all_members (IsWithin (length l.rows) (length r.rows)) (joined_of join l r) low.pairs low.lone_left low.lone_right)
 
 module _ {T : Type 0} (order : RowOrder) (text : List Content → T) (join : BoundJoin) (l r : TableValue) where
   -- a member's row, at its place
@@ -143,7 +131,7 @@ module _ {T : Type 0} (order : RowOrder) (text : List Content → T) (join : Bou
         own_as_back lefts rights own_row row_of agree inner low
 
     -- and it gives these in its order
-    placed_members : LeftOrder → IsPermutation (placed_at order text join l r lefts rights) (map row_of (rows_in (joined_at join l r lefts rights)))
+    pub placed_members : LeftOrder → IsPermutation (placed_at order text join l r lefts rights) (map row_of (rows_in (joined_at join l r lefts rights)))
     placed_members law =
         let rows = result_of join (rows_at l lefts) (rows_at r rights) in
         let ordered = in_order order (length (rows_at l lefts).rows) rows in
@@ -151,7 +139,7 @@ module _ {T : Type 0} (order : RowOrder) (text : List Content → T) (join : Bou
         (IsPermutation-map own_row ordered rows (IsPermutation-sym rows ordered (ordered_same law join (rows_at l lefts) (rows_at r rights) order)))
 
     -- where the numbers of the rows rise, so does what it gives
-    placed_rises : LeftOrder → (m n : ℕ) → Rises (extended lefts m) → Rises (extended rights n) → RisesFrom None (placed_at order text join l r lefts rights)
+    pub placed_rises : LeftOrder → (m n : ℕ) → Rises (extended lefts m) → Rises (extended rights n) → RisesFrom None (placed_at order text join l r lefts rights)
     placed_rises law m n left_up right_up =
         let left = rows_at l lefts in
         let right = rows_at r rights in
@@ -165,40 +153,8 @@ module _ {T : Type 0} (order : RowOrder) (text : List Content → T) (join : Bou
         (rise_kept (place_of order) (extended lefts m) (extended rights n) left_up right_up rows (ordered_rise join left right order)) in
         rises_from (map own_row rows) (rise_map (λ (row : Placed T). row.place) own_row rows rise)
 
-  abbrev of_shard : (List Content → ℕ) → ℕ → ℕ → JoinedValue
-  of_shard value count s = joined_shard value count join l r s
-
-  all_back : LeftOrder → (value : List Content → ℕ) (count : ℕ)
-      → IsPermutation (flat_map (λ rows. rows) (placed_shards order text value count join l r)) (map row_of (flat_map rows_in (joined_shards value count join l r)))
-  all_back law value count =
-      let range = range_with_len 0 count in
-      let members : ℕ → List (Placed T) = λ s. map row_of (rows_in (of_shard value count s)) in
-      let own = placed_shard order text value count join l r in
-      subst (λ rows. IsPermutation rows (map row_of (flat_map rows_in (joined_shards value count join l r)))) (sym (flat_map-map (λ rows. rows) own range))
-      (subst (IsPermutation (flat_map own range)) (sym (flat_map-map (λ v. map row_of (rows_in v)) (of_shard value count) range) ∙ map_of_all row_of (joined_shards value count join l r))
-      (flat_each own members (λ s. placed_members (places (left_shard value count join l) l s) (places (right_shard value count join r) r s) law) range))
-
-  -- where the members of the whole are merged of those of the shards, so are the rows
-  all_rows : LeftOrder → (value : List Content → ℕ) (count : ℕ) → AreMerged (joined_shards value count join l r) (joined_of join l r)
-      → IsPermutation (flat_map (λ rows. rows) (placed_shards order text value count join l r)) (placed_rows order text join l r)
-  all_rows law value count m =
-      let given = flat_map (λ rows. rows) (placed_shards order text value count join l r) in
-      let members = flat_map rows_in (joined_shards value count join l r) in
-      let whole = result_of join l r in
-      let ordered = in_order order (length l.rows) whole in
-      IsPermutation-trans given (map row_of members) (map row_of ordered) (all_back law value count)
-      (IsPermutation-map row_of members ordered
-      (IsPermutation-trans members whole ordered (members_merged (joined_shards value count join l r) (joined_of join l r) m) (ordered_same law join l r order)))
-
   pub whole_rises : Rise (λ (row : Placed T). row.place) (placed_rows order text join l r)
   whole_rises = rise_map (λ (row : Placed T). row.place) row_of (in_order order (length l.rows) (result_of join l r)) (ordered_rise join l r order)
-
-  shard_rises : LeftOrder → (value : List Content → ℕ) (count s : ℕ) → RisesFrom None (placed_shard order text value count join l r s)
-  shard_rises law value count s =
-      let left = left_shard value count join l in
-      let right = right_shard value count join r in
-      placed_rises (places left l s) (places right r s) law (length l.rows) (length r.rows)
-      (extended_up (λ row. left row == s) (length l.rows)) (extended_up (λ row. right row == s) (length r.rows))
 
 -- the law that each member of a joined table is one of its shards, and that each shard has those that stand in it
 abbrev pub ShardsMerge : Type 0
@@ -207,25 +163,6 @@ ShardsMerge = (value : List Content → ℕ) → IsLawful value → (count : ℕ
 abbrev pub ShardIsPart : Type 0
 ShardIsPart = (value : List Content → ℕ) → IsLawful value → (count : ℕ) (join : BoundJoin) (l r : TableValue) (s : ℕ)
     → joined_shard value count join l r s ≡ members_in (left_shard value count join l) (right_shard value count join r) s (joined_of join l r)
-
-module _ {T : Type 0} (order : RowOrder) (text : List Content → T) (join : BoundJoin) (l r : TableValue) (lists : List (List (Placed T))) (shards : AreShards order text join l r lists) where
-  pub rows_of_all : ShardsMerge → LeftOrder → IsPermutation (flat_map (λ rows. rows) lists) (placed_rows order text join l r)
-  rows_of_all law by_left =
-      subst (λ ls. IsPermutation (flat_map (λ (rows : List (Placed T)). rows) ls) (placed_rows order text join l r)) (sym shards.are)
-      (all_rows order text join l r by_left shards.value shards.count (law shards.value shards.lawful shards.count join l r shards.some))
-
-  pub whole_merged : ShardsMerge → LeftOrder → IsMerge lists (placed_rows order text join l r)
-  whole_merged law by_left = record {
-    all = rows_of_all law by_left;
-    rises = rises_from (placed_rows order text join l r) (whole_rises order text join l r);
-  }
-
-  pub all_rise : LeftOrder → All (RisesFrom None) lists
-  all_rise by_left =
-      let shard = placed_shard order text shards.value shards.count join l r in
-      subst (λ (ls : List (List (Placed T))). All (RisesFrom None) ls) (sym shards.are)
-      (All-map (RisesFrom None) shard (range_with_len 0 shards.count)
-      (λ k d low. shard_rises order text join l r by_left shards.value shards.count (slice_index_or (range_with_len 0 shards.count) k d)))
 
 -- where all columns are chosen, none is left out
 kept_origins : (os : List Origin) → filter (is_of_columns column_choice.All) os ≡ os

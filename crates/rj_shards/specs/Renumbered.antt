@@ -1,5 +1,6 @@
 -- Rows of two tables that are numbered by places which rise, in place of 0, 1, 2 and so on.
 use Rattle.std.specs.Prelude.{ℕ, ◌<◌, List, map}
+use Rattle.rj_merge.specs.declared.copies.Copies.{Copies}
 use Rattle.rj_merge.specs.declared.place.Place.{Place}
 use Rattle.rj_merge.specs.declared.place.Place.TheVariants.{Pair, LoneAmongPairs, LoneLeft, LoneRight}
 use Rattle.rj_merge.specs.declared.place.Placed.{Placed}
@@ -22,3 +23,7 @@ renumbered left right row = record { place = renumbered_place left right row.pla
 -- rows at their places by the new numbers
 abbrev pub all_renumbered : {T : Type 0} → (ℕ → ℕ) → (ℕ → ℕ) → List (Placed T) → List (Placed T)
 all_renumbered left right rows = map (renumbered left right) rows
+
+-- inputs of a merge, their rows at their places by the new numbers
+abbrev pub inputs_renumbered : {T : Type 0} → (ℕ → ℕ) → (ℕ → ℕ) → List (Copies × List (Placed T)) → List (Copies × List (Placed T))
+inputs_renumbered left right inputs = map (λ i. (i.0, all_renumbered left right i.1)) inputs

@@ -13,15 +13,18 @@ ghost use Rattle.rj_engine.specs.Chosen.{are_all_columns, are_all_rows, chosen_v
 ghost use Rattle.rj_engine.specs.Results.{kept_pairs};
 ghost use Rattle.rj_shards.specs.Shards.{IsLawful, left_shard, right_shard};
 ghost use Rattle.rj_engine.specs.declared.joined.JoinedRow.{JoinedRow};
-ghost use Rattle.rj_merge.specs.Wholes.{HasTwice, IsMerge, RisesFrom};
+ghost use Rattle.rj_merge.specs.Copies.{StandsTooOften, copied_rows, single};
+ghost use Rattle.rj_merge.specs.Wholes.{HasTwice, IsMerge, IsMergeOf, RisesFrom};
+ghost use Rattle.rj_merge.specs.declared.copies.Copies.{Copies};
 ghost use Rattle.rj_merge.specs.declared.place.Place.{Place};
 ghost use Rattle.rj_merge.specs.declared.place.Placed.{Placed};
-ghost use Rattle.rj_shards.specs.Renumbered.{Rises, all_renumbered};
+ghost use Rattle.rj_shards.specs.Pieces.{AreCutShards};
+ghost use Rattle.rj_shards.specs.Renumbered.{Rises, all_renumbered, inputs_renumbered};
 ghost use Rattle.rj_shards.specs.Rows.{AreShards, placed, placed_rows};
 
 use crate::joins::{shard_is_part, shards_merge};
 use rj_engine::left_order;
-use rj_merge::one_merge;
+use rj_merge::{one_merge, single_copies};
 
 /// The rows of a kept pair have one shard, by the key columns of the join and each lawful hash, whatever the number of shards.
 pub fn kept_rows_meet()
@@ -30,6 +33,56 @@ pub fn kept_rows_meet()
 {
     shard_is_part();
 }
+
+/// The rows of the joined table of two tables are the merge of the rows that its shards give, each shard joined whole or in
+/// pieces, as two tables of their own: of all rows that they give those that stand as often as they have to, a pair once, a lone
+/// left row once for each run of right rows, and a lone right row once for each run of left rows; and whatever is that merge is
+/// these rows. This holds for each order of the rows, if the pieces have the same, each kind of join, each lawful hash, each
+/// number of shards, all cuts into runs, and whatever is written of a row's cells.
+pub fn cut_shards_merge_to_whole<T>()
+    ensures merge { (order : RowOrder) (text : List Content → T) (join : BoundJoin) (l r : TableValue) (inputs : List (Copies × List (Placed T)))
+        → AreCutShards order text join l r inputs → IsMergeOf (copied_rows inputs) (placed_rows order text join l r) }
+    ensures only { (order : RowOrder) (text : List Content → T) (join : BoundJoin) (l r : TableValue) (inputs : List (Copies × List (Placed T)))
+        → AreCutShards order text join l r inputs → (rows : List (Placed T)) → IsMergeOf (copied_rows inputs) rows → rows ≡ placed_rows order text join l r }
+{
+    shards_merge();
+    left_order();
+    one_merge::<T>();
+}
+
+/// The same where the rows of both tables are numbered otherwise than 0, 1, 2 and so on, if the numbers rise, as the bytes do at
+/// which the rows stand in a file: what is the merge of the shards by these places is the joined table's rows, in its order.
+pub fn renumbered_cut_shards_merge_to_whole<T>()
+    ensures { (order : RowOrder) (text : List Content → T) (join : BoundJoin) (l r : TableValue) (inputs : List (Copies × List (Placed T)))
+        → AreCutShards order text join l r inputs → (left right : ℕ → ℕ) → Rises left → Rises right → (rows : List (Placed T))
+        → IsMergeOf (copied_rows (inputs_renumbered left right inputs)) rows → rows ≡ all_renumbered left right (placed_rows order text join l r) }
+{
+    cut_shards_merge_to_whole::<T>();
+    left_order();
+    one_merge::<T>();
+}
+
+/// The rows that a piece gives stand each above the one before it, so that the piece is an input of a merge as it is.
+pub fn pieces_rise<T>()
+    ensures { (order : RowOrder) (text : List Content → T) (join : BoundJoin) (l r : TableValue) (inputs : List (Copies × List (Placed T)))
+        → AreCutShards order text join l r inputs → All (λ i. RisesFrom None i.1) inputs }
+{
+    left_order();
+}
+
+/// No row of all pieces stands more often than it has to.
+pub fn no_place_too_often<T>()
+    ensures { (order : RowOrder) (text : List Content → T) (join : BoundJoin) (l r : TableValue) (inputs : List (Copies × List (Placed T)))
+        → AreCutShards order text join l r inputs → (place : Place) → StandsTooOften (copied_rows inputs) place → ⊥ }
+{
+    cut_shards_merge_to_whole::<T>();
+}
+
+/// Shards that are joined whole are cut shards, each in one piece, whose rows stand in no other one.
+pub fn whole_shards_are_cut<T>()
+    ensures { (order : RowOrder) (text : List Content → T) (join : BoundJoin) (l r : TableValue) (lists : List (List (Placed T)))
+        → AreShards order text join l r lists → AreCutShards order text join l r (map (λ rows. (single, rows)) lists) }
+{}
 
 /// The rows of the joined table of two tables are the merge of the rows that its shards give, each shard joined as two tables
 /// of their own; and whatever is that merge is these rows. This holds for each order of the rows, if the shards have the same,
@@ -40,9 +93,9 @@ pub fn shards_merge_to_whole<T>()
     ensures only { (order : RowOrder) (text : List Content → T) (join : BoundJoin) (l r : TableValue) (lists : List (List (Placed T)))
         → AreShards order text join l r lists → (rows : List (Placed T)) → IsMerge lists rows → rows ≡ placed_rows order text join l r }
 {
-    shards_merge();
-    left_order();
-    one_merge::<T>();
+    whole_shards_are_cut::<T>();
+    cut_shards_merge_to_whole::<T>();
+    single_copies::<T>();
 }
 
 /// The same where the rows of both tables are numbered otherwise than 0, 1, 2 and so on, if the numbers rise, as the bytes do at
@@ -52,8 +105,9 @@ pub fn renumbered_shards_merge_to_whole<T>()
         → AreShards order text join l r lists → (left right : ℕ → ℕ) → Rises left → Rises right → (rows : List (Placed T))
         → IsMerge (map (all_renumbered left right) lists) rows → rows ≡ all_renumbered left right (placed_rows order text join l r) }
 {
-    shards_merge_to_whole::<T>();
-    one_merge::<T>();
+    whole_shards_are_cut::<T>();
+    renumbered_cut_shards_merge_to_whole::<T>();
+    single_copies::<T>();
 }
 
 /// The rows that a shard gives stand each above the one before it, so that the shard is an input of a merge as it is.
@@ -61,7 +115,8 @@ pub fn shards_rise<T>()
     ensures { (order : RowOrder) (text : List Content → T) (join : BoundJoin) (l r : TableValue) (lists : List (List (Placed T)))
         → AreShards order text join l r lists → All (RisesFrom None) lists }
 {
-    left_order();
+    whole_shards_are_cut::<T>();
+    pieces_rise::<T>();
 }
 
 /// No two rows of all shards have one place.
@@ -69,8 +124,7 @@ pub fn no_place_twice<T>()
     ensures { (order : RowOrder) (text : List Content → T) (join : BoundJoin) (l r : TableValue) (lists : List (List (Placed T)))
         → AreShards order text join l r lists → (place : Place) → HasTwice (flat_map (λ l. l) lists) place → ⊥ }
 {
-    shards_merge();
-    left_order();
+    shards_merge_to_whole::<T>();
 }
 
 /// Without their places, the rows of a joined table, be it of a shard or of the whole, are what is written of the rows of cells

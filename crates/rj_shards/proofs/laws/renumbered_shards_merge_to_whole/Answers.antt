@@ -1,10 +1,11 @@
-use Rattle.rj_shards.proofs.Renumbered.{merge_kept}
+use Rattle.std.proofs.Common.{sym, subst}
+use Rattle.rj_merge.specs.Wholes.{IsMerge}
+use Rattle.rj_shards.proofs.CutShards.{uncut, uncut_renumbered, uncut_renumbered_single}
 use Rattle.rj_shards.proofs.laws.renumbered_shards_merge_to_whole.Goals as goal
-use Rattle.rj_shards.specs.Renumbered.{all_renumbered}
-use Rattle.rj_shards.specs.Rows.{placed_rows}
-use Rattle.std.proofs.Common.{map}
+use Rattle.rj_shards.specs.Renumbered.{inputs_renumbered}
 
 pub returns : goal.returns
 returns g c = λ order text join l r lists shards left right left_up right_up rows merge.
-    c.one_merge.ensures (map (all_renumbered left right) lists) rows (all_renumbered left right (placed_rows order text join l r)) merge
-    (merge_kept left right left_up right_up lists (placed_rows order text join l r) (c.shards_merge_to_whole.ensures.merge order text join l r lists shards))
+    c.renumbered_cut_shards_merge_to_whole.ensures order text join l r (uncut lists) (c.whole_shards_are_cut.ensures order text join l r lists shards) left right left_up right_up rows
+    (c.single_copies.ensures.merge (inputs_renumbered left right (uncut lists)) rows (uncut_renumbered_single left right lists)
+    (subst (λ ls. IsMerge ls rows) (sym (uncut_renumbered left right lists)) merge))
