@@ -15,13 +15,15 @@ from unittest import mock
 
 import harness
 import shards
+import shards_scratch
 
 from radixjoin import spread, text
 
 SCRIPT = shards.SCRIPT
 RUNS = 200
-KINDS = ("JOIN", "LEFT JOIN", "RIGHT JOIN", "FULL JOIN")
-CONDITIONS = ("USING (k)", "USING (k, n)", "ON L.k = R.k", "ON L.k = R.k AND L.n > R.n", "ON L.k = R.k AND (L.a <> R.b OR R.b IS NULL)", "ON L.a = R.b", "ON L.n = R.k AND L.k = R.n")
+KINDS = ("JOIN", "LEFT JOIN", "RIGHT JOIN", "FULL JOIN", "FULL JOIN")
+# (by the latter ones rows of the key that many have are in no pair, or in few)
+CONDITIONS = ("USING (k)", "ON L.k = R.k", "USING (k, n)", "ON L.k = R.k AND L.n > R.n", "ON L.k = R.k AND L.n = 3 AND R.n < 1", "ON L.k = R.k AND (L.a <> R.b AND R.n = 0)", "ON L.a = R.b", "ON L.n = R.k AND L.k = R.n")
 ROWS = ("pairs", "lone-left", "lone-right")
 TEXTS = ("plain", '"a, b"', '"two\nlines"', '"say ""x"""', "", '"\n"', "-")
 WIDE = f'"{"wide " * 40}\n"'
@@ -172,12 +174,12 @@ def run_case(tally, name, left, right, limit, clause, count):
             tally.check(f"cluster_pieces: {name}, {order}, {merges} merges", faults)
 
 
-def hot_tables(folder, rows=40):
+def hot_tables(folder, rows=40, condition="L.k = R.k"):
     """Two tables of which all rows have one key, and the words that join them."""
     for side, name in (("left", "a"), ("right", "b")):
         (folder / f"{side}.csv").write_text(f"k,{name}\n" + "".join(f"1,{name}{number}\n" for number in range(rows)))
     tables = ["--left", "left.csv", "--right", "right.csv", "--left-types", "int,text", "--right-types", "int,text"]
-    return shards.placed_in([*tables, "--join", "FULL JOIN USING (k)", "--parts", "1"], folder)
+    return shards.placed_in([*tables, "--join", f"FULL JOIN ON {condition}", "--parts", "1"], folder)
 
 
 class Changes(shards.OneByOne):
@@ -210,6 +212,36 @@ def run_changed(tally):
                 faults = [] if "aren't there as they were written" in str(error) and "right-0" in str(error) else [repr(error)]
             faults += [f"{it.name} was left behind" for it in folder.iterdir() if it.name not in known]
             tally.check(f"cluster_pieces: a part is changed before {task} with a limit of {limit}", faults)
+
+
+class Looks(shards.OneByOne):
+    """Looks how many bytes the parts take before and after shards are joined."""
+
+    taken = ()
+
+    def answers(self, words):
+        words = list(words)
+        found = super().answers(words[:-1])
+        if words[-1][0].__name__ != "join_shard":
+            return found + super().answers(words[-1:])
+        parts = [pathlib.Path(words[-1][1].parts_of(side, 0)) for side in SCRIPT.SIDES]
+        before = sum(path.stat().st_blocks for path in parts)
+        found += super().answers(words[-1:])
+        self.taken = (before, sum(path.stat().st_blocks for path in parts))
+        return found
+
+
+def run_given_back(tally):
+    """The room of a shard's parts is given back by the last of its joins, and not before."""
+    with harness.folder() as name:
+        folder = pathlib.Path(name)
+        if not shards_scratch.can_give_back(folder):
+            print("cluster_pieces: no room is given back within a file here")
+            return
+        looks = Looks(1)
+        ran, _ = joined(hot_tables(folder, 3_000, "L.k = R.k AND L.a = R.b"), folder, 1, 40_000, lambda _: looks)
+        faults = harness.differences(ran, None) + ([] if looks.taken[0] > 100 > 3 * looks.taken[1] else [f"{looks.taken} blocks of 512 bytes"])
+        tally.check("cluster_pieces: room is given back", faults)
 
 
 def run_many(tally):
@@ -267,6 +299,27 @@ def run_cutting(seed, tally):
     tally.check(f"cluster_pieces: runs of rows {seed}", list(faults_of_runs(rows, cutting.end(), header, files, length)))
 
 
+# The bytes of rows, the length of runs, and the bytes of these.
+EVEN = (
+    ([10] * 10, 50, [50, 50]),
+    ([10] * 11, 50, [30, 40, 40]),
+    ([10] * 100, 999, [500, 500]),
+    ([14] * 7 + [3], 50, [28, 28, 45]),
+    ([3, 60, 60, 3, 3], 50, [3, 60, 60, 6]),
+    ([60], 50, [60]),
+    ([], 50, [0]),
+)
+
+
+def run_even(tally):
+    """Runs have about as many bytes each."""
+    for sizes, length, wanted in EVEN:
+        cutting = spread.Cutting(("file", 0, 2), b"a\n", sum(sizes), length)
+        cutting.add("file", 2, b"".join(b"x" * (size - 1) + b"\n" for size in sizes))
+        got = [sum(end - begin for _, begin, end in stretches) - 2 for stretches, _ in cutting.end()]
+        tally.check(f"cluster_pieces: rows of {sizes} bytes by {length}", [] if got == wanted else [f"{got}, and not {wanted}"])
+
+
 def run_limits(tally):
     """The limit, and how long runs are for it."""
     for sizes, asked, wanted in (([1, 2], None, spread.LEAST), ([100 << 20, 0, 0, 0], None, 50 << 20), ([1], 7, 7)):
@@ -283,7 +336,9 @@ def run_limits(tally):
 def run_all(tally):
     for seed in range(300):
         run_cutting(seed, tally)
+    run_even(tally)
     run_limits(tally)
+    run_given_back(tally)
     with patched():
         for it in CASES:
             run_case(tally, *it)

@@ -9,7 +9,7 @@ from __future__ import annotations
 
 import resource
 import zlib
-from typing import Iterator, List, NamedTuple, Optional, Sequence, Tuple
+from typing import Iterator, List, Optional, Sequence, Tuple
 
 from .packed import Run, opened, sizes_of
 from .text import end_of_record, end_of_records, pieces
@@ -26,20 +26,20 @@ _OTHER_FILES = 64
 TABLE = "table.csv"
 
 
-class Join(NamedTuple):
-    """One of the joins of a shard: which left run meets which right one, and of how many."""
+class Join:
+    """One of the joins of a shard: which left run meets which right one, and of how many. (A plain class, as cloudpickle takes it.)"""
 
-    part: int
-    left: int = 0
-    right: int = 0
-    lefts: int = 1
-    rights: int = 1
-    # Both runs, where the shard is cut.
-    runs: Optional[Tuple[Run, Run]] = None
+    def __init__(self, part: int, numbers: Tuple[int, int] = (0, 0), counts: Tuple[int, int] = (1, 1), runs: Optional[Tuple[Run, Run]] = None) -> None:
+        self.part = part
+        self.numbers = numbers
+        self.counts = counts
+        # Both runs, where the shard is cut.
+        self.runs = runs
 
     def name(self) -> str:
         """The name of what it gives."""
-        return f"joined-{self.part:04}-{self.left:04}-{self.right:04}"
+        left, right = self.numbers
+        return f"joined-{self.part:04}-{left:04}-{right:04}"
 
     def table(self) -> str:
         """The joined table, by its place in the scratch folder."""
@@ -47,21 +47,24 @@ class Join(NamedTuple):
 
     def copies(self) -> str:
         """In how many joined tables a left and a right row in no pair stand, as `merges` is told."""
-        return "1" if self.lefts == self.rights == 1 else f"{self.rights}x{self.lefts}"
+        lefts, rights = self.counts
+        return "1" if lefts == rights == 1 else f"{rights}x{lefts}"
 
     def without_runs(self) -> Join:
         """The same without its runs."""
-        return self._replace(runs=None)
+        return Join(self.part, self.numbers, self.counts)
 
     def share_of(self, number: int) -> int:
         """About its share of a number that the joins of the shard have together, and no less than 1."""
-        return max(1, number // (self.lefts * self.rights))
+        lefts, rights = self.counts
+        return max(1, number // (lefts * rights))
 
     def of_shard(self) -> Iterator[Join]:
         """All joins of the shard, the last one first."""
-        for left in reversed(range(self.lefts)):
-            for right in reversed(range(self.rights)):
-                yield Join(self.part, left, right, self.lefts, self.rights)
+        lefts, rights = self.counts
+        for left in reversed(range(lefts)):
+            for right in reversed(range(rights)):
+                yield Join(self.part, (left, right), self.counts)
 
 
 def limit_of(sizes: Sequence[int], asked: Optional[int]) -> int:
@@ -167,4 +170,4 @@ def joins_of(part: int, lefts: Sequence[Run], rights: Sequence[Run]) -> Iterator
     """The joins of a shard that is cut into these runs."""
     for left, run in enumerate(lefts):
         for right, other in enumerate(rights):
-            yield Join(part, left, right, len(lefts), len(rights), (run, other))
+            yield Join(part, (left, right), (len(lefts), len(rights)), (run, other))
