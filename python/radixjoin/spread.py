@@ -101,19 +101,19 @@ class Cutting:
 
     def __init__(self, header: Tuple[str, int, int], text: bytes, size: int, length: int) -> None:
         """Begins with the header, where it stands and its bytes, for rows of so many bytes in all."""
-        self.header, self.text, self.left, self.length = header, text, size, length
+        self.header, self.text, self.rest, self.length = header, text, size, length
         self.runs: List[Run] = []
         self._begin()
 
     def _begin(self) -> None:
         """Begins a run: what is left is cut evenly."""
-        self.room = -(-self.left // max(1, -(-self.left // self.length)))
+        self.room = -(-self.rest // max(1, -(-self.rest // self.length)))
         self.size, self.stretches, self.total = 0, [self.header], zlib.crc32(self.text)
 
     def end(self) -> List[Run]:
         """Ends a run, and gives all runs."""
         self.runs.append((self.stretches, self.total))
-        self.left -= self.size
+        self.rest -= self.size
         self._begin()
         return self.runs
 
