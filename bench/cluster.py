@@ -1,9 +1,11 @@
 #!/usr/bin/env python3
-"""Times cluster/radixjoin-cluster on this machine beside radixjoin alone, on the workload of foreign keys: the time of each run
-and the peak of memory of its largest process. The bytes of all runs are compared. It needs Dask.
+"""Times cluster/radixjoin-cluster on this machine beside radixjoin alone, on a workload: the time of each run and the peak of memory
+of the largest process of each program. The bytes of all runs are compared. It needs Dask.
 
-usage: cluster.py FOLDER [--scale F] [--parts N] [--processes N ..] [--merges N ..] [--limit]
+usage: cluster.py FOLDER [--workload NAME] [--scale F] [--parts N] [--processes N ..] [--merges N ..] [--spread BYTES ..] [--limit]
     FOLDER      where the tables are made, if they aren't there, and the results
+    --workload  foreign_key, hot_left, in which half of all left rows have one key, or zipf_1.25
+    --spread    each run is done with each of these limits of a shard's bytes
     --merges    each number of processes joins with each of these numbers of ranges of the merge
     --limit     also joins with a quarter of the address space that radixjoin alone needs"""
 import argparse
@@ -19,6 +21,7 @@ import workloads
 
 ROOT = pathlib.Path(__file__).resolve().parent.parent
 PROGRAMS = ("radixjoin", "shards", "merges")
+WORKLOADS = [it for it in (*workloads.WORKLOADS, *workloads.OF_SHARDS) if it.name in ("foreign_key", "hot_left", "zipf_1.25")]
 
 
 def peak_of(number, field):
@@ -78,24 +81,29 @@ def compare(one, other):
 def main():
     line = argparse.ArgumentParser(description=__doc__, formatter_class=argparse.RawDescriptionHelpFormatter)
     line.add_argument("folder", type=pathlib.Path)
+    line.add_argument("--workload", choices=[it.name for it in WORKLOADS], default="foreign_key")
     line.add_argument("--scale", type=float, default=1.0)
     line.add_argument("--parts", type=int, default=16)
     line.add_argument("--processes", type=int, nargs="*", default=[1, 2, 4])
     line.add_argument("--merges", type=int, nargs="*", default=[])
+    line.add_argument("--spread", type=int, nargs="*", default=[])
     line.add_argument("--limit", action="store_true")
     asked = line.parse_args()
-    left, right = (asked.folder / f"foreign_key.{side}.csv" for side in ("left", "right"))
+    workload = next(it for it in WORKLOADS if it.name == asked.workload)
+    left, right = (workload.file(asked.folder, side) for side in ("left", "right"))
     if not left.exists() or not right.exists():
-        words = [sys.executable, ROOT / "bench" / "workloads.py", asked.folder, "foreign_key", "--scale", asked.scale]
+        words = [sys.executable, ROOT / "bench" / "workloads.py", asked.folder, workload.name, "--scale", asked.scale]
         subprocess.run([str(word) for word in words], check=True)
-    types = ["--left-types", "int,text", "--right-types", "int,text"]
-    words = ["--left", left, "--right", right, *types, "--join", workloads.CLAUSES["inner"]]
+    types = ["--left-types", workload.types(), "--right-types", workload.types()]
+    words = ["--left", left, "--right", right, *types, "--join", workload.clause()]
     alone, sharded = asked.folder / "alone.csv", asked.folder / "sharded.csv"
     with open(alone, "wb") as out:
         told("radixjoin alone", *timed([ROOT / "crates" / "radixjoin" / "out" / "radixjoin", *words], stdout=out))
     script = ["/usr/bin/python3", ROOT / "cluster" / "radixjoin-cluster", *words, "--out", sharded, "--parts", asked.parts]
+    merges = [["--merges", count] for count in asked.merges] or [[]]
+    spreads = [["--spread", size] for size in asked.spread] or [[]]
     for processes in asked.processes:
-        for more in [["--merges", merges] for merges in asked.merges] or [[]]:
+        for more in ([*one, *other] for one in merges for other in spreads):
             told(" ".join(map(str, [processes, "processes", *more])), *timed([*script, "--processes", processes, *more]))
             compare(alone, sharded)
     if asked.limit:

@@ -76,6 +76,11 @@ def hot(source, rows, keys):
     return (0 if row % 2 else 1 + row for row in range(rows))
 
 
+def hot_left(source, rows, keys):
+    """Half of the rows have one key, the others any of the keys."""
+    return (7 if row % 2 else int(source.random() * keys) for row in range(rows))
+
+
 WORKLOADS = [
     Workload("foreign_key", "int", "inner", LEFT_ROWS, RIGHT_ROWS, uniform),
     Workload("zipf_1.00", "int", "inner", LEFT_ROWS, RIGHT_ROWS, zipf(1.0)),
@@ -87,6 +92,9 @@ WORKLOADS = [
     Workload("small", "int", "inner", SMALL_ROWS, SMALL_ROWS, uniform),
     Workload("hot_key", "int", "hot", 2 * SMALL_ROWS, 2 * SMALL_ROWS, hot),
 ]
+
+# Those of joins in shards alone.
+OF_SHARDS = [Workload("hot_left", "int", "inner", LEFT_ROWS, RIGHT_ROWS, hot_left)]
 
 
 def spelled(workload, key):
@@ -144,8 +152,8 @@ def main():
     words.add_argument("--scale", type=float, default=1.0)
     given = words.parse_args()
     given.folder.mkdir(parents=True, exist_ok=True)
-    for workload in WORKLOADS:
-        if not given.names or workload.name in given.names:
+    for workload in [*WORKLOADS, *OF_SHARDS]:
+        if workload.name in given.names or not given.names and workload in WORKLOADS:
             make(workload, given.folder, given.scale)
             print(workload.name)
 

@@ -134,7 +134,7 @@ def run_large(cluster, tally):
         words = write_tables(folder)
         known = {it.name for it in folder.iterdir()}
         wanted = harness.run([harness.program("radixjoin"), *words], folder)
-        for more in (["--parts", "5"], ["--parts", "16", "--ranges", "7", "--workers", "2", "--merges", "3"], ["--parts", "1", "--memory", "700"]):
+        for more in (["--parts", "5"], ["--parts", "16", "--ranges", "7", "--workers", "2", "--merges", "3"], ["--parts", "1", "--memory", "700"], ["--parts", "4", "--spread", "400000", "--merges", "3"]):
             ran = ended(started(cluster, words, folder, *more))
             tally.check(f"cluster: 200,000 by 50,000 rows, {' '.join(more)}", faults_of_run(ran, folder, known, wanted))
             (folder / "out.csv").unlink(missing_ok=True)

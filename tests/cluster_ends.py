@@ -228,7 +228,7 @@ def run_all(tally):
     with harness.folder() as programs:
         on = cluster.Cluster(python, programs)
         try:
-            for name, *more in (*((name,) for name in STEPS), ("merges", "--merges", "3")):
+            for name, *more in (*((name,) for name in STEPS), ("merges", "--merges", "3"), ("radixjoin", "--spread", "40000")):
                 with harness.folder() as place:
                     run_killed(on, pathlib.Path(place), write_tables(pathlib.Path(place)), name, more, tally)
             run_output(on, tally)

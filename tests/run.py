@@ -30,6 +30,7 @@ PARTS = (
     "sizes",
     "cluster",
     "cluster_ends",
+    "cluster_pieces",
     "python_package",
     "shards_order",
     "shards_strict",

@@ -18,7 +18,7 @@ NO_KEY = "shards: the clause has no key, so that its tables can't be divided"
 
 sys.path.append(str(harness.ROOT / "python"))
 from radixjoin import cluster as SCRIPT  # noqa: E402
-from radixjoin import placed  # noqa: E402
+from radixjoin import placed, tasks  # noqa: E402
 
 # So small that joined shards of some rows have many pieces, and are cut into ranges.
 placed.PIECE = 200
@@ -33,20 +33,20 @@ class OneByOne:
     def processes(self):
         return self.number
 
-    def answers(self, tasks):
-        return [SCRIPT.answer(*task) for task in tasks]
+    def answers(self, words):
+        return [tasks.answer(*task) for task in words]
 
 
-def joined(words, folder, ranges, out=None):
-    """What the script's tasks give for these words: how they end, and the bytes of the result, if there is one. Nothing else may be
-    left in the folder."""
+def joined(words, folder, ranges, out=None, cluster=OneByOne):
+    """What the script's tasks give for these words in a cluster: how they end, and the bytes of the result, if there is one. Nothing
+    else may be left in the folder."""
     out = out or folder / "out.csv"
     out.unlink(missing_ok=True)
     known = {it.name for it in folder.iterdir()}
     status, line = 0, b""
     try:
         asked = SCRIPT.read_line([*map(str, words), "--out", str(out)])
-        SCRIPT.run_in(asked, contextlib.nullcontext(OneByOne(ranges)))
+        SCRIPT.run_in(asked, contextlib.nullcontext(cluster(ranges)))
     except (SCRIPT.Told, SCRIPT.Fault) as told:
         status, line = told.status, str(told).encode() + b"\n"
     left = sorted(it.name for it in folder.iterdir() if it.name not in known and it != out)

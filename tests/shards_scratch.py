@@ -137,7 +137,7 @@ def texts_of_ranges(folder, order, found, cuts):
     indices = [shard.scanned() for shard in found]
     cut = [[shard.begin, *(shard.find(index, place)[0] for place in cuts), index[1]] for shard, index in zip(found, indices)]
     for number in range(len(cuts) + 1):
-        runs = SCRIPT.runs_of(cut, number)
+        runs = SCRIPT.rows_in_range(cut, number)
         inputs = [(found[part].path, [(0, header), (begin, end)]) for part, (header, begin, end) in runs.items()]
         yield merged(folder, order, ["--from=0"] if number else [], inputs=inputs)
 

@@ -15,6 +15,7 @@ import codecs
 import contextlib
 import errno
 import glob
+import itertools
 import json
 import logging
 import os
@@ -26,19 +27,21 @@ import subprocess
 import sys
 import tempfile
 from pathlib import Path
-from typing import TYPE_CHECKING, Any, Callable, Dict, Iterator, List, Optional, Sequence, Tuple, Union
+from typing import TYPE_CHECKING, Any, Dict, Iterator, List, Optional, Sequence, Tuple, Union
 
 from .clauses import quoted
 from .columns import Types, text_of, word_of
 from .explained import of_cell, of_row, of_unread
 from .faults import Fault, fault_of
-from .feeding import Input, run_program
+from .feeding import FILES_OF_INPUT, Input, run_program
 from .lists import lower, read_list, with_place
 from .making import beginning, folder_beside, made, remove
 from .nulls import Texts, texts_of
-from .packed import gather, give_back, pack, told_of
-from .placed import LEFT, RIGHT, Index, Place, Shard, cut_places, sampled
+from .packed import Run, gather, gather_run, give_back, pack, sizes_of, told_of
+from .placed import LEFT, RIGHT, SAMPLES, Index, Place, Shard, cut_places, sampled
 from .programs import ProgramNotFound, build, built
+from .spread import TABLE, Join, are_many, joins_of, length_of, limit_of, most_tables, next_length, runs_of
+from .tasks import FULL, Cluster, Told, first_fault, unwritten
 from .text import header_in
 
 if TYPE_CHECKING:
@@ -53,30 +56,9 @@ SIDES = ("left", "right")
 # The options that may be given again.
 SEVERAL = ("--left-null", "--right-null")
 PLACES = {"left": LEFT, "right": RIGHT}
-LIMITS = (("parts", 1, 1024), ("processes", 1, 1024), ("ranges", 1, 100_000), ("merges", 1, 1024), ("memory", 1, 1 << 40))
+LIMITS = (("parts", 1, 1024), ("processes", 1, 1024), ("ranges", 1, 100_000), ("spread", 1, 1 << 60), ("merges", 1, 1024), ("memory", 1, 1 << 40))
 PROGRAMS = ("radixjoin", "shards", "merges")
-# What the system tells where there is no room, which no second try changes.
-FULL = (errno.ENOSPC, errno.EDQUOT, errno.EROFS)
 AMBIGUOUS = re.compile(r"radixjoin: E28 AmbiguousNull row (\d+) column (\d+)")
-
-
-class Told(Exception):
-    """A fault that a program told: the line that it printed, its exit status, what it had printed on standard output, and what it
-    told below the line."""
-
-    def __init__(self, line: str, status: int, printed: bytes = b"", more: str = "") -> None:
-        super().__init__(line, status, printed, more)
-        self.line = line
-        self.status = status
-        self.printed = printed
-        self.more = more
-
-    def __str__(self) -> str:
-        return f"{self.line}\n{self.more}" if self.more else self.line
-
-    def is_of(self, side: str) -> bool:
-        """Whether it is a fault of a side's file."""
-        return re.match(rf"radixjoin: \w+ \w+ {side}\b", self.line) is not None
 
 
 def parser() -> argparse.ArgumentParser:
@@ -95,6 +77,7 @@ def parser() -> argparse.ArgumentParser:
     line.add_argument("--out", required=True, metavar="FILE", help="file of the joined table; it is there when the whole table is")
     line.add_argument("--parts", type=int, default=16, metavar="N", help="shards that the tables are divided into, 1 to 1024 [default: 16]")
     line.add_argument("--ranges", type=int, metavar="N", help="ranges of a file that are divided side by side [default: one a process]")
+    line.add_argument("--spread", type=int, metavar="BYTES", help="bytes of both tables above which a shard is joined in pieces of no more [default: twice the mean of all shards, no less than 16 MiB]")
     line.add_argument("--merges", type=int, metavar="N", help="ranges of the joined table, of about as many bytes each, that are merged side by side, 1 to 1024 [default: 1]")
     line.add_argument("--scratch", metavar="FOLDER", help="folder for what is half made, which every process can write [default: that of --out]")
     line.add_argument("--programs", metavar="FOLDER", help="folder of radixjoin, shards and merges [default: this tree's, or those on the PATH]")
@@ -154,12 +137,7 @@ def beyond(asked: argparse.Namespace) -> List[Tuple[str, int, int]]:
 
 def program(folder: Optional[str], name: str) -> str:
     """The path of one of the programs."""
-    return str(Path(folder).resolve() / name) if folder else built(name)
-
-
-def unwritten(path: str, why: str = "it can't be written, or there is no room") -> Told:
-    """The fault of a folder, or of the result, that can't be written."""
-    return Told(f'radixjoin-cluster: E20 WriteDevice "{path}": {why}', 6)
+    return str(Path(folder).resolve() / name) if folder else os.path.abspath(built(name))
 
 
 class Job:
@@ -185,6 +163,7 @@ class Job:
         self.strict = [f"--strict={asked.strict}"] if asked.strict else []
         self.explain = ["--explain"] if asked.explain else []
         self.parts = asked.parts
+        self.spread = asked.spread
         self.order = asked.order or "pairs"
         self.one_join = [f"--{option}={getattr(asked, option)}" for option in OF_ONE_JOIN if getattr(asked, option) is not None]
         self.memory = asked.memory and asked.memory << 20
@@ -197,7 +176,7 @@ class Job:
         """Runs a program, on these inputs beside the files that its words name, and gives what it printed. What it refuses is told; that
         it was killed is an error, so that Dask tries again. What can't be written is told as what the program writes, or as the folder
         for what is half made."""
-        how = {"stdin": subprocess.DEVNULL, "stdout": output, "preexec_fn": beginning(self.memory)}
+        how = {"cwd": self.scratch, "stdin": subprocess.DEVNULL, "stdout": output, "preexec_fn": beginning(self.memory)}
         ran = run_program([self.programs[name], *words], inputs, **how)
         if ran.returncode < 0:
             raise RuntimeError(f"{name} was ended by signal {-ran.returncode}")
@@ -231,16 +210,20 @@ class Job:
         """The path of the parts of a range of a file."""
         return self.place(f"{side}-{number}")
 
-    def joined(self, part: int) -> str:
-        """The path of a joined shard."""
-        return self.place(f"joined-{part:04}/table.csv")
+    def all_parts_of(self, side: str, count: int) -> List[str]:
+        """The paths of the parts of all ranges of a file, of which there are so many."""
+        return [self.parts_of(side, number) for number in range(count)]
 
-    def shard(self, part: int) -> Tuple[Shard, Index, Optional[List[int]]]:
-        """A joined shard, its index, and the row and column of its first cell that isn't null and is written as null is, if that has to
+    def joined(self, one: Join) -> str:
+        """The path of the folder of a joined table."""
+        return self.place(one.name())
+
+    def table(self, one: Join) -> Tuple[Shard, Index, Optional[List[int]]]:
+        """A joined table, its index, and the row and column of its first cell that isn't null and is written as null is, if that has to
         be told and there is one."""
-        told = json.loads(Path(self.joined(part)).with_name("told").read_text())
+        told = json.loads(Path(self.joined(one), "told").read_text())
         entries = [(at, before, tuple(place)) for at, before, place in told["entries"]]
-        return Shard(self.joined(part), self.order), (entries, told["end"]), told["cell"]
+        return Shard(self.place(one.table()), self.order), (entries, told["end"]), told["cell"]
 
     def merged(self, number: int) -> str:
         """The path of a merged range."""
@@ -301,24 +284,38 @@ def counts_in(printed: bytes) -> Tuple[int, int]:
     return int(told[1]), int(told[2])
 
 
-def divide(job: Job, side: str, number: int, start: int, end: Optional[int]) -> int:
-    """Divides a range of a file into parts, which then stand in one file. It gives how many rows it has."""
+def divide(job: Job, side: str, number: int, start: int, end: Optional[int]) -> Tuple[int, List[int]]:
+    """Divides a range of a file into parts, which then stand in one file. It gives how many rows it has, and how many bytes the rows
+    of each part have."""
     path = job.parts_of(side, number)
     if not os.path.exists(path):
         with made(path) as new, folder_beside(new) as folder:
             upto = ["--to", str(end)] if end is not None else []
             told = counts_in(job.run("shards", [*job.division(side), "--from", str(start), *upto, "--out", folder]))
             pack(folder, job.parts, told, new)
-    return told_of(path, job.parts)[0]
+    return told_of(path, job.parts)[0], sizes_of(path, job.parts)
 
 
-def join_parts(job: Job, part: int, ranges: Dict[str, int], path: str) -> Optional[List[int]]:
-    """Joins the two tables of a shard into a file. It gives the row and the column of the first cell that isn't null and is written as
+def cut_side(job: Job, side: str, part: int, count: int, length: int) -> List[Run]:
+    """Cuts the rows that a side has in a shard, in so many ranges, into runs that are no longer than a length."""
+    return runs_of(job.all_parts_of(side, count), job.parts, part, length)
+
+
+def gather_tables(job: Job, one: Join, ranges: Dict[str, int], tables: Dict[str, str]) -> None:
+    """Puts the two tables of a join into files."""
+    for number, side in enumerate(SIDES):
+        if one.runs:
+            gather_run(one.runs[number], tables[side])
+        else:
+            gather(job.all_parts_of(side, ranges[side]), job.parts, one.part, tables[side])
+
+
+def join_tables(job: Job, one: Join, ranges: Dict[str, int], path: str) -> Optional[List[int]]:
+    """Joins two tables of a shard into a file. It gives the row and the column of the first cell that isn't null and is written as
     null is, if that has to be told and there is one."""
     with tempfile.TemporaryDirectory(dir=job.scratch) as name, open(path, "wb") as output:
         tables = {side: os.path.join(name, side) for side in SIDES}
-        for side in SIDES:
-            gather([job.parts_of(side, number) for number in range(ranges[side])], job.parts, part, tables[side])
+        gather_tables(job, one, ranges, tables)
         # (dropped by `merges`, and so not a mark that a name begins with)
         output.write(codecs.BOM_UTF8)
         output.flush()
@@ -334,57 +331,64 @@ def join_parts(job: Job, part: int, ranges: Dict[str, int], path: str) -> Option
     return None
 
 
-def join_into(job: Job, part: int, ranges: Dict[str, int], folder: str) -> None:
-    """Joins the two tables of a shard into a folder: the joined table, and what `Job.shard` gives of it."""
-    path = os.path.join(folder, "table.csv")
-    cell = join_parts(job, part, ranges, path)
+def join_into(job: Job, one: Join, ranges: Dict[str, int], folder: str) -> None:
+    """Joins two tables of a shard into a folder: the joined table, and what `Job.table` gives of it."""
+    path = os.path.join(folder, TABLE)
+    cell = join_tables(job, one, ranges, path)
     entries, end = Shard(path, job.order).scanned()
     Path(folder, "told").write_text(json.dumps({"cell": cell, "entries": entries, "end": end}))
 
 
-def join_shard(job: Job, part: int, ranges: Dict[str, int]) -> Tuple[bool, List[Tuple[Place, int]]]:
-    """Joins the two tables of a shard, and gives back the room of its parts. It gives whether there is a cell in it that isn't null and
-    has to be told, since it is written as null is; and how its bytes are spread."""
-    path = os.path.dirname(job.joined(part))
+def join_shard(job: Job, one: Join, ranges: Dict[str, int]) -> Tuple[bool, List[Tuple[Place, int]]]:
+    """Joins two tables of a shard, and gives back the room of its parts once all its joins are done. It gives whether there is a cell
+    in the joined table that isn't null and has to be told, since it is written as null is; and how its bytes are spread."""
+    path = job.joined(one)
     if not os.path.isdir(path):
         try:
             with made(path) as new:
                 os.mkdir(new)
-                join_into(job, part, ranges, new)
+                join_into(job, one, ranges, new)
         except FileNotFoundError:
             # (another try that was faster has given the parts back)
             if not os.path.isdir(path):
                 raise
-    for side in SIDES:
-        for number in range(ranges[side]):
-            give_back(job.parts_of(side, number), job.parts, part)
-    _, index, cell = job.shard(part)
-    return cell is not None, sampled(index)
+    if all(os.path.isdir(job.joined(it)) for it in one.of_shard()):
+        for side in SIDES:
+            for it in job.all_parts_of(side, ranges[side]):
+                give_back(it, job.parts, one.part)
+    _, index, cell = job.table(one)
+    return cell is not None, sampled(index, one.share_of(SAMPLES))
 
 
-def ambiguous_cell(job: Job, part: int) -> Tuple[Place, int]:
-    """Where the first cell of a shard that isn't null and is written as null is stands: the place of its row, and its column in
+def ambiguous_cell(job: Job, one: Join) -> Tuple[Place, int]:
+    """Where the first cell of a joined shard that isn't null and is written as null is stands: the place of its row, and its column in
     the joined table."""
-    shard, index, cell = job.shard(part)
+    shard, index, cell = job.table(one)
     row, column = cell or (0, 0)
     return shard.place_of_row(index, row), shard.column_in_whole(column)
 
 
-def count_before(job: Job, part: int, place: Place) -> int:
+def count_before(job: Job, one: Join, place: Place) -> int:
     """How many rows of a joined shard stand before a place."""
-    shard, index, _ = job.shard(part)
+    shard, index, _ = job.table(one)
     return shard.find(index, place)[1]
 
 
-def cut_shard(job: Job, part: int, cuts: Sequence[Place]) -> List[int]:
-    """The bytes of a joined shard at which the ranges between places begin, and that behind the last one."""
-    shard, index, _ = job.shard(part)
+def cut_table(job: Job, one: Join, cuts: Sequence[Place]) -> List[int]:
+    """The bytes of a joined table at which the ranges between places begin, and that behind the last one."""
+    shard, index, _ = job.table(one)
     return [shard.begin, *(shard.find(index, place)[0] for place in cuts), index[1]]
 
 
-def merging(job: Job) -> List[str]:
-    """The words for `merges` that merge joined shards."""
-    return [f"--null={job.out_null}", f"--order={job.order}"]
+def cut_tables(job: Job, joins: Sequence[Join], cuts: Sequence[Place]) -> List[List[int]]:
+    """These bytes of each of some joined tables."""
+    return [cut_table(job, one, cuts) for one in joins]
+
+
+def merging(job: Job, joins: Sequence[Join]) -> List[str]:
+    """The words for `merges` that merge these joined tables."""
+    copies = [one.copies() for one in joins]
+    return [f"--null={job.out_null}", f"--order={job.order}", *([f"--copies={','.join(copies)}"] if {*copies} != {"1"} else [])]
 
 
 def refused(job: Job, error: OSError) -> Told:
@@ -392,24 +396,26 @@ def refused(job: Job, error: OSError) -> Told:
     return unwritten(job.out) if error.errno in FULL else unwritten(job.out, error.strerror)
 
 
-def merge_shards(job: Job) -> None:
-    """Merges the joined shards into the joined table."""
+def merge_shards(job: Job, joins: Sequence[Join]) -> None:
+    """Merges the joined tables into the one of the whole. They are named by their places in the scratch folder: there may be many."""
     try:
         with made(job.out, job.half) as new, open(new, "wb") as output:
-            job.run("merges", [*merging(job), *map(job.joined, range(job.parts))], output, job.out)
+            job.run("merges", [*merging(job, joins), *(one.table() for one in joins)], output, job.out)
             os.fsync(output.fileno())
     except OSError as error:
         raise refused(job, error) from None
 
 
-def merge_range(job: Job, number: int, runs: Dict[int, Tuple[int, int, int]]) -> None:
-    """Merges a range of the joined table: of each of these shards the bytes of its rows in the range, behind its header, which ends at
-    the first of the three numbers. No row stands before left row 0, and so `--from=0` leaves out the header alone."""
+def merge_range(job: Job, number: int, runs: Sequence[Tuple[Join, Tuple[int, int, int]]]) -> None:
+    """Merges a range of the joined table of the whole: of each of these joined tables the bytes of its rows in the range, behind its
+    header, which ends at the first of the three numbers. No row stands before left row 0, and so `--from=0` leaves out the header
+    alone."""
     path = job.merged(number)
     if not os.path.exists(path):
-        inputs = [(job.joined(part), [(0, header), (begin, end)]) for part, (header, begin, end) in runs.items()]
+        words = [*merging(job, [one for one, _ in runs]), *(["--from=0"] if number else [])]
+        inputs = [(job.place(one.table()), [(0, header), (begin, end)]) for one, (header, begin, end) in runs]
         with made(path) as new, open(new, "wb") as output:
-            job.run("merges", [*merging(job), *(["--from=0"] if number else [])], output, inputs=inputs)
+            job.run("merges", words, output, inputs=inputs)
 
 
 def put_together(job: Job, count: int) -> None:
@@ -422,91 +428,6 @@ def put_together(job: Job, count: int) -> None:
             os.fsync(output.fileno())
     except OSError as error:
         raise refused(job, error) from None
-
-
-def answer(task: Callable[..., Any], job: Job, *words: Any) -> Any:
-    """What a task gives, or the fault that it told: a fault is an answer too, which no second try changes. So is a folder for what
-    is half made that is full."""
-    try:
-        return task(job, *words)
-    except Told as fault:
-        return fault
-    except OSError as error:
-        if error.errno not in FULL:
-            raise
-        return unwritten(job.folder())
-
-
-def _packed(task: Tuple[Any, ...]) -> bytes:
-    """A task as bytes, this package's code with it, so that the processes need nothing of it."""
-    import cloudpickle
-
-    package = sys.modules[__package__]
-    is_registered = __package__ in cloudpickle.list_registry_pickle_by_value()
-    cloudpickle.register_pickle_by_value(package)
-    try:
-        return cloudpickle.dumps((answer, Told, task))
-    finally:
-        if not is_registered:
-            cloudpickle.unregister_pickle_by_value(package)
-
-
-def _worker() -> Callable[[bytes], Any]:
-    """What a process does with a packed task. It is a function within one, which is sent as code and not by its name."""
-
-    def work(packed: bytes) -> Any:
-        import cloudpickle
-
-        answers, fault, task = cloudpickle.loads(packed)
-        found = answers(*task)
-        # (a fault goes back as plain data)
-        return (True, found.args) if isinstance(found, fault) else (False, found)
-
-    return work
-
-
-_work = _worker()
-
-
-class Cluster:
-    """The processes that tasks are sent to."""
-
-    def __init__(self, client: Client, shows_progress: bool) -> None:
-        self.client = client
-        self.shows_progress = shows_progress
-
-    def answers(self, tasks: Sequence[Tuple[Any, ...]]) -> List[Any]:
-        """What tasks give, in their order. Each is a function and its words. Dask runs a task again whose process ended, or whose program was killed."""
-        futures = [self.client.submit(_work, _packed(it), pure=False, retries=2) for it in tasks]
-        if self.shows_progress:
-            from distributed import progress
-
-            progress(futures, notebook=False)
-            print(file=sys.stderr)
-        return [Told(*found) if is_fault else found for is_fault, found in self._gathered(futures)]
-
-    def _gathered(self, futures: List[Any]) -> List[Any]:
-        """What all tasks gave, once none of them runs any more. What Dask tells, as of processes that end each time, is a RuntimeError."""
-        from distributed import wait
-
-        try:
-            wait(futures)
-            return list(self.client.gather(futures))
-        except (OSError, RuntimeError):
-            raise
-        except Exception as error:
-            raise RuntimeError(f"{type(error).__name__}: {error}") from error
-
-    def processes(self) -> int:
-        """How many there are."""
-        return max(1, len(self.client.nthreads()))
-
-
-def first_fault(answers: Sequence[Any]) -> None:
-    """Raises the first fault among answers."""
-    for it in answers:
-        if isinstance(it, Told):
-            raise it
 
 
 def counted_on(line: str, before: int) -> str:
@@ -528,7 +449,7 @@ def first_fault_of_file(job: Job, side: str, ranges: Sequence[Tuple[int, Optiona
                 raise Told(counted_on(it.line, before), it.status, more=more)
             before += counts_in(it.printed)[0]
         else:
-            before += it
+            before += it[0]
 
 
 def names_in(file: str) -> List[str]:
@@ -574,8 +495,8 @@ def ranges_of(job: Job, cluster: Any, count: int) -> Dict[str, List[Tuple[int, O
     return dict(zip(SIDES, cuts))
 
 
-def divided(job: Job, cluster: Any, count: int) -> Dict[str, int]:
-    """Divides both files. It gives how many ranges each has."""
+def divided(job: Job, cluster: Any, count: int) -> Tuple[Dict[str, int], Dict[str, List[int]]]:
+    """Divides both files. It gives how many ranges each has, and how many bytes its rows have in each shard."""
     ranges = ranges_of(job, cluster, count)
     tasks = {side: [(divide, job, side, number, *it) for number, it in enumerate(ranges[side])] for side in SIDES}
     answers = cluster.answers([*tasks["left"], *tasks["right"]])
@@ -591,36 +512,68 @@ def divided(job: Job, cluster: Any, count: int) -> Dict[str, int]:
             refuse_taken_names(job)
         raise
     refuse_taken_names(job)
-    return {side: len(ranges[side]) for side in SIDES}
+    sizes = {side: [sum(of_part) for of_part in zip(*(sizes for _, sizes in of_side[side]))] for side in SIDES}
+    return {side: len(ranges[side]) for side in SIDES}, sizes
 
 
-def refuse_ambiguous(job: Job, cluster: Any, parts: Sequence[int]) -> None:
-    """Tells the first cell of the joined table that isn't null and is written as null is, which these shards have."""
-    cells = cluster.answers([(ambiguous_cell, job, part) for part in parts])
+def joins_of_shards(job: Job, cluster: Any, ranges: Dict[str, int], sizes: Dict[str, List[int]]) -> List[Join]:
+    """The joins of all shards, whose sides have so many bytes: of those that are too large each left run with each right one. A cell
+    that has to be told is looked for in the joined table of a whole shard, so that none is cut where there may be one."""
+    totals = list(map(sum, zip(*sizes.values())))
+    limit = limit_of(totals, job.spread)
+    large = [part for part, total in enumerate(totals) if total > limit and not job.is_apart]
+    lengths = {part: length_of(sizes["left"][part], sizes["right"][part], limit) for part in large}
+    joins = {part: [Join(part)] for part in range(job.parts)}
+    while lengths:
+        runs = cluster.answers([(cut_side, job, side, part, ranges[side], length) for part, length in lengths.items() for side in SIDES])
+        first_fault(runs)
+        for part, lefts, rights in zip(list(lengths), runs[::2], runs[1::2]):
+            if are_many(len(lefts), len(rights)):
+                lengths[part] = next_length(lengths[part])
+            else:
+                joins[part] = list(joins_of(part, lefts, rights))
+                del lengths[part]
+    return [one for part in range(job.parts) for one in joins[part]]
+
+
+def refuse_many(joins: Sequence[Join], parts: int, files: int) -> None:
+    """Refuses to cut shards into so many pieces that what they give can't be merged by one process, which has so many files open for
+    each."""
+    most = most_tables(files)
+    if len(joins) > max(parts, most):
+        raise Told(f"radixjoin-cluster: {len(joins)} joins are more than the {most} that can be merged here: give --spread more bytes", 2)
+
+
+def refuse_ambiguous(job: Job, cluster: Any, joins: Sequence[Join], ambiguous: Sequence[Join]) -> None:
+    """Tells the first cell of the joined table that isn't null and is written as null is, which these of the joined shards have."""
+    cells = cluster.answers([(ambiguous_cell, job, one) for one in ambiguous])
     first_fault(cells)
     place, column = min(cells)
-    before = cluster.answers([(count_before, job, part, place) for part in range(job.parts)])
+    before = cluster.answers([(count_before, job, one, place) for one in joins])
     first_fault(before)
-    name = job.shard(parts[0])[0].names_in_whole()[column - 1]
+    name = job.table(joins[0])[0].names_in_whole()[column - 1]
     more = of_cell(sum(before) + 1, name, job.out_null) if job.explain else ""
     raise Told(f"radixjoin: E28 AmbiguousNull row {sum(before) + 1} column {column}", 3, more=more)
 
 
-def runs_of(bytes_of_shards: Sequence[Sequence[int]], number: int) -> Dict[int, Tuple[int, int, int]]:
-    """Of each shard that has rows in a range where its header ends, and from which byte up to which one these rows stand. One of them
-    is among the runs in any case, for its header."""
-    runs = {part: (at[0], at[number], at[number + 1]) for part, at in enumerate(bytes_of_shards)}
-    return {part: run for part, run in runs.items() if part == 0 or run[1] < run[2]}
+def rows_in_range(bytes_of_tables: Sequence[Sequence[int]], number: int) -> Dict[int, Tuple[int, int, int]]:
+    """Of each joined table that has rows in a range where its header ends, and from which byte up to which one these rows stand. The
+    first table is among them in any case, for its header."""
+    runs = {table: (at[0], at[number], at[number + 1]) for table, at in enumerate(bytes_of_tables)}
+    return {table: run for table, run in runs.items() if table == 0 or run[1] < run[2]}
 
 
-def merge_all(job: Job, cluster: Any, cuts: Sequence[Place]) -> None:
-    """Merges the joined shards, in ranges that are cut at these places where there are any."""
+def merge_all(job: Job, cluster: Any, joins: Sequence[Join], cuts: Sequence[Place]) -> None:
+    """Merges the joined tables, in ranges that are cut at these places where there are any."""
     if not cuts:
-        first_fault(cluster.answers([(merge_shards, job)]))
+        first_fault(cluster.answers([(merge_shards, job, joins)]))
         return
-    cut = cluster.answers([(cut_shard, job, part, cuts) for part in range(job.parts)])
-    first_fault(cut)
-    first_fault(cluster.answers([(merge_range, job, number, runs_of(cut, number)) for number in range(len(cuts) + 1)]))
+    of_shards = [list(them) for _, them in itertools.groupby(joins, lambda one: one.part)]
+    found = cluster.answers([(cut_tables, job, them, cuts) for them in of_shards])
+    first_fault(found)
+    cut = [at for them in found for at in them]
+    runs = [[(joins[table], run) for table, run in rows_in_range(cut, number).items()] for number in range(len(cuts) + 1)]
+    first_fault(cluster.answers([(merge_range, job, number, run) for number, run in enumerate(runs)]))
     job.clear("joined-*")
     first_fault(cluster.answers([(put_together, job, len(cuts) + 1)]))
 
@@ -628,14 +581,17 @@ def merge_all(job: Job, cluster: Any, cuts: Sequence[Place]) -> None:
 def run(job: Job, cluster: Any, count: int, merges: int) -> None:
     """Divides, joins and merges."""
     with output_of(job):
-        ranges = divided(job, cluster, count)
-        joined = cluster.answers([(join_shard, job, part, ranges) for part in range(job.parts)])
+        ranges, sizes = divided(job, cluster, count)
+        joins = joins_of_shards(job, cluster, ranges, sizes)
+        refuse_many(joins, job.parts, FILES_OF_INPUT if merges > 1 else 1)
+        joined = cluster.answers([(join_shard, job, one, ranges) for one in joins])
         first_fault(joined)
         job.clear("left-*", "right-*")
-        ambiguous = [part for part, (has_cell, _) in enumerate(joined) if has_cell]
+        joins = [one.without_runs() for one in joins]
+        ambiguous = [one for one, (has_cell, _) in zip(joins, joined) if has_cell]
         if ambiguous:
-            refuse_ambiguous(job, cluster, ambiguous)
-        merge_all(job, cluster, cut_places((it for _, samples in joined for it in samples), merges))
+            refuse_ambiguous(job, cluster, joins, ambiguous)
+        merge_all(job, cluster, joins, cut_places((it for _, samples in joined for it in samples), merges))
 
 
 @contextlib.contextmanager
@@ -677,6 +633,7 @@ def join(
     strict: Union[bool, str] = False,
     parts: int = 16,
     ranges: Optional[int] = None,
+    spread: Optional[int] = None,
     merges: Optional[int] = None,
     scratch: Union[str, os.PathLike[str], None] = None,
     programs: Union[str, os.PathLike[str], None] = None,
@@ -690,8 +647,8 @@ def join(
 
     The arguments are the options of the command line `radixjoin-cluster` (docs/cluster.md): `left_null` and `right_null`, a text or
     up to four, and `out_null`, in place of `null`; `strict`, True or "full", has files refused that aren't of RFC 4180's grammar; with `explain`, a `Fault` has an `explanation`;
-    `parts` that the tables are divided into (1 to 1,024), `ranges` of a file that are divided side by side, `merges`, the
-    ranges of the joined table that are merged side by side, `memory` in MiB for each program; `workers` and other options of the join of each shard go to `radixjoin`. Types are a list, a text as the program
+    `parts` that the tables are divided into (1 to 1,024), `ranges` of a file that are divided side by side, `spread`, the bytes of
+    both tables above which a shard is joined in pieces, `merges`, the ranges of the joined table that are merged side by side, `memory` in MiB for each program; `workers` and other options of the join of each shard go to `radixjoin`. Types are a list, a text as the program
     has it (`"int,text"`, `"id=int,*=text"`, `"@FILE"`), or a mapping by name, in which `*` stands for all other columns.
 
     Raises:
@@ -708,7 +665,7 @@ def join(
     where = {"left": left, "right": right, "out": output, "scratch": scratch, "programs": programs}
     if strict not in (True, False, "full"):
         raise ValueError(f"strict={strict!r} is none of True, False and 'full'")
-    how = {"strict": "on" if strict is True else strict or None, "parts": parts, "ranges": ranges, "merges": merges, "memory": memory, "progress": progress, "explain": explain}
+    how = {"strict": "on" if strict is True else strict or None, "parts": parts, "ranges": ranges, "spread": spread, "merges": merges, "memory": memory, "progress": progress, "explain": explain}
     asked = argparse.Namespace(join=clause, processes=1, **how, **where, **types, **nulls, **each)
     for name, least, most in beyond(asked):
         raise ValueError(f"{name}= is from {least} to {most}")

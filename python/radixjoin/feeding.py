@@ -10,6 +10,8 @@ from typing import Any, List, Sequence, Tuple
 
 # The bytes of a file that a program reads as one input: its path, and from which byte up to which one, one stretch after another.
 Input = Tuple[str, Sequence[Tuple[int, int]]]
+# How many files are open for each input: the file, and both ends of its pipe.
+FILES_OF_INPUT = 3
 _CHUNK = 1 << 16
 
 

@@ -11,10 +11,14 @@ import contextlib
 import ctypes
 import errno
 import os
+import shutil
 import struct
 import zlib
 from typing import BinaryIO, Iterator, List, Sequence, Tuple
 
+# The bytes of a table that a join takes: stretches of files, from which byte up to which one, the first of which is the header, and
+# the sum of all these bytes.
+Run = Tuple[List[Tuple[str, int, int]], int]
 _CHUNK = 1 << 20
 # What fallocate(2) is to do: to take the bytes out of the file, whose size stays (FALLOC_FL_PUNCH_HOLE, FALLOC_FL_KEEP_SIZE).
 _TAKE_OUT = 3
@@ -76,43 +80,97 @@ def told_of(path: str, count: int) -> Tuple[int, int]:
     return rows, header
 
 
-def place_of_part(path: str, count: int, part: int) -> Tuple[int, int]:
-    """The byte of the file of a range at which a part begins, and that behind it."""
+def sizes_of(path: str, count: int) -> List[int]:
+    """How many bytes the rows of each part of a range have."""
     with open(path, "rb") as file:
-        ends = _index(file, count)
-    return ends[part], ends[part + 1]
+        index = _index(file, count)
+    return [end - begin - index[-1] for begin, end in zip(index, index[1 : count + 1])]
 
 
-def _take(path: str, count: int, part: int, is_first: bool, whole: BinaryIO) -> None:
-    """Puts the rows of a part behind others, and the header before them where they are the first."""
+class Part:
+    """A part in the file of a range, as it is read from its first byte to its last: its header, and then its rows."""
+
+    def __init__(self, file: BinaryIO, count: int, part: int) -> None:
+        index = _index(file, count)
+        # (and the byte of the file at which the rows begin)
+        self.begin, self.end, self.rows = index[part], index[part + 1], index[part] + index[-1]
+        self._file, self._sum, self._total = file, index[count + 1 + part], 0
+        file.seek(self.begin)
+
+    def read(self, size: int, /) -> bytes:
+        """No more than so many of the next bytes; none at the end.
+
+        Raises:
+            FileNotFoundError: at the end, where these aren't the bytes that were written.
+        """
+        chunk = self._file.read(min(size, self.end - self._file.tell()))
+        self._total = zlib.crc32(chunk, self._total)
+        if not chunk and self._total != self._sum:
+            raise changed(self._file.name)
+        return chunk
+
+    def header(self) -> bytes:
+        """The header, which is read first."""
+        return self.read(self.rows - self.begin)
+
+
+def changed(path: str) -> FileNotFoundError:
+    """The error of bytes of a file that were given back, or that a file system didn't keep."""
+    return FileNotFoundError(errno.ENOENT, "the rows of a part aren't there as they were written", path)
+
+
+@contextlib.contextmanager
+def opened(path: str, count: int, part: int) -> Iterator[Part]:
+    """A part of a file of so many."""
     with open(path, "rb") as file:
-        index, total = _index(file, count), 0
-        begin, end, skip = index[part], index[part + 1], 0 if is_first else index[-1]
-        file.seek(begin)
-        for number, chunk in enumerate(_chunks(file, end - begin)):
-            if number == 0 and is_first and chunk.startswith(codecs.BOM_UTF8):
-                whole.write(codecs.BOM_UTF8)
-            total = zlib.crc32(chunk, total)
-            whole.write(chunk[skip:] if number == 0 else chunk)
-    if total != index[count + 1 + part]:
-        raise FileNotFoundError(errno.ENOENT, f"part {part} isn't there as it was written", path)
+        yield Part(file, count, part)
+
+
+def write_header(header: bytes, whole: BinaryIO) -> None:
+    """Writes the header of a table. Before a name that begins with a byte order mark stands another one, which is dropped."""
+    whole.write(codecs.BOM_UTF8 + header if header.startswith(codecs.BOM_UTF8) else header)
 
 
 def gather(paths: Sequence[str], count: int, part: int, path: str) -> None:
-    """Puts the rows of a part from all ranges of a file, in order, behind one header. A name that begins with a byte order mark gets
-    another one before it, which is dropped.
+    """Puts the rows of a part from all ranges of a file, in order, behind one header.
 
     Raises:
         FileNotFoundError: the part was given back, or isn't as it was written.
     """
     with open(path, "wb") as whole:
-        for number, it in enumerate(paths):
-            _take(it, count, part, number == 0, whole)
+        for it in paths:
+            with opened(it, count, part) as rows:
+                header = rows.header()
+                if whole.tell() == 0:
+                    write_header(header, whole)
+                shutil.copyfileobj(rows, whole, _CHUNK)
+
+
+def gather_run(run: Run, path: str) -> None:
+    """Puts the rows of a run behind its header.
+
+    Raises:
+        FileNotFoundError: the part was given back, or isn't as it was written.
+    """
+    stretches, wanted = run
+    total = 0
+    with open(path, "wb") as whole:
+        for name, begin, end in stretches:
+            with open(name, "rb") as file:
+                file.seek(begin)
+                for chunk in _chunks(file, end - begin):
+                    total = zlib.crc32(chunk, total)
+                    if whole.tell() == 0:
+                        write_header(chunk, whole)
+                    else:
+                        whole.write(chunk)
+    if total != wanted:
+        raise changed(stretches[-1][0])
 
 
 def give_back(path: str, count: int, part: int) -> None:
     """Gives back the room of a part that isn't needed any more, where the file system can do that within a file."""
     with contextlib.suppress(OSError, AttributeError):
-        begin, end = place_of_part(path, count, part)
         with open(path, "r+b") as file:
+            begin, end = _index(file, count)[part : part + 2]
             ctypes.CDLL(None).fallocate(file.fileno(), _TAKE_OUT, ctypes.c_int64(begin), ctypes.c_int64(end - begin))

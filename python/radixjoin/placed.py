@@ -115,10 +115,10 @@ class Shard:
             at = behind
 
 
-def sampled(index: Index) -> List[Tuple[Place, int]]:
+def sampled(index: Index, most: int = SAMPLES) -> List[Tuple[Place, int]]:
     """How the bytes of a shard are spread: places of some of its rows, which rise, and how many bytes follow each up to the next."""
     entries, end = index
-    some = entries[:: len(entries) // SAMPLES + 1]
+    some = entries[:: len(entries) // most + 1]
     ends = [at for at, _, _ in some[1:]] + [end]
     return [(place, behind - at) for (at, _, place), behind in zip(some, ends)]
 

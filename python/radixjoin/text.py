@@ -7,7 +7,7 @@ from __future__ import annotations
 import csv
 import io
 import re
-from typing import BinaryIO, Iterable, Iterator, List, Sequence, Tuple
+from typing import Iterable, Iterator, List, Protocol, Sequence, Tuple
 
 # Stands for a null in a text that is to be written, until the null text is known: a lone surrogate, which no text has in UTF-8.
 NULL = "\udfff"
@@ -78,7 +78,7 @@ def header_in(text: bytes) -> List[str]:
         return []
 
 
-def _cut(block: bytes) -> int:
+def end_of_records(block: bytes) -> int:
     """Behind the last line feed of a block that ends a record: one with an even number of quotes before it. 0 if there is none."""
     quotes, upto = block.count(b'"'), len(block)
     while True:
@@ -91,7 +91,14 @@ def _cut(block: bytes) -> int:
         upto = at
 
 
-def pieces(stream: BinaryIO, size: int = _BLOCK) -> Iterator[bytes]:
+class Readable(Protocol):
+    """What bytes are read from."""
+
+    def read(self, size: int, /) -> bytes:
+        """No more than so many of the next bytes; none at the end."""
+
+
+def pieces(stream: Readable, size: int = _BLOCK) -> Iterator[bytes]:
     """What a stream gives to its end, in pieces of whole records, each of about so many bytes or of one record that is longer."""
     rest = b""
     while True:
@@ -99,7 +106,7 @@ def pieces(stream: BinaryIO, size: int = _BLOCK) -> Iterator[bytes]:
         if not read:
             break
         piece = rest + read if rest else read
-        cut = _cut(piece)
+        cut = end_of_records(piece)
         rest = piece[cut:]
         if cut:
             yield piece[:cut]

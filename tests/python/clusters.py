@@ -31,13 +31,16 @@ def joins(client, programs, folder):
     yield from telling.differs("the path", gave, out)
     yield from telling.differs("the bytes", out.read_bytes() == alone.read_bytes(), True)
     out.unlink()
+    cluster.join(client, left, right, CLAUSE, parts=2, spread=10_000, merges=2, **options)
+    yield from telling.differs("the bytes of shards in pieces", out.read_bytes() == alone.read_bytes(), True)
+    out.unlink()
     for clause, code in (("JOIN USING (id", "E11"), ("JOIN USING (nmae)", "E13"), ("CROSS JOIN", None)):
         error = telling.raised(cluster.join, client, left, right, clause, **options)
         yield from [] if isinstance(error, radixjoin.ClauseFault) and error.code == code else [f"{clause}: {error!r}"]
     left.write_text(LEFT + "x,y\n")
     error = telling.raised(cluster.join, client, left, right, CLAUSE, ranges=2, **options)
     yield from telling.differs("a fault's place", repr(error), repr(radixjoin.InputFault("radixjoin: E6 BadInteger left row 3001 column 1", 3)))
-    for named in ({"parts": 0}, {"no_such_option": 1}, {"ranges": 0}, {"memory": 0}):
+    for named in ({"parts": 0}, {"no_such_option": 1}, {"ranges": 0}, {"spread": 0}, {"memory": 0}):
         error = telling.raised(cluster.join, client, left, right, CLAUSE, **named, **options)
         yield from [] if isinstance(error, (TypeError, ValueError)) and next(iter(named)) in str(error) else [f"{named}: {error!r}"]
     yield from telling.differs("files", sorted(os.listdir(folder)), ["alone.csv", "left.csv", "right.csv"])
@@ -84,6 +87,7 @@ def command(programs, folder):
         (["--out", "other.csv"], b"--out can be given once"),
         (["--left", "left.csv"], b"--left can be given once"),
         (["--memory=0"], b"--memory is from 1 to"),
+        (["--spread=0"], b"--spread is from 1 to"),
         (["--right-null=a", "--right-null=b", "--null=x", "--null=y"], b"--null can be given once"),
     ):
         ran = subprocess.run([sys.executable, "-m", "radixjoin.cluster", *words, *more], cwd=folder, capture_output=True, check=False)
