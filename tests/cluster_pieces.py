@@ -104,7 +104,7 @@ def words_of(pick, folder):
     hots = pick.choice(((0.9, 0.1), (0.1, 0.9), (0.6, 0.6), (0, 0)))
     words = []
     for side, names, hot in zip(SCRIPT.SIDES, ("k,n,a", "k,n,b"), hots):
-        (folder / f"{side}.csv").write_text(f"{names}\n" + rows_of(pick, pick.choice((0, 1, 12, 12, 25)), hot), newline="")
+        (folder / f"{side}.csv").write_text(f"{names}\n" + rows_of(pick, pick.choice((0, 1, 12, 25, 25)), hot), newline="")
         words += [f"--{side}={folder}/{side}.csv", f"--{side}-types=int,num(3,1),text"]
     condition = pick.choice(CONDITIONS)
     kind = pick.choice(KINDS)
