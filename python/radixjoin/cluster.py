@@ -1,8 +1,8 @@
 """Joins two CSV files that are larger than one machine's memory, shard by shard, in the processes of a Dask cluster.
 
 Both files are divided by the hash of their rows' keys (the program `shards`, one task for each range of a file), the two
-parts of each shard are joined (`radixjoin`, one task a shard), and what the shards give is merged (`merges`, one task for each
-range of the joined table). The bytes written are those that `radixjoin` would write. docs/cluster.md says what of this is proved, and how to run it.
+parts of each shard are joined (`radixjoin`, one task a shard, or several where it is too large), and what these joins give is merged
+(`merges`, one task for each range of the joined table). The bytes written are those that `radixjoin` would write. docs/cluster.md says what of this is proved, and how to run it.
 
 Every task writes under a new name and renames at its end, so that a task may run twice. The parts of a range stand in one file. What
 a step made is removed when the next one is done, and all that is half made at the end, whether it is a good one or not. It needs
