@@ -8,7 +8,7 @@ use Rattle.rj_command.specs.declared.join.stats.Stats.{Stats}
 abbrev pub partition_text : PartitionRows → List ℕ
 partition_text p = codes "partition " ++ (decimal p.number ++ (codes " left " ++ (decimal p.left ++ (codes " right " ++ decimal p.right))))
 
--- the line of the rows that were written
+-- the line of the members of the joined table: kept pairs, and rows of either side in none
 abbrev pub written_text : Stats → List ℕ
 written_text s = codes "pairs " ++ (decimal s.pairs ++ (codes " lone-left " ++ (decimal s.lone_left ++ (codes " lone-right " ++ decimal s.lone_right))))
 
@@ -16,7 +16,7 @@ written_text s = codes "pairs " ++ (decimal s.pairs ++ (codes " lone-left " ++ (
 abbrev pub pieces_text : Stats → List ℕ
 pieces_text s = codes "pieces " ++ decimal s.pieces
 
--- a line for each partition, ended by LF, then that of the rows written, and where it is asked for that of the pieces
+-- a line for each partition, ended by LF, then that of the members of the joined table, and where it is asked for, on a line of its own, that of the pieces
 abbrev pub stats_text : Stats → List ℕ
 stats_text s =
     flat_map (λ p. partition_text p ++ 10 ∷ []) s.partitions.items

@@ -9,9 +9,13 @@ use sqlite_items::{Boxed, Items};
 /// (SQL-92, 7.5).
 #[derive(Clone, Copy, Debug, PartialEq, Eq)]
 pub enum JoinKind {
+    /// None.
     Inner,
+    /// Those of the left table.
     Left,
+    /// Those of the right table.
     Right,
+    /// Those of both.
     Full,
 }
 
@@ -20,13 +24,16 @@ pub enum JoinKind {
 pub struct Name {
     /// The name as it is written, without the quotes of a delimited one.
     pub text: Word,
+    /// Whether it stood in quotes.
     pub delimited: bool,
 }
 
 /// A column reference, perhaps qualified by the name of its table, `L` or `R` (SQL-92, 6.4).
 #[derive(Drop)]
 pub struct ColumnName {
+    /// The name of its table, where it is given.
     pub qualifier: Option<Name>,
+    /// The name of the column.
     pub name: Name,
 }
 

@@ -53,5 +53,6 @@ pub struct Full(pub Parcel);
 /// The parcels that were left in the queues of a partition, lane by lane, each lane's in order.
 #[derive(Drop)]
 pub struct Finished {
+    /// A list for each lane, in the order of the lanes.
     pub rest: Vec<Vec<Posted>>,
 }

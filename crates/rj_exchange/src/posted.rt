@@ -4,6 +4,8 @@ use rj_ledger::Parcel;
 /// A parcel with the number of the outbox that posted it.
 #[derive(Drop)]
 pub struct Posted {
+    /// The outbox, counted from 0.
     pub outbox: u32,
+    /// What it posted.
     pub parcel: Parcel,
 }

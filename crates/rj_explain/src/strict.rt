@@ -18,7 +18,8 @@ use rj_fault::Side;
 use rj_strict::{Header, above_fault, check};
 use std::alloc::{AllocError, Global};
 
-/// The line, counted from 1, on which the row begins where a text stops being of the grammar; none where it is of the grammar.
+/// The line, counted from 1, on which the row begins where a text stops being of the grammar. It answers none where the text is of
+/// the grammar (tested; the clause says what a line that is answered is, not when there is one).
 pub fn line_of_fault(text: &[u8], full: bool) -> Option<u64>
     ensures { IfSome result (IsFaultLine full text.now) }
 {

@@ -57,7 +57,7 @@ pub enum Fault {
     /// A file has no record at all.
     #[error("radixjoin: E1 NoHeader {0}")]
     NoHeader(Side),
-    /// A header name has no byte, more than 128 bytes, or isn't UTF-8.
+    /// A header name has no byte, more than 128 bytes, or isn't UTF-8; its column counts from 1.
     #[error("radixjoin: E2 BadName {0} column {1}")]
     BadName(Side, u64),
     /// A header name stands twice, where ASCII case is ignored; the column is the later one.
@@ -66,7 +66,7 @@ pub enum Fault {
     /// The types and the header differ in number.
     #[error("radixjoin: E4 TypeCount {0}")]
     TypeCount(Side),
-    /// A row has another length than the header.
+    /// A row has another length than the header; the first row after the header is row 1.
     #[error("radixjoin: E5 RaggedRow {0} row {1}")]
     RaggedRow(Side, u64),
     /// A cell of an int column isn't an integer of 64 bits.
@@ -84,7 +84,7 @@ pub enum Fault {
     /// A null text isn't lawful.
     #[error("radixjoin: E10 BadNull")]
     BadNull,
-    /// The clause can't be read past this byte.
+    /// The clause can't be read past this byte, counted from 0.
     #[error("radixjoin: E11 Syntax byte {0}")]
     Syntax(u64),
     /// The clause nests more than 64 levels.
@@ -105,16 +105,16 @@ pub enum Fault {
     /// The clause has more than 65,536 bytes.
     #[error("radixjoin: E17 ClauseTooLong")]
     ClauseTooLong,
-    /// A growth was refused.
+    /// Memory was refused, or a thread couldn't be started.
     #[error("radixjoin: E18 Memory")]
     Memory,
     /// A file can't be opened or read.
     #[error("radixjoin: E19 ReadDevice {0}")]
     ReadDevice(Side),
-    /// The writer failed.
+    /// The result couldn't be written: its file can't be made or put in its place, or a write failed.
     #[error("radixjoin: E20 WriteDevice")]
     WriteDevice,
-    /// A quoted field isn't closed at the file's end. This and the faults below are told where files are read strictly.
+    /// A quoted field isn't closed at the file's end. This fault and the next five, to E26, are told where files are read strictly.
     #[error("radixjoin: E21 OpenQuote {0} row {1} column {2}")]
     OpenQuote(Side, u64, u64),
     /// A byte other than a comma, a double quote, CR and LF stands behind a closing quote.

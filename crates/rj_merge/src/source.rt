@@ -31,7 +31,11 @@ pub trait Source: Drop {
     fn copies(&self) -> Copies
         ensures { result ≡ copies self.now };
 
-    /// The next row, or `None` behind the last one. After an error nothing is known of it.
+    /// The next row, or `None` behind the last one.
+    ///
+    /// # Errors
+    ///
+    /// The fault behind its rows, or `Memory` or `ReadDevice`, which come from the machine. After an error nothing is known of it.
     fn next(&mut self) -> Result<Option<Placed<Self::Row>>, MergeRefused>
         ensures tells { OnOk result (tells self.old → tells self.new) }
         ensures gives { tells self.old → Gives (reading self.old) result (reading self.new) }

@@ -80,7 +80,8 @@ fn place_in_parts<R: Threads + Sync>(
 }
 
 /// Whether a text is seen to be derived under more than one name, so that it has no empty line: by a fast look at up to so many
-/// parts at a time, each by a thread, the calling one among them. A part has at least 256 KiB.
+/// parts at a time, each by a thread, the calling one among them. A part has at least 256 KiB. A byte-order mark isn't left out
+/// here: a text that may begin with one is handed on without it.
 ///
 /// Where it answers false nothing is known of the text, and [`crate::check`] tells: a quoted field may have a line feed where
 /// the text was cut, or memory was refused.

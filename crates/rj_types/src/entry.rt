@@ -17,6 +17,8 @@ pub enum Label {
 /// A type in a list, and of which columns it is.
 #[derive(Drop)]
 pub struct TypeEntry {
+    /// The columns that it is of.
     pub label: Label,
+    /// Their type.
     pub kind: ColumnType,
 }

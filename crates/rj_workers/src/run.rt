@@ -62,9 +62,9 @@ where
     Ok(all)
 }
 
-/// Scans the stripes of both tables and builds their partitions, with so many scanners and takers at the same time. Whatever
-/// the schedule of the threads, each ledger is complete and has delivered what was due to its partition, and each partition was
-/// built of its rows.
+/// Scans the stripes of both tables and builds their partitions, with so many scanners and takers; they work at the same time
+/// (tested: no clause speaks of time). Whatever the schedule of the threads, each ledger is complete and has delivered what
+/// was due to its partition, and each partition was built of its rows.
 ///
 /// # Errors
 ///

@@ -181,9 +181,9 @@ fn make_rest<S: Shares, G: Gate>(
     Ok(())
 }
 
-/// Does each share once, by so many workers at the same time, which are lent the shares and draw them by ticket. It answers
-/// what the shares made, in any order. Tickets go up to 2^32: shares from there on are done by the calling thread once the
-/// workers have ended.
+/// Does each share once, by so many workers, which are lent the shares and draw them by ticket; they work at the same time
+/// (tested: no clause speaks of time). It answers what the shares made, in any order. Tickets go up to 2^32: shares from there
+/// on are done by the calling thread once the workers have ended.
 ///
 /// A worker whose thread can't be started draws in the thread that was to start it, so no share is left undone for want of
 /// threads.

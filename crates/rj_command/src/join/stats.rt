@@ -16,8 +16,8 @@ pub struct PartitionRows {
     pub right: u64,
 }
 
-/// What a join counts. The text is what `--stats` prints, without its last line end: a line for each partition, and
-/// then one that counts the members of the joined table, and where `--piece` was given one that counts the pieces.
+/// What a join counts. The text is what `--stats` prints, without its last line end: a line for each partition, then one that
+/// counts the members of the joined table, and behind it, where `--piece` was given, one that counts the pieces.
 #[derive(Drop)]
 pub struct Stats {
     /// The rows of each partition, in the order of the partitions.
@@ -32,7 +32,8 @@ pub struct Stats {
     pub pieces: u64,
     /// Whether the text tells the number of pieces.
     pub tells_pieces: bool,
-    /// The lines of the report, without the last line end, where one is asked for. The text of the statistics has none of them.
+    /// The lines of the report, without the last line end, where one is asked for. They aren't in the text of the statistics, and
+    /// are printed behind it.
     pub report: Option<String>,
 }
 
