@@ -211,13 +211,20 @@ def run_full(on, tally):
                 return
             tally.check(f"cluster_ends: {option} on disks that are full, and not", [] if {*ends} == {0, 6} else [f"they end by {ends}"])
         (folder / "out.csv").unlink(missing_ok=True)
-        place = folder / "disk"
-        with harness.disk(place, 1_024):
-            known = {it.name for it in folder.iterdir()}
-            ran = cluster.ended(begun(on.python, words, folder, "--scheduler", on.address, "--programs", on.programs, "--scratch", place))
-            told = harness.Ran(6, b"", f'radixjoin-cluster: E20 WriteDevice "{place.resolve()}": {NO_ROOM}\n'.encode())
-            faults = cluster.faults_of_run(ran, folder, known, told)
-            tally.check("cluster_ends: a full disk in a cluster", faults + [f"{it} was left behind" for it in place.iterdir()])
+        # (the first one has no room for what is sent to the processes)
+        for size in (16, 1_024):
+            run_full_in_cluster(on, folder, words, size, tally)
+
+
+def run_full_in_cluster(on, folder, words, size, tally):
+    """Joins by the processes of a cluster with what is half made on a disk of some KiB."""
+    place = folder / "disk"
+    with harness.disk(place, size):
+        known = {it.name for it in folder.iterdir()}
+        ran = cluster.ended(begun(on.python, words, folder, "--scheduler", on.address, "--programs", on.programs, "--scratch", place))
+        told = harness.Ran(6, b"", f'radixjoin-cluster: E20 WriteDevice "{place.resolve()}": {NO_ROOM}\n'.encode())
+        faults = cluster.faults_of_run(ran, folder, known, told)
+        tally.check(f"cluster_ends: a full disk of {size} KiB in a cluster", faults + [f"{it} was left behind" for it in place.iterdir()])
 
 
 def run_all(tally):
