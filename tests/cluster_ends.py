@@ -14,7 +14,7 @@ import harness
 import shards
 
 # For each program a text that its words have where a task runs it, and not before.
-STEPS = {"shards": "--out /", "radixjoin": "/radixjoin-", "merges": "--order="}
+STEPS = {"shards": "--out /", "radixjoin": "=/dev/fd/", "merges": "--order="}
 # What a program does in place of its work: it waits for a signal, or is ended by one.
 WAITS = 'echo $PPID > "$0.number.new" && mv "$0.number.new" "$0.number"; exec sleep 60'
 IS_KILLED = "kill -9 $$"
@@ -139,7 +139,7 @@ def run_output(on, tally):
 
 # Joins a shard, and notes in the folder LOG how many do meanwhile.
 COUNTS = """#!/bin/sh
-case "$*" in *"/radixjoin-"*) ;; *) exec "PROGRAM" "$@";; esac
+case "$*" in *"=/dev/fd/"*) ;; *) exec "PROGRAM" "$@";; esac
 touch "LOG/$$.runs"
 ls LOG | grep -c runs > "LOG/$$.counted"
 sleep 0.3

@@ -57,8 +57,8 @@ def write_tables(folder, rows):
 def faults_of_files(log, result):
     """How the files that were seen differ from those that a step may have, when one task runs after another."""
     most = {name: max(map(len, seen(log, name))) for name in SCRIPT.PROGRAMS}
-    # (the parts of a range that is divided and the files of ranges; two tables, and a joined shard; a merged range)
-    limits = {"shards": PARTS + 2 * RANGES, "radixjoin": 2 * RANGES + 2 * PARTS + 3, "merges": 2 * PARTS + MERGES}
+    # (the parts of a range that is divided and the files of ranges; a joined shard; a merged range)
+    limits = {"shards": PARTS + 2 * RANGES, "radixjoin": 2 * RANGES + 2 * PARTS + 1, "merges": 2 * PARTS + MERGES}
     yield from (f"{most[name]} files while {name} runs" for name in most if most[name] > limits[name])
     for files in seen(log, "merges"):
         yield from (f"{place} while shards are merged" for _, _, place in files if "/left-" in place or "/right-" in place)
@@ -138,7 +138,7 @@ def texts_of_ranges(folder, order, found, cuts):
     cut = [[shard.begin, *(shard.find(index, place)[0] for place in cuts), index[1]] for shard, index in zip(found, indices)]
     for number in range(len(cuts) + 1):
         runs = SCRIPT.rows_in_range(cut, number)
-        inputs = [(found[part].path, [(0, header), (begin, end)]) for part, (header, begin, end) in runs.items()]
+        inputs = [("", feeding.bytes_of(found[part].path, [(0, header), (begin, end)])) for part, (header, begin, end) in runs.items()]
         yield merged(folder, order, ["--from=0"] if number else [], inputs=inputs)
 
 
@@ -208,8 +208,7 @@ def run_packed(tally):
                 packed_parts(folder, parts, path, header)
             faults = [] if packed.told_of(paths[0], len(parts)) == (7, header) else ["another number of rows"]
             for number, text in enumerate(wanted):
-                packed.gather(paths, len(parts), number, str(folder / "whole"))
-                got = (folder / "whole").read_bytes()
+                got = b"".join(packed.rows_of_part(paths, len(parts), number))
                 faults += [] if got == text else [f"part {number}: {harness.shorten(got)}, and not {harness.shorten(text)}"]
             tally.check(f"shards_scratch: {title}", faults)
     with harness.folder() as name:
@@ -218,13 +217,13 @@ def run_packed(tally):
         packed.give_back(str(folder / "0"), 3, 1)
         faults = []
         for number in (0, 2):
-            packed.gather([str(folder / "0")], 3, number, str(folder / "whole"))
-            faults += [] if len((folder / "whole").read_bytes()) == 4 else [f"part {number} is another one"]
+            got = b"".join(packed.rows_of_part([str(folder / "0")], 3, number))
+            faults += [] if len(got) == 4 else [f"part {number} is another one"]
         with open(folder / "0", "r+b") as file:
             file.seek(10)
             file.write(b"\0" * 5)
         with contextlib.suppress(FileNotFoundError):
-            packed.gather([str(folder / "0")], 3, 1, str(folder / "whole"))
+            list(packed.rows_of_part([str(folder / "0")], 3, 1))
             faults.append("a part that isn't as it was is taken")
         tally.check("shards_scratch: a part that was given back", faults)
 
@@ -242,7 +241,7 @@ def run_fed(tally):
             (["sh", "-c", 'head -c 1 "$2" >&2; cat "$3" "$4"; exit 3', "sh"], b"", 3),
             (["sh", "-c", "kill -9 $$", "sh"], b"", -9),
         ):
-            ran = feeding.run_program(line, inputs, stdin=subprocess.DEVNULL, stdout=subprocess.PIPE) if line != ["cat"] else to_file(folder, line, inputs)
+            ran = feeding.run_program(line, fed(inputs), stdin=subprocess.DEVNULL, stdout=subprocess.PIPE) if line != ["cat"] else to_file(folder, line, inputs)
             tally.check(f"shards_scratch: {line} is fed", harness.differences(harness.Ran(ran.returncode, ran.stdout, b""), wanted, b"", status))
         try:
             to_file(folder, ["cat"], [(path, [(0, size + 1)])])
@@ -252,12 +251,19 @@ def run_fed(tally):
         many = [(path, [(number, number + 2)]) for number in range(1_100)]
         ran = to_file(folder, ["cat"], many)
         tally.check("shards_scratch: as many inputs as there can be parts", harness.differences(harness.Ran(ran.returncode, ran.stdout, b""), b"".join(text[number : number + 2] for number in range(1_100))))
+        ran = feeding.run_program(["sh", "-c", 'printf %s "$1" | tr -d 0-9', "sh"], fed([(path, [])], "--left="), stdin=subprocess.DEVNULL, stdout=subprocess.PIPE)
+        tally.check("shards_scratch: what stands before a name", harness.differences(harness.Ran(ran.returncode, ran.stdout, b""), b"--left=/dev/fd/"))
+
+
+def fed(inputs, before=""):
+    """Inputs that are stretches of files, with a text before the name of each."""
+    return [(before, feeding.bytes_of(*it)) for it in inputs]
 
 
 def to_file(folder, line, inputs):
     """Runs a program on runs of bytes, with what it writes in a file."""
     with open(folder / "written", "w+b") as output:
-        ran = feeding.run_program(line, inputs, stdin=subprocess.DEVNULL, stdout=output)
+        ran = feeding.run_program(line, fed(inputs), stdin=subprocess.DEVNULL, stdout=output)
         output.seek(0)
         return subprocess.CompletedProcess(line, ran.returncode, output.read(), ran.stderr)
 
