@@ -2,15 +2,17 @@
 each program runs, and nothing at the end; the rows between two places as `merges` writes them of runs of the shards' bytes and of
 the whole shards, byte for byte; parts in one file, which are given back; and programs that read such runs by pipes."""
 import contextlib
+import errno
 import os
 import pathlib
 import random
 import subprocess
+from unittest import mock
 
 import harness
 import shards
 
-from radixjoin import feeding, packed, placed
+from radixjoin import feeding, making, packed, placed
 
 SCRIPT = shards.SCRIPT
 MARK = b"\xef\xbb\xbf"
@@ -268,8 +270,39 @@ def to_file(folder, line, inputs):
         return subprocess.CompletedProcess(line, ran.returncode, output.read(), ran.stderr)
 
 
+def run_appended(tally):
+    """A file behind others: copied by the system, by it in part, or not by it; and where there is no room for it."""
+    copied, text = os.copy_file_range, bytes(range(256)) * 20_000
+
+    def in_part(source, target, most):
+        return 0 if os.lseek(source, 0, os.SEEK_CUR) else copied(source, target, min(most, 1_000))
+
+    def refused(*_):
+        raise OSError(errno.EXDEV, os.strerror(errno.EXDEV))
+
+    for title, does in (("by the system", copied), ("by the system in part", in_part), ("not by the system", refused)):
+        with harness.folder() as name, mock.patch.object(os, "copy_file_range", does):
+            folder = pathlib.Path(name)
+            (folder / "text").write_bytes(text)
+            with open(folder / "whole", "wb") as whole:
+                whole.write(b"first")
+                for _ in range(3):
+                    making.append(str(folder / "text"), whole)
+            tally.check(f"shards_scratch: a file is copied {title}", [] if (folder / "whole").read_bytes() == b"first" + text * 3 else ["it is another one"])
+    with harness.folder() as name:
+        (pathlib.Path(name) / "text").write_bytes(text)
+        number = None
+        try:
+            with open("/dev/full", "wb") as whole:
+                making.append(f"{name}/text", whole)
+        except OSError as error:
+            number = error.errno
+        tally.check("shards_scratch: a file is copied to a full device", [] if number == errno.ENOSPC else [f"it ends by {number}"])
+
+
 def run_all(tally):
     run_packed(tally)
     run_fed(tally)
+    run_appended(tally)
     harness.side_by_side(tally, [lambda own, seed=seed: run_ranges(seed, own) for seed in range(120)])
     run_files(tally)

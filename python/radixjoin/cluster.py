@@ -20,7 +20,6 @@ import json
 import logging
 import os
 import re
-import shutil
 import signal
 import stat
 import subprocess
@@ -35,7 +34,7 @@ from .explained import of_cell, of_row, of_unread
 from .faults import Fault, fault_of
 from .feeding import FILES_OF_INPUT, Input, bytes_of, run_program
 from .lists import lower, read_list, with_place
-from .making import beginning, folder_beside, made, remove
+from .making import append, beginning, folder_beside, made, remove
 from .nulls import Texts, texts_of
 from .packed import Run, give_back, pack, rows_of_part, rows_of_run, sizes_of, told_of
 from .placed import LEFT, RIGHT, SAMPLES, Index, Place, Shard, cut_places, sampled
@@ -419,8 +418,8 @@ def put_together(job: Job, count: int) -> None:
     try:
         with made(job.out, job.half) as new, open(new, "wb") as output:
             for number in range(count):
-                with open(job.merged(number), "rb") as merged:
-                    shutil.copyfileobj(merged, output, 1 << 20)
+                append(job.merged(number), output)
+            output.flush()
             os.fsync(output.fileno())
     except OSError as error:
         raise refused(job, error) from None
