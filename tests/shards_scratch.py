@@ -151,6 +151,10 @@ def faults_of_rows(shard, order):
     for number, (byte, place) in enumerate(rows):
         if shard.find(index, place) != (byte, number) or shard.place_of_row(index, number + 1) != place:
             yield f"row {number + 1} at {place}: {shard.find(index, place)}, {shard.place_of_row(index, number + 1)}"
+    if shard.scanned(counts_rows=False) != ([(at, 0, place) for at, _, place in index[0]], index[1]):
+        yield f"{order}: where rows aren't counted the index is another one"
+    if [begin for begin, _, _ in index[0]][:1] != [shard.begin][: len(rows)]:
+        yield f"{order}: the first piece doesn't begin at the first row"
     if shard.find(index, (3, 0, 0)) != (os.path.getsize(shard.path), len(rows)):
         yield f"the end: {shard.find(index, (3, 0, 0))}"
     if sum(size for _, size in placed.sampled(index)) != os.path.getsize(shard.path) - shard.begin:

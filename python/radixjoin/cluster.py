@@ -330,7 +330,8 @@ def join_into(job: Job, one: Join, ranges: Dict[str, int], folder: str) -> None:
     """Joins two tables of a shard into a folder: the joined table, and what `Job.table` gives of it."""
     path = os.path.join(folder, TABLE)
     cell = join_tables(job, one, ranges, path)
-    entries, end = Shard(path, job.order).scanned()
+    # (only a cell that has to be told is told with the number of its row)
+    entries, end = Shard(path, job.order).scanned(counts_rows=job.is_apart)
     Path(folder, "told").write_text(json.dumps({"cell": cell, "entries": entries, "end": end}))
 
 
