@@ -62,15 +62,15 @@ class Cluster(tasks.Cluster):
 
 
 def write_tables(folder):
-    """Writes two tables of which many rows have one key, and gives the words that join them."""
+    """Writes two tables of which many rows have one key, and one a text that may be a null text, and gives the words that join them."""
     for side, name in (("left", "a"), ("right", "b")):
-        (folder / f"{side}.csv").write_text(f"k,{name}\n" + "".join(f"{max(0, number - 40)},{name}{number}\n" for number in range(90)))
+        (folder / f"{side}.csv").write_text(f"k,{name}\n" + "".join(f"{max(0, number - 40)},{name}{number}\n" for number in range(90)) + "7,~\n")
     tables = ["--left", "left.csv", "--right", "right.csv", "--left-types", "int,text", "--right-types", "int,text"]
     return shards.placed_in([*tables, "--join", "FULL JOIN USING (k)", "--parts", "2"], folder)
 
 
 # Options by which each kind of task is sent.
-WAYS = ([], ["--spread", "400", "--merges", "3"], ["--strict", "--left-null", "none", "--out-null", "a7"])
+WAYS = ([], ["--spread", "400", "--merges", "3"], ["--strict", "--left-null", "none", "--out-null", "~"])
 
 
 def joined(client, folder, words, before=None):
