@@ -135,14 +135,23 @@ def run_once(client, folder, tally):
     tally.check("cluster_sent: two versions in one process", faults)
 
 
+def replace(client):
+    """Adds a process, and kills those that were there."""
+    numbers = [*client.run(os.getpid).values()]
+    client.cluster.scale(len(numbers) + 1)
+    client.wait_for_workers(len(numbers) + 1, SECONDS)
+    for number in numbers:
+        os.kill(number, signal.SIGKILL)
+
+
 def run_replaced(client, folder, tally):
-    """A process is killed between two steps: the one that takes its place gets the code, in each step that is left."""
+    """Processes are killed between two steps: one that came just before that gets the code, and does what is left."""
     words = [*write_tables(folder), "--spread", "400", "--merges", "3"]
-    for kind in ("divide", "join_shard", "put_together"):
-        numbers = {*client.run(os.getpid).values()}
-        faults, _ = joined(client, folder, words, {kind: lambda _: [os.kill(number, signal.SIGKILL) for number in numbers]})
-        faults += [] if numbers.isdisjoint(client.run(os.getpid).values()) else ["none was killed"]
-        tally.check(f"cluster_sent: a process is killed before {kind}", faults)
+    for kind in ("join_shard", "put_together"):
+        before = {*client.run(os.getpid).values()}
+        faults, _ = joined(client, folder, words, {kind: lambda _: replace(client)})
+        faults += [] if before.isdisjoint(client.run(os.getpid).values()) else ["none was killed"]
+        tally.check(f"cluster_sent: processes are killed before {kind}", faults)
 
 
 def run_by(tally):
