@@ -1,6 +1,7 @@
 #!/usr/bin/env python3
-"""Times cluster/radixjoin-cluster on this machine beside radixjoin alone, on a workload: the time of each run and the peak of memory
-of the largest process of each program. The bytes of all runs are compared. It needs Dask.
+"""Times cluster/radixjoin-cluster on this machine beside radixjoin alone, on a workload: the time of each run, the time that all its
+processes had of the processors (which says more on a machine that does something else too), and the peak of memory of the largest
+process of each program. The bytes of all runs are compared. It needs Dask.
 
 usage: cluster.py FOLDER [--workload NAME] [--scale F] [--parts N] [--processes N ..] [--merges N ..] [--spread BYTES ..] [--limit]
     FOLDER      where the tables are made, if they aren't there, and the results
@@ -12,6 +13,7 @@ import argparse
 import filecmp
 import os
 import pathlib
+import resource
 import subprocess
 import sys
 import threading
@@ -60,17 +62,23 @@ class Watch:
         self.thread.join()
 
 
+def used():
+    """The time of processors that ended children of this process had, with theirs."""
+    children = resource.getrusage(resource.RUSAGE_CHILDREN)
+    return children.ru_utime + children.ru_stime
+
+
 def timed(words, field="VmHWM", **how):
-    """Runs a command; how long it took, and the peaks of the programs that it started."""
-    start = time.monotonic()
+    """Runs a command; how long it took, how much of the processors, and the peaks of the programs that it started."""
+    start, before = time.monotonic(), used()
     with Watch(field) as watch:
         subprocess.run([str(word) for word in words], check=True, **how)
-    return time.monotonic() - start, watch.peaks
+    return time.monotonic() - start, used() - before, watch.peaks
 
 
-def told(name, seconds, peaks):
+def told(name, seconds, processors, peaks):
     largest = max(peaks, key=peaks.get)
-    print(f"{name}: {seconds:.1f} s, {peaks[largest]:.0f} MiB ({', '.join(f'{it} {peak:.0f}' for it, peak in sorted(peaks.items()))})", flush=True)
+    print(f"{name}: {seconds:.1f} s, {processors:.1f} s of processors, {peaks[largest]:.0f} MiB ({', '.join(f'{it} {peak:.0f}' for it, peak in sorted(peaks.items()))})", flush=True)
 
 
 def compare(one, other):
@@ -108,7 +116,7 @@ def main():
             compare(alone, sharded)
     if asked.limit:
         with open(alone, "wb") as out:
-            _, peaks = timed([ROOT / "crates" / "radixjoin" / "out" / "radixjoin", *words], "VmPeak", stdout=out)
+            *_, peaks = timed([ROOT / "crates" / "radixjoin" / "out" / "radixjoin", *words], "VmPeak", stdout=out)
         quarter = int(peaks["radixjoin"] / 4)
         told(f"1 process, each program in {quarter} MiB of address space", *timed([*script, "--memory", quarter, "--processes", 1], "VmPeak"))
         compare(alone, sharded)

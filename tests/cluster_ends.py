@@ -14,7 +14,7 @@ import harness
 import shards
 
 # For each program a text that its words have where a task runs it, and not before.
-STEPS = {"shards": "--out /", "radixjoin": "/radixjoin-", "merges": "--order="}
+STEPS = {"shards": "--out /", "radixjoin": "=/dev/fd/", "merges": "--order="}
 # What a program does in place of its work: it waits for a signal, or is ended by one.
 WAITS = 'echo $PPID > "$0.number.new" && mv "$0.number.new" "$0.number"; exec sleep 60'
 IS_KILLED = "kill -9 $$"
@@ -139,7 +139,7 @@ def run_output(on, tally):
 
 # Joins a shard, and notes in the folder LOG how many do meanwhile.
 COUNTS = """#!/bin/sh
-case "$*" in *"/radixjoin-"*) ;; *) exec "PROGRAM" "$@";; esac
+case "$*" in *"=/dev/fd/"*) ;; *) exec "PROGRAM" "$@";; esac
 touch "LOG/$$.runs"
 ls LOG | grep -c runs > "LOG/$$.counted"
 sleep 0.3
@@ -211,13 +211,20 @@ def run_full(on, tally):
                 return
             tally.check(f"cluster_ends: {option} on disks that are full, and not", [] if {*ends} == {0, 6} else [f"they end by {ends}"])
         (folder / "out.csv").unlink(missing_ok=True)
-        place = folder / "disk"
-        with harness.disk(place, 1_024):
-            known = {it.name for it in folder.iterdir()}
-            ran = cluster.ended(begun(on.python, words, folder, "--scheduler", on.address, "--programs", on.programs, "--scratch", place))
-            told = harness.Ran(6, b"", f'radixjoin-cluster: E20 WriteDevice "{place.resolve()}": {NO_ROOM}\n'.encode())
-            faults = cluster.faults_of_run(ran, folder, known, told)
-            tally.check("cluster_ends: a full disk in a cluster", faults + [f"{it} was left behind" for it in place.iterdir()])
+        # (the first one has no room for what is sent to the processes)
+        for size in (16, 1_024):
+            run_full_in_cluster(on, folder, words, size, tally)
+
+
+def run_full_in_cluster(on, folder, words, size, tally):
+    """Joins by the processes of a cluster with what is half made on a disk of some KiB."""
+    place = folder / "disk"
+    with harness.disk(place, size):
+        known = {it.name for it in folder.iterdir()}
+        ran = cluster.ended(begun(on.python, words, folder, "--scheduler", on.address, "--programs", on.programs, "--scratch", place))
+        told = harness.Ran(6, b"", f'radixjoin-cluster: E20 WriteDevice "{place.resolve()}": {NO_ROOM}\n'.encode())
+        faults = cluster.faults_of_run(ran, folder, known, told)
+        tally.check(f"cluster_ends: a full disk of {size} KiB in a cluster", faults + [f"{it} was left behind" for it in place.iterdir()])
 
 
 def run_all(tally):

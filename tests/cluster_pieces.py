@@ -43,11 +43,20 @@ class Tables:
     def __init__(self):
         self.of_runs = {}
 
-    def gather(self, job, one, ranges, tables, otherwise=SCRIPT.gather_tables):
-        """Puts the tables of a join into files, and notes their sizes."""
-        otherwise(job, one, ranges, tables)
-        rows = [text.split_header(pathlib.Path(tables[side]).read_bytes())[1] for side in SCRIPT.SIDES]
-        self.of_runs.setdefault(job.folder(), {})[one.name()] = [(len(it), text.records_in(it)) for it in rows]
+    def of_join(self, job, one, ranges, otherwise=SCRIPT.tables_of):
+        """The tables of a join, the sizes of which are noted as they are read."""
+        sizes = self.of_runs.setdefault(job.folder(), {})[one.name()] = []
+        return [(word, self.noted(rows, sizes)) for word, rows in otherwise(job, one, ranges)]
+
+    def noted(self, chunks, sizes):
+        """The bytes of a table, the sizes of which are noted at the end."""
+        with contextlib.closing(chunks):
+            whole = b""
+            for chunk in chunks:
+                whole += chunk
+                yield chunk
+        rows = text.split_header(whole)[1]
+        sizes.append((len(rows), text.records_in(rows)))
 
     def of(self, folder):
         """The tables of a run with its scratch folder in this one."""
@@ -60,7 +69,7 @@ TABLES = Tables()
 @contextlib.contextmanager
 def patched():
     """While this goes on small files are cut into ranges, and tables of joins are noted. It isn't begun in a thread."""
-    with mock.patch.object(SCRIPT, "cuts_of", cuts_of), mock.patch.object(SCRIPT, "gather_tables", TABLES.gather):
+    with mock.patch.object(SCRIPT, "cuts_of", cuts_of), mock.patch.object(SCRIPT, "tables_of", TABLES.of_join):
         yield
 
 

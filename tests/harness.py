@@ -3,6 +3,7 @@ import concurrent.futures
 import contextlib
 import os
 import pathlib
+import re
 import subprocess
 import sys
 import tempfile
@@ -122,3 +123,16 @@ def python_with(*modules):
             if subprocess.run([python, "-c", f"import {', '.join(modules)}"], capture_output=True, check=False).returncode == 0:
                 return python
     return None
+
+
+def run_script(tally, python, words, seconds):
+    """Runs a script of tests, whose last line is 'N passed, M failed', by another Python. It counts what that counts."""
+    name, ran = pathlib.Path(words[0]).stem, run([python, *words], ROOT, seconds=seconds)
+    *told, last = ran.stdout.decode(errors="replace").splitlines() or [""]
+    print("".join(f"{line}\n" for line in told), end="")
+    counts = re.fullmatch(r"(\d+) passed, (\d+) failed", last)
+    if counts:
+        tally.passed += int(counts[1])
+        tally.failed += int(counts[2])
+    if not counts or ran.status != (counts[2] != "0"):
+        tally.check(name, [f"status {ran.status}", last, *ran.stderr.decode(errors="replace").splitlines()[-20:]])

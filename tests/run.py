@@ -31,6 +31,8 @@ PARTS = (
     "cluster",
     "cluster_ends",
     "cluster_pieces",
+    "cluster_random",
+    "cluster_sent",
     "python_package",
     "shards_order",
     "shards_strict",

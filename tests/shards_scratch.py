@@ -2,15 +2,17 @@
 each program runs, and nothing at the end; the rows between two places as `merges` writes them of runs of the shards' bytes and of
 the whole shards, byte for byte; parts in one file, which are given back; and programs that read such runs by pipes."""
 import contextlib
+import errno
 import os
 import pathlib
 import random
 import subprocess
+from unittest import mock
 
 import harness
 import shards
 
-from radixjoin import feeding, packed, placed
+from radixjoin import feeding, making, packed, placed
 
 SCRIPT = shards.SCRIPT
 MARK = b"\xef\xbb\xbf"
@@ -57,8 +59,8 @@ def write_tables(folder, rows):
 def faults_of_files(log, result):
     """How the files that were seen differ from those that a step may have, when one task runs after another."""
     most = {name: max(map(len, seen(log, name))) for name in SCRIPT.PROGRAMS}
-    # (the parts of a range that is divided and the files of ranges; two tables, and a joined shard; a merged range)
-    limits = {"shards": PARTS + 2 * RANGES, "radixjoin": 2 * RANGES + 2 * PARTS + 3, "merges": 2 * PARTS + MERGES}
+    # (the parts of a range that is divided and the files of ranges; a joined shard; a merged range)
+    limits = {"shards": PARTS + 2 * RANGES, "radixjoin": 2 * RANGES + 2 * PARTS + 1, "merges": 2 * PARTS + MERGES}
     yield from (f"{most[name]} files while {name} runs" for name in most if most[name] > limits[name])
     for files in seen(log, "merges"):
         yield from (f"{place} while shards are merged" for _, _, place in files if "/left-" in place or "/right-" in place)
@@ -138,7 +140,7 @@ def texts_of_ranges(folder, order, found, cuts):
     cut = [[shard.begin, *(shard.find(index, place)[0] for place in cuts), index[1]] for shard, index in zip(found, indices)]
     for number in range(len(cuts) + 1):
         runs = SCRIPT.rows_in_range(cut, number)
-        inputs = [(found[part].path, [(0, header), (begin, end)]) for part, (header, begin, end) in runs.items()]
+        inputs = [("", feeding.bytes_of(found[part].path, [(0, header), (begin, end)])) for part, (header, begin, end) in runs.items()]
         yield merged(folder, order, ["--from=0"] if number else [], inputs=inputs)
 
 
@@ -149,6 +151,10 @@ def faults_of_rows(shard, order):
     for number, (byte, place) in enumerate(rows):
         if shard.find(index, place) != (byte, number) or shard.place_of_row(index, number + 1) != place:
             yield f"row {number + 1} at {place}: {shard.find(index, place)}, {shard.place_of_row(index, number + 1)}"
+    if shard.scanned(counts_rows=False) != ([(at, 0, place) for at, _, place in index[0]], index[1]):
+        yield f"{order}: where rows aren't counted the index is another one"
+    if [begin for begin, _, _ in index[0]][:1] != [shard.begin][: len(rows)]:
+        yield f"{order}: the first piece doesn't begin at the first row"
     if shard.find(index, (3, 0, 0)) != (os.path.getsize(shard.path), len(rows)):
         yield f"the end: {shard.find(index, (3, 0, 0))}"
     if sum(size for _, size in placed.sampled(index)) != os.path.getsize(shard.path) - shard.begin:
@@ -208,8 +214,7 @@ def run_packed(tally):
                 packed_parts(folder, parts, path, header)
             faults = [] if packed.told_of(paths[0], len(parts)) == (7, header) else ["another number of rows"]
             for number, text in enumerate(wanted):
-                packed.gather(paths, len(parts), number, str(folder / "whole"))
-                got = (folder / "whole").read_bytes()
+                got = b"".join(packed.rows_of_part(paths, len(parts), number))
                 faults += [] if got == text else [f"part {number}: {harness.shorten(got)}, and not {harness.shorten(text)}"]
             tally.check(f"shards_scratch: {title}", faults)
     with harness.folder() as name:
@@ -218,13 +223,13 @@ def run_packed(tally):
         packed.give_back(str(folder / "0"), 3, 1)
         faults = []
         for number in (0, 2):
-            packed.gather([str(folder / "0")], 3, number, str(folder / "whole"))
-            faults += [] if len((folder / "whole").read_bytes()) == 4 else [f"part {number} is another one"]
+            got = b"".join(packed.rows_of_part([str(folder / "0")], 3, number))
+            faults += [] if len(got) == 4 else [f"part {number} is another one"]
         with open(folder / "0", "r+b") as file:
             file.seek(10)
             file.write(b"\0" * 5)
         with contextlib.suppress(FileNotFoundError):
-            packed.gather([str(folder / "0")], 3, 1, str(folder / "whole"))
+            list(packed.rows_of_part([str(folder / "0")], 3, 1))
             faults.append("a part that isn't as it was is taken")
         tally.check("shards_scratch: a part that was given back", faults)
 
@@ -242,7 +247,7 @@ def run_fed(tally):
             (["sh", "-c", 'head -c 1 "$2" >&2; cat "$3" "$4"; exit 3', "sh"], b"", 3),
             (["sh", "-c", "kill -9 $$", "sh"], b"", -9),
         ):
-            ran = feeding.run_program(line, inputs, stdin=subprocess.DEVNULL, stdout=subprocess.PIPE) if line != ["cat"] else to_file(folder, line, inputs)
+            ran = feeding.run_program(line, fed(inputs), stdin=subprocess.DEVNULL, stdout=subprocess.PIPE) if line != ["cat"] else to_file(folder, line, inputs)
             tally.check(f"shards_scratch: {line} is fed", harness.differences(harness.Ran(ran.returncode, ran.stdout, b""), wanted, b"", status))
         try:
             to_file(folder, ["cat"], [(path, [(0, size + 1)])])
@@ -252,18 +257,56 @@ def run_fed(tally):
         many = [(path, [(number, number + 2)]) for number in range(1_100)]
         ran = to_file(folder, ["cat"], many)
         tally.check("shards_scratch: as many inputs as there can be parts", harness.differences(harness.Ran(ran.returncode, ran.stdout, b""), b"".join(text[number : number + 2] for number in range(1_100))))
+        ran = feeding.run_program(["sh", "-c", 'printf %s "$1" | tr -d 0-9', "sh"], fed([(path, [])], "--left="), stdin=subprocess.DEVNULL, stdout=subprocess.PIPE)
+        tally.check("shards_scratch: what stands before a name", harness.differences(harness.Ran(ran.returncode, ran.stdout, b""), b"--left=/dev/fd/"))
+
+
+def fed(inputs, before=""):
+    """Inputs that are stretches of files, with a text before the name of each."""
+    return [(before, feeding.bytes_of(*it)) for it in inputs]
 
 
 def to_file(folder, line, inputs):
     """Runs a program on runs of bytes, with what it writes in a file."""
     with open(folder / "written", "w+b") as output:
-        ran = feeding.run_program(line, inputs, stdin=subprocess.DEVNULL, stdout=output)
+        ran = feeding.run_program(line, fed(inputs), stdin=subprocess.DEVNULL, stdout=output)
         output.seek(0)
         return subprocess.CompletedProcess(line, ran.returncode, output.read(), ran.stderr)
+
+
+def run_appended(tally):
+    """A file behind others: copied by the system, by it in part, or not by it; and where there is no room for it."""
+    copied, text = os.copy_file_range, bytes(range(256)) * 20_000
+
+    def in_part(source, target, most):
+        return 0 if os.lseek(source, 0, os.SEEK_CUR) else copied(source, target, min(most, 1_000))
+
+    def refused(*_):
+        raise OSError(errno.EXDEV, os.strerror(errno.EXDEV))
+
+    for title, does in (("by the system", copied), ("by the system in part", in_part), ("not by the system", refused)):
+        with harness.folder() as name, mock.patch.object(os, "copy_file_range", does):
+            folder = pathlib.Path(name)
+            (folder / "text").write_bytes(text)
+            with open(folder / "whole", "wb") as whole:
+                whole.write(b"first")
+                for _ in range(3):
+                    making.append(str(folder / "text"), whole)
+            tally.check(f"shards_scratch: a file is copied {title}", [] if (folder / "whole").read_bytes() == b"first" + text * 3 else ["it is another one"])
+    with harness.folder() as name:
+        (pathlib.Path(name) / "text").write_bytes(text)
+        number = None
+        try:
+            with open("/dev/full", "wb") as whole:
+                making.append(f"{name}/text", whole)
+        except OSError as error:
+            number = error.errno
+        tally.check("shards_scratch: a file is copied to a full device", [] if number == errno.ENOSPC else [f"it ends by {number}"])
 
 
 def run_all(tally):
     run_packed(tally)
     run_fed(tally)
+    run_appended(tally)
     harness.side_by_side(tally, [lambda own, seed=seed: run_ranges(seed, own) for seed in range(120)])
     run_files(tally)

@@ -20,7 +20,6 @@ import json
 import logging
 import os
 import re
-import shutil
 import signal
 import stat
 import subprocess
@@ -33,11 +32,11 @@ from .clauses import quoted
 from .columns import Types, text_of, word_of
 from .explained import of_cell, of_row, of_unread
 from .faults import Fault, fault_of
-from .feeding import FILES_OF_INPUT, Input, run_program
+from .feeding import FILES_OF_INPUT, Input, bytes_of, run_program
 from .lists import lower, read_list, with_place
-from .making import beginning, folder_beside, made, remove
+from .making import append, beginning, folder_beside, made, remove
 from .nulls import Texts, texts_of
-from .packed import Run, gather, gather_run, give_back, pack, sizes_of, told_of
+from .packed import Run, give_back, pack, rows_of_part, rows_of_run, sizes_of, told_of
 from .placed import LEFT, RIGHT, SAMPLES, Index, Place, Shard, cut_places, sampled
 from .programs import ProgramNotFound, build, built
 from .spread import TABLE, Join, are_many, joins_of, length_of, limit_of, most_tables, next_length, runs_of
@@ -192,9 +191,9 @@ class Job:
         """The folder that was given for what is half made."""
         return os.path.dirname(self.scratch)
 
-    def joining(self, tables: Dict[str, str], types: Dict[str, str]) -> List[str]:
-        """The words for `radixjoin` that join two files of these types."""
-        words = [word for side in SIDES for word in (f"--{side}={tables[side]}", f"--{side}-types={types[side]}")]
+    def joining(self, types: Dict[str, str]) -> List[str]:
+        """The words for `radixjoin` that join two tables of these types, but for those that name the tables."""
+        words = [f"--{side}-types={types[side]}" for side in SIDES]
         return [*words, f"--join={self.clause}", *self.null, f"--out-null={self.out_null}", *self.one_join]
 
     def division(self, side: str) -> List[str]:
@@ -301,32 +300,28 @@ def cut_side(job: Job, side: str, part: int, count: int, length: int) -> List[Ru
     return runs_of(job.all_parts_of(side, count), job.parts, part, length)
 
 
-def gather_tables(job: Job, one: Join, ranges: Dict[str, int], tables: Dict[str, str]) -> None:
-    """Puts the two tables of a join into files."""
-    for number, side in enumerate(SIDES):
-        if one.runs:
-            gather_run(one.runs[number], tables[side])
-        else:
-            gather(job.all_parts_of(side, ranges[side]), job.parts, one.part, tables[side])
+def tables_of(job: Job, one: Join, ranges: Dict[str, int]) -> List[Input]:
+    """The two tables of a join, as `radixjoin` reads them."""
+    if one.runs:
+        return [(f"--{side}=", rows_of_run(run)) for side, run in zip(SIDES, one.runs)]
+    return [(f"--{side}=", rows_of_part(job.all_parts_of(side, ranges[side]), job.parts, one.part)) for side in SIDES]
 
 
 def join_tables(job: Job, one: Join, ranges: Dict[str, int], path: str) -> Optional[List[int]]:
     """Joins two tables of a shard into a file. It gives the row and the column of the first cell that isn't null and is written as
     null is, if that has to be told and there is one."""
-    with tempfile.TemporaryDirectory(dir=job.scratch) as name, open(path, "wb") as output:
-        tables = {side: os.path.join(name, side) for side in SIDES}
-        gather_tables(job, one, ranges, tables)
+    with open(path, "wb") as output:
         # (dropped by `merges`, and so not a mark that a name begins with)
         output.write(codecs.BOM_UTF8)
         output.flush()
-        words = job.joining(tables, {side: with_place(job.types[side], PLACES[side]) for side in SIDES})
+        words = job.joining({side: with_place(job.types[side], PLACES[side]) for side in SIDES})
         try:
-            job.run("radixjoin", [*words, *(job.strict if job.is_apart else [])], output)
+            job.run("radixjoin", [*words, *(job.strict if job.is_apart else [])], output, inputs=tables_of(job, one, ranges))
         except Told as told:
             cell = AMBIGUOUS.fullmatch(told.line)
             if cell is None:
                 raise
-            job.run("radixjoin", words, output)
+            job.run("radixjoin", words, output, inputs=tables_of(job, one, ranges))
             return [int(cell[1]), int(cell[2])]
     return None
 
@@ -335,7 +330,8 @@ def join_into(job: Job, one: Join, ranges: Dict[str, int], folder: str) -> None:
     """Joins two tables of a shard into a folder: the joined table, and what `Job.table` gives of it."""
     path = os.path.join(folder, TABLE)
     cell = join_tables(job, one, ranges, path)
-    entries, end = Shard(path, job.order).scanned()
+    # (only a cell that has to be told is told with the number of its row)
+    entries, end = Shard(path, job.order).scanned(counts_rows=job.is_apart)
     Path(folder, "told").write_text(json.dumps({"cell": cell, "entries": entries, "end": end}))
 
 
@@ -413,7 +409,7 @@ def merge_range(job: Job, number: int, runs: Sequence[Tuple[Join, Tuple[int, int
     path = job.merged(number)
     if not os.path.exists(path):
         words = [*merging(job, [one for one, _ in runs]), *(["--from=0"] if number else [])]
-        inputs = [(job.place(one.table()), [(0, header), (begin, end)]) for one, (header, begin, end) in runs]
+        inputs = [("", bytes_of(job.place(one.table()), [(0, header), (begin, end)])) for one, (header, begin, end) in runs]
         with made(path) as new, open(new, "wb") as output:
             job.run("merges", words, output, inputs=inputs)
 
@@ -423,8 +419,8 @@ def put_together(job: Job, count: int) -> None:
     try:
         with made(job.out, job.half) as new, open(new, "wb") as output:
             for number in range(count):
-                with open(job.merged(number), "rb") as merged:
-                    shutil.copyfileobj(merged, output, 1 << 20)
+                append(job.merged(number), output)
+            output.flush()
             os.fsync(output.fileno())
     except OSError as error:
         raise refused(job, error) from None
@@ -470,7 +466,7 @@ def refuse_line(job: Job) -> Optional[Told]:
     """Tells what `radixjoin` does of the command line, by a run on empty files. A null text that isn't lawful is given back:
     files that can't be read are told before it."""
     try:
-        job.run("radixjoin", [*job.joining({side: os.devnull for side in SIDES}, job.types), *job.strict, *job.explain])
+        job.run("radixjoin", [*(f"--{side}={os.devnull}" for side in SIDES), *job.joining(job.types), *job.strict, *job.explain])
     except Told as told:
         if told.status != 3:
             raise

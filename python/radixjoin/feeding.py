@@ -1,4 +1,4 @@
-"""Bytes of files as what a program reads: it gets the names of pipes, which are written while it runs."""
+"""Bytes as what a program reads: it gets the names of pipes, which are written while it runs."""
 from __future__ import annotations
 
 import contextlib
@@ -6,27 +6,39 @@ import os
 import resource
 import selectors
 import subprocess
-from typing import Any, List, Sequence, Tuple
+from typing import Any, Generator, List, Sequence, Tuple
 
-# The bytes of a file that a program reads as one input: its path, and from which byte up to which one, one stretch after another.
-Input = Tuple[str, Sequence[Tuple[int, int]]]
-# How many files are open for each input: the file, and both ends of its pipe.
+# What a program reads as one input: what stands before its name among the program's words, and its bytes, from one file at a time.
+Input = Tuple[str, Generator[bytes, None, None]]
+# How many files are open for each input: one that its bytes are of, and both ends of its pipe.
 FILES_OF_INPUT = 3
 _CHUNK = 1 << 16
+
+
+def bytes_of(path: str, stretches: Sequence[Tuple[int, int]]) -> Generator[bytes, None, None]:
+    """The bytes of a file from which one up to which one, one stretch after another."""
+    with open(path, "rb", buffering=0) as file:
+        for at, end in stretches:
+            while at < end:
+                chunk = os.pread(file.fileno(), min(end - at, _CHUNK), at)
+                if not chunk:
+                    raise OSError(f"{path} has lost bytes")
+                yield chunk
+                at += len(chunk)
 
 
 class _Feed:
     """What is still to be written into the pipe of an input."""
 
     def __init__(self, given: Input, stack: contextlib.ExitStack) -> None:
-        path, stretches = given
-        self.file = stack.enter_context(open(path, "rb", buffering=0))
-        self.stretches = [it for it in stretches if it[0] < it[1]]
+        before, chunks = given
+        self.chunks = stack.enter_context(contextlib.closing(chunks))
         self.chunk = memoryview(b"")
         reads, writes = os.pipe()
         self.reads = stack.enter_context(open(reads, "rb", buffering=0))
         self.writes = stack.enter_context(open(writes, "wb", buffering=0))
         os.set_blocking(writes, False)
+        self.word = f"{before}/dev/fd/{reads}"
 
     def is_done(self) -> bool:
         """Whether all is written, after what the pipe takes now. Where the program doesn't read any more, it is."""
@@ -41,14 +53,11 @@ class _Feed:
 
     def _has_more(self) -> bool:
         """Whether there is a chunk to be written, which is read where there is none."""
-        if self.chunk or not self.stretches:
-            return bool(self.chunk)
-        begin, end = self.stretches[0]
-        read = os.pread(self.file.fileno(), min(end - begin, _CHUNK), begin)
-        if not read:
-            raise OSError(f"{self.file.name} has lost bytes")
-        self.chunk = memoryview(read)
-        self.stretches[:1] = [(begin + len(read), end)] if begin + len(read) < end else []
+        while not self.chunk:
+            chunk = next(self.chunks, None)
+            if chunk is None:
+                return False
+            self.chunk = memoryview(chunk)
         return True
 
 
@@ -80,7 +89,7 @@ def run_program(line: Sequence[str], inputs: Sequence[Input], **how: Any) -> "su
     with contextlib.ExitStack() as stack:
         feeds: List[_Feed] = [_Feed(it, stack) for it in inputs]
         reads = [it.reads.fileno() for it in feeds]
-        with subprocess.Popen([*line, *(f"/dev/fd/{number}" for number in reads)], pass_fds=reads, stderr=subprocess.PIPE, **how) as process:
+        with subprocess.Popen([*line, *(it.word for it in feeds)], pass_fds=reads, stderr=subprocess.PIPE, **how) as process:
             try:
                 for it in feeds:
                     it.reads.close()

@@ -10,11 +10,11 @@ import codecs
 import contextlib
 import ctypes
 import errno
+import functools
 import os
-import shutil
 import struct
 import zlib
-from typing import BinaryIO, Iterator, List, Sequence, Tuple
+from typing import BinaryIO, Generator, Iterator, List, Sequence, Tuple
 
 # The bytes of a table that a join takes: stretches of files, from which byte up to which one, the first of which is the header, and
 # the sum of all these bytes.
@@ -126,44 +126,40 @@ def opened(path: str, count: int, part: int) -> Iterator[Part]:
         yield Part(file, count, part)
 
 
-def write_header(header: bytes, whole: BinaryIO) -> None:
-    """Writes the header of a table. Before a name that begins with a byte order mark stands another one, which is dropped."""
-    whole.write(codecs.BOM_UTF8 + header if header.startswith(codecs.BOM_UTF8) else header)
+def header_of_table(header: bytes) -> bytes:
+    """The header of a table. Before a name that begins with a byte order mark stands another one, which is dropped."""
+    return codecs.BOM_UTF8 + header if header.startswith(codecs.BOM_UTF8) else header
 
 
-def gather(paths: Sequence[str], count: int, part: int, path: str) -> None:
-    """Puts the rows of a part from all ranges of a file, in order, behind one header.
+def rows_of_part(paths: Sequence[str], count: int, part: int) -> Generator[bytes, None, None]:
+    """The rows of a part from all ranges of a file, in order, behind one header.
 
     Raises:
-        FileNotFoundError: the part was given back, or isn't as it was written.
+        FileNotFoundError: before the end, where the part was given back, or isn't as it was written.
     """
-    with open(path, "wb") as whole:
-        for it in paths:
-            with opened(it, count, part) as rows:
-                header = rows.header()
-                if whole.tell() == 0:
-                    write_header(header, whole)
-                shutil.copyfileobj(rows, whole, _CHUNK)
+    for number, it in enumerate(paths):
+        with opened(it, count, part) as rows:
+            header = rows.header()
+            if number == 0:
+                yield header_of_table(header)
+            yield from iter(functools.partial(rows.read, _CHUNK), b"")
 
 
-def gather_run(run: Run, path: str) -> None:
-    """Puts the rows of a run behind its header.
+def rows_of_run(run: Run) -> Generator[bytes, None, None]:
+    """The rows of a run behind its header.
 
     Raises:
-        FileNotFoundError: the part was given back, or isn't as it was written.
+        FileNotFoundError: before the end, where a part was given back, or isn't as it was written.
     """
     stretches, wanted = run
-    total = 0
-    with open(path, "wb") as whole:
-        for name, begin, end in stretches:
-            with open(name, "rb") as file:
-                file.seek(begin)
-                for chunk in _chunks(file, end - begin):
-                    total = zlib.crc32(chunk, total)
-                    if whole.tell() == 0:
-                        write_header(chunk, whole)
-                    else:
-                        whole.write(chunk)
+    total, is_header = 0, True
+    for name, begin, end in stretches:
+        with open(name, "rb") as file:
+            file.seek(begin)
+            for chunk in _chunks(file, end - begin):
+                total = zlib.crc32(chunk, total)
+                yield header_of_table(chunk) if is_header else chunk
+                is_header = False
     if total != wanted:
         raise changed(stretches[-1][0])
 

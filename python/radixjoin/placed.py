@@ -10,14 +10,15 @@ from bisect import bisect_left
 from codecs import BOM_UTF8
 from typing import BinaryIO, Iterable, Iterator, List, Tuple
 
-from .text import end_of_record, fields_in, pieces, records_in
+from .text import end_of_record, end_of_records, fields_in, records_in
 
 # The names of the columns of places.
 LEFT, RIGHT = "left_place", "right_place"
 # Where a row stands: its kind, and its places. Pairs come first, by their left, then their right place, then lone left and
 # lone right rows. In the order of the left rows lone ones stand among the pairs.
 Place = Tuple[int, int, int]
-# A piece of whole rows: the byte at which it begins, how many rows stand before it, and the place of its first row.
+# A piece of whole rows: the byte at which it begins, how many rows stand before it where they were counted, and the place of its first
+# row.
 Entry = Tuple[int, int, Place]
 # The entries of a file, and how many bytes it has.
 Index = Tuple[List[Entry], int]
@@ -66,16 +67,25 @@ class Shard:
         """The names of the columns of the joined table."""
         return [name for name in self.names if name not in (LEFT, RIGHT)]
 
-    def scanned(self) -> Index:
-        """The index of the file."""
-        entries, at, before = [], self.begin, 0
+    def scanned(self, counts_rows: bool = True) -> Index:
+        """The index of the file. Where rows needn't be counted, none is told to stand before a piece: to count them takes most of the
+        time."""
+        entries, at, before, size = [], self.begin, 0, PIECE
         with open(self.path, "rb") as file:
-            file.seek(at)
-            for piece in pieces(file, PIECE):
-                entries.append((at, before, self._place_of(piece[: end_of_record(piece)])))
-                at += len(piece)
-                before += records_in(piece)
-        return entries, at
+            while True:
+                file.seek(at)
+                piece = file.read(size)
+                end = end_of_records(piece)
+                if not end and len(piece) == size:
+                    # (a longer row)
+                    size *= 2
+                    continue
+                if not piece:
+                    return entries, at
+                rows = piece[: end or len(piece)]
+                entries.append((at, before, self._place_of(rows[: end_of_record(rows)])))
+                at, size = at + len(rows), PIECE
+                before += records_in(rows) if counts_rows else 0
 
     def find(self, index: Index, place: Place) -> Tuple[int, int]:
         """The byte at which the first row that isn't below a place begins, or the file's end where there is none; and how many rows

@@ -27,7 +27,7 @@ TABLE = "table.csv"
 
 
 class Join:
-    """One of the joins of a shard: which left run meets which right one, and of how many. (A plain class, as cloudpickle takes it.)"""
+    """One of the joins of a shard: which left run meets which right one, and of how many."""
 
     def __init__(self, part: int, numbers: Tuple[int, int] = (0, 0), counts: Tuple[int, int] = (1, 1), runs: Optional[Tuple[Run, Run]] = None) -> None:
         self.part = part

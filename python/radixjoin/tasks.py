@@ -4,7 +4,9 @@ from __future__ import annotations
 import errno
 import re
 import sys
-from typing import TYPE_CHECKING, Any, Callable, List, Sequence, Tuple
+from typing import TYPE_CHECKING, Any, Callable, Dict, List, Sequence, Tuple
+
+from .sending import FILE, job_in, packed, unpacked, work, write
 
 if TYPE_CHECKING:
     from distributed import Client
@@ -50,35 +52,10 @@ def answer(task: Callable[..., Any], job: Any, *words: Any) -> Any:
         return unwritten(job.folder())
 
 
-def _packed(task: Tuple[Any, ...]) -> bytes:
-    """A task as bytes, this package's code with it, so that the processes need nothing of it."""
-    import cloudpickle
-
-    package = sys.modules[__package__]
-    is_registered = __package__ in cloudpickle.list_registry_pickle_by_value()
-    cloudpickle.register_pickle_by_value(package)
-    try:
-        return cloudpickle.dumps((answer, Told, task))
-    finally:
-        if not is_registered:
-            cloudpickle.unregister_pickle_by_value(package)
-
-
-def _worker() -> Callable[[bytes], Any]:
-    """What a process does with a packed task. It is a function within one, which is sent as code and not by its name."""
-
-    def work(packed: bytes) -> Any:
-        import cloudpickle
-
-        answers, fault, task = cloudpickle.loads(packed)
-        found = answers(*task)
-        # (a fault goes back as plain data)
-        return (True, found.args) if isinstance(found, fault) else (False, found)
-
-    return work
-
-
-_work = _worker()
+def answered(path: str, task: bytes) -> bytes:
+    """What a packed task gives in a process, or the fault that it told, packed as well."""
+    function, words = unpacked(task)
+    return packed(answer(function, job_in(path), *words))
 
 
 class Cluster:
@@ -87,16 +64,28 @@ class Cluster:
     def __init__(self, client: Client, shows_progress: bool) -> None:
         self.client = client
         self.shows_progress = shows_progress
+        # The files that were written for the processes, and the name of the package in each.
+        self.sent: Dict[str, str] = {}
 
     def answers(self, tasks: Sequence[Tuple[Any, ...]]) -> List[Any]:
-        """What tasks give, in their order. Each is a function and its words. Dask runs a task again whose process ended, or whose program was killed."""
-        futures = [self.client.submit(_work, _packed(it), pure=False, retries=2) for it in tasks]
+        """What tasks give, in their order. Each is a function, the job and further words. Dask runs a task again whose process ended, or
+        whose program was killed."""
+        futures = [self.client.submit(work, *self._sent(job), packed((function, words)), pure=False, retries=2) for function, job, *words in tasks]
         if self.shows_progress:
             from distributed import progress
 
             progress(futures, notebook=False)
             print(file=sys.stderr)
-        return [Told(*found) if is_fault else found for is_fault, found in self._gathered(futures)]
+        return [unpacked(it) for it in self._gathered(futures)]
+
+    def _sent(self, job: Any) -> Tuple[str, str]:
+        """The file that the processes read for a job, which is written once, and the name of the package in it."""
+        path = job.place(FILE)
+        if path not in self.sent:
+            name = answer(write, job, path)
+            first_fault([name])
+            self.sent[path] = name
+        return path, self.sent[path]
 
     def _gathered(self, futures: List[Any]) -> List[Any]:
         """What all tasks gave, once none of them runs any more. What Dask tells, as of processes that end each time, is a RuntimeError."""

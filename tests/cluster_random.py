@@ -1,0 +1,105 @@
+"""Random joins through one running Dask cluster of processes, which is kept for all of them: each with and without `--spread`, so that
+its shards are joined in pieces and as they are, beside `radixjoin` alone, byte for byte. The tables are those of
+tests/cluster_pieces.py, which joins them without Dask.
+
+usage: cluster_random.py [RUNS [FIRST [PROCESSES]]]
+
+RUNS random joins from the seed FIRST on, by so many processes (20 from 0 by 2, where they aren't given). It needs Dask, as
+tests/cluster.py does. The last line is 'N passed, M failed'."""
+import logging
+import pathlib
+import random
+import sys
+import time
+from unittest import mock
+
+import cluster_pieces
+import harness
+import shards
+
+from radixjoin import sending, tasks
+
+SCRIPT = shards.SCRIPT
+RUNS, FIRST, PROCESSES = 20, 0, 2
+SECONDS = 600
+
+
+class OnCluster(tasks.Cluster):
+    """A running cluster. It counts joins, and finds the cuts of small files here, since `shards --cuts` leaves these whole."""
+
+    def __init__(self, client, count):
+        super().__init__(client, False)
+        self.count = count
+        self.joins = 0
+
+    def processes(self):
+        return self.count
+
+    def answers(self, words):
+        words = list(words)
+        names = [task.__name__ for task, *_ in words]
+        self.joins += names.count("join_shard")
+        return [tasks.answer(*it) for it in words] if "cuts_of" in names else super().answers(words)
+
+
+def sources(otherwise=sending.sources):
+    """The package with pieces of joined shards that are as small as in the other tests."""
+    code = otherwise()
+    small = code["placed.py"].replace(b"\nPIECE = 1 << 16\n", b"\nPIECE = 200\n")
+    assert small != code["placed.py"]
+    return {**code, "placed.py": small}
+
+
+def run_one(client, seed, tally):
+    """One random join, in two ways. It gives how many joins there were beside those of whole shards, and how it ended."""
+    pick = random.Random(f"radixjoin: shards in a cluster {seed}")
+    with harness.folder() as name:
+        folder = pathlib.Path(name)
+        words = cluster_pieces.words_of(pick, folder)
+        wanted = harness.run([harness.program("radixjoin"), *words], folder)
+        parts, ranges = pick.choice((1, 2, 3)), pick.choice((1, 2, 4))
+        more = [f"--parts={parts}", f"--merges={pick.choice((1, 3))}"]
+        further = 0
+        for spread in ([], [f"--spread={pick.choice((100, 150, 400))}"]):
+            on = OnCluster(client, ranges)
+            ran = shards.joined([*words, *more, *spread], folder, ranges, cluster=lambda _, on=on: on)
+            faults = harness.differences(ran, wanted.stdout, wanted.stderr, wanted.status)
+            tally.check(f"cluster_random: {seed}: {words} {more} {spread} of {ranges} ranges", faults)
+            further += max(0, on.joins - parts)
+        return further, wanted.status
+
+
+def run_random(client, seeds, tally):
+    """Such joins. Where they are many shards were cut in more than a third of them."""
+    with mock.patch.object(SCRIPT, "cuts_of", cluster_pieces.cuts_of), mock.patch.object(sending, "sources", sources):
+        ran = harness.side_by_side(tally, [lambda own, seed=seed: run_one(client, seed, own) for seed in seeds])
+    if len(ran) >= RUNS:
+        cut = sum(further > 0 for further, _ in ran)
+        tally.check("cluster_random: shards that are cut", [] if cut > len(ran) / 3 else [f"in {cut} of {len(ran)} runs"])
+    return sum(further for further, _ in ran)
+
+
+def run_all(tally):
+    python = harness.python_with("distributed", "tomllib")
+    if python is None:
+        print("cluster_random: left out, since there is no Dask (Debian's python3-dask and python3-distributed)")
+        return
+    harness.run_script(tally, python, [__file__], SECONDS)
+
+
+def main(words):
+    from distributed import Client, LocalCluster
+
+    for name in ("asyncio", "tornado", "distributed"):
+        logging.getLogger(name).setLevel(logging.CRITICAL)
+    tally, start = harness.Tally(), time.monotonic()
+    runs, first, processes = [*map(int, words), *(RUNS, FIRST, PROCESSES)[len(words) :]]
+    with LocalCluster(n_workers=processes, threads_per_worker=1, memory_limit=0, dashboard_address=":0", silence_logs=50) as cluster, Client(cluster) as client:
+        further = run_random(client, range(first, first + runs), tally)
+    print(f"cluster_random: {runs} joins, {further} joins beside those of whole shards, {time.monotonic() - start:.0f} s")
+    print(f"{tally.passed} passed, {tally.failed} failed")
+    return 1 if tally.failed else 0
+
+
+if __name__ == "__main__":
+    sys.exit(main(sys.argv[1:]))
