@@ -5,10 +5,12 @@ ghost use Rattle.rj_columns.specs.Contents.{Content, IsInLimits, content_of, not
 ghost use Rattle.rj_columns.specs.Hashed.{HaveTaken};
 ghost use Rattle.rj_columns.specs.Stores.{decimal_content, number_content, text_content};
 ghost use Rattle.rj_columns.specs.Tables.{cell_of};
+ghost use Rattle.rj_columns.specs.Widths.{numbers_lent};
 
 use crate::cell::Cell;
 use crate::column::{decimal_cell, int_cell, text_cell};
 use crate::ints::Ints;
+use crate::numbers::NumberSlice;
 use crate::table::Table;
 use crate::texts::Texts;
 
@@ -22,8 +24,20 @@ pub trait CellHash {
         ensures { result ≡ added self.now hash (content_of cell.entry) };
 }
 
-// Adds the numbers at these rows, where none is null.
-fn hash_present<H: CellHash>(values: &[i64], rows: &[u32], by: &H, hashes: &mut [Option<u64>])
+// Adds the numbers of 4 bytes at these rows, where none is null.
+fn hash_narrow<H: CellHash>(values: &[i32], rows: &[u32], by: &H, hashes: &mut [Option<u64>])
+    requires rows { All (λ r. r < length values.now) rows.now }
+    requires len { length hashes.old ≡ length rows.now }
+    ensures { HaveTaken (H.added by.now) (λ r. slice_index_or (map number_content (map Some values.now)) r nothing) rows.now hashes.old hashes.new }
+{
+    for i in 0..rows.len() {
+        let cell = int_cell(Some(i64::from(values[rows[i] as usize])));
+        hashes[i] = by.add(hashes[i], cell);
+    }
+}
+
+// The same of numbers of 8 bytes.
+fn hash_wide<H: CellHash>(values: &[i64], rows: &[u32], by: &H, hashes: &mut [Option<u64>])
     requires rows { All (λ r. r < length values.now) rows.now }
     requires len { length hashes.old ≡ length rows.now }
     ensures { HaveTaken (H.added by.now) (λ r. slice_index_or (map number_content (map Some values.now)) r nothing) rows.now hashes.old hashes.new }
@@ -31,6 +45,23 @@ fn hash_present<H: CellHash>(values: &[i64], rows: &[u32], by: &H, hashes: &mut 
     for i in 0..rows.len() {
         let cell = int_cell(Some(values[rows[i] as usize]));
         hashes[i] = by.add(hashes[i], cell);
+    }
+}
+
+// Adds the numbers at these rows, where none is null. Their width is asked once for all.
+fn hash_present<H: CellHash>(
+    numbers: NumberSlice<'_>,
+    rows: &[u32],
+    by: &H,
+    hashes: &mut [Option<u64>],
+)
+    requires rows { All (λ r. r < length (numbers_lent numbers)) rows.now }
+    requires len { length hashes.old ≡ length rows.now }
+    ensures { HaveTaken (H.added by.now) (λ r. slice_index_or (map number_content (map Some (numbers_lent numbers.entry))) r nothing) rows.now hashes.old hashes.new }
+{
+    match numbers {
+        NumberSlice::Narrow(values) => hash_narrow(values, rows, by, hashes),
+        NumberSlice::Wide(values) => hash_wide(values, rows, by, hashes),
     }
 }
 
@@ -45,8 +76,8 @@ pub(crate) fn hash_ints<H: CellHash>(
     requires len { length hashes.old ≡ length rows.now }
     ensures { HaveTaken (H.added by.now) (λ r. slice_index_or (map number_content numbers.now) r nothing) rows.now hashes.old hashes.new }
 {
-    if let Some(values) = numbers.present() {
-        hash_present(values, rows, by, hashes);
+    if let Some(present) = numbers.present() {
+        hash_present(present, rows, by, hashes);
         return;
     }
     for i in 0..rows.len() {

@@ -6,7 +6,7 @@ use mir.Val.{SFits}
 use Rattle.rj_columns.specs.Contents.{nothing, whole}
 use Rattle.rj_columns.specs.Stores.{number_content}
 use Rattle.rj_columns.proofs.HashFacts.{Taking-none, Taking-more, Taking-all}
-use Rattle.rj_columns.proofs.hashing.hash_present.Goals as goal
+use Rattle.rj_columns.proofs.hashing.hash_wide.Goals as goal
 
 pub loop-i-init : goal.loop-i-init
 loop-i-init g c = Taking-none (g.H.CellHash.added c.args.by.now) (λ r. get_or (map number_content (map Some c.args.values.now)) r nothing) c.args.rows.now c.args.hashes.now
