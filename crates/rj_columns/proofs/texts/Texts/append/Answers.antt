@@ -1,15 +1,15 @@
-use Rattle.std.proofs.Common.{rules, ◌≡◌, ◌∙◌, ◌<◌, ◌≤◌, ◌+◌, ◌++◌, ◌^◌, map, length, arith, ap}
+use Rattle.std.proofs.Common.{rules, ◌≡◌, ◌∙◌, ◌≤◌, ◌+◌, ◌++◌, map, length, arith, ap}
 use Rattle.std.proofs.lemmas.Result.{on_ok_weaker}
 use Rattle.rj_columns.specs.Packed.{texts_from}
 use Rattle.rj_columns.proofs.PackFacts.{ends-inside}
 use Rattle.rj_columns.proofs.TextFacts.{joined-packed, joined-shown}
 use Rattle.rj_columns.proofs.texts.Texts.append.Goals as goal
 
-pub append-requires : goal.append-requires
-append-requires c = λ k d h.
+pub append-requires-clause-inside : goal.append-requires-clause-inside
+append-requires-clause-inside c = λ k d h.
     let fits = ends-inside c.other.inside.bytes.items c.other.inside.ends (texts_from 0 c.other.inside.bytes.items c.other.inside.ends) c.other.invariant.texts k d h in
-    let size : c.len-size.result + length c.other.inside.bytes.items < 2 ^ 64 =
-    omega (arith, c.extend_from_slice.new.self.small, c.in_ok-extend_from_slice.ensures.len, ap length c.as_slice.ensures.value, c.len-size.ensures, c.extend_from_slice.new.self.ok) in
+    let size : c.len.result ≡ c.len-size.result + length c.other.inside.bytes.items =
+    omega (arith, c.len.ensures, c.in_ok-extend_from_slice.ensures.len, ap length c.as_slice.ensures.value, c.len-size.ensures, c.extend_from_slice.new.self.ok) in
     omega arith
 
 pub invariant_of-self-2 : goal.invariant_of-self-2
