@@ -290,7 +290,7 @@ module _ (nulls : List (List ℕ)) where
           let small : row_told e < 2 ^ 63 = rw many.0 (lit< tt) in
           let same : r ≡ refused.TooLong = is small ∙ ap (fault_behind before) many.0 in
           let P : DivideRefused → Type 0 = IsFaultBehind nulls types before outputs xs in
-          subst P (sym same) (omega (arith, many.1)))
+          subst P (sym same) (inl (omega (arith, many.1))))
       | inr fault ↦ (
           let x = fault.first in
           let told = fault-tells (0 + length x.good + 1) x.bad e x.is in

@@ -1,5 +1,5 @@
 -- Line ends of bytes in a text, and ranges that end soon.
-use Rattle.std.proofs.Common.{◌≡◌, ◌<◌, ◌≤◌, ◌+◌, ◌-◌, ◌*◌, ◌^◌, inl, inr, ℕ, List, [], ◌∷◌, ◌++◌, refl, sym, ap, subst, ◌∙◌, arith, length, take, drop, get_or}
+use Rattle.std.proofs.Common.{◌≡◌, ◌<◌, ◌≤◌, ◌+◌, ◌-◌, ◌*◌, ◌^◌, ◌⊎◌, inl, inr, ℕ, List, [], ◌∷◌, ◌++◌, refl, sym, ap, subst, ◌∙◌, append_assoc, arith, length, take, drop, get_or}
 use Rattle.std.proofs.lemmas.Bool.{cases_lt}
 use Rattle.std.proofs.lemmas.List.{append-nil, get_or-append-add, get_or-take, get_or_append_left, length-drop, length-take, length-take-le, take-append-drop, take-append-le, take-take, take_all}
 use Rattle.std.proofs.Math.Seq.{drop-append_seam, take-add, take-append_seam}
@@ -9,7 +9,7 @@ use Rattle.rj_csv_io.specs.Pieces.{IsLastEnd, IsLineEnd}
 use Rattle.rj_csv_io.proofs.CutFacts.{after-append}
 use Rattle.rj_csv_io.proofs.InputFacts.{front-on}
 use Rattle.rj_csv_io.proofs.PieceFacts.{no-end}
-use Rattle.rj_divide.specs.Ranges.{AreShort, EndIn, IsCutPlace, IsReadFor, IsShort, RiseTo}
+use Rattle.rj_divide.specs.Ranges.{AreShort, EndIn, IsCutPlace, IsPiece, IsReadFor, IsShort, RiseTo}
 
 -- ---- line ends
 
@@ -44,6 +44,13 @@ line-front bytes next k front h e = record {
   behind = e.behind;
   feed = ap (λ l. get_or l (k - 1) 0) (sym front) ∙ (get_or-take (length bytes) next (k - 1) 0 (omega (arith, h, e.behind)) ∙ e.feed);
   ends = ap (λ l. state_after st.StartRecord (take k l)) (sym front) ∙ (ap (state_after st.StartRecord) (take-take k (length bytes) next h) ∙ e.ends);
+}
+
+line-back : (bytes : List ℕ) (end k : ℕ) → k ≤ end → IsLineEnd (take end bytes) k → IsLineEnd bytes k
+line-back bytes end k h e = record {
+  behind = e.behind;
+  feed = sym (get_or-take end bytes (k - 1) 0 (omega (arith, h, e.behind))) ∙ e.feed;
+  ends = sym (ap (state_after st.StartRecord) (take-take k end bytes h)) ∙ e.ends;
 }
 
 -- behind the last line end there is none
@@ -104,6 +111,26 @@ read-bound block old bytes r none = elim (cases_lt (length old) (length bytes)) 
       let all : bytes ≡ old = sym (take_all (length old) bytes same) ∙ r.front in
       (length bytes, omega arith, (λ at h e. none at (let size = ap length all in omega (arith, h, size)) (subst (λ l. IsLineEnd l at) all e)), omega arith))
 ]
+
+-- the bytes up to a line end, or all of them
+pub piece-read : (block : ℕ) (text taken old bytes left : List ℕ) (end : ℕ) → text ≡ taken ++ (bytes ++ left) → IsReadFor block old bytes
+    → ((at : ℕ) → at ≤ length old → IsLineEnd old at → ⊥) → end ≤ length bytes → (end ≡ length bytes) ⊎ IsLineEnd bytes end → IsPiece block text (take end bytes)
+piece-read block text taken old bytes left end order read none within stops =
+    let found = read-bound block old bytes read none in
+    let size = length-take-le end bytes within in
+    let few : found.0 ≤ end = elim stops [
+      | inl all ↦ omega (arith, all, found.1)
+      | inr line ↦ elim (cases_lt end found.0) [ inl more ↦ absurd (found.2 end (omega (arith, more)) line) | inr h ↦ h ]
+    ] in
+    record {
+      above = taken;
+      below = drop end bytes ++ left;
+      order = order ∙ ap (λ (l : List ℕ). taken ++ l) (ap (λ (l : List ℕ). l ++ left) (sym (take-append-drop end bytes)) ∙ append_assoc (take end bytes) (drop end bytes) left);
+      plain = found.0;
+      within = omega (arith, few, size);
+      none = λ at low line. found.2 at low (line-back bytes end at (omega (arith, low, few)) line);
+      most = omega (arith, size, within, found.3);
+    }
 
 -- ---- ranges that end soon
 

@@ -8,9 +8,10 @@ use Rattle.csv.specs.declared.parser.State.TheVariants as st
 use Rattle.rj_columns.specs.declared.cell.ColumnType.{ColumnType}
 use Rattle.rj_columns.specs.Contents.{Content}
 use Rattle.rj_csv_io.specs.Cuts.{state_after}
-use Rattle.rj_csv_io.specs.Pieces.{AreRows}
+use Rattle.rj_csv_io.specs.Pieces.{AreRows, IsLineEnd}
 use Rattle.rj_divide.specs.Blocks.{BeginIn, IsAfterBlock, IsBlockFault, IsBrokenAt, IsRangeDivided, IsRangeFault, IsReadTo, StandIn, above, block_reads, in_all, in_lines, in_text, records_in, strict_behind}
 use Rattle.rj_divide.specs.Divisions.{IsDivided}
+use Rattle.rj_divide.specs.Ranges.{IsPiece, IsReadFor}
 use Rattle.rj_divide.specs.Readings.{IsInputFault}
 use Rattle.rj_divide.specs.declared.refused.BlockRefused.{BlockRefused}
 use Rattle.rj_divide.specs.declared.refused.BlockRefused.TheVariants as refused
@@ -19,6 +20,7 @@ use Rattle.rj_divide.specs.declared.refused.DivideRefused.TheVariants as divide
 use Rattle.rj_divide.proofs.BrokenFacts.{EndsWell, Reads, above-behind, behind-none, fault-behind, row-counts}
 use Rattle.rj_divide.proofs.DivisionFacts.{divided-more, divided-none, piece-reads}
 use Rattle.rj_divide.proofs.ReadingFacts.{first-behind, rows-append, rows-many}
+use Rattle.rj_divide.proofs.ShortFacts.{line-rest, piece-read}
 use Rattle.rj_strict.specs.Grammar.{Derives, File, Line, Record, is_blank, is_record, is_rest, lines_text, names_of, records_of, rest_records, rest_text, values_of}
 use Rattle.rj_strict.specs.Faults.{AreAbove, HasFault, row_at}
 use Rattle.rj_strict.specs.declared.fault.StrictFault.{StrictFault}
@@ -63,6 +65,7 @@ module _ (nulls : List (List ℕ)) (types : List ColumnType) (part : List Conten
     told = told;
     taken = [];
     order = sym (ap (λ (l : List ℕ). l ++ text) none);
+    none = λ at h e. let few = ap length none in absurd (omega (arith, few, h, e.behind));
     file = record { lines = []; rest = None };
     derived = record { spelled = refl; lines = refl; rest = refl };
     divided = divided-none nulls types part first before;
@@ -97,30 +100,35 @@ module _ (nulls : List (List ℕ)) (types : List ColumnType) (part : List Conten
         go None is h = absurd h
         go (Some x) is h = record { behind = x; is_told = is; same = h }
 
+    read-text : text ≡ u.taken ++ (now ++ more.behind)
+    read-text = u.order ∙ ap (λ (l : List ℕ). u.taken ++ l) more.same
+
     cut : now ++ more.behind ≡ take end now ++ (drop end now ++ more.behind)
     cut = sym (ap (λ (l : List ℕ). l ++ more.behind) (take-append-drop end now)) ∙ append_assoc (take end now) (drop end now) more.behind
 
     -- the text, cut behind the block
     cut-text : text ≡ u.taken ++ (take end now ++ (drop end now ++ more.behind))
-    cut-text = u.order ∙ ap (λ (l : List ℕ). u.taken ++ l) (more.same ∙ cut)
+    cut-text = read-text ∙ ap (λ (l : List ℕ). u.taken ++ l) cut
 
     -- one block more
-    pub read-more : (other : File) → length after ≡ length between → 0 < end → end ≤ length now → Derives (Above (length types)) true (take end now) other
+    pub read-more : (other : File) → length after ≡ length between → IsLineEnd now end → ((at : ℕ) → end < at → at ≤ length now → IsLineEnd now at → ⊥) → end ≤ length now
+        → Derives (Above (length types)) true (take end now) other
         → IsDivided nulls types part (first + m) (records_of other) between after n → IsReadTo nulls types part first text before tells (drop end now) after (m + n) (blocks + 1)
-    read-more other many some within e new =
+    read-more other many line rest within e new =
         let all = both joins true u.taken (take end now) u.file other between after m n u.derived u.divided u.outputs e new in
         record {
           left = more.behind;
           told = more.is_told;
           taken = u.taken ++ take end now;
           order = cut-text ∙ sym (append_assoc u.taken (take end now) (drop end now ++ more.behind));
+          none = line-rest now end within line rest;
           file = all.0;
           derived = all.1;
           divided = all.2;
           outputs = many ∙ u.outputs;
           shorter =
               let a = ap length more.same in let b = length-append now more.behind in let c = length-append (drop end now) more.behind in let d = length-drop end now in
-              omega (arith, u.shorter, a, b, c, d, some, within);
+              omega (arith, u.shorter, a, b, c, d, line.behind, within);
         }
 
     -- nothing is left behind the last block
@@ -220,28 +228,42 @@ module _ (nulls : List (List ℕ)) (types : List ColumnType) (part : List Conten
           is = b.is ∙ (ap (λ (j : ℕ). strict_behind j b.at) rows-behind ∙ sym (behind-none (strict_behind k b.at)));
         }
 
+    -- the block is a piece of the text
+    piece-in : (block : ℕ) (full whole : Bool) → IsReadFor block old now → Stops full whole → IsPiece block text (take end now)
+    piece-in block full whole read (inl e) = piece-read block text u.taken old now more.behind end read-text read u.none (omega (arith, e.0)) (inl e.0)
+    piece-in block full whole read (inr e) =
+        piece-read block text u.taken old now more.behind end read-text read u.none e.2 (inr (record { behind = e.1; feed = e.0; ends = e.3 }))
+
     -- a block that is not divided
-    pub fault-in : Reads → (full whole : Bool) (outputs : ℕ) (e : BlockRefused) → Stops full whole → IsBlockFault nulls types whole (take end now) m outputs e
-        → IsRangeFault nulls types full text outputs e
-    fault-in law full whole outputs (refused.Broken f) s h = broken-in law full whole f s h
-    fault-in law full whole outputs (refused.Divided (divide.Read f)) s h =
+    pub fault-in : Reads → (block : ℕ) → IsReadFor block old now → (full whole : Bool) (outputs : ℕ) (e : BlockRefused) → Stops full whole
+        → IsBlockFault nulls types whole (take end now) m outputs e → IsRangeFault nulls types block full text outputs e
+    fault-in law block read full whole outputs (refused.Broken f) s h = broken-in law full whole f s h
+    fault-in law block read full whole outputs (refused.Divided (divide.Read f)) s h =
         (records_of u.file ++ h.0, begin-in full whole s h.0 h.1, first-behind nulls types (records_of u.file) h.0 u.divided.rows m f u.divided.read u.divided.many h.2)
-    fault-in law full whole outputs (refused.Divided divide.TooLong) s h =
+    fault-in law block read full whole outputs (refused.Divided divide.TooLong) s h =
+        let begins = begin-in full whole s h.0 h.1 in
         let a = rows-many nulls types (records_of u.file) u.divided.rows u.divided.read in
         let b = length-append (records_of u.file) h.0 in
-        inl (records_of u.file ++ h.0, begin-in full whole s h.0 h.1, omega (arith, a, b, u.divided.many, h.2))
-    fault-in law full whole outputs (refused.Divided divide.ReadDevice) s h = tt
-    fault-in law full whole outputs (refused.Divided (divide.WriteDevice p)) s h = h.2
-    fault-in law full whole outputs (refused.Divided divide.Memory) s h = tt
+        elim h.2 [
+          | inl many ↦ inl (
+            h.0,
+            record { before = records_of u.file; begin = begins; piece = take end now; is_piece = piece-in block full whole read s; whole = whole; of_piece = h.1 },
+            many,
+          )
+          | inr many ↦ inr (inl (records_of u.file ++ h.0, begins, omega (arith, a, b, u.divided.many, many)))
+        ]
+    fault-in law block read full whole outputs (refused.Divided divide.ReadDevice) s h = tt
+    fault-in law block read full whole outputs (refused.Divided (divide.WriteDevice p)) s h = h.2
+    fault-in law block read full whole outputs (refused.Divided divide.Memory) s h = tt
 
 -- the device that gives bytes failed, or memory was refused
-pub input-range : (nulls : List (List ℕ)) (types : List ColumnType) (full : Bool) (text : List ℕ) (outputs : ℕ) (e : DivideRefused) → IsInputFault e
-    → IsRangeFault nulls types full text outputs (refused.Divided e)
-input-range nulls types full text outputs (divide.Read f) h = absurd h
-input-range nulls types full text outputs divide.TooLong h = absurd h
-input-range nulls types full text outputs divide.ReadDevice h = tt
-input-range nulls types full text outputs (divide.WriteDevice p) h = absurd h
-input-range nulls types full text outputs divide.Memory h = tt
+pub input-range : (nulls : List (List ℕ)) (types : List ColumnType) (block : ℕ) (full : Bool) (text : List ℕ) (outputs : ℕ) (e : DivideRefused) → IsInputFault e
+    → IsRangeFault nulls types block full text outputs (refused.Divided e)
+input-range nulls types block full text outputs (divide.Read f) h = absurd h
+input-range nulls types block full text outputs divide.TooLong h = absurd h
+input-range nulls types block full text outputs divide.ReadDevice h = tt
+input-range nulls types block full text outputs (divide.WriteDevice p) h = absurd h
+input-range nulls types block full text outputs divide.Memory h = tt
 
 -- the device that gives bytes did not fail behind a block that was read
 pub block-reads : (T : Type 0) (e : BlockRefused) (old new : ℕ) → IsAfterBlock e → new ≡ old → new ≡ block_reads {T = T} (Err e) old

@@ -1,22 +1,24 @@
 -- Divisions that go on.
-use Rattle.std.proofs.Common.{◌≡◌, ◌<◌, ◌≤◌, ◌+◌, inl, ℕ, List, [], ◌∷◌, ◌++◌, Option, Some, None, Bool, true, false, refl, sym, ap, ◌∙◌, arith, append_assoc, length, take, drop}
+use Rattle.std.proofs.Common.{◌≡◌, ◌<◌, ◌≤◌, ◌+◌, ◌⊎◌, inl, inr, subst, ℕ, List, [], ◌∷◌, ◌++◌, Option, Some, None, Bool, true, false, refl, sym, ap, ◌∙◌, arith, append_assoc, length, take, drop}
 use Rattle.std.specs.Prelude.{IfSome, if◌then◌else◌}
 use Rattle.std.specs.Io.KnownBytes.{Consumes, IsAtEnd}
-use Rattle.std.proofs.lemmas.List.{append-nil, drop_all, length-append, length-drop, take_all}
+use Rattle.std.proofs.lemmas.List.{append-nil, drop_all, length-append, length-drop, take-append-drop, take_all}
 use Rattle.csv.specs.Machine.{next_record}
 use Rattle.csv.specs.Reading.{default_config, records, records_from}
 use Rattle.rj_columns.specs.declared.cell.ColumnType.{ColumnType}
 use Rattle.rj_columns.specs.Contents.{Content}
 use Rattle.rj_csv_io.specs.declared.refused.ReadRefused.{ReadRefused}
-use Rattle.rj_csv_io.specs.Pieces.{piece_records}
+use Rattle.rj_csv_io.specs.Pieces.{IsLineEnd, piece_records}
 use Rattle.rj_divide.specs.declared.whole.Rest.{Rest}
 use Rattle.rj_divide.specs.declared.refused.DivideRefused.{DivideRefused}
 use Rattle.rj_divide.specs.declared.refused.DivideRefused.TheVariants as refused
 use Rattle.rj_divide.specs.Divisions.{IsDivided}
 use Rattle.rj_divide.specs.Readings.{IsDivisionFault, IsFaultBehind, IsFirstFault, IsInputFault}
+use Rattle.rj_divide.specs.Ranges.{IsReadFor}
 use Rattle.rj_divide.specs.Underway.{IsUnderway, behind_header}
 use Rattle.rj_divide.proofs.DivisionFacts.{divided-more, divided-none}
 use Rattle.rj_divide.proofs.ReadingFacts.{first-behind, rows-many}
+use Rattle.rj_divide.proofs.ShortFacts.{line-rest, piece-read}
 
 -- no bytes have no records
 pub records-none : records default_config [] ≡ []
@@ -95,6 +97,9 @@ module _ (nulls : List (List ℕ)) (types : List ColumnType) (part : List Conten
       record {
         left = text;
         told = told;
+        taken = [];
+        order = sym all;
+        none = λ at h e. let few = ap length none in absurd (omega (arith, few, h, e.behind));
         done = [];
         split = rw (all, same) refl;
         divided = rw zero (divided-none nulls types part first before);
@@ -119,6 +124,9 @@ module _ (nulls : List (List ℕ)) (types : List ColumnType) (part : List Conten
     t : Told rest.bytes.items u.left bytes tells
     t = told-more rest.bytes.items u.left bytes old tells u.told reads
 
+    order-more : text ≡ u.taken ++ (bytes ++ t.more)
+    order-more = u.order ∙ ap (λ l. u.taken ++ l) t.same
+
     split-more : piece_records is_first text ≡ u.done ++ piece_records rest.is_first (bytes ++ t.more)
     split-more = u.split ∙ ap (λ l. u.done ++ piece_records rest.is_first l) t.same
 
@@ -126,16 +134,22 @@ module _ (nulls : List (List ℕ)) (types : List ColumnType) (part : List Conten
     cut-more = cut t.more (λ e. rw t.told at (ends e))
 
     -- one piece more
-    pub go-on : (next : Rest) (after : List (Option (List ℕ))) (n : ℕ) → length after ≡ length now → end ≤ length bytes → (last ≡ false → 0 < end)
+    pub go-on : (next : Rest) (after : List (Option (List ℕ))) (n : ℕ) → length after ≡ length now → end ≤ length bytes → (last ≡ true → end ≡ length bytes)
+        → (last ≡ false → IsLineEnd bytes end) → (last ≡ false → (at : ℕ) → end < at → at ≤ length bytes → IsLineEnd bytes at → ⊥)
         → ((more : List (List (List ℕ))) → behind_header rest.is_first (records default_config (take end bytes) ++ more) ≡ behind_header rest.is_first (records default_config (take end bytes)) ++ behind_header next.is_first more)
         → next.bytes.items ≡ drop end bytes → next.rows ≡ rest.rows + n → IsDivided nulls types part (first + rest.rows) (piece_records rest.is_first (take end bytes)) now after n
         → IsUnderway nulls types part first is_first text before tells next after (if last then pieces else pieces + 1)
-    go-on next after n many within some header left rows divided =
+    go-on next after n many within whole line behind header left rows divided =
         let piece = piece_records rest.is_first (take end bytes) in
         let behind : piece_records next.is_first (drop end bytes ++ t.more) ≡ piece_records next.is_first (next.bytes.items ++ t.more) = ap (λ l. piece_records next.is_first (l ++ t.more)) (sym left) in
         record {
           left = t.more;
           told = t.told;
+          taken = u.taken ++ take end bytes;
+          order = order-more
+              ∙ (ap (λ l. u.taken ++ l) (ap (λ l. l ++ t.more) (sym (take-append-drop end bytes)) ∙ append_assoc (take end bytes) (drop end bytes) t.more)
+              ∙ (sym (append_assoc u.taken (take end bytes) (drop end bytes ++ t.more)) ∙ ap (λ l. (u.taken ++ take end bytes) ++ (l ++ t.more)) (sym left)));
+          none = none-on last refl;
           done = u.done ++ piece;
           split = split-more
               ∙ (ap (λ l. u.done ++ l) (piece-split rest.is_first next.is_first bytes t.more end cut-more header ∙ ap (λ l. piece ++ l) behind)
@@ -145,39 +159,65 @@ module _ (nulls : List (List ℕ)) (types : List ColumnType) (part : List Conten
           shorter =
               let a = ap length t.same in let b = length-append bytes t.more in let c = length-append (drop end bytes) t.more in let d = length-drop end bytes in
               let e = ap (λ l. length (l ++ t.more)) left in
-              shorter-by last (λ h. some h) (omega (arith, u.shorter, a)) (omega (arith, b, c, d, e, within));
+              shorter-by last (λ h. (line h).behind) (omega (arith, u.shorter, a)) (omega (arith, b, c, d, e, within));
         }
       where
+        none-on : (x : Bool) → last ≡ x → (at : ℕ) → at ≤ length next.bytes.items → IsLineEnd next.bytes.items at → ⊥
+        none-on true is at h e =
+            let few = ap length left in let size = length-drop end bytes in let all = whole is in
+            absurd (omega (arith, few, size, all, h, e.behind))
+        none-on false is at h e =
+            let few = ap length left in
+            line-rest bytes end within (line is) (behind is) at (omega (arith, few, h)) (subst (λ l. IsLineEnd l at) left e)
+
         shorter-by : (x : Bool) → (x ≡ false → 0 < end) → pieces + length (bytes ++ t.more) ≤ length text → end + length (next.bytes.items ++ t.more) ≡ length (bytes ++ t.more)
             → (if x then pieces else pieces + 1) + length (next.bytes.items ++ t.more) ≤ length text
         shorter-by true h low same = omega (arith, low, same)
         shorter-by false h low same = let z = h refl in omega (arith, low, same, z)
 
     -- a piece that is not divided
-    pub fault-in : (outputs : ℕ) (e : DivideRefused) → IsFaultBehind nulls types rest.rows outputs (piece_records rest.is_first (take end bytes)) e → IsDivisionFault nulls types is_first text outputs e
-    fault-in outputs e h =
+    pub fault-in : (block outputs : ℕ) (e : DivideRefused) → IsReadFor block rest.bytes.items bytes → end ≤ length bytes → (end ≡ length bytes) ⊎ IsLineEnd bytes end
+        → IsFaultBehind nulls types rest.rows outputs (piece_records rest.is_first (take end bytes)) e → IsDivisionFault nulls types block is_first text outputs e
+    fault-in block outputs e read within stops h =
         let more = header-prefix rest.is_first (records default_config (take end bytes)) (records default_config (drop end bytes ++ t.more)) in
         let all : piece_records is_first text ≡ u.done ++ (piece_records rest.is_first (take end bytes) ++ more.0) =
         split-more ∙ ap (λ l. u.done ++ l) (piece-as rest.is_first (bytes ++ t.more) ∙ (ap (behind_header rest.is_first) cut-more ∙ (more.1 ∙ ap (λ l. l ++ more.0) (sym (piece-as rest.is_first (take end bytes)))))) in
         go e more.0 all h
       where
         go : (x : DivideRefused) (tail : List (List (List ℕ))) → piece_records is_first text ≡ u.done ++ (piece_records rest.is_first (take end bytes) ++ tail)
-            → IsFaultBehind nulls types rest.rows outputs (piece_records rest.is_first (take end bytes)) x → IsDivisionFault nulls types is_first text outputs x
+            → IsFaultBehind nulls types rest.rows outputs (piece_records rest.is_first (take end bytes)) x → IsDivisionFault nulls types block is_first text outputs x
         go (refused.Read f) tail all h =
             let piece = piece_records rest.is_first (take end bytes) in
             rw all (first-behind nulls types u.done (piece ++ tail) u.divided.rows rest.rows f u.divided.read u.divided.many (more-fault nulls types rest.rows piece tail f h))
         go refused.TooLong tail all h =
             let piece = piece_records rest.is_first (take end bytes) in
-            let a = ap length all in let b = length-append u.done (piece ++ tail) in let c = length-append piece tail in let d = rows-many nulls types u.done u.divided.rows u.divided.read in
-            inl (omega (arith, a, b, c, d, h, u.divided.many))
+            elim h [
+              | inl many ↦ inl (
+                piece,
+                record {
+                  before = u.done;
+                  after = tail;
+                  among = all;
+                  piece = take end bytes;
+                  is_piece = piece-read block text u.taken rest.bytes.items bytes t.more end order-more read u.none within stops;
+                  ahead = rest.is_first;
+                  of_piece = refl;
+                },
+                many,
+              )
+              | inr many ↦ (
+                  let a = ap length all in let b = length-append u.done (piece ++ tail) in let c = length-append piece tail in let d = rows-many nulls types u.done u.divided.rows u.divided.read in
+                  inr (inl (omega (arith, a, b, c, d, many, u.divided.many))))
+            ]
         go refused.ReadDevice tail all h = tt
         go (refused.WriteDevice p) tail all h = h
         go refused.Memory tail all h = tt
 
 -- the device that gives bytes failed, or memory was refused
-pub input-fault : (nulls : List (List ℕ)) (types : List ColumnType) (is_first : Bool) (text : List ℕ) (outputs : ℕ) (e : DivideRefused) → IsInputFault e → IsDivisionFault nulls types is_first text outputs e
-input-fault nulls types is_first text outputs (refused.Read f) h = absurd h
-input-fault nulls types is_first text outputs refused.TooLong h = absurd h
-input-fault nulls types is_first text outputs refused.ReadDevice h = tt
-input-fault nulls types is_first text outputs (refused.WriteDevice p) h = absurd h
-input-fault nulls types is_first text outputs refused.Memory h = tt
+pub input-fault : (nulls : List (List ℕ)) (types : List ColumnType) (block : ℕ) (is_first : Bool) (text : List ℕ) (outputs : ℕ) (e : DivideRefused) → IsInputFault e
+    → IsDivisionFault nulls types block is_first text outputs e
+input-fault nulls types block is_first text outputs (refused.Read f) h = absurd h
+input-fault nulls types block is_first text outputs refused.TooLong h = absurd h
+input-fault nulls types block is_first text outputs refused.ReadDevice h = tt
+input-fault nulls types block is_first text outputs (refused.WriteDevice p) h = absurd h
+input-fault nulls types block is_first text outputs refused.Memory h = tt

@@ -3,8 +3,9 @@ use Rattle.std.specs.Prelude.{ℕ, ◌+◌, ◌-◌, ◌^◌, ◌≡◌, ◌≤�
 use Rattle.rj_columns.specs.declared.cell.ColumnType.{ColumnType}
 use Rattle.rj_columns.specs.declared.refused.BuildRefused.{BuildRefused}
 use Rattle.rj_columns.specs.Contents.{Content}
-use Rattle.rj_csv_io.specs.Pieces.{AreRows}
+use Rattle.rj_csv_io.specs.Pieces.{AreRows, IsLineEnd}
 use Rattle.rj_divide.specs.Divisions.{IsDivided, counts_after}
+use Rattle.rj_divide.specs.Ranges.{IsPiece}
 use Rattle.rj_divide.specs.Readings.{IsAfterReading, IsFaultBehind, IsFirstFault, IsHeaderRefusal, reads_after}
 use Rattle.rj_strict.specs.Faults.{AreAbove, HasFault, row_at}
 use Rattle.rj_strict.specs.Grammar.{Derives, File, Line, records_of}
@@ -73,13 +74,14 @@ IsBlockRefusal b (refused.Broken f) = ⊥
 IsBlockRefusal b (refused.Divided e) = IsHeaderRefusal b e
 
 -- a range of which so many rows are divided, in at least so many blocks: those of its first bytes, which are lines below the
--- header's names; the others are those of the bytes that were read and of what the device tells
+-- header's names; the others are those of the bytes that were read, in which no record ends, and of what the device tells
 pub record IsReadTo (nulls : List (List ℕ)) (types : List ColumnType) (part : List Content → ℕ) (first : ℕ) (text : List ℕ)
     (before : List (Option (List ℕ))) (tells : Option (List ℕ)) (bytes : List ℕ) (now : List (Option (List ℕ))) (rows blocks : ℕ) : Type 0 where
   pub left : List ℕ
   pub told : tells ≡ Some left
   pub taken : List ℕ
   pub order : text ≡ taken ++ (bytes ++ left)
+  pub none : (at : ℕ) → at ≤ length bytes → IsLineEnd bytes at → ⊥
   pub file : File
   pub derived : Derives (Above (length types)) true taken file
   pub divided : IsDivided nulls types part first (records_of file) before now rows
@@ -96,14 +98,28 @@ pub data BeginIn (names : ℕ) (full : Bool) (text : List ℕ) : List (List (Lis
   in_text : (file : File) → Derives (Above names) full text file → BeginIn names full text (records_of file)
   in_lines : (row : ℕ) (lines : List Line) → AreAbove (Above names) text row lines → BeginIn names full text (records_in lines)
 
--- why a range is not divided among so many outputs: the place where its text stops being derived, below records that are all
--- rows; the first fault of records that it begins with; a fault of a device or of memory; or its length
-abbrev pub IsRangeFault : List (List ℕ) → List ColumnType → Bool → List ℕ → ℕ → BlockRefused → Type 0
-IsRangeFault nulls types full text outputs (refused.Broken f) = IsBrokenAt nulls types full text 0 f
-IsRangeFault nulls types full text outputs (refused.Divided (divide.Read f)) =
+-- records of a range, below so many names, that are those of one piece of it: the range begins with some others and these
+pub record StandInBlock (names block : ℕ) (full : Bool) (text : List ℕ) (records : List (List (List ℕ))) : Type 0 where
+  pub before : List (List (List ℕ))
+  pub begin : BeginIn names full text (before ++ records)
+  pub piece : List ℕ
+  pub is_piece : IsPiece block text piece
+  pub whole : Bool
+  pub of_piece : StandIn names whole piece records
+
+-- a range that is read by such blocks has 2^31 rows or more in one piece or 2^61 in all, or 2^64 - 1 bytes or more
+abbrev pub IsRangeTooLong : ℕ → ℕ → Bool → List ℕ → Type 0
+IsRangeTooLong names block full text =
+    ((records : List (List (List ℕ))) × StandInBlock names block full text records × (2 ^ 31 ≤ length records))
+    ⊎ (((records : List (List (List ℕ))) × BeginIn names full text records × (2 ^ 61 ≤ length records)) ⊎ (2 ^ 64 - 1 ≤ length text))
+
+-- why a range that is read by such blocks is not divided among so many outputs: the place where its text stops being derived, below
+-- records that are all rows; the first fault of records that it begins with; a fault of a device or of memory; or its length
+abbrev pub IsRangeFault : List (List ℕ) → List ColumnType → ℕ → Bool → List ℕ → ℕ → BlockRefused → Type 0
+IsRangeFault nulls types block full text outputs (refused.Broken f) = IsBrokenAt nulls types full text 0 f
+IsRangeFault nulls types block full text outputs (refused.Divided (divide.Read f)) =
     (records : List (List (List ℕ))) × BeginIn (length types) full text records × IsFirstFault nulls types 0 records f
-IsRangeFault nulls types full text outputs (refused.Divided divide.TooLong) =
-    ((records : List (List (List ℕ))) × BeginIn (length types) full text records × (2 ^ 31 ≤ length records)) ⊎ (2 ^ 64 - 1 ≤ length text)
-IsRangeFault nulls types full text outputs (refused.Divided divide.ReadDevice) = Unit {0}
-IsRangeFault nulls types full text outputs (refused.Divided (divide.WriteDevice p)) = p < outputs
-IsRangeFault nulls types full text outputs (refused.Divided divide.Memory) = Unit {0}
+IsRangeFault nulls types block full text outputs (refused.Divided divide.TooLong) = IsRangeTooLong (length types) block full text
+IsRangeFault nulls types block full text outputs (refused.Divided divide.ReadDevice) = Unit {0}
+IsRangeFault nulls types block full text outputs (refused.Divided (divide.WriteDevice p)) = p < outputs
+IsRangeFault nulls types block full text outputs (refused.Divided divide.Memory) = Unit {0}

@@ -55,6 +55,17 @@ pub record IsReadFor (block : ℕ) (old bytes : List ℕ) : Type 0 where
   pub none : IsLastEnd bytes plain 0
   pub most : length old < length bytes → length bytes ≤ block + 2 * plain + 2 ^ 16
 
+-- bytes of a text that can be a piece of it: no more of them than a block, twice as many as the first ones, in which no record ends,
+-- and 64 KiB
+pub record IsPiece (block : ℕ) (text piece : List ℕ) : Type 0 where
+  pub above : List ℕ
+  pub below : List ℕ
+  pub order : text ≡ above ++ (piece ++ below)
+  pub plain : ℕ
+  pub within : plain ≤ length piece
+  pub none : (at : ℕ) → at ≤ plain → IsLineEnd piece at → ⊥
+  pub most : length piece ≤ block + 2 * plain + 2 ^ 16
+
 -- the places rise up to this one, which is the last
 unfoldable pub RiseTo : ℕ → ℕ → List ℕ → ℕ → Type 0
 RiseTo size from [] last = from ≡ last

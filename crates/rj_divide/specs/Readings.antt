@@ -10,6 +10,7 @@ use Rattle.rj_csv_io.specs.Tables.{of_begun}
 use Rattle.rj_csv_io.specs.Typed.{read_cells}
 use Rattle.rj_divide.specs.declared.refused.DivideRefused.{DivideRefused}
 use Rattle.rj_divide.specs.declared.refused.DivideRefused.TheVariants as refused
+use Rattle.rj_divide.specs.Ranges.{IsPiece}
 
 -- what a record reads as where it is the row of this number, counted from 1
 abbrev pub numbered_row : List (List ℕ) → List ColumnType → ℕ → List (List ℕ) → Result (List Content) ReadRefused
@@ -26,10 +27,11 @@ pub record IsFirstFault (nulls : List (List ℕ)) (types : List ColumnType) (bef
   pub read : AreRows nulls types good rows
   pub is : numbered_row nulls types (before + length good + 1) bad ≡ Err fault
 
--- why the records behind so many rows are not divided among so many outputs, where it is no device that gives bytes
+-- why the records of a piece behind so many rows are not divided among so many outputs, where it is no device that gives bytes: one is
+-- no row, there are 2^31 of them or more, or 2^61 with the rows before them
 abbrev pub IsFaultBehind : List (List ℕ) → List ColumnType → ℕ → ℕ → List (List (List ℕ)) → DivideRefused → Type 0
 IsFaultBehind nulls types before outputs records (refused.Read f) = IsFirstFault nulls types before records f
-IsFaultBehind nulls types before outputs records refused.TooLong = 2 ^ 31 ≤ before + length records
+IsFaultBehind nulls types before outputs records refused.TooLong = (2 ^ 31 ≤ length records) ⊎ (2 ^ 61 ≤ before + length records)
 IsFaultBehind nulls types before outputs records refused.ReadDevice = ⊥
 IsFaultBehind nulls types before outputs records (refused.WriteDevice p) = p < outputs
 IsFaultBehind nulls types before outputs records refused.Memory = Unit {0}
@@ -89,13 +91,29 @@ reads_after (Err refused.ReadDevice) count = count + 1
 reads_after (Err (refused.WriteDevice p)) count = count
 reads_after (Err refused.Memory) count = count
 
--- why a text is not divided among so many outputs: a fault of a record or of a device, or its length
-abbrev pub IsDivisionFault : List (List ℕ) → List ColumnType → Bool → List ℕ → ℕ → DivideRefused → Type 0
-IsDivisionFault nulls types is_first text outputs (refused.Read f) = IsFirstFault nulls types 0 (piece_records is_first text) f
-IsDivisionFault nulls types is_first text outputs refused.TooLong = (2 ^ 31 ≤ length (piece_records is_first text)) ⊎ (2 ^ 64 - 1 ≤ length text)
-IsDivisionFault nulls types is_first text outputs refused.ReadDevice = Unit {0}
-IsDivisionFault nulls types is_first text outputs (refused.WriteDevice p) = p < outputs
-IsDivisionFault nulls types is_first text outputs refused.Memory = Unit {0}
+-- records of rows of a text that are those of one piece of it
+pub record StandInPiece (block : ℕ) (is_first : Bool) (text : List ℕ) (records : List (List (List ℕ))) : Type 0 where
+  pub before : List (List (List ℕ))
+  pub after : List (List (List ℕ))
+  pub among : piece_records is_first text ≡ before ++ (records ++ after)
+  pub piece : List ℕ
+  pub is_piece : IsPiece block text piece
+  pub ahead : Bool
+  pub of_piece : records ≡ piece_records ahead piece
+
+-- a text that is read by such blocks has 2^31 rows or more in one piece or 2^61 in all, or 2^64 - 1 bytes or more
+abbrev pub IsTooLong : ℕ → Bool → List ℕ → Type 0
+IsTooLong block is_first text =
+    ((records : List (List (List ℕ))) × StandInPiece block is_first text records × (2 ^ 31 ≤ length records))
+    ⊎ ((2 ^ 61 ≤ length (piece_records is_first text)) ⊎ (2 ^ 64 - 1 ≤ length text))
+
+-- why a text that is read by such blocks is not divided among so many outputs: a fault of a record or of a device, or its length
+abbrev pub IsDivisionFault : List (List ℕ) → List ColumnType → ℕ → Bool → List ℕ → ℕ → DivideRefused → Type 0
+IsDivisionFault nulls types block is_first text outputs (refused.Read f) = IsFirstFault nulls types 0 (piece_records is_first text) f
+IsDivisionFault nulls types block is_first text outputs refused.TooLong = IsTooLong block is_first text
+IsDivisionFault nulls types block is_first text outputs refused.ReadDevice = Unit {0}
+IsDivisionFault nulls types block is_first text outputs (refused.WriteDevice p) = p < outputs
+IsDivisionFault nulls types block is_first text outputs refused.Memory = Unit {0}
 
 -- why nothing is divided under a header that makes no table with the types: what it is refused for, where the device that gives
 -- bytes doesn't fail first and memory isn't refused

@@ -2,7 +2,7 @@
 use Rattle.std.specs.Prelude.{ℕ, ◌+◌, ◌≡◌, ◌≤◌, Bool, true, false, List, ◌++◌, length, drop, Option, Some}
 use Rattle.rj_columns.specs.declared.cell.ColumnType.{ColumnType}
 use Rattle.rj_columns.specs.Contents.{Content}
-use Rattle.rj_csv_io.specs.Pieces.{piece_records}
+use Rattle.rj_csv_io.specs.Pieces.{IsLineEnd, piece_records}
 use Rattle.rj_divide.specs.declared.whole.Rest.{Rest}
 use Rattle.rj_divide.specs.Divisions.{IsDivided}
 
@@ -16,12 +16,15 @@ behind_header false records = records
 abbrev pub SplitsAs : Bool → List (List (List ℕ)) → Bool → Type 0
 SplitsAs is_first records ahead = (more : List (List (List ℕ))) → behind_header is_first (records ++ more) ≡ behind_header is_first records ++ behind_header ahead more
 
--- a text whose first records are divided, in at least so many pieces: the others are those of the bytes that were read and of
--- what the device tells
+-- a text whose first records are divided, in at least so many pieces: the others are those of the bytes that were read, in which no
+-- record ends, and of what the device tells
 pub record IsUnderway (nulls : List (List ℕ)) (types : List ColumnType) (part : List Content → ℕ) (first : ℕ) (is_first : Bool) (text : List ℕ)
     (before : List (Option (List ℕ))) (tells : Option (List ℕ)) (rest : Rest) (now : List (Option (List ℕ))) (pieces : ℕ) : Type 0 where
   pub left : List ℕ
   pub told : tells ≡ Some left
+  pub taken : List ℕ
+  pub order : text ≡ taken ++ (rest.bytes.items ++ left)
+  pub none : (at : ℕ) → at ≤ length rest.bytes.items → IsLineEnd rest.bytes.items at → ⊥
   pub done : List (List (List ℕ))
   pub split : piece_records is_first text ≡ done ++ piece_records rest.is_first (rest.bytes.items ++ left)
   pub divided : IsDivided nulls types part first done before now rest.rows

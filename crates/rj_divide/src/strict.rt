@@ -196,7 +196,7 @@ fn divide_next<I: Input, W: Route, O: Output>(
         → begun (names_in division.now.header.now) division.now.types.now ≡ Ok t
         → IsReadTo (null_texts division.now.nulls.now) division.now.types.now (W.part division.now.route.now) division.now.first text before
         (I.tells input.old) rest.old.bytes.items (map O.told outputs.old) rest.old.rows blocks
-        → IsRangeFault (null_texts division.now.nulls.now) division.now.types.now full text (length outputs.old) e) }
+        → IsRangeFault (null_texts division.now.nulls.now) division.now.types.now block full text (length outputs.old) e) }
     ensures begins { OnOk result ((t : TableValue) × (begun (names_in division.now.header.now) division.now.types.now ≡ Ok t)) }
     ensures refusal { IfErr result (λ e. (b : BuildRefused) → begun (names_in division.now.header.now) division.now.types.now ≡ Err b
         → rest.old.rows ≡ 0 → IsBlockRefusal b e) }
@@ -252,7 +252,8 @@ pub fn divide_strictly<I: Input, W: Route, O: Output>(
 
     // where the header and the types go together, as `Header::table` tells, an error comes for this alone
     ensures fault { IfErr result (λ e. (t : TableValue) → begun (names_in division.now.header.now) division.now.types.now ≡ Ok t
-        → IfSome (I.tells input.old) (λ text. IsRangeFault (null_texts division.now.nulls.now) division.now.types.now full text (length outputs.old) e)) }
+        → IfSome (I.tells input.old) (λ text.
+        IsRangeFault (null_texts division.now.nulls.now) division.now.types.now block full text (length outputs.old) e)) }
 
     // where they don't, nothing is divided, and it is told why they don't
     ensures begins { OnOk result ((t : TableValue) × (begun (names_in division.now.header.now) division.now.types.now ≡ Ok t)) }

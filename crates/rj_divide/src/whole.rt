@@ -116,7 +116,7 @@ fn divide_next<I: Input, O: Output, R: Route>(
         → begun (names_in division.now.header.now) division.now.types.now ≡ Ok t
         → IsUnderway (null_texts division.now.nulls.now) division.now.types.now (R.part division.now.route.now) division.now.first is_first all before
         (I.tells input.old) rest.old (map O.told outputs.old) n
-        → IsDivisionFault (null_texts division.now.nulls.now) division.now.types.now is_first all (length outputs.old) e) }
+        → IsDivisionFault (null_texts division.now.nulls.now) division.now.types.now block is_first all (length outputs.old) e) }
     ensures begins { OnOk result ((t : TableValue) × (begun (names_in division.now.header.now) division.now.types.now ≡ Ok t)) }
     ensures refusal { IfErr result (λ e. (b : BuildRefused) → begun (names_in division.now.header.now) division.now.types.now ≡ Err b
         → rest.old.rows ≡ 0 → IsHeaderRefusal b e) }
@@ -167,7 +167,8 @@ pub fn divide<I: Input, O: Output, R: Route>(
 
     // where the header and the types go together, as `Header::table` tells, an error comes for this alone
     ensures fault { IfErr result (λ e. (t : TableValue) → begun (names_in division.now.header.now) division.now.types.now ≡ Ok t
-        → IfSome (I.tells input.old) (λ all. IsDivisionFault (null_texts division.now.nulls.now) division.now.types.now is_first all (length outputs.old) e)) }
+        → IfSome (I.tells input.old) (λ all.
+        IsDivisionFault (null_texts division.now.nulls.now) division.now.types.now block is_first all (length outputs.old) e)) }
 
     // where they don't, nothing is divided, and it is told why they don't
     ensures begins { OnOk result ((t : TableValue) × (begun (names_in division.now.header.now) division.now.types.now ≡ Ok t)) }

@@ -1,9 +1,9 @@
 //! Places where a text stops being of RFC 4180's grammar.
 
-ghost use Rattle.std.specs.Prelude.{◌≡◌, ◌+◌, ◌==◌, IfOk, IfSome, List};
+ghost use Rattle.std.specs.Prelude.{◌≡◌, ◌+◌, ◌==◌, IfNone, IfOk, IfSome, List};
 ghost use Rattle.std.specs.List.{count_by};
 ghost use Rattle.rj_strict.specs.Faults.{AreAbove, HasFault, row_at};
-ghost use Rattle.rj_strict.specs.Grammar.{Line, lines_text};
+ghost use Rattle.rj_strict.specs.Grammar.{Derives, File, Line, lines_text};
 ghost use Rattle.rj_strict.specs.Reading.{body_of};
 ghost use Rattle.rj_strict.specs.declared.fault.StrictFault.{StrictFault};
 ghost use Rattle.rj_strict.specs.declared.header.Header.TheVariants.{First};
@@ -18,10 +18,11 @@ use rj_fault::Side;
 use rj_strict::{Header, above_fault, check};
 use std::alloc::{AllocError, Global};
 
-/// The line, counted from 1, on which the row begins where a text stops being of the grammar. It answers none where the text is of
-/// the grammar (tested; the clause says what a line that is answered is, not when there is one).
+/// The line, counted from 1, on which the row begins where a text stops being of the grammar, or none exactly where the text is of
+/// the grammar.
 pub fn line_of_fault(text: &[u8], full: bool) -> Option<u64>
-    ensures { IfSome result (IsFaultLine full text.now) }
+    ensures none { IfNone result ((file : File) × Derives First full (body_of First text.now) file) }
+    ensures line { IfSome result (IsFaultLine full text.now) }
 {
     match check(text, Header::First, full) {
         Ok(()) => None,

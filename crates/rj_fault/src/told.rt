@@ -1,6 +1,6 @@
 //! Telling why a program ended without its output.
 
-ghost use Rattle.std.specs.Prelude.{◌≡◌, ◌⊎◌, ℕ, Option};
+ghost use Rattle.std.specs.Prelude.{◌≡◌, ◌⊎◌, ℕ, Option, Some, false, true};
 ghost use Rattle.std.specs.Option.{option_copied};
 ghost use Rattle.clap.specs.declared.error.Error.{Error};
 ghost use Rattle.rj_fault.specs.Faults.{IsAskedFor};
@@ -40,6 +40,19 @@ fn tell_line<T: Told>(rt: &impl Eprint, told: &T) -> u8
     told.status()
 }
 
+// The exit status behind what `clap` tells, which could be printed or not: help and the version that couldn't be printed end as a
+// failed write, which is told.
+fn status_by_clap<T: Told>(rt: &impl Eprint, told: &T, error: &Error, printed: bool) -> u8
+    ensures printed { printed ≡ true → result ≡ T.exit told.now }
+    ensures unprinted { printed ≡ false → IsAskedFor (Some error.now) → result ≡ T.exit T.unwritten }
+    ensures either { (result ≡ T.exit told.now) ⊎ (IsAskedFor (Some error.now) × (result ≡ T.exit T.unwritten)) }
+{
+    if printed || error.use_stderr() {
+        return told.status();
+    }
+    tell_line(rt, &T::failed_write())
+}
+
 /// Prints why there is no output on standard error, or help or the version on standard output, and gives the exit status.
 /// Where help or the version couldn't be printed, the status is that of a failed write.
 pub fn tell<R: Print + Eprint, T: Told>(rt: &R, told: &T) -> u8
@@ -47,10 +60,7 @@ pub fn tell<R: Print + Eprint, T: Told>(rt: &R, told: &T) -> u8
 {
     if let Some(error) = told.by_clap() {
         let printed = error.print(rt).is_ok();
-        if printed || error.use_stderr() {
-            return told.status();
-        }
-        return tell_line(rt, &T::failed_write());
+        return status_by_clap(rt, told, error, printed);
     }
     tell_line(rt, told)
 }

@@ -1,6 +1,6 @@
 //! Reading the words of the command line.
 
-ghost use Rattle.std.specs.Prelude.{◌≡◌, ◌⊎◌, ◌-◌, ◌^◌, IfOk, IfErr, Some, codes, is_some, map, true};
+ghost use Rattle.std.specs.Prelude.{◌≡◌, ◌≢◌, ◌⊎◌, ◌-◌, ◌^◌, IfOk, IfErr, Some, codes, is_some, map, true};
 ghost use Rattle.clap.specs.Words.{first_value, found_of, kind_of};
 ghost use Rattle.rj_line.specs.Named.{IsNameOf, IsNamedOr};
 ghost use Rattle.rj_line.specs.Line.{AreNumbersIn, AreSettings, HasValues, IsLineFault, IsLineOf, IsNumberIn, IsNumberOr, IsParseOf, IsRequestFault, IsRequestOf, IsStrictName, IsStrictness, hash_name, is_true, texts_found};
@@ -41,6 +41,7 @@ pub struct Line<'a> {
 // The fault of an error of `clap`'s.
 fn fault_of_error(error: Error) -> Fault
     ensures memory { kind_of error ≡ ErrorKind.OutOfMemory → result ≡ Fault.Memory }
+    ensures line { kind_of error ≢ ErrorKind.OutOfMemory → result ≡ Fault.CommandLine error }
     ensures told { (result ≡ Fault.Memory) ⊎ (result ≡ Fault.CommandLine error) }
 {
     if error.kind() == ErrorKind::OutOfMemory {

@@ -18,7 +18,7 @@ use Rattle.rj_merge.specs.declared.options.MergeOptions.{MergeOptions}
 use Rattle.rj_merge.specs.declared.refused.MergeRefused.{MergeRefused}
 use Rattle.rj_merge.specs.declared.refused.MergeRefused.TheVariants as refused
 use Rattle.rj_merge.specs.Headers.{place_columns}
-use Rattle.rj_merge.specs.Inputs.{copies_of, faults_of_readings, first_header, first_record, input_reading, input_tells, own_copies, reading_of, reading_of_records, readings, readings_from, told_by}
+use Rattle.rj_merge.specs.Inputs.{copies_of, faults_of_readings, fault_or, first_header, first_record, header_fault, header_fault_from, header_fault_in, header_fault_of, input_reading, input_tells, own_copies, reading_of, reading_of_records, readings, readings_from, told_by}
 use Rattle.rj_merge.specs.Ranges.{reading_within}
 use Rattle.rj_merge.specs.Sources.{Reading}
 use Rattle.rj_merge.specs.Texts.{read_rows}
@@ -37,6 +37,19 @@ module _ (how : MergeOptions) (first : List (List ℕ)) (input : ℕ) where
       → (reading_of_records how first input records).fault ≡ Some (refused.OtherHeader input)
   of-other records more header e other = rw (e, other) refl
 
+-- whether such a header has a fault
+module _ (first : List (List ℕ)) (input : ℕ) where
+  pub fault-none : (records : List (List (List ℕ))) → records ≡ [] → header_fault_in first input records ≡ Some (refused.NoHeader input)
+  fault-none records e = rw e refl
+
+  pub fault-other : (records more : List (List (List ℕ))) (header : List (List ℕ)) → records ≡ header ∷ more → pointwise bytes_eq header first ≡ false
+      → header_fault_in first input records ≡ Some (refused.OtherHeader input)
+  fault-other records more header e other = rw (e, other) refl
+
+  pub no-fault : (records more : List (List (List ℕ))) (header : List (List ℕ)) (columns : Columns) → records ≡ header ∷ more → pointwise bytes_eq header first ≡ true
+      → place_columns first ≡ Some columns → header_fault_in first input records ≡ None
+  no-fault records more header columns e same places = rw (e, same, places) refl
+
 -- what the first text gives, whose header has the columns of the places or hasn't
 own_header : (header : List (List ℕ)) → pointwise bytes_eq header header ≡ true
 own_header header = (pointwise_decides (λ x y. let d = bytes_eq-Decides x y in (d.0, d.1)) header header).1 refl
@@ -47,6 +60,13 @@ module _ (how : MergeOptions) (input : ℕ) (records more : List (List (List ℕ
 
   pub of-unplaced : place_columns header ≡ None → (reading_of_records how (first_record records) input records).fault ≡ Some (refused.NoPlaces input)
   of-unplaced places = rw (is, own_header header, places) refl
+
+module _ (input : ℕ) (records more : List (List (List ℕ))) (header : List (List ℕ)) (is : records ≡ header ∷ more) where
+  pub no-fault-first : (columns : Columns) → place_columns header ≡ Some columns → header_fault_in (first_record records) input records ≡ None
+  no-fault-first columns places = rw (is, own_header header, places) refl
+
+  pub fault-unplaced : place_columns header ≡ None → header_fault_in (first_record records) input records ≡ Some (refused.NoPlaces input)
+  fault-unplaced places = rw (is, own_header header, places) refl
 
 -- a fault of the first of readings, or of one behind others
 first_fault : (r : Reading (List (List ℕ))) (more : List (Reading (List (List ℕ)))) (e : MergeRefused) → r.fault ≡ Some e → Contains (faults_of_readings (r ∷ more)) e
@@ -63,6 +83,7 @@ pub record HasOpened {R : Type 0} (known : R → Option (List ℕ)) (how : Merge
   pub tell : map (told_by known) left ≡ map Some rest
   pub header : names ≡ first_header texts
   pub given : readings how texts ≡ map (input_reading known) sources ++ readings_from how names (input + 1) rest
+  pub headed : header_fault texts ≡ header_fault_from names (input + 1) rest
   pub tells : All (input_tells known) sources
 
 module _ {R : Type 0} (known : R → Option (List ℕ)) (how : MergeOptions) where
@@ -86,9 +107,10 @@ module _ {R : Type 0} (known : R → Option (List ℕ)) (how : MergeOptions) whe
     -- the first input was opened, or has a fault
     pub opened-first : (names : List (List ℕ)) (s : TextSource R) → ((text : List ℕ) → told_by known x ≡ Some text → names ≡ first_record (records_in text))
         → ((text : List ℕ) → told_by known x ≡ Some text → input_tells known s × (input_reading known s ≡ reading_of how (first_record (records_in text)) 1 text))
+        → ((text : List ℕ) → told_by known x ≡ Some text → header_fault_of (first_record (records_in text)) 1 text ≡ None)
         → HasOpened known how texts names (s ∷ []) 1 left
-    unfolding readings_from
-    opened-first names s header given = by_text from_first
+    unfolding readings_from header_fault_from
+    opened-first names s header given headed = by_text from_first
       where
         by_text : Heard texts x left → HasOpened known how texts names (s ∷ []) 1 left
         by_text h =
@@ -101,8 +123,21 @@ module _ {R : Type 0} (known : R → Option (List ℕ)) (how : MergeOptions) whe
               header = named ∙ sym of_first;
               given = ap (readings how) h.texts_are
                   ∙ (λ t. sym gives.1 t ∷ readings_from how (sym named t) 2 h.rest);
+              headed = ap header_fault h.texts_are
+                  ∙ (ap (λ (o : Option MergeRefused). fault_or o (header_fault_from (first_record (records_in h.text)) 2 h.rest)) (headed h.text h.here)
+                  ∙ ap (λ (l : List (List ℕ)). header_fault_from l 2 h.rest) (sym named));
               tells = All-cons (input_tells known) s [] gives.0 (All-nil (input_tells known));
             }
+
+    pub heads-first : (e : MergeRefused) → ((text : List ℕ) → told_by known x ≡ Some text → header_fault_of (first_record (records_in text)) 1 text ≡ Some e)
+        → header_fault texts ≡ Some e
+    unfolding header_fault_from
+    heads-first e fault = by_text from_first
+      where
+        by_text : Heard texts x left → header_fault texts ≡ Some e
+        by_text h =
+            ap header_fault h.texts_are
+            ∙ ap (λ (o : Option MergeRefused). fault_or o (header_fault_from (first_record (records_in h.text)) 2 h.rest)) (fault h.text h.here)
 
     pub fault-first : (e : MergeRefused) → ((text : List ℕ) → told_by known x ≡ Some text → (reading_of how (first_record (records_in text)) 1 text).fault ≡ Some e)
         → Contains (faults_of_readings (readings how texts)) e
@@ -122,10 +157,20 @@ module _ {R : Type 0} (known : R → Option (List ℕ)) (how : MergeOptions) whe
     unfolding readings_from
     given_next n = h.given ∙ ap (λ l. map (input_reading known) sources ++ readings_from how names (input + 1) l) n.texts_are
 
+    headed_next : (n : Heard h.rest x more) → header_fault texts ≡ fault_or (header_fault_of names (input + 1) n.text) (header_fault_from names (input + 1 + 1) n.rest)
+    unfolding header_fault_from
+    headed_next n = h.headed ∙ ap (λ (l : List (List ℕ)). header_fault_from names (input + 1) l) n.texts_are
+
+    pub heads-next : (e : MergeRefused) → ((text : List ℕ) → told_by known x ≡ Some text → header_fault_of names (input + 1) text ≡ Some e) → header_fault texts ≡ Some e
+    heads-next e fault = by_text from_next
+      where
+        by_text : Heard h.rest x more → header_fault texts ≡ Some e
+        by_text n = headed_next n ∙ ap (λ (o : Option MergeRefused). fault_or o (header_fault_from names (input + 1 + 1) n.rest)) (fault n.text n.here)
+
     -- a further input was opened, or has a fault
     pub opened-next : (s : TextSource R) → ((text : List ℕ) → told_by known x ≡ Some text → input_tells known s × (input_reading known s ≡ reading_of how names (input + 1) text))
-        → HasOpened known how texts names (sources ++ s ∷ []) (input + 1) more
-    opened-next s given = by_text from_next
+        → ((text : List ℕ) → told_by known x ≡ Some text → header_fault_of names (input + 1) text ≡ None) → HasOpened known how texts names (sources ++ s ∷ []) (input + 1) more
+    opened-next s given headed = by_text from_next
       where
         by_text : Heard h.rest x more → HasOpened known how texts names (sources ++ s ∷ []) (input + 1) more
         by_text n =
@@ -137,6 +182,7 @@ module _ {R : Type 0} (known : R → Option (List ℕ)) (how : MergeOptions) whe
               given = given_next n ∙ ap (λ r. map (input_reading known) sources ++ (r ∷ readings_from how names (input + 1 + 1) n.rest)) (sym gives.1)
                   ∙ (sym (append_assoc (map (input_reading known) sources) (input_reading known s ∷ []) (readings_from how names (input + 1 + 1) n.rest))
                   ∙ ap (λ l. l ++ readings_from how names (input + 1 + 1) n.rest) (sym (map-append (input_reading known) sources (s ∷ []))));
+              headed = headed_next n ∙ ap (λ (o : Option MergeRefused). fault_or o (header_fault_from names (input + 1 + 1) n.rest)) (headed n.text n.here);
               tells = All-push (input_tells known) sources s h.tells gives.0;
             }
 
@@ -160,6 +206,15 @@ module _ {R : Type 0} (known : R → Option (List ℕ)) (how : MergeOptions) whe
           → readings how texts ≡ map (input_reading known) sources
       by_rest [] e given = given ∙ append-nil (map (input_reading known) sources)
       by_rest (text ∷ rest) e given = absurd (cc)
+
+  pub headed-all : (texts : List (List ℕ)) (names : List (List ℕ)) (sources : List (TextSource R)) (input : ℕ) (left : List (MergeInput R)) → HasOpened known how texts names sources input left → left ≡ []
+      → header_fault texts ≡ None
+  unfolding header_fault_from
+  headed-all texts names sources input left h none = by_rest h.rest (sym (ap (map (told_by known)) none) ∙ h.tell) h.headed
+    where
+      by_rest : (rest : List (List ℕ)) → [] ≡ map Some rest → header_fault texts ≡ header_fault_from names (input + 1) rest → header_fault texts ≡ None
+      by_rest [] e headed = headed
+      by_rest (text ∷ rest) e headed = absurd (cc)
 
 -- the copies of inputs that were opened, and of those that are left
 module _ {R : Type 0} (sources : List (TextSource R)) (left : List (MergeInput R)) (all : List Copies) (are : map own_copies sources ++ copies_of left ≡ all) where

@@ -84,6 +84,35 @@ first_header (text ∷ texts) = first_record (records_in text)
 abbrev pub readings : MergeOptions → List (List ℕ) → List (Reading (List (List ℕ)))
 readings how texts = readings_from how (first_header texts) 1 texts
 
+-- a header that is the first one's has the columns of the places, or this fault
+abbrev pub place_fault : ℕ → Option Columns → Option MergeRefused
+place_fault input None = Some (refused.NoPlaces input)
+place_fault input (Some columns) = None
+
+-- the fault of the header that records begin with, if it has one: there is none, or it is another one than the first input's, or it
+-- hasn't the columns of the places
+abbrev pub header_fault_in : List (List ℕ) → ℕ → List (List (List ℕ)) → Option MergeRefused
+header_fault_in first input [] = Some (refused.NoHeader input)
+header_fault_in first input (header ∷ records) =
+    if pointwise bytes_eq header first then place_fault input (place_columns first) else Some (refused.OtherHeader input)
+
+abbrev pub header_fault_of : List (List ℕ) → ℕ → List ℕ → Option MergeRefused
+header_fault_of first input text = header_fault_in first input (records_in text)
+
+-- a fault, or where there is none a later one
+abbrev pub fault_or : Option MergeRefused → Option MergeRefused → Option MergeRefused
+fault_or None later = later
+fault_or (Some e) later = Some e
+
+-- the first fault of a header of texts, whose inputs count from this number on
+unfoldable pub header_fault_from : List (List ℕ) → ℕ → List (List ℕ) → Option MergeRefused
+header_fault_from first input [] = None
+header_fault_from first input (text ∷ texts) = fault_or (header_fault_of first input text) (header_fault_from first (input + 1) texts)
+
+-- the first fault of a header of texts, each an input of its own, counted from 1
+abbrev pub header_fault : List (List ℕ) → Option MergeRefused
+header_fault texts = header_fault_from (first_header texts) 1 texts
+
 -- the faults that readings have
 abbrev pub faults_of_readings : {T : Type 0} → List (Reading T) → List MergeRefused
 faults_of_readings all = flat_map (λ r. option_to_list r.fault) all

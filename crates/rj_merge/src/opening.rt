@@ -1,11 +1,11 @@
 //! Opening the texts that are merged.
 
-ghost use Rattle.std.specs.Prelude.{◌≡◌, ◌<◌, ◌^◌, ◌∷◌, [], false, List, ℕ, Some, All, Contains, IfOk, IfErr, map, vec_len};
+ghost use Rattle.std.specs.Prelude.{◌≡◌, ◌<◌, ◌^◌, ◌∷◌, [], false, List, ℕ, None, Some, All, Contains, IfOk, IfErr, map, vec_len};
 ghost use Rattle.csv.specs.Records.{fields_of};
 ghost use Rattle.rj_csv_io.specs.Cuts.{records_in};
 ghost use Rattle.rj_csv_io.specs.Remaining.{IsBetween, records_remaining};
 ghost use Rattle.rj_merge.specs.Headers.{place_columns};
-ghost use Rattle.rj_merge.specs.Inputs.{TellTexts, copies_of, faults_of_readings, first_header, first_record, input_reading, input_tells, own_copies, reading_of, readings};
+ghost use Rattle.rj_merge.specs.Inputs.{TellTexts, copies_of, faults_of_readings, first_header, first_record, header_fault, header_fault_of, input_reading, input_tells, own_copies, reading_of, readings};
 ghost use Rattle.rj_merge.specs.Sources.{is_outside};
 
 use crate::copies::MergeInput;
@@ -75,6 +75,10 @@ fn open_first<'n, R: Read + Drop>(
         × (input_reading R.remaining f.source ≡ reading_of how.entry (first_record (records_in text)) 1 text)) }
     ensures fault { IfErr result (λ e. is_outside e ≡ false → (text : List ℕ) → R.remaining first.reader ≡ Some text
         → (reading_of how.entry (first_record (records_in text)) 1 text).fault ≡ Some e) }
+    ensures headed { IfOk result (λ _. (text : List ℕ) → R.remaining first.reader ≡ Some text
+        → header_fault_of (first_record (records_in text)) 1 text ≡ None) }
+    ensures unheaded { IfErr result (λ e. is_outside e ≡ false → (text : List ℕ) → R.remaining first.reader ≡ Some text
+        → header_fault_of (first_record (records_in text)) 1 text ≡ Some e) }
 {
     let MergeInput {
         reader: text,
@@ -109,6 +113,10 @@ fn open_next<'n, R: Read + Drop>(
         × (input_reading R.remaining s ≡ reading_of how.entry (fields_of first.now.names) input text)) }
     ensures fault { IfErr result (λ e. is_outside e ≡ false → (text : List ℕ) → R.remaining next.reader ≡ Some text
         → (reading_of how.entry (fields_of first.now.names) input text).fault ≡ Some e) }
+    ensures headed { IfOk result (λ _. (text : List ℕ) → R.remaining next.reader ≡ Some text
+        → header_fault_of (fields_of first.now.names) input text ≡ None) }
+    ensures unheaded { IfErr result (λ e. is_outside e ≡ false → (text : List ℕ) → R.remaining next.reader ≡ Some text
+        → header_fault_of (fields_of first.now.names) input text ≡ Some e) }
 {
     let MergeInput {
         reader: text,
@@ -153,6 +161,9 @@ pub(crate) fn open_all<'n, R: Read + Drop>(
         → readings how.entry texts ≡ map (input_reading R.remaining) o.sources.items) }
     ensures fault { IfErr result (λ e. is_outside e ≡ false → (texts : List (List ℕ)) → TellTexts R.remaining inputs.items texts
         → Contains (faults_of_readings (readings how.entry texts)) e) }
+    ensures headers { IfOk result (λ _. (texts : List (List ℕ)) → TellTexts R.remaining inputs.items texts → header_fault texts ≡ None) }
+    ensures first { IfErr result (λ e. is_outside e ≡ false → (texts : List (List ℕ)) → TellTexts R.remaining inputs.items texts
+        → header_fault texts ≡ Some e) }
 {
     let mut left = inputs.into_iter();
     let Some(first) = left.next() else {

@@ -9,7 +9,7 @@ ghost use Rattle.rj_merge.specs.declared.place.Place.{Place};
 ghost use Rattle.rj_merge.specs.declared.place.Placed.{Placed};
 ghost use Rattle.rj_merge.specs.declared.refused.MergeRefused.{MergeRefused};
 ghost use Rattle.rj_merge.specs.Copies.{StandsTooOften, copied_rows};
-ghost use Rattle.rj_merge.specs.Inputs.{TellTexts, copies_of, input_reading, input_tells, own_copies};
+ghost use Rattle.rj_merge.specs.Inputs.{TellTexts, copies_of, header_fault, input_reading, input_tells, own_copies};
 ghost use Rattle.rj_merge.specs.MergedTexts.{HaveNoFault, IsFaultOfTexts, IsMergedText, head_rows, records_text};
 ghost use Rattle.rj_merge.specs.Merging.{faults_of_inputs, lists_of_inputs};
 ghost use Rattle.rj_merge.specs.Sources.{is_outside};
@@ -111,6 +111,8 @@ pub fn merge_texts<R: Read + Drop, O: Output>(
     ensures faults { OnOk result ((texts : List (List ℕ)) → TellTexts R.remaining inputs.items texts → HaveNoFault how.entry texts) }
     ensures fault { (e : MergeRefused) → result ≡ Err (MergeTextsRefused.Merge e) → is_outside e ≡ false
         → (texts : List (List ℕ)) → TellTexts R.remaining inputs.items texts → IsFaultOfTexts how.entry (copies_of inputs.items) texts e }
+    ensures first { (texts : List (List ℕ)) → TellTexts R.remaining inputs.items texts → (f : MergeRefused) → header_fault texts ≡ Some f
+        → (e : MergeRefused) × (result ≡ Err (MergeTextsRefused.Merge e)) × (is_outside e ≡ false → e ≡ f) }
     ensures device { result ≡ Err MergeTextsRefused.WriteDevice → O.count output.new ≡ O.count output.old + 1 }
     ensures kept { result ≢ Err MergeTextsRefused.WriteDevice → O.count output.new ≡ O.count output.old }
 {

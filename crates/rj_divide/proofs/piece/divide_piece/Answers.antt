@@ -1,10 +1,13 @@
-use Rattle.std.proofs.Common.{ℕ, [], arith, length, map}
+use Rattle.std.proofs.Common.{ℕ, [], arith, inr, length, map}
 use Rattle.rj_csv_io.specs.Pieces.{names_in, piece_records}
 use Rattle.rj_divide.proofs.DivisionFacts.{reading-counts}
 use Rattle.rj_divide.proofs.PutFacts.{all-may-fail}
 use Rattle.rj_divide.proofs.ReadingFacts.{piece-fault, read-rows, refusal-of}
 use Rattle.rj_csv_io.specs.Typed.{null_texts}
 use Rattle.rj_divide.proofs.piece.divide_piece.Goals as goal
+
+pub returns-then-before-gt-MOST_ROWS-clause-fault : goal.returns-then-before-gt-MOST_ROWS-clause-fault
+returns-then-before-gt-MOST_ROWS-clause-fault g c = λ t b. inr (omega (arith, c.if-before-gt-MOST_ROWS.true))
 
 pub returns-in-Err-clause-counts : goal.returns-in-Err-clause-counts
 returns-in-Err-clause-counts g c = reading-counts ℕ c.behind.result (map g.O.Output.count c.args.outputs.now) c.behind.ensures.reading

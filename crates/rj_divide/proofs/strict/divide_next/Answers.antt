@@ -25,7 +25,7 @@ returns-clause-more g c = λ e text before blocks u.
     (read-more (null_texts d.nulls.now) d.types.now (g.W.Route.part d.route.now) d.first text before c.joined_texts.ensures
     c.args.rest.now.bytes.items bytes (g.I.Input.tells c.args.input.now) (g.I.Input.tells c.next_piece.new.input)
     (map g.O.Output.told c.args.outputs.now) (map g.O.Output.told c.divide_block.new.outputs) c.args.rest.now.rows c.in-Ok-divide_block.rows p.end blocks u c.in-Ok.ensures.bytes
-    found.0 many (c.in-Ok.ensures.line is).behind within whole found.2)
+    found.0 many (c.in-Ok.ensures.line is) (c.in-Ok.ensures.rest is) within whole found.2)
 
 pub returns-clause-last : goal.returns-clause-last
 returns-clause-last g c = λ e text before blocks u.
@@ -45,7 +45,7 @@ returns-clause-last g c = λ e text before blocks u.
 pub returns-in-Err-clause-fault : goal.returns-in-Err-clause-fault
 returns-in-Err-clause-fault g c = λ t text before blocks begins u.
     let d = c.args.division.now in
-    input-range (null_texts d.nulls.now) d.types.now c.args.full text (length c.args.outputs.now) c.in-Err.refused c.in-Err.ensures.fault
+    input-range (null_texts d.nulls.now) d.types.now c.args.block c.args.full text (length c.args.outputs.now) c.in-Err.refused c.in-Err.ensures.fault
 
 pub returns-in-Err-clause-refusal : goal.returns-in-Err-clause-refusal
 returns-in-Err-clause-refusal g c = λ b begins none. refusal-input b c.in-Err.refused c.in-Err.ensures.fault
@@ -62,7 +62,7 @@ returns-in-Err-divide_block-clause-fault g c = λ t text before blocks begins u.
     fault-in (null_texts d.nulls.now) d.types.now (g.W.Route.part d.route.now) d.first text before c.joined_texts.ensures
     c.args.rest.now.bytes.items bytes (g.I.Input.tells c.args.input.now) (g.I.Input.tells c.next_piece.new.input)
     told told c.args.rest.now.rows 0 p.end blocks u c.in-Ok.ensures.bytes
-    c.reads_records.ensures c.args.full asked (length c.args.outputs.now) c.in-Err-divide_block.refused
+    c.reads_records.ensures c.args.block c.in-Ok.ensures.read c.args.full asked (length c.args.outputs.now) c.in-Err-divide_block.refused
     (elim (cases_Bool p.is_last) [
       | inl is ↦ let end = c.in-Ok.ensures.last is in let all : p.end ≡ length bytes = search (rules, end.0) in inl (all, end.1, ap (λ (b : Bool). c.args.full || not b) is ∙ last-block c.args.full)
       | inr is ↦ let line = c.in-Ok.ensures.line is in inr (line.feed, line.behind, within, line.ends, ap (λ (b : Bool). c.args.full || not b) is ∙ full-block c.args.full)

@@ -30,7 +30,7 @@ returns-in-Err-clause-fault g c = λ t b.
     let d = c.args.division.now in
     let same : length c.loop-turn.outputs ≡ length c.args.outputs.now = omega (arith, c.loop-turn.auto.outputs) in
     if-some (g.I.Input.tells c.args.input.now) _ (λ text e.
-    subst (λ k. IsRangeFault (null_texts d.nulls.now) d.types.now c.args.full text k c.in-Err.refused) same
+    subst (λ k. IsRangeFault (null_texts d.nulls.now) d.types.now c.args.block c.args.full text k c.in-Err.refused) same
     (c.in-Err.ensures.fault t text (map g.O.Output.told c.args.outputs.now) c.loop-turn._turn b (c.loop-turn.invariant.read text e)))
 
 pub loop-turn-preserved : goal.loop-turn-preserved
@@ -44,7 +44,7 @@ loop-turn-preserved g c = record {
 
 pub returns-clause-fault : goal.returns-clause-fault
 returns-clause-fault g c = λ t b.
-    if-some (g.I.Input.tells c.args.input.now) _ (λ text e. inr (omega (arith, (c.loop-turn.invariant.read text e).shorter, c.loop-turn-test.false)))
+    if-some (g.I.Input.tells c.args.input.now) _ (λ text e. inr (inr (omega (arith, (c.loop-turn.invariant.read text e).shorter, c.loop-turn-test.false))))
 
 pub returns-in-Ok-true-clause-untouched : goal.returns-in-Ok-true-clause-untouched
 returns-in-Ok-true-clause-untouched g c = λ b begins. let made = c.in-Ok-true.ensures.begins.1 in absurd (cc)

@@ -1,4 +1,5 @@
-use Rattle.std.proofs.Common.{rules, ◌≡◌, ◌≤◌, ℕ, arith, length, map}
+use Rattle.std.proofs.Common.{rules, ◌≡◌, ◌≤◌, ℕ, arith, inl, inr, length, map}
+use Rattle.std.proofs.lemmas.Bool.{cases_Bool}
 use Rattle.std.proofs.lemmas.List.{length-map}
 use Rattle.rj_divide.proofs.DivisionFacts.{piece-reads}
 use Rattle.rj_divide.proofs.ReadingFacts.{refusal-input}
@@ -15,7 +16,7 @@ returns-in-Ok-divide_front-clause-divided g c = λ is_first all before n u.
     go-on (null_texts d.nulls.now) d.types.now (g.R.Route.part d.route.now) d.first is_first all before c.args.rest.now c.next_piece.new.bytes.items
     (g.I.Input.tells c.args.input.now) (g.I.Input.tells c.next_piece.new.input) (map g.O.Output.told c.args.outputs.now) n p.end p.is_last u
     c.in-Ok.ensures.bytes (λ e. (c.in-Ok.ensures.last e).1) c.in-Ok.ensures.records
-    c.divide_front.new.rest (map g.O.Output.told c.divide_front.new.outputs) rows.0 many within (λ e. (c.in-Ok.ensures.line e).behind)
+    c.divide_front.new.rest (map g.O.Output.told c.divide_front.new.outputs) rows.0 many within (λ e. let end = c.in-Ok.ensures.last e in search (rules, end.0)) c.in-Ok.ensures.line c.in-Ok.ensures.rest
     c.in-Ok-divide_front.ensures.header c.in-Ok-divide_front.ensures.bytes rows.1 rows.2
 
 pub returns-in-Err-divide_front-clause-reads : goal.returns-in-Err-divide_front-clause-reads
@@ -24,10 +25,13 @@ returns-in-Err-divide_front-clause-reads g c = piece-reads ℕ c.in-Err-divide_f
 pub returns-in-Err-divide_front-clause-fault : goal.returns-in-Err-divide_front-clause-fault
 returns-in-Err-divide_front-clause-fault g c = λ t is_first all before n b u.
     let d = c.args.division.now in let p = c.in-Ok.piece in
+    let within : p.end ≤ length c.next_piece.new.bytes.items = search rules in
     fault-in (null_texts d.nulls.now) d.types.now (g.R.Route.part d.route.now) d.first is_first all before c.args.rest.now c.next_piece.new.bytes.items
     (g.I.Input.tells c.args.input.now) (g.I.Input.tells c.next_piece.new.input) (map g.O.Output.told c.args.outputs.now) n p.end p.is_last u
     c.in-Ok.ensures.bytes (λ e. (c.in-Ok.ensures.last e).1) c.in-Ok.ensures.records
-    (length c.args.outputs.now) c.in-Err-divide_front.e (c.in-Err-divide_front.ensures.fault t b)
+    c.args.block (length c.args.outputs.now) c.in-Err-divide_front.e c.in-Ok.ensures.read within
+    (elim (cases_Bool p.is_last) [ inl is ↦ let end = c.in-Ok.ensures.last is in let all : p.end ≡ length c.next_piece.new.bytes.items = search (rules, end.0) in inl all | inr is ↦ inr (c.in-Ok.ensures.line is) ])
+    (c.in-Err-divide_front.ensures.fault t b)
 
 pub returns-in-Err-clause-refusal : goal.returns-in-Err-clause-refusal
 returns-in-Err-clause-refusal g c = λ b begins none. refusal-input b c.in-Err.e c.in-Err.ensures.fault

@@ -3,7 +3,7 @@ use Rattle.std.specs.Result.{is_ok}
 use Rattle.std.specs.Vec.Iter.{into_iter_items}
 use Rattle.csv.specs.Records.{fields_of}
 use Rattle.rj_merge.specs.Inputs.{copies_of, own_copies}
-use Rattle.rj_merge.proofs.OpeningFacts.{HasOpened, copies-all, copies-next, fault-first, fault-next, no_length, opened-all, opened-first, opened-next}
+use Rattle.rj_merge.proofs.OpeningFacts.{HasOpened, copies-all, copies-next, fault-first, fault-next, headed-all, heads-first, heads-next, no_length, opened-all, opened-first, opened-next}
 use Rattle.rj_merge.proofs.opening.open_all.Goals as goal
 
 pub returns-in-Err-clause-fault : goal.returns-in-Err-clause-fault
@@ -24,7 +24,7 @@ inputs-init g c =
       opened = λ texts tell.
           subst (λ l. HasOpened g.R.Read.remaining c.args.how texts names l 1 left) (sym pushed)
           (opened-first g.R.Read.remaining c.args.how c.args.inputs.items c.in-Some.first left texts (sym c.into_iter-left.ensures.rest ∙ c.in-Some.ensures.items) tell names source
-          (λ text here. c.in-Ok.ensures.header text here) (λ text here. c.in-Ok.ensures.input text here));
+          (λ text here. c.in-Ok.ensures.header text here) (λ text here. c.in-Ok.ensures.input text here) (λ text here. c.in-Ok.ensures.headed text here));
     }
 
 pub returns-in-Err-open_next-clause-fault : goal.returns-in-Err-open_next-clause-fault
@@ -46,7 +46,8 @@ inputs-preserved g c =
       opened = λ texts tell.
           subst (λ l. HasOpened g.R.Read.remaining c.args.how texts names l (c.inputs.input + 1) more) (sym pushed)
           (opened-next g.R.Read.remaining c.args.how texts names c.inputs.sources.items c.inputs.input (into_iter_items c.inputs.left) more c.in-Some-next.next (c.inputs.invariant.opened texts tell)
-          c.in-Some-next.ensures.items source (λ text here. c.in-Ok-open_next.ensures.input text here));
+          c.in-Some-next.ensures.items source (λ text here. c.in-Ok-open_next.ensures.input text here)
+          (λ text here. c.in-Ok-open_next.ensures.headed text here));
     }
 
 pub returns-clause-copies : goal.returns-clause-copies
@@ -62,3 +63,19 @@ returns-clause-readings g c = λ texts tell.
 
 pub returns-clause-tells : goal.returns-clause-tells
 returns-clause-tells g c = λ texts tell. (c.inputs.invariant.opened texts tell).tells
+
+pub returns-in-Err-clause-first : goal.returns-in-Err-clause-first
+returns-in-Err-clause-first g c = λ out texts tell.
+    heads-first g.R.Read.remaining c.args.how c.args.inputs.items c.in-Some.first (into_iter_items c.next.new.self) texts (sym c.into_iter-left.ensures.rest ∙ c.in-Some.ensures.items) tell c.in-Err.e
+    (λ text here. c.in-Err.ensures.unheaded out text here)
+
+pub returns-in-Err-open_next-clause-first : goal.returns-in-Err-open_next-clause-first
+returns-in-Err-open_next-clause-first g c = λ out texts tell.
+    heads-next g.R.Read.remaining c.args.how texts (fields_of c.in-Ok.first.header.names) c.inputs.sources.items c.inputs.input (into_iter_items c.inputs.left) (into_iter_items c.next-in-inputs.new.self) c.in-Some-next.next
+    (c.inputs.invariant.opened texts tell) c.in-Some-next.ensures.items c.in-Err-open_next.e (λ text here. c.in-Err-open_next.ensures.unheaded out text here)
+
+pub returns-clause-headers : goal.returns-clause-headers
+returns-clause-headers g c = λ texts tell.
+    let left = into_iter_items c.inputs.left in
+    let none = no_length left (sym c.inputs.left.rest.ok.0 ∙ c.in_default-next.ensures.cases.0) in
+    headed-all g.R.Read.remaining c.args.how texts (fields_of c.in-Ok.first.header.names) c.inputs.sources.items c.inputs.input left (c.inputs.invariant.opened texts tell) none

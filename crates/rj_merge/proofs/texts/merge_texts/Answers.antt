@@ -1,4 +1,4 @@
-use Rattle.std.proofs.Common.{◌++◌}
+use Rattle.std.proofs.Common.{◌++◌, ◌≡◌, refl}
 use Rattle.csv.specs.Records.{fields_of}
 use Rattle.rj_csv_io.specs.Shown.{rows_text}
 use Rattle.rj_csv_io.proofs.WriteFacts.{ok-holds}
@@ -33,3 +33,16 @@ pub returns-clause-fault : goal.returns-clause-fault
 returns-clause-fault g c = λ e is out texts tell.
     let opened = c.in-Ok.ensures in
     fault_of_texts g.R.Read.remaining c.args.how (copies_of c.args.inputs.items) texts c.in-Ok.opened.sources.items opened.copies (opened.readings texts tell) e (c.put_rows.ensures.fault e is out (opened.tells texts tell))
+
+pub returns-in-Err-clause-first : goal.returns-in-Err-clause-first
+returns-in-Err-clause-first g c = λ texts tell f is. (
+  c.in-Err.e,
+  refl,
+  λ out. let told = c.in-Err.ensures.first out texts tell in let same : c.in-Err.e ≡ f = cc in same,
+)
+
+pub returns-in_default-clause-first : goal.returns-in_default-clause-first
+returns-in_default-clause-first g c = λ texts tell f is. let none = c.in-Ok.ensures.headers texts tell in absurd (cc)
+
+pub returns-clause-first : goal.returns-clause-first
+returns-clause-first g c = λ texts tell f is. let none = c.in-Ok.ensures.headers texts tell in absurd (cc)
