@@ -1,7 +1,7 @@
 -- Numbers none of which stands twice, one after another.
 use Rattle.std.proofs.Common.{◌≡◌, ◌≢◌, ◌∙◌, ◌<◌, ◌==◌, ◌+◌, ℕ, Bool, true, false, List, length, map, take, get_or, slice_index_or, sym, ap, subst, arith, true≢false}
 use Rattle.std.specs.List.{All, list_any}
-use Rattle.std.proofs.lemmas.Bool.Decides.{nat_tests}
+use Rattle.std.proofs.lemmas.Bool.{eq-eqb, eqb-true}
 use Rattle.std.proofs.lemmas.List.{get_or-map, get_or-take, get_or_default, length-take-le, length-map, map_more, take-map}
 use Rattle.std.proofs.lemmas.List.Folds.{Any-from_list_any, list_any_at}
 use Rattle.std.proofs.lemmas.List.Quantifiers.{all_pairs_push}
@@ -15,12 +15,6 @@ use Rattle.rj_engine.specs.Marks.{IsMarked}
 use Rattle.rj_engine.specs.Join.{JoinedValue}
 use Rattle.rj_engine.specs.Results.{joined_of, kept_pairs}
 
-pub is_equal : (a b : ℕ) → a ≡ b → (a == b) ≡ true
-is_equal a b e = grind (arith, nat_tests, e)
-
-equal_is : (a b : ℕ) → (a == b) ≡ true → a ≡ b
-equal_is a b e = grind (arith, nat_tests, e)
-
 -- one more number, which isn't among those before it
 pub distinct_more : {X : Type 0} (f : X → ℕ) (xs : List X) (i : ℕ) (d : X) → i < length xs → AreDistinct (map f (take i xs))
     → list_any (λ x. x == f (get_or xs i d)) (map f (take i xs)) ≡ false → AreDistinct (map f (take (i + 1) xs))
@@ -28,7 +22,7 @@ distinct_more f xs i d lt distinct none =
     let numbers = map f (take i xs) in
     let k = f (get_or xs i d) in
     subst AreDistinct (sym (map_more f xs i d lt)) (all_pairs_push (λ a b. a ≢ b) numbers k distinct (λ j e low same.
-    true≢false (sym (list_any_at (λ x. x == k) numbers j e low (is_equal _ _ same)) ∙ none)))
+    true≢false (sym (list_any_at (λ x. x == k) numbers j e low (eq-eqb _ _ same)) ∙ none)))
 
 -- a number that is among those before it stands twice
 pub stands_twice : {X : Type 0} (f : X → ℕ) (xs : List X) (i : ℕ) (d : X) → i < length xs
@@ -46,7 +40,7 @@ stands_twice f xs i d lt any distinct =
     let here : get_or (take i (map f xs)) j 0 ≡ get_or (map f xs) j 0 = get_or-take i (map f xs) j 0 before in
     let last : get_or (map f xs) i 0 ≡ k = get_or-map f xs i d 0 lt in
     let is : get_or (take i (map f xs)) j 0 ≡ found.1 = get_or_default (take i (map f xs)) j 0 found.1 low ∙ found.3 in
-    let equal : found.1 ≡ k = equal_is found.1 k found.4 in
+    let equal : found.1 ≡ k = eqb-true found.1 k found.4 in
     distinct j i 0 before there (sym here ∙ (is ∙ (equal ∙ sym last)))
 
 -- what a mark that was read says of its number

@@ -1,10 +1,11 @@
 -- The names that are written of a header are lawful, as many, and unchanged where they don't stand before.
 use Rattle.std.proofs.Common.{◌≡◌, ◌∙◌, ◌<◌, ◌≤◌, ◌+◌, ◌-◌, ℕ, zero, suc, List, [], ◌∷◌, ◌++◌, length, map, take, drop, Bool, true, false, true≢false, cond, Option, None, Some, refl, sym, ap, subst, arith, inl, inr, add-one, append_assoc, drop-cons}
-use Rattle.std.specs.Prelude.{IsUtf8, nat_le, ◌≢◌, ◌&&◌, ◌||◌, All, fold, if◌then◌else◌, not, slice_index_or, Result, Ok, Err}
+use Rattle.std.specs.Prelude.{IsUtf8, nat_le, ◌≢◌, ◌||◌, All, fold, if◌then◌else◌, not, slice_index_or, Result, Ok, Err}
 use Rattle.std.specs.Cmp.{IsEquivalence}
 use Rattle.std.specs.List.{find, range_with_len}
 use Rattle.std.specs.Str.{bytes_eq, str_eq_ignore_ascii_case, str_to_ascii_lowercase}
-use Rattle.std.proofs.lemmas.Bool.{and_parts, cases_Bool, lt-ltb}
+use Rattle.std.proofs.Math.Bool.{and-true, or-false, or-true}
+use Rattle.std.proofs.lemmas.Bool.{and_parts, cases_Bool, lt-ltb, not-true}
 use Rattle.std.proofs.lemmas.Str.{is_utf8-from_IsUtf8}
 use Rattle.std.proofs.lemmas.List.{append-nil, drop_all, length-append}
 use Rattle.std.proofs.lemmas.List.Elements.{All-cons, All-get_or, All-head, All-map, All-nil, All-tail, All-weaker}
@@ -39,10 +40,6 @@ same_bool true true f g = refl
 same_bool true false f g = sym (f refl)
 same_bool false true f g = g refl
 same_bool false false f g = refl
-
-not_true : (b : Bool) → not b ≡ true → b ≡ false
-not_true true e = sym e
-not_true false e = refl
 
 -- to be alike when ASCII case is ignored is an equivalence
 alike_laws : IsEquivalence str_eq_ignore_ascii_case
@@ -107,33 +104,25 @@ repeated_more before name x again = is_among_more before name x ∙ elim (cases_
   | inl h ↦
       let there = list_any_congr alike_laws x name before h ∙ again in
       ap (λ (b : Bool). b || str_eq_ignore_ascii_case x name) there ∙ sym there
-  | inr h ↦ ap (λ (b : Bool). is_among before x || b) h ∙ or_false (is_among before x)
+  | inr h ↦ ap (λ (b : Bool). is_among before x || b) h ∙ or-false (is_among before x)
 ]
-  where
-    or_false : (b : Bool) → (b || false) ≡ b
-    or_false true = refl
-    or_false false = refl
 
 next_free : (header before written : Names) (name next : List ℕ) → AreAlikeIn header before written → is_among before name ≡ true
     → is_free header written next ≡ true → IsNext header before written name next
 next_free header before written name next alike again free =
     let outer = and_parts _ _ free in
     let inner = and_parts _ _ outer.0 in
-    let unlike = not_true _ inner.1 in
-    let fresh = not_true _ outer.1 in
+    let unlike = not-true _ inner.1 in
+    let fresh = not-true _ outer.1 in
     record {
       lawful = λ h. inner.0;
       fresh = fresh;
       alike = λ x h.
           is_among_more written next x
           ∙ (ap (λ (b : Bool). is_among written x || b) (other_is_unlike header next x unlike h)
-          ∙ (or_false (is_among written x) ∙ (alike x h ∙ sym (repeated_more before name x again))));
+          ∙ (or-false (is_among written x) ∙ (alike x h ∙ sym (repeated_more before name x again))));
       own = λ none. absurd (true≢false (sym again ∙ none));
     }
-  where
-    or_false : (b : Bool) → (b || false) ≡ b
-    or_false true = refl
-    or_false false = refl
 
 next_is : (repeated : Repeated) (header before written : Names) (name next : List ℕ) → take (length written) header ≡ before
     → AreAlikeIn header before written → is_among header name ≡ true → next_name repeated header written name ≡ Some next
@@ -179,11 +168,7 @@ own_at header before written rest tail name next step behind (suc i) low none =
 middle_is_among : (before rest : Names) (name : List ℕ) → is_among (before ++ name ∷ rest) name ≡ true
 middle_is_among before rest name =
     list_any-append (str_eq_ignore_ascii_case name) before (name ∷ rest)
-    ∙ (ap (λ (b : Bool). is_among before name || (b || is_among rest name)) (alike_laws.refl name) ∙ or_true (is_among before name))
-  where
-    or_true : (b : Bool) → (b || true) ≡ true
-    or_true true = refl
-    or_true false = refl
+    ∙ (ap (λ (b : Bool). is_among before name || (b || is_among rest name)) (alike_laws.refl name) ∙ or-true (is_among before name))
 
 rest_of : (repeated : Repeated) (before written rest names : Names) → length before ≡ length written → AreAlikeIn (before ++ rest) before written
     → fold (with_next repeated (before ++ rest)) (Ok written) rest ≡ Ok names → IsRest before written rest names
@@ -389,9 +374,5 @@ pub next_marked : (repeated : Repeated) (name before text next : List ℕ) (mark
     → next ≡ with_mark repeated text → next ≡ marked repeated name (marks + 1)
 next_marked repeated name before text next marks at same is = is ∙ (ap (with_mark repeated) (same ∙ at) ∙ sym (marked_more repeated name marks))
 
-and_true : (b : Bool) → b ≡ (b && true)
-and_true true = refl
-and_true false = refl
-
 pub name_by_length : (text : List ℕ) → IsUtf8 text → 0 < length text → nat_le (length text) 128 ≡ is_name text
-name_by_length text utf8 some = rw (lt-ltb 0 (length text) some, is_utf8-from_IsUtf8 text utf8) (and_true (nat_le (length text) 128))
+name_by_length text utf8 some = rw (lt-ltb 0 (length text) some, is_utf8-from_IsUtf8 text utf8) (sym (and-true (nat_le (length text) 128)))

@@ -1,16 +1,11 @@
 -- Numbers that stand more than once.
-use Rattle.std.proofs.Common.{◌≡◌, ◌<◌, ◌≤◌, ◌==◌, ◌+◌, ◌∙◌, ℕ, zero, suc, refl, false, Bool, cond, List, [], ◌∷◌, length, map, get_or, set, take, arith, inl, inr, sym, ap, get_or-set_same, get_or-set_other}
+use Rattle.std.proofs.Common.{◌≡◌, ◌<◌, ◌≤◌, ◌==◌, ◌+◌, ◌∙◌, ℕ, zero, suc, refl, Bool, cond, List, [], ◌∷◌, length, map, get_or, set, take, arith, inl, inr, sym, ap, get_or-set_same, get_or-set_other}
 use Rattle.std.specs.List.{All}
-use Rattle.std.proofs.lemmas.Bool.{cases_eq}
-use Rattle.std.proofs.lemmas.Bool.Decides.{nat_tests}
+use Rattle.std.proofs.lemmas.Bool.{cases_eq, eq-eqb, ne_eqb}
 use Rattle.std.proofs.lemmas.List.{get_or_read}
 use Rattle.std.proofs.lemmas.List.Sums.{count_by_more_no, count_by_more_yes, sum_by-cons}
 use Rattle.rj_engine.specs.Expected.{AreDistinct}
 use Rattle.rj_engine.specs.Violations.{times}
-use Rattle.rj_engine.proofs.Distinct.{is_equal}
-
-other-fails : (x k : ℕ) → (x ≡ k → ⊥) → (x == k) ≡ false
-other-fails x k n = grind (arith, nat_tests, n)
 
 -- one more number is counted once more, and no other one is
 pub counted-more : (numbers counts : List ℕ) (i x v k : ℕ) → i < length numbers → x ≡ get_or numbers i 0 → x < length counts → v ≡ get_or counts x v
@@ -19,17 +14,17 @@ counted-more numbers counts i x v k lt is low read so = elim (cases_eq k x) [
   | inl e ↦
       let here : get_or (set counts x (v + 1)) k 0 ≡ v + 1 = rw e (get_or-set_same counts x (v + 1) 0 low) in
       let was : v ≡ get_or counts x 0 = get_or_read counts x v low read 0 in
-      let yes = count_by_more_yes (λ (y : ℕ). y == k) numbers i 0 lt (is_equal (get_or numbers i 0) k (sym is ∙ sym e)) in
+      let yes = count_by_more_yes (λ (y : ℕ). y == k) numbers i 0 lt (eq-eqb (get_or numbers i 0) k (sym is ∙ sym e)) in
       let old : v ≡ times k (take i numbers) = was ∙ ap (λ (z : ℕ). get_or counts z 0) (sym e) ∙ so in
       here ∙ (ap (λ (z : ℕ). z + 1) old ∙ sym yes)
   | inr n ↦
-      let no = count_by_more_no (λ (y : ℕ). y == k) numbers i 0 lt (other-fails (get_or numbers i 0) k (λ f. n (sym (is ∙ f)))) in
+      let no = count_by_more_no (λ (y : ℕ). y == k) numbers i 0 lt (ne_eqb (get_or numbers i 0) k (λ f. n (sym (is ∙ f)))) in
       get_or-set_other counts x k (v + 1) 0 n ∙ (so ∙ sym no)
 ]
 
 -- the first number of a list, and the others
 times-first : (x k : ℕ) (numbers : List ℕ) → x ≡ k → times k (x ∷ numbers) ≡ 1 + times k numbers
-times-first x k numbers e = sum_by-cons (λ (y : ℕ). cond (y == k) 1 0) x numbers ∙ ap (λ (b : Bool). cond b 1 0 + times k numbers) (is_equal x k e)
+times-first x k numbers e = sum_by-cons (λ (y : ℕ). cond (y == k) 1 0) x numbers ∙ ap (λ (b : Bool). cond b 1 0 + times k numbers) (eq-eqb x k e)
 
 times-rest : (x k : ℕ) (numbers : List ℕ) → times k numbers ≤ times k (x ∷ numbers)
 times-rest x k numbers = omega (arith, sum_by-cons (λ (y : ℕ). cond (y == k) 1 0) x numbers)

@@ -1,5 +1,6 @@
 -- The names under which the columns of a joined table are written.
-use Rattle.std.specs.Prelude.{◌≡◌, ℕ, zero, suc, ◌+◌, ◌&&◌, Bool, not, if◌then◌else◌, List, [], ◌∷◌, ◌++◌, codes, fold, length, map, take, Option, None, Some, Result, Ok, Err}
+use Rattle.std.specs.Prelude.{◌≡◌, ℕ, zero, suc, ◌+◌, ◌&&◌, Bool, not, if◌then◌else◌, List, [], ◌∷◌, ◌++◌, codes, fold, length, map, take}
+use Rattle.std.specs.Prelude.{Option, None, Some, Result, Ok, Err}
 use Rattle.std.specs.List.{find, list_any, range_with_len}
 use Rattle.std.specs.Str.{str_eq_ignore_ascii_case}
 use Rattle.rj_columns.specs.Names.{is_name, name_fault}

@@ -6,9 +6,11 @@ ghost use Rattle.rj_columns.specs.Scales.{coalesced, in_scale};
 ghost use Rattle.rj_columns.specs.Tables.{cell_of};
 ghost use Rattle.rj_engine.specs.Cells.{coalesced_scale, joined_cell, left_cell, members_rows, right_cell, scale_of};
 ghost use Rattle.rj_engine.specs.Cells.{IsLeftRow, IsMemberOf, IsRightRow};
+ghost use Rattle.rj_engine.specs.Marks.{row_on};
 ghost use Rattle.rj_engine.specs.declared.origin.Origin.TheVariants as origin;
 
 use crate::joined::Members;
+use crate::marks::{PairSide, row_on};
 use rj_columns::{Cell, Table, in_scale};
 use std::alloc::AllocError;
 
@@ -29,36 +31,20 @@ fn add_rows<'s>(
     Ok(())
 }
 
-// Adds the cells of a column at the left rows of these pairs.
-fn add_lefts<'s>(
+// Adds the cells of a column at the rows of these pairs on a side.
+fn add_side<'s>(
     cells: &mut Vec<Cell<'s>>,
-    left: &'s Table,
+    table: &'s Table,
     col: usize,
     pairs: &[(u32, u32)],
+    side: PairSide,
 ) -> Result<(), AllocError>
-    requires rows { All (λ p. p.0 < length left.now.rows) pairs.now }
-    requires col { col < length left.now.types }
-    ensures { OnOk result (map content_of cells.new.items ≡ map content_of cells.old.items ++ map (λ p. cell_of left.now p.0 col) pairs.now) }
+    requires rows { All (λ p. row_on side p < length table.now.rows) pairs.now }
+    requires col { col < length table.now.types }
+    ensures { OnOk result (map content_of cells.new.items ≡ map content_of cells.old.items ++ map (λ p. cell_of table.now (row_on side p) col) pairs.now) }
 {
     for pair in pairs {
-        cells.push(left.cell(u64::from(pair.0), col))?;
-    }
-    Ok(())
-}
-
-// Adds the cells of a column at the right rows of these pairs.
-fn add_rights<'s>(
-    cells: &mut Vec<Cell<'s>>,
-    right: &'s Table,
-    col: usize,
-    pairs: &[(u32, u32)],
-) -> Result<(), AllocError>
-    requires rows { All (λ p. p.1 < length right.now.rows) pairs.now }
-    requires col { col < length right.now.types }
-    ensures { OnOk result (map content_of cells.new.items ≡ map content_of cells.old.items ++ map (λ p. cell_of right.now p.1 col) pairs.now) }
-{
-    for pair in pairs {
-        cells.push(right.cell(u64::from(pair.1), col))?;
+        cells.push(table.cell(u64::from(row_on(side, *pair)), col))?;
     }
     Ok(())
 }
@@ -85,7 +71,7 @@ pub(crate) fn add_left<'s>(
     ensures { OnOk result (map content_of cells.new.items
         ≡ map content_of cells.old.items ++ map (λ m. left_cell left.now m col) (members_rows members.entry)) }
 {
-    add_lefts(cells, left, col, members.pairs)?;
+    add_side(cells, left, col, members.pairs, PairSide::Left)?;
     add_rows(cells, left, col, members.lone_left)?;
     add_nulls(cells, members.lone_right)?;
     Ok(())
@@ -103,7 +89,7 @@ pub(crate) fn add_right<'s>(
     ensures { OnOk result (map content_of cells.new.items
         ≡ map content_of cells.old.items ++ map (λ m. right_cell right.now m col) (members_rows members.entry)) }
 {
-    add_rights(cells, right, col, members.pairs)?;
+    add_side(cells, right, col, members.pairs, PairSide::Right)?;
     add_nulls(cells, members.lone_left)?;
     add_rows(cells, right, col, members.lone_right)?;
     Ok(())

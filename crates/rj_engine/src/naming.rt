@@ -1,6 +1,7 @@
 //! The names under which the columns of a joined table are written.
 
-ghost use Rattle.std.specs.Prelude.{◌≡◌, ◌≢◌, ◌<◌, ◌++◌, [], ◌∷◌, All, IfErr, IfOk, List, OnOk, Err, None, Ok, false, length, map, option_map, slice_index_or, string_bytes, take, true, ℕ};
+ghost use Rattle.std.specs.Prelude.{◌≡◌, ◌≢◌, ◌<◌, ◌++◌, [], ◌∷◌, All, IfErr, IfOk, List, OnOk, Err, None, Ok, ℕ};
+ghost use Rattle.std.specs.Prelude.{false, length, map, option_map, slice_index_or, string_bytes, take, true};
 ghost use Rattle.std.specs.Str.{str_eq_ignore_ascii_case};
 ghost use Rattle.rj_columns.specs.Names.{is_name, name_fault};
 ghost use Rattle.rj_columns.specs.Tables.{TableValue};

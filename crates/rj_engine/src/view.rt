@@ -42,7 +42,8 @@ impl<'a> Model for View<'a> {
       width = length a.origins.items;
     } };
 
-    ghost invariant = { λ a. All (IsMemberOf a.left.now a.right.now) (shown_rows a.chosen a.joined.now.members) × All (IsColumnOf a.left.now a.right.now) a.origins.items
+    ghost invariant = { λ a. All (IsMemberOf a.left.now a.right.now) (shown_rows a.chosen a.joined.now.members)
+        × All (IsColumnOf a.left.now a.right.now) a.origins.items
         × (a.scales.items ≡ map (shown_scale a.left.now a.right.now) a.origins.items) };
 }
 

@@ -2,11 +2,13 @@
 
 ghost use Rattle.std.specs.Prelude.{◌≡◌, ◌<◌, ◌↔◌, ℕ, All, IfOk, IsTrue, MatchOption, Some, length, map, slice_index};
 ghost use Rattle.rj_engine.specs.Expected.{AreDistinct, AreMatched, IsAsExpected};
+ghost use Rattle.rj_engine.specs.Marks.{row_on};
 ghost use Rattle.rj_engine.specs.Results.{joined_of};
 ghost use Rattle.rj_engine.specs.Violations.{IsFirstRepeated, IsPairViolation, IsViolation, times};
 
 use crate::expected::has_at_most;
 use crate::joined::Joined;
+use crate::marks::{PairSide, row_on};
 use rj_columns::Table;
 use rj_condition::BoundJoin;
 use rj_settings::{Expectation, Matching};
@@ -55,18 +57,12 @@ fn first_repeated(
     Ok(None)
 }
 
-fn left_numbers(alloc: Global, pairs: &[(u32, u32)]) -> Result<Vec<u32>, AllocError>
-    ensures { IfOk result (λ v. v.items ≡ map (λ p. p.0) pairs.now) }
+// The rows of the pairs on a side.
+fn rows_on(alloc: Global, pairs: &[(u32, u32)], side: PairSide) -> Result<Vec<u32>, AllocError>
+    ensures { IfOk result (λ v. v.items ≡ map (row_on side) pairs.now) }
 {
-    let numbers: Vec<u32> = pairs.iter().map(|pair| pair.0).collect(alloc)?;
-    Ok(numbers)
-}
-
-fn right_numbers(alloc: Global, pairs: &[(u32, u32)]) -> Result<Vec<u32>, AllocError>
-    ensures { IfOk result (λ v. v.items ≡ map (λ p. p.1) pairs.now) }
-{
-    let numbers: Vec<u32> = pairs.iter().map(|pair| pair.1).collect(alloc)?;
-    Ok(numbers)
+    let rows: Vec<u32> = pairs.iter().map(|pair| row_on(side, *pair)).collect(alloc)?;
+    Ok(rows)
 }
 
 // The first left row that is in more than one of the pairs.
@@ -78,8 +74,8 @@ fn left_violation(
     requires { All (λ p. p.0 < lefts) pairs.now }
     ensures { IfOk result (λ o. MatchOption o (AreDistinct (map (λ p. p.0) pairs.now)) (IsPairViolation Matching.ManyToOne pairs.now)) }
 {
-    let numbers = left_numbers(alloc, pairs)?;
-    match first_repeated(alloc, numbers.as_slice(), lefts)? {
+    let rows = rows_on(alloc, pairs, PairSide::Left)?;
+    match first_repeated(alloc, rows.as_slice(), lefts)? {
         Some((row, often)) => Ok(Some(Violation::LeftRow(row, often))),
         None => Ok(None),
     }
@@ -94,8 +90,8 @@ fn right_violation(
     requires { All (λ p. p.1 < rights) pairs.now }
     ensures { IfOk result (λ o. MatchOption o (AreDistinct (map (λ p. p.1) pairs.now)) (IsPairViolation Matching.OneToMany pairs.now)) }
 {
-    let numbers = right_numbers(alloc, pairs)?;
-    match first_repeated(alloc, numbers.as_slice(), rights)? {
+    let rows = rows_on(alloc, pairs, PairSide::Right)?;
+    match first_repeated(alloc, rows.as_slice(), rights)? {
         Some((row, often)) => Ok(Some(Violation::RightRow(row, often))),
         None => Ok(None),
     }

@@ -21,9 +21,6 @@ drawn_more : (ds : List Seat) (d : Seat) → flat_map drawn (ds ++ d ∷ []) ≡
 drawn_more ds d = flat_map-append drawn ds (d ∷ []) ∙ ap (λ l. flat_map drawn ds ++ l) (flat_map-cons drawn d [] ∙ append-nil (drawn d))
 
 module _ {T : Type 0} (makes : ℕ → T → Type 0) where
-  pub by_none : AreMadeBy makes [] []
-  by_none = (refl, λ i k d lt. absurd (omega arith))
-
   by_one : (n : ℕ) (x : T) → makes n x → AreMadeBy makes (n ∷ []) (x ∷ [])
   by_one n x made = (refl, at) where
     at : (i k : ℕ) (d : T) → i < 1 → makes (get_or (n ∷ []) i k) (get_or (x ∷ []) i d)

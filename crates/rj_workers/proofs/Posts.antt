@@ -12,7 +12,7 @@ use Rattle.rj_ledger.specs.Cutting.{bodies, numbered, plan}
 use Rattle.rj_exchange.specs.declared.boxes.Exchange.{Exchange}
 use Rattle.rj_exchange.specs.Boxes.{queue_of}
 use Rattle.rj_workers.proofs.Lists.{row_fits, any_default, along}
-use Rattle.rj_workers.specs.Posts.{Due, Posts, posts_at, KeepsPosts, AddsLeft, IsPosted, OnlyPlanned, AreAllAt, HasPosted, NothingPosted}
+use Rattle.rj_workers.specs.Posts.{Due, Posts, posts_at, KeepsPosts, AddsLeft, IsPosted, AreAllAt, HasPosted}
 
 -- one parcel is posted
 module _ (e : Exchange) (x : Parcel) (old new : Posts) (lt : queue_of e x < length old) (is : new ≡ set old (queue_of e x) (posts_at old (queue_of e x) ++ x ∷ [])) where
@@ -88,10 +88,6 @@ kept_at e a b p xs keep has = λ i d lt. let h = has i d lt in (h.0, h.1, keep (
 
 pub kept_posted : (due : Due) (block : ℕ) (e : Exchange) (sender n : ℕ) (a b : Posts) → KeepsPosts a b → HasPosted due block e sender n a → HasPosted due block e sender n b
 kept_posted due block e sender n a b keep has = λ p lt. kept_at e a b p (plan block (due sender p) sender p) keep (has p lt)
-
--- as outboxes are opened
-pub nothing_planned : (due : Due) (block : ℕ) (a : Posts) → NothingPosted a → OnlyPlanned due block a
-nothing_planned due block a none = λ q x h. absurd (let m = ap length (none q) in let l = h.1 in omega arith)
 
 pub next_at : {A : Type 0} (xs ys zs all : List A) (x : A) → ys ≡ x ∷ zs → xs ++ ys ≡ all → (length xs < length all) × (get_or all (length xs) x ≡ x)
 next_at xs ys zs all x is parts =

@@ -4,4 +4,4 @@ use Rattle.rj_engine.proofs.violations.right_violation.Goals as goal
 
 pub first_repeated-requires : goal.first_repeated-requires
 first_repeated-requires c =
-    subst (λ (ns : List ℕ). All (λ n. n < c.args.rights) ns) (sym (c.as_slice.ensures.value ∙ c.in_ok-numbers.ensures)) (below-of (λ (p : ℕ × ℕ). p.1) c.args.pairs.now c.args.rights c.requires)
+    subst (λ (ns : List ℕ). All (λ n. n < c.args.rights) ns) (sym (c.as_slice.ensures.value ∙ c.in_ok-rows.ensures)) (below-of (λ (p : ℕ × ℕ). p.1) c.args.pairs.now c.args.rights c.requires)

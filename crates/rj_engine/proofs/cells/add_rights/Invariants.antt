@@ -1,7 +1,0 @@
-use Rattle.std.proofs.Common.{◌≡◌, ◌++◌, map, take}
-use Rattle.rj_columns.specs.Contents.{content_of}
-use Rattle.rj_columns.specs.Tables.{cell_of}
-use Rattle.rj_engine.proofs.cells.add_rights.Given as goal
-
-abbrev pub invariant-loop-pair : goal.invariant-loop-pair
-invariant-loop-pair l = map content_of l.cells.items ≡ map content_of l.fn.cells.items ++ map (λ p. cell_of l.right p.1 l.col) (take l.pair-index l.pairs)
