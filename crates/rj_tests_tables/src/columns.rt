@@ -34,48 +34,59 @@ fn names_ignore_ascii_case(rt: HostRuntime) {
     assert!(rt; fault(rt.alloc(), apart.as_slice(), [INT, INT].as_slice()).is_none());
 }
 
+// Why a table of one int column with this name is not begun, if so.
+fn fault_of_name(alloc: Global, name: &[u8]) -> Option<BuildRefused> {
+    fault(alloc, [name].as_slice(), [INT].as_slice())
+}
+
 #[test]
 fn lengths_of_names(rt: HostRuntime) {
     let longest = [b'a'; 128];
     let longer = [b'a'; 129];
-    let one = [INT];
-    assert!(rt; fault(rt.alloc(), [longest.as_slice()].as_slice(), one.as_slice()).is_none());
-    assert!(rt;
-        fault(rt.alloc(), [longer.as_slice()].as_slice(), one.as_slice())
-            == Some(BuildRefused::BadName(1))
-    );
-    assert!(rt;
-        fault(rt.alloc(), [b"".as_slice()].as_slice(), one.as_slice())
-            == Some(BuildRefused::BadName(1))
-    );
-    assert!(rt;
-        fault(rt.alloc(), [b"\xff".as_slice()].as_slice(), one.as_slice())
-            == Some(BuildRefused::BadName(1))
-    );
+    let faults = [
+        fault_of_name(rt.alloc(), longest.as_slice()),
+        fault_of_name(rt.alloc(), longer.as_slice()),
+        fault_of_name(rt.alloc(), b""),
+        fault_of_name(rt.alloc(), b"\xff"),
+    ];
+    let bad = Some(BuildRefused::BadName(1));
+    assert_eq!(rt; faults, [None, bad, bad, bad]);
+}
+
+// Each pair of letters from `a` to `p`.
+fn pairs_of_letters(alloc: Global) -> Result<Vec<[u8; 2]>, AllocError> {
+    let mut pairs = Vec::new(alloc);
+    for first in b'a'..=b'p' {
+        for second in b'a'..=b'p' {
+            pairs.push([first, second])?;
+        }
+    }
+    Ok(pairs)
+}
+
+fn names_of(alloc: Global, pairs: &[[u8; 2]]) -> Result<Vec<&[u8]>, AllocError> {
+    let mut names = Vec::new(alloc);
+    for name in pairs {
+        names.push(name.as_slice())?;
+    }
+    Ok(names)
 }
 
 #[test]
 fn numbers_of_columns(rt: HostRuntime) -> Result<(), Fail> {
     let alloc = rt.alloc();
-    let mut letters = Vec::new(alloc);
-    for first in b'a'..=b'p' {
-        for second in b'a'..=b'p' {
-            letters.push([first, second])?;
-        }
-    }
-    let mut names = Vec::new(alloc);
-    let mut types = Vec::new(alloc);
-    for name in &letters {
-        names.push(name.as_slice())?;
-        types.push(INT)?;
-    }
-    assert!(rt; names.len() == 256);
-    assert!(rt; fault(alloc, names.as_slice(), types.as_slice()).is_none());
-    assert!(rt; fault(alloc, names.as_slice(), [INT].as_slice()) == Some(BuildRefused::TypeCount));
+    let pairs = pairs_of_letters(alloc)?;
+    let mut names = names_of(alloc, &pairs)?;
+    assert_eq!(rt; names.len(), 256);
+    let types = [INT; 256];
+    let faults = [
+        fault(alloc, names.as_slice(), types.as_slice()),
+        fault(alloc, names.as_slice(), [INT].as_slice()),
+    ];
+    assert_eq!(rt; faults, [None, Some(BuildRefused::TypeCount)]);
     names.push(b"aa".as_slice())?;
-    assert!(rt;
-        fault(alloc, names.as_slice(), types.as_slice()) == Some(BuildRefused::TooManyColumns)
-    );
+    let refused = fault(alloc, names.as_slice(), types.as_slice());
+    assert_eq!(rt; refused, Some(BuildRefused::TooManyColumns));
     Ok(())
 }
 
@@ -96,35 +107,69 @@ fn sample(alloc: Global) -> Result<Table, Fail>
     Ok(builder.finish())
 }
 
+// A place in a table, and the cell there.
+type CellCase<'a> = (u64, usize, Cell<'a>);
+
+fn has_cell(table: &Table, row: u64, col: usize, want: Cell<'_>) -> bool {
+    row < table.rows() && col < table.columns() && table.cell(row, col) == want
+}
+
+// The first of these places where a table has another cell. It counts from 0.
+fn wrong_cell(table: &Table, cases: &[CellCase<'_>]) -> Option<usize> {
+    for (place, case) in cases.iter().enumerate() {
+        let (row, col, want) = *case;
+        if !has_cell(table, row, col, want) {
+            return Some(place);
+        }
+    }
+    None
+}
+
+const CELLS: [CellCase<'static>; 4] = [
+    (0, 0, Cell::Int(-7)),
+    (0, 1, Cell::Text("\u{e4},")),
+    (1, 0, Cell::Null),
+    (1, 1, Cell::Null),
+];
+
 #[test]
 fn cells_as_pushed(rt: HostRuntime) -> Result<(), Fail> {
     let table = sample(rt.alloc())?;
     assert!(rt; table.rows() == 2 && table.columns() == 2);
-    assert_eq!(rt; table.name(0), "id");
-    assert_eq!(rt; table.name(1), "Word");
-    assert!(rt; table.column_type(0) == INT && table.column_type(1) == TEXT);
-    assert!(rt; table.cell(0, 0) == Cell::Int(-7));
-    assert!(rt; table.cell(0, 1) == Cell::Text("\u{e4},"));
-    assert!(rt; table.cell(1, 0) == Cell::Null && table.cell(1, 1) == Cell::Null);
+    assert_eq!(rt; [table.name(0), table.name(1)], ["id", "Word"]);
+    assert_eq!(rt; [table.column_type(0), table.column_type(1)], [INT, TEXT]);
+    assert_eq!(rt; wrong_cell(&table, CELLS.as_slice()), None);
     Ok(())
 }
 
+// Three rows, of which the last two take the place of a row that is not ended.
 #[tactic(auto, unfolding(rj_columns::specs::Tables::FitsTypes, rj_columns::specs::Tables::FitsAt))]
-#[test]
-fn a_row_in_place_of_the_row_at_hand(rt: HostRuntime) -> Result<(), Fail> {
+fn rows_in_place_of_others(alloc: Global) -> Result<Table, Fail> {
     let names = [b"id".as_slice(), b"Word".as_slice()];
     let types = [INT, TEXT];
-    let mut builder = TableBuilder::new(rt.alloc(), names.as_slice(), types.as_slice())?;
+    let mut builder = TableBuilder::new(alloc, names.as_slice(), types.as_slice())?;
     builder.push_row([Cell::Null, Cell::Text("a")].as_slice())?;
     builder.push_cell(Cell::Int(5))?;
     builder.push_row([Cell::Int(6), Cell::Text("b")].as_slice())?;
     builder.push_cell(Cell::Null)?;
     builder.push_row([Cell::Int(7), Cell::Null].as_slice())?;
-    let table = builder.finish();
-    assert!(rt; table.rows() == 3);
-    assert!(rt; table.cell(0, 0) == Cell::Null && table.cell(0, 1) == Cell::Text("a"));
-    assert!(rt; table.cell(1, 0) == Cell::Int(6) && table.cell(1, 1) == Cell::Text("b"));
-    assert!(rt; table.cell(2, 0) == Cell::Int(7) && table.cell(2, 1) == Cell::Null);
+    Ok(builder.finish())
+}
+
+const CELLS_IN_PLACE: [CellCase<'static>; 6] = [
+    (0, 0, Cell::Null),
+    (0, 1, Cell::Text("a")),
+    (1, 0, Cell::Int(6)),
+    (1, 1, Cell::Text("b")),
+    (2, 0, Cell::Int(7)),
+    (2, 1, Cell::Null),
+];
+
+#[test]
+fn a_row_in_place_of_the_row_at_hand(rt: HostRuntime) -> Result<(), Fail> {
+    let table = rows_in_place_of_others(rt.alloc())?;
+    assert_eq!(rt; table.rows(), 3);
+    assert_eq!(rt; wrong_cell(&table, CELLS_IN_PLACE.as_slice()), None);
     Ok(())
 }
 
@@ -150,12 +195,26 @@ fn a_table_is_a_source(rt: HostRuntime) -> Result<(), Fail> {
 
 #[test]
 fn order_of_cells(rt: HostRuntime) {
-    assert!(rt; compare(Cell::Int(-1), Cell::Int(1)) == Some(Ordering::Less));
-    assert!(rt; compare(Cell::Text("b"), Cell::Text("abc")) == Some(Ordering::Greater));
-    assert!(rt; compare(Cell::Text("a"), Cell::Text("a ")) == Some(Ordering::Less));
-    assert!(rt; compare(Cell::Text("a"), Cell::Text("a")) == Some(Ordering::Equal));
-    assert!(rt; compare(Cell::Null, Cell::Null).is_none());
-    assert!(rt; compare(Cell::Int(1), Cell::Null).is_none());
+    let orders = [
+        compare(Cell::Int(-1), Cell::Int(1)),
+        compare(Cell::Text("b"), Cell::Text("abc")),
+        compare(Cell::Text("a"), Cell::Text("a ")),
+        compare(Cell::Text("a"), Cell::Text("a")),
+        compare(Cell::Null, Cell::Null),
+        compare(Cell::Int(1), Cell::Null),
+    ];
+    let (less, equal, greater) = (Ordering::Less, Ordering::Equal, Ordering::Greater);
+    assert_eq!(rt;
+        orders,
+        [
+            Some(less),
+            Some(greater),
+            Some(less),
+            Some(equal),
+            None,
+            None
+        ]
+    );
 }
 
 // A cell of a num column.
@@ -167,64 +226,97 @@ fn num(units: i128, scale: u8) -> Cell<'static>
 
 #[test]
 fn order_of_numbers(rt: HostRuntime) {
-    assert!(rt; compare(num(15, 1), num(150, 2)) == Some(Ordering::Equal));
-    assert!(rt; compare(num(-5, 1), num(-500, 3)) == Some(Ordering::Equal));
-    assert!(rt; compare(Cell::Int(2), num(225, 2)) == Some(Ordering::Less));
-    assert!(rt; compare(Cell::Int(3), num(225, 2)) == Some(Ordering::Greater));
-    assert!(rt; compare(num(-1, 18), Cell::Int(0)) == Some(Ordering::Less));
-    assert!(rt; compare(Cell::Null, num(0, 0)).is_none());
-    assert!(rt;
-        compare(Cell::Int(i64::MAX), num(999_999_999_999_999_999, 18)) == Some(Ordering::Greater)
+    let orders = [
+        compare(num(15, 1), num(150, 2)),
+        compare(num(-5, 1), num(-500, 3)),
+        compare(Cell::Int(2), num(225, 2)),
+        compare(Cell::Int(3), num(225, 2)),
+        compare(num(-1, 18), Cell::Int(0)),
+        compare(Cell::Null, num(0, 0)),
+        compare(Cell::Int(i64::MAX), num(999_999_999_999_999_999, 18)),
+    ];
+    let (less, equal, greater) = (
+        Some(Ordering::Less),
+        Some(Ordering::Equal),
+        Some(Ordering::Greater),
     );
+    assert_eq!(rt; orders, [equal, equal, less, greater, less, None, greater]);
 }
 
 #[test]
 fn equal_cells(rt: HostRuntime) {
-    assert!(rt; are_equal_cells(num(20, 1), num(200, 2)));
-    assert!(rt; are_equal_cells(Cell::Int(2), num(2_000, 3)));
-    assert!(rt; !are_equal_cells(Cell::Int(2), num(2, 1)));
-    assert!(rt; are_equal_cells(Cell::Text("2"), Cell::Text("2")));
-    assert!(rt; !are_equal_cells(Cell::Text("2"), Cell::Int(2)));
-    assert!(rt; !are_equal_cells(Cell::Null, Cell::Null));
+    let equal = [
+        are_equal_cells(num(20, 1), num(200, 2)),
+        are_equal_cells(Cell::Int(2), num(2_000, 3)),
+        are_equal_cells(Cell::Int(2), num(2, 1)),
+        are_equal_cells(Cell::Text("2"), Cell::Text("2")),
+        are_equal_cells(Cell::Text("2"), Cell::Int(2)),
+        are_equal_cells(Cell::Null, Cell::Null),
+    ];
+    assert_eq!(rt; equal, [true, true, false, true, false, false]);
     assert!(rt; Cell::Null.is_null() && !num(0, 0).is_null());
 }
 
 #[test]
 fn numbers_in_a_scale(rt: HostRuntime) {
-    assert!(rt; in_scale(num(15, 1), 2) == num(150, 2));
-    assert!(rt; in_scale(num(-5, 1), 2) == num(-50, 2));
-    assert!(rt; in_scale(Cell::Int(3), 3) == num(3_000, 3));
-    assert!(rt; in_scale(Cell::Int(3), 0) == Cell::Int(3));
-    assert!(rt; in_scale(Cell::Null, 3) == Cell::Null);
-    assert!(rt;
-        in_scale(Cell::Int(i64::MIN), 18)
-            == num(-9_223_372_036_854_775_808_000_000_000_000_000_000, 18)
-    );
-    assert!(rt; coalesce(num(15, 1), Cell::Null) == num(15, 1));
-    assert!(rt; coalesce(Cell::Null, num(25, 1)) == num(25, 1));
+    let scaled = [
+        in_scale(num(15, 1), 2),
+        in_scale(num(-5, 1), 2),
+        in_scale(Cell::Int(3), 3),
+        in_scale(Cell::Int(3), 0),
+        in_scale(Cell::Null, 3),
+        in_scale(Cell::Int(i64::MIN), 18),
+        coalesce(num(15, 1), Cell::Null),
+        coalesce(Cell::Null, num(25, 1)),
+    ];
+    let wanted = [
+        num(150, 2),
+        num(-50, 2),
+        num(3_000, 3),
+        Cell::Int(3),
+        Cell::Null,
+        num(-9_223_372_036_854_775_808_000_000_000_000_000_000, 18),
+        num(15, 1),
+        num(25, 1),
+    ];
+    assert_eq!(rt; scaled, wanted);
 }
 
+const SHORT: ColumnType = ColumnType::Num(NumericType {
+    precision: 4,
+    scale: 1,
+});
+
+const LONG: ColumnType = ColumnType::Num(NumericType {
+    precision: 18,
+    scale: 18,
+});
+
+// Numbers at the limits of their columns, and nulls.
 #[tactic(auto, unfolding(rj_columns::specs::Tables::FitsTypes, rj_columns::specs::Tables::FitsAt))]
-#[test]
-fn numeric_columns(rt: HostRuntime) -> Result<(), Fail> {
-    let short = ColumnType::Num(NumericType {
-        precision: 4,
-        scale: 1,
-    });
-    let long = ColumnType::Num(NumericType {
-        precision: 18,
-        scale: 18,
-    });
+fn numbers(alloc: Global) -> Result<Table, Fail>
+    ensures size { IfOk result (λ t. (length t.types ≡ 2) × (length t.rows ≡ 3)) }
+{
     let names = [b"k".as_slice(), b"m".as_slice()];
-    let mut builder = TableBuilder::new(rt.alloc(), names.as_slice(), [short, long].as_slice())?;
+    let mut builder = TableBuilder::new(alloc, names.as_slice(), [SHORT, LONG].as_slice())?;
     builder.push_row([num(9_999, 1), num(-999_999_999_999_999_999, 18)].as_slice())?;
     builder.push_row([Cell::Null, num(1, 18)].as_slice())?;
     builder.push_row([num(-5, 1), Cell::Null].as_slice())?;
-    let table = builder.finish();
-    assert!(rt; table.column_type(0) == short && table.column_type(1) == long);
-    assert!(rt; table.cell(0, 0) == num(9_999, 1));
-    assert!(rt; table.cell(0, 1) == num(-999_999_999_999_999_999, 18));
-    assert!(rt; table.cell(1, 0).is_null() && table.cell(1, 1) == num(1, 18));
-    assert!(rt; table.cell(2, 0) == num(-5, 1) && table.cell(2, 1).is_null());
+    Ok(builder.finish())
+}
+
+#[test]
+fn numeric_columns(rt: HostRuntime) -> Result<(), Fail> {
+    let table = numbers(rt.alloc())?;
+    assert_eq!(rt; [table.column_type(0), table.column_type(1)], [SHORT, LONG]);
+    let wanted = [
+        (0, 0, num(9_999, 1)),
+        (0, 1, num(-999_999_999_999_999_999, 18)),
+        (1, 0, Cell::Null),
+        (1, 1, num(1, 18)),
+        (2, 0, num(-5, 1)),
+        (2, 1, Cell::Null),
+    ];
+    assert_eq!(rt; wrong_cell(&table, wanted.as_slice()), None);
     Ok(())
 }

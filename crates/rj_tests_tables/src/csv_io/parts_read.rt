@@ -138,17 +138,18 @@ fn parts_of_one_row(rt: HostRuntime) -> Result<(), Fail> {
 }
 
 // Texts of fewer bytes than a part has.
+const FEW_BYTES: [&[u8]; 6] = [
+    b"k,v\n1,a\n2,b\n3,c\n4,d\n5,e\n6,f\n7,g\n8,h",
+    b"k,v\n1,a\n",
+    b"k,v\n",
+    b"k,v",
+    b"\n\n\n\n\n\n\n\n",
+    b"",
+];
+
 #[test]
 fn one_part_of_few_bytes(rt: HostRuntime) {
-    let texts = [
-        b"k,v\n1,a\n2,b\n3,c\n4,d\n5,e\n6,f\n7,g\n8,h".as_slice(),
-        b"k,v\n1,a\n",
-        b"k,v\n",
-        b"k,v",
-        b"\n\n\n\n\n\n\n\n",
-        b"",
-    ];
-    for text in texts.iter() {
+    for text in FEW_BYTES {
         for parts in 0..8 {
             assert!(rt; reads_alike(&rt, rt.alloc(), text, &TYPES, parts));
         }
@@ -383,39 +384,60 @@ fn fault_in_seven_parts(rt: HostRuntime) -> Result<(), Fail> {
     Ok(())
 }
 
+// Whether a text of this form with bytes for so many parts has this fault.
+fn form_is_fault<R: Threads + Sync>(
+    rt: &R,
+    alloc: Global,
+    form: Form<'_>,
+    parts: usize,
+    want: ReadRefused,
+) -> Result<bool, AllocError> {
+    let times = parts.saturating_mul(PART) / form.1.len().max(1);
+    let text = repeated(alloc, form.0, form.1, times, form.2)?;
+    Ok(fault(rt, alloc, &text, parts) == Some(want))
+}
+
 #[test]
 fn faults_of_headers_in_parts(rt: HostRuntime) -> Result<(), Fail> {
     let alloc = rt.alloc();
+    let blank: Form<'_> = (b"", b"\n", b"");
+    let wide: Form<'_> = (b"k,v,w\n", b"1,a\n", b"x\n");
+    let alike: Form<'_> = (b"k,K\n", b"1,a\n", b"x\n");
     for parts in [2usize, 3] {
-        let bytes = parts.saturating_mul(PART);
-        let blank = repeated(alloc, b"", b"\n", bytes, b"")?;
-        assert!(rt; fault(&rt, alloc, &blank, parts) == Some(ReadRefused::NoHeader));
-        let wide = repeated(alloc, b"k,v,w\n", b"1,a\n", bytes / 4, b"x\n")?;
-        assert!(rt; fault(&rt, alloc, &wide, parts) == Some(ReadRefused::TypeCount));
-        let alike = repeated(alloc, b"k,K\n", b"1,a\n", bytes / 4, b"x\n")?;
-        assert!(rt; fault(&rt, alloc, &alike, parts) == Some(ReadRefused::RepeatedName(2)));
+        assert!(rt; form_is_fault(&rt, alloc, blank, parts, ReadRefused::NoHeader)?);
+        assert!(rt; form_is_fault(&rt, alloc, wide, parts, ReadRefused::TypeCount)?);
+        assert!(rt; form_is_fault(&rt, alloc, alike, parts, ReadRefused::RepeatedName(2))?);
     }
     Ok(())
+}
+
+// How many rows a text has that is read in four parts with this text of null, or its fault.
+fn rows_in_four<R: Threads + Sync>(
+    rt: &R,
+    alloc: Global,
+    text: &[u8],
+    null: &str,
+) -> Result<u64, ReadRefused> {
+    match read_table_in_parts(rt, alloc, text, &TYPES, &[null], 4) {
+        Ok(table) => Ok(table.rows()),
+        Err(e) => Err(e),
+    }
 }
 
 #[test]
 fn parts_of_many_rows(rt: HostRuntime) -> Result<(), Fail> {
     let alloc = rt.alloc();
-    let mut text = Vec::new(alloc);
-    text.extend_from_slice(b"k,v\n")?;
-    for _row in 0..100000 {
-        text.extend_from_slice(b"12,abc\n")?;
-    }
-    let table = read_table_in_parts(&rt, alloc, &text, &TYPES, &[""], 4)?;
-    assert!(rt; table.rows() == 100000);
+    let mut text = repeated(alloc, b"k,v\n", b"12,abc\n", 100000, b"")?;
+    assert!(rt; rows_in_four(&rt, alloc, &text, "") == Ok(100000));
     text.extend_from_slice(b"x,abc\n")?;
-    match read_table_in_parts(&rt, alloc, &text, &TYPES, &[""], 4) {
-        Ok(_) => assert!(rt; false),
-        Err(e) => assert!(rt; e == ReadRefused::BadInteger(100001, 1)),
-    }
-    match read_table_in_parts(&rt, alloc, &text, &TYPES, &["7"], 4) {
-        Ok(_) => assert!(rt; false),
-        Err(e) => assert!(rt; e == ReadRefused::BadNull),
-    }
+    let refused = [
+        rows_in_four(&rt, alloc, &text, ""),
+        rows_in_four(&rt, alloc, &text, "7"),
+    ];
+    let wanted = [
+        Err(ReadRefused::BadInteger(100001, 1)),
+        Err(ReadRefused::BadNull),
+    ];
+    assert!(rt; refused == wanted);
     Ok(())
 }

@@ -11,17 +11,35 @@ use std::test::Fail;
 
 const TYPES: [ColumnType; 2] = [ColumnType::Int, ColumnType::Text];
 
+// A text and its last cut.
+type CutCase<'a> = (&'a [u8], usize);
+
+// The first of these texts, counted from 0, that has another last cut.
+fn wrong_cut(cases: &[CutCase<'_>]) -> Option<usize> {
+    for (place, case) in cases.iter().enumerate() {
+        let (text, want) = *case;
+        if last_cut(text) != want {
+            return Some(place);
+        }
+    }
+    None
+}
+
+const CUTS: [CutCase<'static>; 9] = [
+    (b"", 0),
+    (b"a,b", 0),
+    (b"a,b\n1,2\n3,", 8),
+    (b"a,b\r\n1,2\r\n3", 10),
+    (b"k\n\"a\nb", 2),
+    (b"k\n\"a\nb\"\n1", 8),
+    (b"k\n\"a\"\"\nb\n", 2),
+    (b"a\"b\nc\n1\"", 6),
+    (b"a\r1\r2", 0),
+];
+
 #[test]
 fn last_cuts(rt: HostRuntime) {
-    assert!(rt; last_cut(b"") == 0);
-    assert!(rt; last_cut(b"a,b") == 0);
-    assert!(rt; last_cut(b"a,b\n1,2\n3,") == 8);
-    assert!(rt; last_cut(b"a,b\r\n1,2\r\n3") == 10);
-    assert!(rt; last_cut(b"k\n\"a\nb") == 2);
-    assert!(rt; last_cut(b"k\n\"a\nb\"\n1") == 8);
-    assert!(rt; last_cut(b"k\n\"a\"\"\nb\n") == 2);
-    assert!(rt; last_cut(b"a\"b\nc\n1\"") == 6);
-    assert!(rt; last_cut(b"a\r1\r2") == 0);
+    assert_eq!(rt; wrong_cut(CUTS.as_slice()), None);
 }
 
 // Whether the rows of a piece under the header of another are these, written under `k,v`.
@@ -48,18 +66,15 @@ fn reads_as(
 fn rows_of_pieces(rt: HostRuntime) -> Result<(), Fail> {
     let alloc = rt.alloc();
     let start = without_bom(b"\xEF\xBB\xBFk,v\n1,a\n".as_slice());
-    assert!(rt; reads_as(alloc, start, start, true, b"k,v\n1,a\n")?);
-    assert!(rt;
-        reads_as(
-            alloc,
-            start,
-            b"2,\"b\nc\"\n3,\n",
-            false,
-            b"k,v\n2,\"b\nc\"\n3,\n"
-        )?
-    );
-    assert!(rt; reads_as(alloc, start, b"\n", false, b"k,v\n")?);
-    assert!(rt; !reads_as(alloc, b"\n\r\n", b"", true, b"")?);
+    let later = b"2,\"b\nc\"\n3,\n";
+    let written = b"k,v\n2,\"b\nc\"\n3,\n";
+    let found = [
+        reads_as(alloc, start, start, true, b"k,v\n1,a\n")?,
+        reads_as(alloc, start, later, false, written)?,
+        reads_as(alloc, start, b"\n", false, b"k,v\n")?,
+        reads_as(alloc, b"\n\r\n", b"", true, b"")?,
+    ];
+    assert_eq!(rt; found, [true, true, true, false]);
     Ok(())
 }
 
