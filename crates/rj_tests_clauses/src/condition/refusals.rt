@@ -47,17 +47,26 @@ fn tells_name(alloc: Global, case: NameCase<'_>, left: &Table, right: &Table) ->
     }
 }
 
-// The first text of which another name is told; empty where there is none.
-fn wrong_name<'a>(alloc: Global, cases: &[NameCase<'a>]) -> &'a str {
-    let Some((left, right)) = tables(alloc, PEOPLE, CITIES) else {
-        return "the tables";
-    };
+fn wrong_name_of<'a>(
+    alloc: Global,
+    cases: &[NameCase<'a>],
+    left: &Table,
+    right: &Table,
+) -> &'a str {
     for case in cases {
-        if !tells_name(alloc, *case, &left, &right) {
+        if !tells_name(alloc, *case, left, right) {
             return case.0;
         }
     }
     ""
+}
+
+// The first text of which another name is told; empty where there is none.
+fn wrong_name<'a>(alloc: Global, cases: &[NameCase<'a>]) -> &'a str {
+    match tables(alloc, PEOPLE, CITIES) {
+        Some((left, right)) => wrong_name_of(alloc, cases, &left, &right),
+        None => "the tables",
+    }
 }
 
 const NAMES: [NameCase<'static>; 8] = [
@@ -131,6 +140,20 @@ fn tells_mismatch(alloc: Global, case: OperandCase<'_>, left: &Table, right: &Ta
     }
 }
 
+fn wrong_mismatch_of<'a>(
+    alloc: Global,
+    cases: &[OperandCase<'a>],
+    left: &Table,
+    right: &Table,
+) -> &'a str {
+    for case in cases {
+        if !tells_mismatch(alloc, *case, left, right) {
+            return case.0;
+        }
+    }
+    ""
+}
+
 // The first text of which another comparison is told; empty where there is none.
 fn wrong_mismatch<'a>(
     alloc: Global,
@@ -138,15 +161,10 @@ fn wrong_mismatch<'a>(
     right: Sample<'_>,
     cases: &[OperandCase<'a>],
 ) -> &'a str {
-    let Some((left, right)) = tables(alloc, left, right) else {
-        return "the tables";
-    };
-    for case in cases {
-        if !tells_mismatch(alloc, *case, &left, &right) {
-            return case.0;
-        }
+    match tables(alloc, left, right) {
+        Some((left, right)) => wrong_mismatch_of(alloc, cases, &left, &right),
+        None => "the tables",
     }
-    ""
 }
 
 const COMPARISONS: [OperandCase<'static>; 5] = [

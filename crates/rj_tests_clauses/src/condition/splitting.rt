@@ -6,7 +6,7 @@ ghost use Rattle.rj_condition.specs.Parts.{split_fits};
 
 use crate::condition::samples::{INT, Sample, join_of, tables};
 use rj_columns::{Cell, Table};
-use rj_condition::{Band, BoundJoin, Split, split};
+use rj_condition::{Band, BoundJoin, Remainder, Split, split};
 use std::alloc::{AllocError, Global};
 
 // Whether the remainder is as true as a join at a left row and each right row.
@@ -174,28 +174,39 @@ fn keys_and_remainders(rt: HostRuntime) {
     );
 }
 
+fn is_banded(alloc: Global, join: &BoundJoin, band: Option<Band>) -> bool {
+    match split(alloc, join) {
+        Ok(parts) => parts.remainder.band() == band,
+        Err(_) => false,
+    }
+}
+
 // Whether the remainder of a clause has this band.
 fn has_band(alloc: Global, clause: &str, band: Option<Band>, left: &Table, right: &Table) -> bool {
     match join_of(alloc, clause, left, right) {
-        Ok(join) => match split(alloc, &join) {
-            Ok(parts) => parts.remainder.band() == band,
-            Err(_) => false,
-        },
+        Ok(join) => is_banded(alloc, &join, band),
         Err(_) => false,
     }
+}
+
+fn banded_otherwise<'a>(
+    alloc: Global,
+    cases: &[(&'a str, Option<Band>)],
+    left: &Table,
+    right: &Table,
+) -> &'a str {
+    for case in cases {
+        if !has_band(alloc, case.0, case.1, left, right) {
+            return case.0;
+        }
+    }
+    ""
 }
 
 // The first clause of the cases that has another band; empty where there is none.
 fn first_banded_otherwise<'a>(alloc: Global, cases: &[(&'a str, Option<Band>)]) -> &'a str {
     match tables(alloc, LEFTS, RIGHTS) {
-        Some((left, right)) => {
-            for case in cases {
-                if !has_band(alloc, case.0, case.1, &left, &right) {
-                    return case.0;
-                }
-            }
-            ""
-        }
+        Some((left, right)) => banded_otherwise(alloc, cases, &left, &right),
         None => "the tables",
     }
 }
@@ -237,42 +248,53 @@ fn bands_of_clauses(rt: HostRuntime) {
     assert_eq!(rt; first_banded_otherwise(rt.alloc(), BANDS.as_slice()), "");
 }
 
-// Whether the remainder of a clause has these null-safe keys.
-fn has_null_safe_keys(
-    alloc: Global,
-    clause: &str,
-    want: &[(usize, usize)],
-    left: &Table,
-    right: &Table,
-) -> bool {
-    match join_of(alloc, clause, left, right) {
-        Ok(join) => match split(alloc, &join) {
-            Ok(parts) => match parts.remainder.null_safe_keys(alloc) {
-                Ok(keys) => keys.as_slice() == want,
-                Err(_) => false,
-            },
-            Err(_) => false,
-        },
+// A clause and the null-safe keys of its remainder.
+type NullSafe<'a> = (&'a str, &'a [(usize, usize)]);
+
+fn are_null_safe(alloc: Global, remainder: &Remainder<'_>, want: &[(usize, usize)]) -> bool {
+    match remainder.null_safe_keys(alloc) {
+        Ok(keys) => keys.as_slice() == want,
         Err(_) => false,
     }
 }
 
-// The first clause of the cases that has other null-safe keys; empty where there is none.
-fn first_met_otherwise<'a>(alloc: Global, cases: &[(&'a str, &[(usize, usize)])]) -> &'a str {
-    match tables(alloc, LEFTS, RIGHTS) {
-        Some((left, right)) => {
-            for case in cases {
-                if !has_null_safe_keys(alloc, case.0, case.1, &left, &right) {
-                    return case.0;
-                }
-            }
-            ""
+fn meet_by(alloc: Global, join: &BoundJoin, want: &[(usize, usize)]) -> bool {
+    match split(alloc, join) {
+        Ok(parts) => are_null_safe(alloc, &parts.remainder, want),
+        Err(_) => false,
+    }
+}
+
+fn has_null_safe_keys(alloc: Global, case: NullSafe<'_>, left: &Table, right: &Table) -> bool {
+    match join_of(alloc, case.0, left, right) {
+        Ok(join) => meet_by(alloc, &join, case.1),
+        Err(_) => false,
+    }
+}
+
+fn met_otherwise<'a>(
+    alloc: Global,
+    cases: &[NullSafe<'a>],
+    left: &Table,
+    right: &Table,
+) -> &'a str {
+    for case in cases {
+        if !has_null_safe_keys(alloc, *case, left, right) {
+            return case.0;
         }
+    }
+    ""
+}
+
+// The first clause of the cases that has other null-safe keys; empty where there is none.
+fn first_met_otherwise<'a>(alloc: Global, cases: &[NullSafe<'a>]) -> &'a str {
+    match tables(alloc, LEFTS, RIGHTS) {
+        Some((left, right)) => met_otherwise(alloc, cases, &left, &right),
         None => "the tables",
     }
 }
 
-const NULL_SAFE_KEYS: [(&str, &[(usize, usize)]); 9] = [
+const NULL_SAFE_KEYS: [NullSafe<'static>; 9] = [
     (
         "JOIN ON L.a = R.b OR L.a IS NULL AND R.b IS NULL",
         &[(0, 1)],
@@ -304,13 +326,15 @@ fn null_safe_keys_of_clauses(rt: HostRuntime) {
     );
 }
 
-const FIVE_MEETINGS: &str =
-    "JOIN ON (L.a = R.a OR L.a IS NULL AND R.a IS NULL) AND (L.a = R.b OR L.a IS NULL AND R.b IS NULL) AND (L.b = R.a OR L.b IS NULL AND R.a IS NULL) AND (L.b = R.b OR L.b IS NULL AND R.b IS NULL) AND (R.b = L.a OR L.a IS NULL AND R.b IS NULL)";
+const FIVE_MEETINGS: &str = concat!(
+    "JOIN ON (L.a = R.a OR L.a IS NULL AND R.a IS NULL) AND ",
+    "(L.a = R.b OR L.a IS NULL AND R.b IS NULL) AND ",
+    "(L.b = R.a OR L.b IS NULL AND R.a IS NULL) AND ",
+    "(L.b = R.b OR L.b IS NULL AND R.b IS NULL) AND ",
+    "(R.b = L.a OR L.a IS NULL AND R.b IS NULL)",
+);
 
-const FIRST_FOUR: [(&str, &[(usize, usize)]); 1] = [(
-    FIVE_MEETINGS,
-    &[(0, 0), (0, 1), (1, 0), (1, 1)],
-)];
+const FIRST_FOUR: [NullSafe<'static>; 1] = [(FIVE_MEETINGS, &[(0, 0), (0, 1), (1, 0), (1, 1)])];
 
 #[test]
 fn four_null_safe_keys_at_most(rt: HostRuntime) {

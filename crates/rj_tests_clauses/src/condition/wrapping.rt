@@ -2,6 +2,14 @@
 
 use std::alloc::{AllocError, Global};
 
+// Adds a part so often.
+fn push_repeated(text: &mut String, part: &str, times: u64) -> Result<(), AllocError> {
+    for _ in 0..times {
+        text.push_str(part)?;
+    }
+    Ok(())
+}
+
 /// The text with a part that is repeated before it and another behind it.
 pub fn wrapped(
     alloc: Global,
@@ -12,12 +20,8 @@ pub fn wrapped(
     times: u64,
 ) -> Result<String, AllocError> {
     let mut text = String::from_str(alloc, head)?;
-    for _ in 0..times {
-        text.push_str(before)?;
-    }
+    push_repeated(&mut text, before, times)?;
     text.push_str(core)?;
-    for _ in 0..times {
-        text.push_str(behind)?;
-    }
+    push_repeated(&mut text, behind, times)?;
     Ok(text)
 }

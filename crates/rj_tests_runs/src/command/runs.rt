@@ -87,7 +87,22 @@ fn called<R: Threads + Wait + Clock + Sync, G: Watch + Sync, O: Output>(
     run_owned(rt, alloc, left, right, request, gate, writer)
 }
 
-// What a run writes, and the line of its fault, if it has one.
+// What a run by a request writes, and the line of its fault, if it has one.
+fn written_by<R: Threads + Wait + Clock + Sync>(
+    rt: &R,
+    alloc: Global,
+    asked: &Asked<'_>,
+    request: &Request<'_>,
+) -> Result<(Vec<u8>, String), Fail> {
+    let mut writer = CountedWriter::new(Vec::new(alloc));
+    let fault = match called(rt, alloc, asked, request, &Open, &mut writer) {
+        Ok(_) => String::new(alloc),
+        Err(fault) => format!(in alloc; "{fault}")?,
+    };
+    Ok((writer.into_inner(), fault))
+}
+
+// The same of a run that is asked so.
 fn written<R: Threads + Wait + Clock + Sync>(
     rt: &R,
     alloc: Global,
@@ -95,48 +110,47 @@ fn written<R: Threads + Wait + Clock + Sync>(
 ) -> Result<(Vec<u8>, String), Fail> {
     let words = words_of(alloc, asked, [].as_slice())?;
     let line = read_line(alloc, words.as_slice())?;
-    let mut writer = CountedWriter::new(Vec::new(alloc));
-    let fault = match called(rt, alloc, asked, &line.request, &Open, &mut writer) {
-        Ok(_) => String::new(alloc),
-        Err(fault) => format!(in alloc; "{fault}")?,
-    };
-    Ok((writer.into_inner(), fault))
+    written_by(rt, alloc, asked, &line.request)
 }
 
-// Whether a run writes this text, whether its bytes are lent or given.
-fn writes<R: Threads + Wait + Clock + Sync>(
+// Whether a run writes this text and has the fault of this line, or none where the line is empty, whether its bytes are lent or
+// given.
+fn ends_by<R: Threads + Wait + Clock + Sync>(
     rt: &R,
     alloc: Global,
     asked: Asked<'_>,
     text: &[u8],
-) -> Result<bool, Fail> {
-    for owned in [false, true] {
-        let mut asked = asked;
-        asked.owned = owned;
-        let (bytes, fault) = written(rt, alloc, &asked)?;
-        if bytes.as_slice() != text || !fault.is_empty() {
-            return Ok(false);
-        }
-    }
-    Ok(true)
-}
-
-// Whether a run writes nothing and ends by the fault of this line, whether its bytes are lent or given.
-fn tells<R: Threads + Wait + Clock + Sync>(
-    rt: &R,
-    alloc: Global,
-    asked: Asked<'_>,
     line: &str,
 ) -> Result<bool, Fail> {
     for owned in [false, true] {
         let mut asked = asked;
         asked.owned = owned;
         let (bytes, fault) = written(rt, alloc, &asked)?;
-        if !bytes.is_empty() || fault.as_str() != line {
+        if bytes.as_slice() != text || fault.as_str() != line {
             return Ok(false);
         }
     }
     Ok(true)
+}
+
+// Whether a run writes this text.
+fn writes<R: Threads + Wait + Clock + Sync>(
+    rt: &R,
+    alloc: Global,
+    asked: Asked<'_>,
+    text: &[u8],
+) -> Result<bool, Fail> {
+    ends_by(rt, alloc, asked, text, "")
+}
+
+// Whether a run writes nothing and ends by the fault of this line.
+fn tells<R: Threads + Wait + Clock + Sync>(
+    rt: &R,
+    alloc: Global,
+    asked: Asked<'_>,
+    line: &str,
+) -> Result<bool, Fail> {
+    ends_by(rt, alloc, asked, b"", line)
 }
 
 #[test]
@@ -157,28 +171,30 @@ fn joined_tables_are_written(rt: HostRuntime) -> Result<(), Fail> {
     Ok(())
 }
 
+const LEFT_FAULTS: [(&[u8], &str); 7] = [
+    (b"", "radixjoin: E1 NoHeader left"),
+    (b"id,\n1,ann\n", "radixjoin: E2 BadName left column 2"),
+    (
+        b"id,ID\n1,ann\n",
+        "radixjoin: E3 RepeatedName left column 2",
+    ),
+    (b"id\n1\n", "radixjoin: E4 TypeCount left"),
+    (b"id,name\n1,ann\n2\n", "radixjoin: E5 RaggedRow left row 2"),
+    (
+        b"id,name\nx,ann\n",
+        "radixjoin: E6 BadInteger left row 1 column 1",
+    ),
+    (
+        b"id,name\n1,\xff\n",
+        "radixjoin: E7 BadText left row 1 column 2",
+    ),
+];
+
 #[test]
 fn faults_of_the_left_table(rt: HostRuntime) -> Result<(), Fail> {
-    for (left, line) in [
-        (b"".as_slice(), "radixjoin: E1 NoHeader left"),
-        (b"id,\n1,ann\n", "radixjoin: E2 BadName left column 2"),
-        (
-            b"id,ID\n1,ann\n",
-            "radixjoin: E3 RepeatedName left column 2",
-        ),
-        (b"id\n1\n", "radixjoin: E4 TypeCount left"),
-        (b"id,name\n1,ann\n2\n", "radixjoin: E5 RaggedRow left row 2"),
-        (
-            b"id,name\nx,ann\n",
-            "radixjoin: E6 BadInteger left row 1 column 1",
-        ),
-        (
-            b"id,name\n1,\xff\n",
-            "radixjoin: E7 BadText left row 1 column 2",
-        ),
-    ] {
+    for (left, line) in LEFT_FAULTS.as_slice() {
         let mut asked = ask("JOIN USING (id)");
-        asked.left = left;
+        asked.left = *left;
         assert!(rt; tells(&rt, rt.alloc(), asked, line)?, "{line}");
     }
     Ok(())
@@ -195,66 +211,90 @@ fn names(alloc: Global, columns: u32) -> Result<String, Fail> {
     Ok(text)
 }
 
+// Whether a run over a right table of 257 columns ends by the fault of this line.
+fn tells_of_columns<R: Threads + Wait + Clock + Sync>(
+    rt: &R,
+    alloc: Global,
+    line: &str,
+) -> Result<bool, Fail> {
+    let columns = names(alloc, 257)?;
+    let mut asked = ask("JOIN USING (id)");
+    asked.right = columns.as_bytes();
+    tells(rt, alloc, asked, line)
+}
+
+const RIGHT_FAULTS: [(&[u8], &str); 2] = [
+    (b"\n", "radixjoin: E1 NoHeader right"),
+    (
+        b"id,city\n4,rome\n2,\"oslo\",1\n",
+        "radixjoin: E5 RaggedRow right row 2",
+    ),
+];
+
 #[test]
 fn faults_of_the_right_table(rt: HostRuntime) -> Result<(), Fail> {
     let alloc = rt.alloc();
-    let columns = names(alloc, 257)?;
-    for (right, line) in [
-        (b"\n".as_slice(), "radixjoin: E1 NoHeader right"),
-        (
-            b"id,city\n4,rome\n2,\"oslo\",1\n",
-            "radixjoin: E5 RaggedRow right row 2",
-        ),
-        (columns.as_bytes(), "radixjoin: E9 TooManyColumns right"),
-    ] {
+    for (right, line) in RIGHT_FAULTS.as_slice() {
         let mut asked = ask("JOIN USING (id)");
-        asked.right = right;
+        asked.right = *right;
         assert!(rt; tells(&rt, alloc, asked, line)?, "{line}");
     }
+    assert!(rt; tells_of_columns(&rt, alloc, "radixjoin: E9 TooManyColumns right")?);
     let mut asked = ask("JOIN USING (id)");
     asked.null = "a,b";
     assert!(rt; tells(&rt, alloc, asked, "radixjoin: E10 BadNull")?);
     Ok(())
 }
 
+// Adds a letter so often.
+fn push_repeated(text: &mut String, letter: char, times: usize) -> Result<(), AllocError> {
+    for _ in 0..times {
+        text.push(letter)?;
+    }
+    Ok(())
+}
+
 // A clause with so many blanks at its end.
 fn with_blanks(alloc: Global, clause: &str, blanks: usize) -> Result<String, Fail> {
     let mut text = String::from_str(alloc, clause)?;
-    for _ in 0..blanks {
-        text.push(' ')?;
-    }
+    push_repeated(&mut text, ' ', blanks)?;
     Ok(text)
 }
 
 // A condition in so many parentheses.
 fn nested(alloc: Global, depth: usize) -> Result<String, Fail> {
     let mut text = String::from_str(alloc, "JOIN ON ")?;
-    for _ in 0..depth {
-        text.push('(')?;
-    }
+    push_repeated(&mut text, '(', depth)?;
     text.push_str("L.id = R.id")?;
-    for _ in 0..depth {
-        text.push(')')?;
-    }
+    push_repeated(&mut text, ')', depth)?;
     Ok(text)
 }
+
+const CLAUSE_FAULTS: [(&str, &str); 5] = [
+    ("JOIN USING id", "radixjoin: E11 Syntax byte 11"),
+    ("JOIN USING (age)", "radixjoin: E13 UnknownColumn"),
+    ("JOIN ON id = 1", "radixjoin: E14 AmbiguousColumn"),
+    ("JOIN ON L.id = R.city", "radixjoin: E15 TypeMismatch"),
+    ("JOIN USING (id, id)", "radixjoin: E16 RepeatedUsing"),
+];
 
 #[test]
 fn faults_of_the_clause(rt: HostRuntime) -> Result<(), Fail> {
     let alloc = rt.alloc();
-    let deep = nested(alloc, 65)?;
-    let long = with_blanks(alloc, "JOIN USING (id)", 65_522)?;
-    for (clause, line) in [
-        ("JOIN USING id", "radixjoin: E11 Syntax byte 11"),
-        (deep.as_str(), "radixjoin: E12 TooDeep"),
-        ("JOIN USING (age)", "radixjoin: E13 UnknownColumn"),
-        ("JOIN ON id = 1", "radixjoin: E14 AmbiguousColumn"),
-        ("JOIN ON L.id = R.city", "radixjoin: E15 TypeMismatch"),
-        ("JOIN USING (id, id)", "radixjoin: E16 RepeatedUsing"),
-        (long.as_str(), "radixjoin: E17 ClauseTooLong"),
-    ] {
+    for (clause, line) in CLAUSE_FAULTS.as_slice() {
         assert!(rt; tells(&rt, alloc, ask(clause), line)?, "{line}");
     }
+    let deep = nested(alloc, 65)?;
+    assert!(rt; tells(&rt, alloc, ask(deep.as_str()), "radixjoin: E12 TooDeep")?);
+    let long = with_blanks(alloc, "JOIN USING (id)", 65_522)?;
+    assert!(rt;
+        tells(
+            &rt,
+            alloc,
+            ask(long.as_str()),
+            "radixjoin: E17 ClauseTooLong"
+        )?
+    );
     Ok(())
 }
 

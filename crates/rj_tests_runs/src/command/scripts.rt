@@ -48,23 +48,21 @@ fn arrivals_basic(rt: HostRuntime) {
     assert!(rt; is_printed(rt.alloc(), script, 0, 1, 4, false, want, true));
 }
 
+const FIRST_LINES: [&str; 3] = [
+    "0 0 1 rows 5 7\n",
+    "0 0 1 rows 5 7",
+    "\r\n\n0 0 1 rows 5 7\r\n\n",
+];
+
 #[test]
 fn arrivals_first_line(rt: HostRuntime) {
     let want = "held\nsender 0 waiting 0 rows\nincomplete\n";
-    assert!(rt; is_printed(rt.alloc(), "0 0 1 rows 5 7\n", 0, 1, 4, false, want, true));
-    assert!(rt; is_printed(rt.alloc(), "0 0 1 rows 5 7", 0, 1, 4, false, want, true));
-    assert!(rt;
-        is_printed(
-            rt.alloc(),
-            "\r\n\n0 0 1 rows 5 7\r\n\n",
-            0,
-            1,
-            4,
-            false,
-            want,
-            true
-        )
-    );
+    for script in FIRST_LINES.as_slice() {
+        assert!(rt;
+            is_printed(rt.alloc(), script, 0, 1, 4, false, want, true),
+            "{script}"
+        );
+    }
 }
 
 #[test]
@@ -136,21 +134,23 @@ fn arrivals_hostile(rt: HostRuntime) {
     assert!(rt; is_printed(rt.alloc(), script, 1, 2, 3, true, want, false));
 }
 
+const NO_LINES: [&str; 10] = [
+    "0 0 0 close\r",
+    "0 0 0 close ",
+    " 0 0 0 close",
+    "0 0 0 close 1",
+    "0 0 0 rows ",
+    "0 0 0 rows 4294967296",
+    "+0 0 0 close",
+    "4294967296 0 0 close",
+    "0 0 0",
+    "\r",
+];
+
 #[test]
 fn forms_of_a_line(rt: HostRuntime) {
     let waiting = "unreadable\nsender 0 waiting 0 rows\nincomplete\n";
-    for line in [
-        "0 0 0 close\r",
-        "0 0 0 close ",
-        " 0 0 0 close",
-        "0 0 0 close 1",
-        "0 0 0 rows ",
-        "0 0 0 rows 4294967296",
-        "+0 0 0 close",
-        "4294967296 0 0 close",
-        "0 0 0",
-        "\r",
-    ] {
+    for line in NO_LINES.as_slice() {
         assert!(rt;
             is_printed(rt.alloc(), line, 0, 1, 4, false, waiting, false),
             "{line}"
