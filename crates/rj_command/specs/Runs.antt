@@ -89,12 +89,14 @@ pub record IsCounted (value : List Content → ℕ) (q : Request) (l r : TableVa
 -- the text of what is chosen of the operands' joined table was written behind what the writer had been told, and this is counted of it
 abbrev pub WritesTables : (List Content → ℕ) → Request → Operands → Option (List ℕ) → Option (List ℕ) → Stats → Type 0
 WritesTables value q o before after stats =
-    IsCounted value q o.left o.right o.join stats × IsExpected q o.join o.left o.right × IsToldApart q.strict q.out_null.now (chosen_view q.choice o.join o.left o.right).cells
+    IsCounted value q o.left o.right o.join stats × IsExpected q o.join o.left o.right
+    × IsToldApart q.strict q.out_null.now (chosen_view q.choice o.join o.left o.right).cells
     × ((names : List (List ℕ)) × AreNames q o.join o.left o.right names × Appends before after (chosen_text q names o.join o.left o.right))
 
 -- a column that is chosen is to be renamed and has no free name, and this fault tells the first one
 abbrev pub IsNameFault : Request → BoundJoin → TableValue → TableValue → Fault → Type 0
-IsNameFault q join l r f = (column : ℕ) × (f ≡ fault.NoFreeName column) × (written_names q.choice.repeated (chosen_header q.choice join l r) ≡ Err (NoFreeName column))
+IsNameFault q join l r f = (column : ℕ) × (f ≡ fault.NoFreeName column)
+    × (written_names q.choice.repeated (chosen_header q.choice join l r) ≡ Err (NoFreeName column))
 
 -- what is told of a joined table before what is chosen of it is written: that, then that it isn't as expected, then a cell that can't be
 -- told from null
