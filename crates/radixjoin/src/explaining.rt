@@ -141,6 +141,20 @@ pub(crate) fn read_side<R: Files + Input + AllocGlobal + Eprint + Clock>(
     }
 }
 
+// What is told of what isn't as expected.
+fn lines_of_violation(
+    alloc: Global,
+    inputs: &Inputs<'_, '_>,
+    violation: &Violation,
+) -> Result<String, AllocError> {
+    let (side, row, pairs) = match violation {
+        Violation::Rows(rows) => return format!(in alloc; "  the joined table has {rows} rows\n"),
+        Violation::LeftRow(row, pairs) => (Side::Left, *row, *pairs),
+        Violation::RightRow(row, pairs) => (Side::Right, *row, *pairs),
+    };
+    explain_row(alloc, inputs, side, u64::from(row).saturating_add(1), pairs)
+}
+
 // What is told of a joined table that isn't as expected. It is joined once more, since nothing was kept of it.
 fn violation_lines<R: AllocGlobal + Threads + Wait + Clock + Sync>(
     rt: &R,
@@ -149,27 +163,7 @@ fn violation_lines<R: AllocGlobal + Threads + Wait + Clock + Sync>(
     let alloc = rt.alloc();
     let (left, right, request) = (inputs.left, inputs.right, inputs.request);
     match first_violation(rt, alloc, left, right, request, &Open) {
-        Ok(Some(Violation::Rows(rows))) => {
-            format!(in alloc; "  the joined table has {rows} rows\n")
-        }
-        Ok(Some(Violation::LeftRow(row, pairs))) => {
-            explain_row(
-                alloc,
-                inputs,
-                Side::Left,
-                u64::from(row).saturating_add(1),
-                pairs,
-            )
-        }
-        Ok(Some(Violation::RightRow(row, pairs))) => {
-            explain_row(
-                alloc,
-                inputs,
-                Side::Right,
-                u64::from(row).saturating_add(1),
-                pairs,
-            )
-        }
+        Ok(Some(violation)) => lines_of_violation(alloc, inputs, &violation),
         Ok(None) | Err(_) => Ok(String::new(alloc)),
     }
 }
