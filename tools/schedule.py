@@ -1,17 +1,19 @@
 """When to prove each of several crates, and with how many jobs, so that all are proved soonest: planned by recorded seconds, and run."""
 
 import random
+from collections import namedtuple
 from concurrent.futures import FIRST_COMPLETED, ThreadPoolExecutor, wait
 
-# The part of a check from nothing that further jobs don't make shorter, as measured: libraries are read, and what the jobs proved is put together.
-SERIAL = 0.43
+# What a check from nothing takes: how many seconds of processor time, and the part of them that further jobs don't make shorter, since libraries
+# are read, what the jobs proved is put together, and a program is compiled.
+Cost = namedtuple("Cost", ("seconds", "serial"), defaults=(0.43,))
 # How many jobs a check has at most, how many plans are tried, and what each job beyond the first adds to a check's memory.
 MOST_JOBS, PLANS, MORE_MEMORY = 4, 6000, 0.6
 
 
-def elapsed(seconds, jobs):
-    """How long a check takes that takes so many seconds of processor time."""
-    return seconds * (SERIAL + (1 - SERIAL) / jobs)
+def elapsed(cost, jobs):
+    """How long a check takes."""
+    return cost.seconds * (cost.serial + (1 - cost.serial) / jobs)
 
 
 class Plan:
@@ -26,7 +28,7 @@ class Plan:
         ready = next((it for it in left if below[it] <= proved), None)
         return ready if ready and self.jobs[ready] <= idle and room(ready) else None
 
-    def ends(self, below, seconds, lanes):
+    def ends(self, below, costs, lanes):
         """When each crate ends."""
         now, left, running, ends = 0.0, list(self.order), [], {}
         while left or running:
@@ -34,7 +36,7 @@ class Plan:
             name = self.next(left, below, ends.keys(), idle, lambda _: True)
             if name:
                 left.remove(name)
-                running.append((now + elapsed(seconds[name], self.jobs[name]), name))
+                running.append((now + elapsed(costs[name], self.jobs[name]), name))
             else:
                 now, name = min(running)
                 running.remove((now, name))
@@ -53,22 +55,22 @@ class Plan:
         return Plan(order, jobs)
 
 
-def behind(below, seconds):
+def behind(below, costs):
     """The seconds of each crate with the longest chain of crates that wait for it."""
     found = {}
     for name in sorted(below, key=lambda it: -len(below[it])):
-        found[name] = seconds[name] + max((found[it] for it in found if name in below[it]), default=0)
+        found[name] = costs[name].seconds + max((found[it] for it in found if name in below[it]), default=0)
     return found
 
 
-def planned(below, seconds, lanes):
+def planned(below, costs, lanes):
     """The best of some thousand plans, each a change of the best one before it. below: for each crate, all that it stands on."""
-    chains, chance = behind(below, seconds), random.Random(1)
+    chains, chance = behind(below, costs), random.Random(1)
     best = Plan(sorted(below, key=lambda it: -chains[it]), dict.fromkeys(below, 1))
-    least = max(best.ends(below, seconds, lanes).values(), default=0)
+    least = max(best.ends(below, costs, lanes).values(), default=0)
     for _ in range(PLANS if len(below) > 1 else 0):
         plan = best.changed(chance, lanes)
-        last = max(plan.ends(below, seconds, lanes).values())
+        last = max(plan.ends(below, costs, lanes).values())
         if last <= least:
             best, least = plan, last
     return best
