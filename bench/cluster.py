@@ -7,7 +7,7 @@ usage: cluster.py FOLDER [--workload NAME] [--scale F] [--parts N] [--processes 
     FOLDER      where the tables are made, if they aren't there, and the results
     --workload  foreign_key, hot_left, in which half of all left rows have one key, or zipf_1.25
     --spread    each run is done with each of these limits of a shard's bytes
-    --merges    each number of processes joins with each of these numbers of ranges of the merge
+    --merges    each number of processes joins with each of these numbers of ranges of the merge, and not with the script's own
     --limit     also joins with a quarter of the address space that radixjoin alone needs"""
 import argparse
 import filecmp

@@ -30,6 +30,8 @@ PARTS = (
     "sizes",
     "cluster",
     "cluster_ends",
+    "cluster_lost",
+    "cluster_merges",
     "cluster_pieces",
     "cluster_random",
     "cluster_sent",

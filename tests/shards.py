@@ -33,6 +33,9 @@ class OneByOne:
     def processes(self):
         return self.number
 
+    def tasks_at_once(self):
+        return self.number
+
     def answers(self, words):
         return [tasks.answer(*task) for task in words]
 

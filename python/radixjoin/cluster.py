@@ -34,6 +34,7 @@ from .explained import of_cell, of_row, of_unread
 from .faults import Fault, fault_of
 from .feeding import FILES_OF_INPUT, Input, bytes_of, run_program
 from .lists import lower, read_list, with_place
+from .local import local_cluster
 from .making import append, beginning, folder_beside, made, remove
 from .nulls import Texts, texts_of
 from .packed import Run, give_back, pack, rows_of_part, rows_of_run, sizes_of, told_of
@@ -55,7 +56,10 @@ SIDES = ("left", "right")
 # The options that may be given again.
 SEVERAL = ("--left-null", "--right-null")
 PLACES = {"left": LEFT, "right": RIGHT}
-LIMITS = (("parts", 1, 1024), ("processes", 1, 1024), ("ranges", 1, 100_000), ("spread", 1, 1 << 60), ("merges", 1, 1024), ("memory", 1, 1 << 40))
+# The most ranges of a merge, and the bytes of the joined tables that each has at least where it isn't given how many there are to be: a
+# smaller one isn't worth a task.
+MOST_MERGES, LEAST_MERGED = 1024, 16 << 20
+LIMITS = (("parts", 1, 1024), ("processes", 1, 1024), ("ranges", 1, 100_000), ("spread", 1, 1 << 60), ("merges", 1, MOST_MERGES), ("memory", 1, 1 << 40))
 PROGRAMS = ("radixjoin", "shards", "merges")
 AMBIGUOUS = re.compile(r"radixjoin: E28 AmbiguousNull row (\d+) column (\d+)")
 
@@ -77,7 +81,7 @@ def parser() -> argparse.ArgumentParser:
     line.add_argument("--parts", type=int, default=16, metavar="N", help="shards that the tables are divided into, 1 to 1024 [default: 16]")
     line.add_argument("--ranges", type=int, metavar="N", help="ranges of a file that are divided side by side [default: one a process]")
     line.add_argument("--spread", type=int, metavar="BYTES", help="bytes of both tables above which a shard is joined in pieces of no more [default: twice the mean of all shards, no less than 16 MiB]")
-    line.add_argument("--merges", type=int, metavar="N", help="ranges of the joined table, of about as many bytes each, that are merged side by side, 1 to 1024 [default: 1]")
+    line.add_argument("--merges", type=int, metavar="N", help="ranges of the joined table, of about as many bytes each, that are merged side by side, 1 to 1024 [default: one for each task that the processes do at once, and no more than one for each 16 MiB]")
     line.add_argument("--scratch", metavar="FOLDER", help="folder for what is half made, which every process can write [default: that of --out]")
     line.add_argument("--programs", metavar="FOLDER", help="folder of radixjoin, shards and merges [default: this tree's, or those on the PATH]")
     line.add_argument("--memory", type=int, metavar="MIB", help="address space that each program may take, in MiB [default: no limit]")
@@ -574,12 +578,21 @@ def merge_all(job: Job, cluster: Any, joins: Sequence[Join], cuts: Sequence[Plac
     first_fault(cluster.answers([(put_together, job, len(cuts) + 1)]))
 
 
-def run(job: Job, cluster: Any, count: int, merges: int) -> None:
-    """Divides, joins and merges."""
+def ranges_of_merge(cluster: Any, joins: int, size: int) -> int:
+    """How many ranges of so many joined tables, of so many bytes in all, are merged side by side where that isn't given: one for each
+    task that is done at once, but none of few bytes. It is one alone where a process can't have open what a range needs of each table:
+    to merge all it needs one file of each."""
+    if joins > most_tables(FILES_OF_INPUT):
+        return 1
+    return max(1, min(cluster.tasks_at_once(), size // LEAST_MERGED, MOST_MERGES))
+
+
+def run(job: Job, cluster: Any, count: int, merges: Optional[int]) -> None:
+    """Divides, joins and merges, in as many ranges as are given."""
     with output_of(job):
         ranges, sizes = divided(job, cluster, count)
         joins = joins_of_shards(job, cluster, ranges, sizes)
-        refuse_many(joins, job.parts, FILES_OF_INPUT if merges > 1 else 1)
+        refuse_many(joins, job.parts, FILES_OF_INPUT if merges and merges > 1 else 1)
         joined = cluster.answers([(join_shard, job, one, ranges) for one in joins])
         first_fault(joined)
         job.clear("left-*", "right-*")
@@ -587,13 +600,15 @@ def run(job: Job, cluster: Any, count: int, merges: int) -> None:
         ambiguous = [one for one, (has_cell, _) in zip(joins, joined) if has_cell]
         if ambiguous:
             refuse_ambiguous(job, cluster, joins, ambiguous)
-        merge_all(job, cluster, joins, cut_places((it for _, samples in joined for it in samples), merges))
+        samples = [it for _, samples in joined for it in samples]
+        merges = merges or ranges_of_merge(cluster, len(joins), sum(size for _, size in samples))
+        merge_all(job, cluster, joins, cut_places(samples, merges))
 
 
 @contextlib.contextmanager
 def cluster_of(asked: argparse.Namespace) -> Iterator[Cluster]:
     """The cluster that is asked for, or one on this machine."""
-    from distributed import Client, LocalCluster
+    from distributed import Client
 
     # (what ends late or is called off at the end is no fault of the join)
     for name in ("asyncio", "tornado", "distributed"):
@@ -602,7 +617,7 @@ def cluster_of(asked: argparse.Namespace) -> Iterator[Cluster]:
         with Client(asked.scheduler) as client:
             yield Cluster(client, asked.progress)
         return
-    with LocalCluster(n_workers=asked.processes, threads_per_worker=1, memory_limit=0, dashboard_address=":0", silence_logs=50) as cluster, Client(cluster) as client:
+    with local_cluster(asked.processes) as cluster, Client(cluster) as client:
         yield Cluster(client, asked.progress)
 
 
@@ -610,7 +625,7 @@ def run_in(asked: argparse.Namespace, cluster: contextlib.AbstractContextManager
     """Joins as asked by the processes of a cluster, in a scratch folder that is removed at the end."""
     folder = str(Path(asked.scratch or Path(asked.out).resolve().parent).resolve())
     with scratch_in(folder) as scratch, cluster as it:
-        run(Job(asked, scratch), it, asked.ranges or it.processes(), asked.merges or 1)
+        run(Job(asked, scratch), it, asked.ranges or it.processes(), asked.merges)
 
 
 def join(

@@ -103,6 +103,10 @@ class Cluster:
         """How many there are."""
         return max(1, len(self.client.nthreads()))
 
+    def tasks_at_once(self) -> int:
+        """How many tasks they do at once: a process does one in each of its threads."""
+        return max(1, sum(self.client.nthreads().values()))
+
 
 def first_fault(answers: Sequence[Any]) -> None:
     """Raises the first fault among answers."""
