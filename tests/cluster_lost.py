@@ -22,6 +22,12 @@ DIES = "import os\nimport signal\n\nif os.path.exists({!r}):\n    os.kill(os.get
 NONE_LEFT = b"radixjoin-cluster: no process was there for 4 seconds: each was ended, or couldn't be started\n"
 
 
+def of_script(told):
+    """The lines of standard error that are the script's: Dask's processes tell what they load, and what others left behind, and its bar
+    is a line feed for each step."""
+    return b"".join(line for line in told.splitlines(keepends=True) if line.startswith(b"radixjoin"))
+
+
 def ran(line, words, folder, programs, environment):
     """The script, begun so, with one process. It gives how it ended."""
     words = [*line, *words, "--processes", "1", "--programs", programs, "--parts", "3", "--out", "out.csv"]
@@ -56,7 +62,8 @@ def run_each_time(python, tally):
         known = {it.name for it in folder.iterdir()}
         ended = ran([python, cluster.SCRIPT], words, folder, programs, SOON)
         faults = cluster.faults_of_run(ended, folder, known, harness.Ran(1, b"", ended.stderr))
-        tally.check("cluster_lost: the process is killed each time", faults + ([] if ended.stderr.startswith(b"radixjoin-cluster: KilledWorker: ") else [harness.shorten(ended.stderr)]))
+        is_told = of_script(ended.stderr).startswith(b"radixjoin-cluster: KilledWorker: ")
+        tally.check("cluster_lost: the process is killed each time", faults + ([] if is_told else [harness.shorten(ended.stderr)]))
 
 
 def run_none_left(python, is_first, more, tally):
@@ -71,8 +78,7 @@ def run_none_left(python, is_first, more, tally):
         if is_first:
             flag.touch()
         ended = ran([python, "-c", HASTY], [*words, *more], folder, programs, {"DASK_DISTRIBUTED__WORKER__PRELOAD": repr([str(preload)])})
-        # (a process tells what it loads, and Dask's bar a line feed for each step)
-        ended.stderr = b"".join(line for line in ended.stderr.splitlines(keepends=True) if line.startswith(b"radixjoin"))
+        ended.stderr = of_script(ended.stderr)
         title = f"cluster_lost: {'no process' if is_first else 'one process and no other'} can be started {more}"
         tally.check(title, cluster.faults_of_run(ended, folder, known, harness.Ran(1, b"", NONE_LEFT)))
 
