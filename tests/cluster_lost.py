@@ -5,6 +5,7 @@ It needs Dask, as tests/cluster.py does."""
 import os
 import pathlib
 import subprocess
+import tempfile
 
 import cluster
 import cluster_ends
@@ -29,15 +30,20 @@ def of_script(told):
 
 
 def ran(line, words, folder, programs, environment):
-    """The script, begun so, with one process. It gives how it ended."""
+    """The script, begun so, with one process. It gives how it ended, and what of standard error is the script's. What killed processes
+    leave behind is found by those of this script alone."""
     words = [*line, *words, "--processes", "1", "--programs", programs, "--parts", "3", "--out", "out.csv"]
-    how = {"stdin": subprocess.DEVNULL, "stdout": subprocess.DEVNULL, "stderr": subprocess.PIPE, "env": {**os.environ, **environment}}
-    running = subprocess.Popen([str(word) for word in words], cwd=folder, **how)
-    try:
-        return cluster.ended(running)
-    except subprocess.TimeoutExpired:
-        running.terminate()
-        return subprocess.CompletedProcess(running.args, None, None, running.communicate()[1])
+    with tempfile.TemporaryDirectory(prefix="radixjoin-test-", ignore_cleanup_errors=True) as space:
+        own = {**os.environ, "DASK_TEMPORARY_DIRECTORY": space, **environment}
+        how = {"stdin": subprocess.DEVNULL, "stdout": subprocess.DEVNULL, "stderr": subprocess.PIPE, "env": own}
+        running = subprocess.Popen([str(word) for word in words], cwd=folder, **how)
+        try:
+            ended = cluster.ended(running)
+        except subprocess.TimeoutExpired:
+            running.terminate()
+            ended = subprocess.CompletedProcess(running.args, None, None, running.communicate()[1])
+    ended.stderr = of_script(ended.stderr)
+    return ended
 
 
 def run_three_times(python, name, tally):
@@ -62,7 +68,7 @@ def run_each_time(python, tally):
         known = {it.name for it in folder.iterdir()}
         ended = ran([python, cluster.SCRIPT], words, folder, programs, SOON)
         faults = cluster.faults_of_run(ended, folder, known, harness.Ran(1, b"", ended.stderr))
-        is_told = of_script(ended.stderr).startswith(b"radixjoin-cluster: KilledWorker: ")
+        is_told = ended.stderr.startswith(b"radixjoin-cluster: KilledWorker: ")
         tally.check("cluster_lost: the process is killed each time", faults + ([] if is_told else [harness.shorten(ended.stderr)]))
 
 
@@ -78,7 +84,6 @@ def run_none_left(python, is_first, more, tally):
         if is_first:
             flag.touch()
         ended = ran([python, "-c", HASTY], [*words, *more], folder, programs, {"DASK_DISTRIBUTED__WORKER__PRELOAD": repr([str(preload)])})
-        ended.stderr = of_script(ended.stderr)
         title = f"cluster_lost: {'no process' if is_first else 'one process and no other'} can be started {more}"
         tally.check(title, cluster.faults_of_run(ended, folder, known, harness.Ran(1, b"", NONE_LEFT)))
 
