@@ -32,7 +32,7 @@ class OnCluster(tasks.Cluster):
         self.count = count
         self.joins = 0
 
-    def processes(self):
+    def tasks_at_once(self):
         return self.count
 
     def answers(self, words):

@@ -4,7 +4,6 @@ versions of it don't mix them.
 
 It needs Dask, as tests/cluster.py does; without arguments it runs by a Python that has it, and with one by its own. The last line is
 'N passed, M failed'."""
-import contextlib
 import logging
 import os
 import pathlib
@@ -45,8 +44,8 @@ class Cluster(tasks.Cluster):
     """Notes for each kind of task how many bytes it has, and how many of these are of its own words. Something may be done before
     the first tasks of a kind."""
 
-    def __init__(self, client, before=None):
-        super().__init__(Notes(client), False)
+    def __init__(self, client, before=None, shows_progress=False):
+        super().__init__(Notes(client), shows_progress)
         self.before = before or {}
         self.kinds = {}
 
@@ -73,11 +72,11 @@ def write_tables(folder):
 WAYS = ([], ["--spread", "400", "--merges", "3"], ["--strict", "--left-null", "none", "--out-null", "~"])
 
 
-def joined(client, folder, words, before=None):
+def joined(client, folder, words, before=None, shows_progress=False):
     """A join on a cluster of processes: how it differs from `radixjoin`'s own, and what was noted."""
     alone = [word for word in words if word not in ("--parts", "2", "--spread", "400", "--merges", "3")]
     wanted = harness.run([harness.program("radixjoin"), *alone], folder)
-    on = Cluster(client, before)
+    on = Cluster(client, before, shows_progress)
     ran = shards.joined(words, folder, 2, cluster=lambda _: on)
     return harness.differences(ran, wanted.stdout, wanted.stderr, wanted.status), on.kinds
 
@@ -154,17 +153,33 @@ def run_replaced(client, folder, tally):
         tally.check(f"cluster_sent: processes are killed before {kind}", faults)
 
 
+def processes(count):
+    """So many processes of this machine."""
+    from distributed import LocalCluster
+
+    return LocalCluster(n_workers=count, threads_per_worker=1, memory_limit=0, dashboard_address=":0", silence_logs=50)
+
+
+def run_by_one_of_two(client, folder, tally):
+    """A join by the processes of one client, while Dask asks another one where it isn't told which: that of a cluster without any."""
+    from distributed import Client, default_client
+
+    words = write_tables(folder)
+    with processes(0) as none, Client(none) as other:
+        faults, _ = joined(client, folder, words, shows_progress=True)
+        faults += [] if default_client() is other else ["the other one isn't asked"]
+    tally.check("cluster_sent: a client beside another one", faults)
+
+
 def run_by(tally):
     """The tests, each in processes of its own."""
-    from distributed import Client, LocalCluster
+    from distributed import Client
 
     for name in ("asyncio", "tornado", "distributed"):
         logging.getLogger(name).setLevel(logging.CRITICAL)
-    for count, test in ((2, run_sizes), (1, run_once), (1, run_replaced)):
-        with contextlib.ExitStack() as stack:
-            folder = pathlib.Path(stack.enter_context(harness.folder()))
-            cluster = stack.enter_context(LocalCluster(n_workers=count, threads_per_worker=1, memory_limit=0, dashboard_address=":0", silence_logs=50))
-            test(stack.enter_context(Client(cluster)), folder, tally)
+    for count, test in ((2, run_sizes), (1, run_once), (1, run_replaced), (1, run_by_one_of_two)):
+        with harness.folder() as folder, processes(count) as cluster, Client(cluster) as client:
+            test(client, pathlib.Path(folder), tally)
 
 
 def run_all(tally):

@@ -30,9 +30,6 @@ class OneByOne:
     def __init__(self, processes):
         self.number = processes
 
-    def processes(self):
-        return self.number
-
     def tasks_at_once(self):
         return self.number
 

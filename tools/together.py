@@ -26,6 +26,7 @@ class Function:
         self.body = "\n".join(lines[head + 1 : end])
         above = next((it for it in reversed(lines[:start]) if re.match(r"(impl|pub trait|trait)\b", it)), "") if lines[start].startswith(" ") else ""
         self.owner = owner_of(above)
+        self.is_of_trait = bool(self.owner) and (not above.startswith("impl") or " for " in above)
         self.cycle = next((it.group(1) for it in attributes(lines, start) if it), None)
         self.module = [it for it in Path(file).with_suffix("").parts[1:] if it not in ("lib", "main", "mod")]
 
@@ -75,6 +76,7 @@ class Sources:
     """The functions of a crate's sources, and which of them lead to which by their names."""
 
     def __init__(self, folder, head_of):
+        self.folder = folder
         self.texts = {str(it.relative_to(folder)): it.read_text() for it in sorted((folder / "src").rglob("*.rt"))}
         self.functions = [it for file, text in self.texts.items() for it in functions_of(file, text, head_of)]
         names = {it.name for it in self.functions}

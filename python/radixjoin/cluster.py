@@ -79,7 +79,7 @@ def parser() -> argparse.ArgumentParser:
     line.add_argument("--strict", nargs="?", const="on", choices=("on", "full"), help="refuse files that aren't of RFC 4180's grammar; full: also those whose last line has no end")
     line.add_argument("--out", required=True, metavar="FILE", help="file of the joined table; it is there when the whole table is")
     line.add_argument("--parts", type=int, default=16, metavar="N", help="shards that the tables are divided into, 1 to 1024 [default: 16]")
-    line.add_argument("--ranges", type=int, metavar="N", help="ranges of a file that are divided side by side [default: one a process]")
+    line.add_argument("--ranges", type=int, metavar="N", help="ranges of a file that are divided side by side [default: one for each task that the processes do at once]")
     line.add_argument("--spread", type=int, metavar="BYTES", help="bytes of both tables above which a shard is joined in pieces of no more [default: twice the mean of all shards, no less than 16 MiB]")
     line.add_argument("--merges", type=int, metavar="N", help="ranges of the joined table, of about as many bytes each, that are merged side by side, 1 to 1024 [default: one for each task that the processes do at once, and no more than one for each 16 MiB]")
     line.add_argument("--scratch", metavar="FOLDER", help="folder for what is half made, which every process can write [default: that of --out]")
@@ -625,7 +625,7 @@ def run_in(asked: argparse.Namespace, cluster: contextlib.AbstractContextManager
     """Joins as asked by the processes of a cluster, in a scratch folder that is removed at the end."""
     folder = str(Path(asked.scratch or Path(asked.out).resolve().parent).resolve())
     with scratch_in(folder) as scratch, cluster as it:
-        run(Job(asked, scratch), it, asked.ranges or it.processes(), asked.merges)
+        run(Job(asked, scratch), it, asked.ranges or it.tasks_at_once(), asked.merges)
 
 
 def join(

@@ -71,12 +71,14 @@ class Cluster:
         """What tasks give, in their order. Each is a function, the job and further words. Dask runs a task again whose process ended, or
         whose program was killed."""
         futures = [self.client.submit(work, *self._sent(job), packed((function, words)), pure=False, retries=2) for function, job, *words in tasks]
-        if self.shows_progress:
-            from distributed import progress
+        # (what Dask waits for and shows it asks of the client that is current, which may be another one in a script of several)
+        with self.client.as_current():
+            if self.shows_progress:
+                from distributed import progress
 
-            progress(futures, notebook=False)
-            print(file=sys.stderr)
-        return [unpacked(it) for it in self._gathered(futures)]
+                progress(futures, notebook=False)
+                print(file=sys.stderr)
+            return [unpacked(it) for it in self._gathered(futures)]
 
     def _sent(self, job: Any) -> Tuple[str, str]:
         """The file that the processes read for a job, which is written once, and the name of the package in it."""
@@ -98,10 +100,6 @@ class Cluster:
             raise
         except Exception as error:
             raise RuntimeError(f"{type(error).__name__}: {error}") from error
-
-    def processes(self) -> int:
-        """How many there are."""
-        return max(1, len(self.client.nthreads()))
 
     def tasks_at_once(self) -> int:
         """How many tasks they do at once: a process does one in each of its threads."""
