@@ -33,12 +33,8 @@ def groups(edits):
 def lines_of(function, text, name):
     """The lines of a function in a text of its file, with its attributes, under another name."""
     lines = text.splitlines()
-    start = function.start
-    while start and re.match(r" *(#\[|///|//)", lines[start - 1]):
-        start -= 1
-    attributes = [it for it in lines[start : function.start] if re.match(r" *#\[", it)]
     first = re.sub(rf"\bfn {function.name}\b", f"fn {name}", lines[function.start], count=1)
-    return [*attributes, first, *lines[function.start + 1 : function.end + 1]]
+    return [*lines[function.first : function.start], first, *lines[function.start + 1 : function.end + 1]]
 
 
 class Copies:

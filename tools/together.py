@@ -18,10 +18,14 @@ FUNCTION = re.compile(r" *(pub(\(\w+\))? )?((const|unsafe|final) )*fn (\w+)")
 
 
 class Function:
-    """A function of a laid out source: its name, the type whose method it is, its cycle, and its lines: the head, up to its brace, and the body."""
+    """A function of a laid out source: its name, the type whose method it is, its cycle, and its lines: the attributes, the head, up to its
+    brace, and the body."""
 
     def __init__(self, file, lines, start, head, end):
         self.file, self.start, self.head, self.end = file, start, head, end
+        self.first = start
+        while self.first and re.match(r" *#\[", lines[self.first - 1]):
+            self.first -= 1
         self.name = FUNCTION.match(lines[start]).group(5)
         self.body = "\n".join(lines[head + 1 : end])
         above = next((it for it in reversed(lines[:start]) if re.match(r"(impl|pub trait|trait)\b", it)), "") if lines[start].startswith(" ") else ""
@@ -161,7 +165,7 @@ def refusal(said, crate, function):
     for it in lines:
         place = re.match(r"(?:note: )?(?:\./)?(\S+?):(\d+):\d+:", it)
         in_proofs = place and place.group(1).startswith(f"proofs/{folder}/")
-        if place and (in_proofs or place.group(1) == function.file and function.start < int(place.group(2)) <= function.end + 1):
+        if place and (in_proofs or place.group(1) == function.file and function.first < int(place.group(2)) <= function.end + 1):
             own.append(it)
     own = [it for it in own if ": error" in it or it.startswith("note: ")]
     return next((it for it in own if not NAMES.match(it)), None)
