@@ -11,6 +11,7 @@ pub mod NumberFacts
 pub mod HeaderFacts
 pub mod WrittenFacts
 pub mod OpeningFacts
+pub mod HeapFacts
 pub mod PutFacts
 pub mod RangeFacts
 pub mod CutFacts

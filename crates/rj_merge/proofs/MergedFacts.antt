@@ -1,5 +1,5 @@
 -- The merge of texts, by what the inputs give.
-use Rattle.std.proofs.Common.{◌≡◌, ◌⊎◌, ◌∙◌, ℕ, List, [], ◌∷◌, ◌++◌, map, Option, Some, refl, sym, ap, subst, inl, inr}
+use Rattle.std.proofs.Common.{◌≡◌, ◌⊎◌, ◌∙◌, ℕ, List, [], ◌∷◌, ◌++◌, map, Some, refl, sym, ap, subst, inl, inr}
 use mathlib.Core.Logic.{⊎_elim}
 use Rattle.std.specs.List.{Contains, zip}
 use Rattle.std.specs.Option.{option_to_list}
@@ -8,7 +8,6 @@ use Rattle.std.proofs.lemmas.List.Folds.{flat_map-map}
 use Rattle.rj_csv_io.specs.Shown.{rows_text}
 use Rattle.rj_merge.specs.declared.columns.Columns.{Columns}
 use Rattle.rj_merge.specs.declared.copies.Copies.{Copies}
-use Rattle.rj_merge.specs.declared.input.TextSource.{TextSource}
 use Rattle.rj_merge.specs.declared.options.MergeOptions.{MergeOptions}
 use Rattle.rj_merge.specs.declared.place.Place.{Place}
 use Rattle.rj_merge.specs.declared.place.Placed.{Placed}
@@ -16,7 +15,7 @@ use Rattle.rj_merge.specs.declared.refused.MergeRefused.{MergeRefused}
 use Rattle.rj_merge.specs.declared.refused.MergeRefused.TheVariants as refused
 use Rattle.rj_merge.specs.Copies.{StandsTooOften, copied_rows}
 use Rattle.rj_merge.specs.Headers.{place_columns}
-use Rattle.rj_merge.specs.Inputs.{faults_of_readings, first_header, input_reading, own_copies, readings}
+use Rattle.rj_merge.specs.Inputs.{faults_of_readings, first_header, readings}
 use Rattle.rj_merge.specs.MergedTexts.{HaveNoFault, IsFaultOfTexts, IsMergedText, head_rows, lists_of_texts, records_text}
 use Rattle.rj_merge.specs.Merging.{faults_of_inputs, lists_of_inputs}
 use Rattle.rj_merge.specs.Sources.{Reading}
@@ -29,20 +28,20 @@ zip_maps : {A B C : Type 0} (f : A → B) (g : A → C) (xs : List A) → zip (m
 zip_maps f g [] = refl
 zip_maps f g (x ∷ xs) = ap (λ l. (f x, g x) ∷ l) (zip_maps f g xs)
 
-module _ {R : Type 0} (known : R → Option (List ℕ)) (how : MergeOptions) (copies : List Copies) (texts : List (List ℕ)) (sources : List (TextSource R)) (own : map own_copies sources ≡ copies)
-    (given : readings how texts ≡ map (input_reading known) sources) where
-  faults_given : faults_of_readings (readings how texts) ≡ faults_of_inputs (input_reading known) sources
-  faults_given = ap faults_of_readings given ∙ flat_map-map (λ (r : Reading (List (List ℕ))). option_to_list r.fault) (input_reading known) sources
+module _ {S : Type 0} (has : S → Copies) (gives : S → Reading (List (List ℕ))) (how : MergeOptions) (copies : List Copies) (texts : List (List ℕ)) (sources : List S) (own : map has sources ≡ copies)
+    (given : readings how texts ≡ map gives sources) where
+  faults_given : faults_of_readings (readings how texts) ≡ faults_of_inputs gives sources
+  faults_given = ap faults_of_readings given ∙ flat_map-map (λ (r : Reading (List (List ℕ))). option_to_list r.fault) gives sources
 
-  lists_given : lists_of_texts how copies texts ≡ lists_of_inputs own_copies (input_reading known) sources
+  lists_given : lists_of_texts how copies texts ≡ lists_of_inputs has gives sources
   lists_given =
       ap (λ k. zip k (map (λ (r : Reading (List (List ℕ))). r.rows) (readings how texts))) (sym own)
-      ∙ ap (λ l. zip (map own_copies sources) (map (λ (r : Reading (List (List ℕ))). r.rows) l)) given
-      ∙ ap (zip (map own_copies sources)) (map-map (λ (r : Reading (List (List ℕ))). r.rows) (input_reading known) sources)
-      ∙ zip_maps own_copies (λ s. (input_reading known s).rows) sources
+      ∙ ap (λ l. zip (map has sources) (map (λ (r : Reading (List (List ℕ))). r.rows) l)) given
+      ∙ ap (zip (map has sources)) (map-map (λ (r : Reading (List (List ℕ))). r.rows) gives sources)
+      ∙ zip_maps has (λ s. (gives s).rows) sources
 
   pub merged : (columns : Columns) (first : List (List ℕ)) (rows : List (Placed (List (List ℕ)))) → first ≡ first_header texts → place_columns first ≡ Some columns
-      → IsMergeOf (copied_rows (lists_of_inputs own_copies (input_reading known) sources)) rows → IsMergedText how copies texts (rows_text (head_rows how.from (others columns first)) ++ records_text rows)
+      → IsMergeOf (copied_rows (lists_of_inputs has gives sources)) rows → IsMergedText how copies texts (rows_text (head_rows how.from (others columns first)) ++ records_text rows)
   merged columns first rows is places merge = record {
     columns = columns;
     rows = rows;
@@ -51,12 +50,12 @@ module _ {R : Type 0} (known : R → Option (List ℕ)) (how : MergeOptions) (co
     shown = under-head (head_rows how.from (others columns first)) rows ∙ ap (λ (h : List (List ℕ)). rows_text (head_rows how.from (others columns h) ++ map (λ p. p.row) rows)) is;
   }
 
-  pub faultless : faults_of_inputs (input_reading known) sources ≡ [] → HaveNoFault how texts
+  pub faultless : faults_of_inputs gives sources ≡ [] → HaveNoFault how texts
   faultless none = faults_given ∙ none
 
   pub fault_of_texts : (e : MergeRefused)
-      → Contains (faults_of_inputs (input_reading known) sources) e
-      ⊎ ((place : Place) × (e ≡ refused.RepeatedPlace place) × StandsTooOften (copied_rows (lists_of_inputs own_copies (input_reading known) sources)) place) → IsFaultOfTexts how copies texts e
+      → Contains (faults_of_inputs gives sources) e
+      ⊎ ((place : Place) × (e ≡ refused.RepeatedPlace place) × StandsTooOften (copied_rows (lists_of_inputs has gives sources)) place) → IsFaultOfTexts how copies texts e
   fault_of_texts e fault = ⊎_elim
       (λ f. inl (subst (λ l. Contains l e) (sym faults_given) f))
       (λ r. inr (r.0, r.1, subst (λ l. StandsTooOften (copied_rows l) r.0) (sym lists_given) r.2))

@@ -1,5 +1,5 @@
 -- Texts of placed rows: the fields that a row keeps, and the rows behind one.
-use Rattle.std.proofs.Common.{◌≡◌, ◌<◌, ◌≤◌, ◌+◌, Bool, ℕ, List, [], ◌∷◌, ◌++◌, length, drop, Option, Some, None, Ok, Err, true, false, refl, sym, ap, ◌∙◌, drop-cons, add-one, append_assoc}
+use Rattle.std.proofs.Common.{◌≡◌, ◌<◌, ◌≤◌, ◌+◌, Bool, ℕ, List, [], ◌∷◌, ◌++◌, length, drop, Option, Some, None, Ok, Err, true, false, refl, sym, ap, ◌∙◌, drop-cons, add-one, append_assoc, append-nil, length-append, arith}
 use Rattle.std.specs.Prelude.{slice_index_or, ◌||◌, ◌==◌}
 use Rattle.std.specs.Bool.{MatchBool}
 use Rattle.std.proofs.lemmas.List.{drop_all}
@@ -14,7 +14,7 @@ use Rattle.rj_merge.specs.declared.place.Place.{Place}
 use Rattle.rj_merge.specs.declared.place.Placed.{Placed}
 use Rattle.rj_merge.specs.declared.refused.MergeRefused.{MergeRefused}
 use Rattle.rj_merge.specs.Sources.{Reading}
-use Rattle.rj_merge.specs.Texts.{others_from, read_row, read_rows}
+use Rattle.rj_merge.specs.Texts.{others, others_from, read_row, read_rows}
 
 -- a field that is kept, one that isn't, and no field left
 pub kept : (columns : Columns) (i : ℕ) (fields : List (List ℕ)) (f : List ℕ) → i < length fields → slice_index_or fields i [] ≡ f → (i == columns.left) || (i == columns.right) ≡ false
@@ -31,11 +31,31 @@ pub none_left : (columns : Columns) (i : ℕ) (fields : List (List ℕ)) → len
 unfolding others_from
 none_left columns i fields h = rw (drop_all i fields h) refl
 
--- one more field kept
-pub kept-more : (columns : Columns) (i : ℕ) (fields old new all : List (List ℕ)) (part f : List ℕ) → new ≡ old ++ ((part ++ f) ∷ []) → part ≡ [] → i < length fields → slice_index_or fields i [] ≡ f
-    → (i == columns.left) || (i == columns.right) ≡ false → old ++ others_from columns i (drop i fields) ≡ all → new ++ others_from columns (i + 1) (drop (i + 1) fields) ≡ all
-kept-more columns i fields old new all part f e none h at test so_far =
-    rw (e, none, append_assoc) (ap (λ t. old ++ t) (sym (kept columns i fields f h at test)) ∙ so_far)
+-- of the fields before this one these are kept
+pub record IsKeptTo (columns : Columns) (i : ℕ) (fields kept : List (List ℕ)) : Type 0 where
+  pub whole : kept ++ others_from columns i (drop i fields) ≡ others columns fields
+  pub few : length kept ≤ i
+
+-- none yet, no further one, and one more
+pub kept-none : (columns : Columns) (fields : List (List ℕ)) → IsKeptTo columns 0 fields []
+kept-none columns fields = record { whole = refl; few = omega arith }
+
+pub kept-place : (columns : Columns) (i : ℕ) (fields so_far : List (List ℕ)) → i < length fields → (i == columns.left) || (i == columns.right) ≡ true → IsKeptTo columns i fields so_far → IsKeptTo columns (i + 1) fields so_far
+kept-place columns i fields so_far h test k = record {
+  whole = ap (λ t. so_far ++ t) (sym (left_out columns i fields h test)) ∙ k.whole;
+  few = omega (arith, k.few);
+}
+
+pub kept-field : (columns : Columns) (i : ℕ) (fields so_far : List (List ℕ)) (f : List ℕ) → i < length fields → slice_index_or fields i [] ≡ f → (i == columns.left) || (i == columns.right) ≡ false
+    → IsKeptTo columns i fields so_far → IsKeptTo columns (i + 1) fields (so_far ++ f ∷ [])
+kept-field columns i fields so_far f h at test k = record {
+  whole = append_assoc so_far (f ∷ []) (others_from columns (i + 1) (drop (i + 1) fields)) ∙ (ap (λ t. so_far ++ t) (sym (kept columns i fields f h at test)) ∙ k.whole);
+  few = omega (arith, k.few, length-append so_far (f ∷ []));
+}
+
+-- all of them
+pub kept-all : (columns : Columns) (i : ℕ) (fields so_far : List (List ℕ)) → length fields ≤ i → IsKeptTo columns i fields so_far → so_far ≡ others columns fields
+kept-all columns i fields so_far h k = sym (append-nil so_far) ∙ (ap (λ t. so_far ++ t) (sym (none_left columns i fields h)) ∙ k.whole)
 
 -- what one read of an input does to the records that remain to it
 pub read-next : {R : Type 0} (known : R → Option (List ℕ)) (a b : Reader R) (found : Bool) (f : List (List ℕ)) → IsBetween known a

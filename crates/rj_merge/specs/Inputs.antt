@@ -1,9 +1,10 @@
 -- What texts of placed rows give as the inputs of a merge.
-use Rattle.std.specs.Prelude.{◌≡◌, ℕ, ◌+◌, false, List, [], ◌∷◌, map, if◌then◌else◌, Option, None, Some}
+use Rattle.std.specs.Prelude.{◌≡◌, ℕ, ◌+◌, false, List, [], ◌∷◌, map, if◌then◌else◌, Option, None, Some, Box}
 use Rattle.std.specs.Cmp.Lexicographic.{pointwise}
 use Rattle.std.specs.List.{flat_map}
 use Rattle.std.specs.Option.{option_to_list}
 use Rattle.std.specs.Str.{bytes_eq}
+use Rattle.std.specs.declared.alloc.Global.{Global}
 use Rattle.rj_csv_io.specs.Cuts.{records_in}
 use Rattle.rj_csv_io.specs.Remaining.{IsBetween, records_remaining}
 use Rattle.rj_merge.specs.declared.columns.Columns.{Columns}
@@ -45,6 +46,16 @@ records_reading known s =
 -- what it still gives: of these rows those within the range
 abbrev pub input_reading : {R : Type 0} → (R → Option (List ℕ)) → TextSource R → Reading (List (List ℕ))
 input_reading known s = reading_within s.how (records_reading known s)
+
+-- the same of an input on the heap
+abbrev pub boxed_copies : {R : Type 0} → Box (TextSource R) Global → Copies
+boxed_copies b = own_copies b.value
+
+abbrev pub boxed_tells : {R : Type 0} → (R → Option (List ℕ)) → Box (TextSource R) Global → Type 0
+boxed_tells known b = input_tells known b.value
+
+abbrev pub boxed_reading : {R : Type 0} → (R → Option (List ℕ)) → Box (TextSource R) Global → Reading (List (List ℕ))
+boxed_reading known b = input_reading known b.value
 
 -- no rows, and this fault
 abbrev pub only_fault : MergeRefused → Reading (List (List ℕ))

@@ -1,6 +1,6 @@
 //! The fields of a row.
 
-ghost use Rattle.std.specs.Prelude.{◌≡◌, ◌++◌, [], List, ℕ, IfOk, OnOk};
+ghost use Rattle.std.specs.Prelude.{◌≡◌, ◌<◌, ◌-◌, ◌^◌, ◌++◌, ◌∷◌, [], List, ℕ, OnOk, length};
 ghost use Rattle.csv.specs.Records.{fields_of};
 ghost use Rattle.csv.specs.Writing.{default_writer, row_text};
 ghost use Rattle.rj_csv_io.specs.Written.{HasWritten};
@@ -8,53 +8,83 @@ ghost use Rattle.rj_merge.specs.Texts.{others};
 
 use crate::columns::Columns;
 use csv::{ByteRecord, Writer};
-use std::alloc::{AllocError, Global};
+use std::alloc::AllocError;
 use std::marker::Model;
+
+/// A record as it was read, and where the place stands in it.
+#[derive(Drop)]
+pub(crate) struct WholeRow {
+    pub(crate) fields: ByteRecord,
+    pub(crate) columns: Columns,
+}
 
 /// The fields of a row, without those of its place.
 #[derive(Drop)]
 pub struct Fields {
-    kept: ByteRecord,
+    // On the heap, so that little is moved with a row.
+    whole: Box<WholeRow>,
 }
 
 impl Model for Fields {
     ghost use Rattle.std.specs.Prelude.{ℕ, List};
     ghost use Rattle.csv.specs.Records.{fields_of};
+    ghost use Rattle.rj_merge.specs.Texts.{others};
 
     ghost Value = { List (List ℕ) };
 
-    ghost view = { λ f. fields_of f.kept };
+    ghost view = { λ f. others f.whole.value.columns (fields_of f.whole.value.fields) };
+}
+
+// Writes one more field of a record.
+fn write_field(writer: &mut Writer<Vec<u8>>, field: &[u8]) -> Result<(), AllocError>
+    ensures { (text : List ℕ) → (fields : List (List ℕ)) → length fields < 2 ^ 64 - 1 → HasWritten writer.old text fields
+        → OnOk result (HasWritten writer.new text (fields ++ field.now ∷ [])) }
+{
+    if writer.write_field(field).is_err() {
+        return Err(AllocError);
+    }
+    Ok(())
+}
+
+// Ends a record.
+fn end_record(writer: &mut Writer<Vec<u8>>) -> Result<(), AllocError>
+    ensures { (text : List ℕ) → (fields : List (List ℕ)) → HasWritten writer.old text fields
+        → OnOk result (HasWritten writer.new (text ++ row_text default_writer fields) []) }
+{
+    if writer.end_record().is_err() {
+        return Err(AllocError);
+    }
+    Ok(())
 }
 
 impl Fields {
     /// The fields of a record without those of its place.
-    pub(crate) fn without_place(
-        alloc: Global,
-        fields: &ByteRecord,
-        columns: Columns,
-    ) -> Result<Fields, AllocError>
-        ensures { IfOk result (λ f. f ≡ others columns (fields_of fields.now)) }
+    pub(crate) fn without_place(whole: Box<WholeRow>) -> Fields
+        ensures { result ≡ others whole.value.columns (fields_of whole.value.fields) }
     {
-        let mut kept = ByteRecord::new(alloc);
-        for i in 0..fields.len() {
-            let Some(field) = fields.get(i) else {
-                unreachable!()
-            };
-            if columns.holds_place(i) {
-                continue;
-            }
-            kept.push_field(field)?;
-        }
-        Ok(Fields { kept })
+        Fields { whole }
+    }
+
+    /// The record as it was read.
+    pub(crate) fn into_whole(self) -> Box<WholeRow> {
+        let Fields { whole } = self;
+        whole
     }
 
     /// Writes them as a record.
     pub(crate) fn write(&self, writer: &mut Writer<Vec<u8>>) -> Result<(), AllocError>
         ensures { (text : List ℕ) → HasWritten writer.old text [] → OnOk result (HasWritten writer.new (text ++ row_text default_writer self.now) []) }
     {
-        if writer.write_byte_record(&self.kept).is_err() {
-            return Err(AllocError);
+        let whole = self.whole.as_ref();
+        for i in 0..whole.fields.len() {
+            let Some(field) = whole.fields.get(i) else {
+                unreachable!()
+            };
+            if whole.columns.holds_place(i) {
+                continue;
+            }
+            write_field(writer, field)?;
         }
-        Ok(())
+        end_record(writer)
     }
 }

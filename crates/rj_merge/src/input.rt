@@ -11,14 +11,14 @@ ghost use Rattle.rj_merge.specs.Texts.{others, read_row, read_rows};
 
 use crate::columns::Columns;
 use crate::copies::Copies;
-use crate::fields::Fields;
+use crate::fields::{Fields, WholeRow};
 use crate::number::{read_place, stands_above};
 use crate::options::MergeOptions;
 use crate::place::{Place, Placed};
 use crate::refused::MergeRefused;
 use crate::source::Source;
 use csv::{ByteRecord, ErrorKind, Reader};
-use std::alloc::Global;
+use std::alloc::{AllocError, Global};
 use std::io::Read;
 
 /// Reads the next record of an input, and says whether there was one.
@@ -74,7 +74,8 @@ pub(crate) struct TextSource<'n, R: Read + Drop> {
     alloc: Global,
     // On the heap, so that a merge moves little where it orders its inputs.
     reader: Box<Reader<R>>,
-    fields: ByteRecord,
+    // A row to read the next one into, if one was given back.
+    spare: Option<Box<WholeRow>>,
     columns: Columns,
     how: MergeOptions<'n>,
     input: u32,
@@ -102,7 +103,7 @@ impl<'n, R: Read + Drop> TextSource<'n, R> {
         TextSource {
             alloc,
             reader,
-            fields: ByteRecord::new(alloc),
+            spare: None,
             columns,
             how,
             input,
@@ -113,16 +114,15 @@ impl<'n, R: Read + Drop> TextSource<'n, R> {
         }
     }
 
-    // Reads the next row, whose fields then stand in `fields`, and gives its place; or `None` behind the last one.
-    fn next_place(&mut self) -> Result<Option<Place>, MergeRefused>
+    // Reads the next row into a record, and gives its place; or `None` behind the last one.
+    fn next_place(&mut self, fields: &mut ByteRecord) -> Result<Option<Place>, MergeRefused>
         ensures tells { OnOk result (input_tells R.remaining self.old → input_tells R.remaining self.new) }
         ensures how { OnOk result (self.new.how ≡ self.old.how) }
         ensures columns { OnOk result (self.new.columns ≡ self.old.columns) }
-        ensures alloc { OnOk result (self.new.alloc ≡ self.old.alloc) }
         ensures copies { OnOk result (self.new.copies ≡ self.old.copies) }
         ensures some { IfOk result (λ o. IfSome o (λ p. input_tells R.remaining self.old
             → ((records_reading R.remaining self.old).rows
-            ≡ record { place = p; row = others self.old.columns (fields_of self.new.fields) } ∷ (records_reading R.remaining self.new).rows)
+            ≡ record { place = p; row = others self.old.columns (fields_of fields.new) } ∷ (records_reading R.remaining self.new).rows)
             × ((records_reading R.remaining self.old).fault ≡ (records_reading R.remaining self.new).fault))) }
         ensures end { result ≡ Ok None → input_tells R.remaining self.old
             → ((records_reading R.remaining self.old).rows ≡ []) × ((records_reading R.remaining self.old).fault ≡ None) }
@@ -133,7 +133,7 @@ impl<'n, R: Read + Drop> TextSource<'n, R> {
         if self.ended {
             return Ok(None);
         }
-        match next_record(self.input, self.reader.as_mut(), &mut self.fields) {
+        match next_record(self.input, self.reader.as_mut(), fields) {
             Ok(true) => {}
             Ok(false) => {
                 self.ended = true;
@@ -144,20 +144,30 @@ impl<'n, R: Read + Drop> TextSource<'n, R> {
         let Some(row) = self.row.checked_add(1) else {
             return Err(MergeRefused::Memory);
         };
-        match place_of_row(
-            self.input,
-            row,
-            self.last,
-            &self.fields,
-            self.columns,
-            self.how,
-        ) {
+        match place_of_row(self.input, row, self.last, fields, self.columns, self.how) {
             Ok(place) => {
                 self.row = row;
                 self.last = Some(place);
                 Ok(Some(place))
             }
             Err(e) => Err(e),
+        }
+    }
+
+    // A row to read the next one into: the one that was given back, or a new one.
+    fn take_row(&mut self) -> Result<Box<WholeRow>, AllocError>
+        ensures kept { self.new ≡ record self.old { spare = self.new.spare } }
+        ensures columns { IfOk result (λ w. w.value.columns ≡ self.old.columns) }
+    {
+        let columns = self.columns;
+        if let Some(mut spare) = self.spare.take() {
+            spare.as_mut().columns = columns;
+            return Ok(spare);
+        }
+        let fields = ByteRecord::new(self.alloc);
+        match Box::new(self.alloc, WholeRow { fields, columns }) {
+            Ok(whole) => Ok(whole),
+            Err(_) => Err(AllocError),
         }
     }
 }
@@ -178,8 +188,11 @@ impl<'n, R: Read + Drop> Source for TextSource<'n, R> {
     }
 
     fn next(&mut self) -> Result<Option<Placed<Fields>>, MergeRefused> {
+        let Ok(mut whole) = self.take_row() else {
+            return Err(MergeRefused::Memory);
+        };
         'rows: for _turn in 0..u64::MAX {
-            let place = match self.next_place() {
+            let place = match self.next_place(&mut whole.as_mut().fields) {
                 Ok(Some(place)) => place,
                 Ok(None) => return Ok(None),
                 Err(e) => return Err(e),
@@ -188,14 +201,15 @@ impl<'n, R: Read + Drop> Source for TextSource<'n, R> {
                 self.ended = true;
                 return Ok(None);
             }
-            if !self.how.is_from(place) {
-                continue;
-            }
-            match Fields::without_place(self.alloc, &self.fields, self.columns) {
-                Ok(row) => return Ok(Some(Placed { place, row })),
-                Err(_) => return Err(MergeRefused::Memory),
+            if self.how.is_from(place) {
+                let row = Fields::without_place(whole);
+                return Ok(Some(Placed { place, row }));
             }
         }
         Err(MergeRefused::Memory)
+    }
+
+    fn reuse(&mut self, row: Fields) {
+        self.spare = Some(row.into_whole());
     }
 }

@@ -2,6 +2,7 @@
 #![tactic(auto)]
 
 mod block;
+mod boxed;
 mod columns;
 mod copies;
 mod fields;

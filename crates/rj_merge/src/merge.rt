@@ -22,6 +22,22 @@ use std::collections::BinaryHeap;
 pub struct Merge<S: Source> {
     heads: BinaryHeap<Head<S::Row, S>>,
     passed: Option<Place>,
+    // A row that was given back.
+    spare: Option<S::Row>,
+}
+
+// An input that took a row back, if there is one.
+fn with_spare<S: Source>(source: S, spare: Option<S::Row>) -> S
+    ensures tells { S.tells source → S.tells result }
+    ensures reading { S.reading result ≡ S.reading source }
+    ensures last { S.last result ≡ S.last source }
+    ensures copies { S.copies result ≡ S.copies source }
+{
+    let mut source = source;
+    if let Some(row) = spare {
+        source.reuse(row);
+    }
+    source
 }
 
 // Reads the next row of an input, and puts both among the heads: where it has none, nothing.
@@ -74,10 +90,12 @@ fn pop_at<T, S>(heads: &mut BinaryHeap<Head<T, S>>, place: Place) -> Option<Head
     heads.pop()
 }
 
-// Takes all rows of a place of heads, this head's first, and gives that row, if they are as many as they have to be.
+// Takes all rows of a place of heads, this head's first, and gives that row, if they are as many as they have to be. This
+// head's input takes back a row, if there is one.
 fn take_place<S: Source>(
     heads: &mut BinaryHeap<Head<S::Row, S>>,
     first: Head<S::Row, S>,
+    spare: Option<S::Row>,
 ) -> Result<Option<Placed<S::Row>>, MergeRefused>
     requires heap { IsHeap head_order (heap_items heads.old) }
     requires newest { AreNewest S.last (first ∷ heap_items heads.old) }
@@ -96,7 +114,7 @@ fn take_place<S: Source>(
     let Head { next, source } = first;
     let mut needed = source.copies().needed(next.place);
     let mut times = 1;
-    match put_next(heads, source) {
+    match put_next(heads, with_spare(source, spare)) {
         Ok(()) => {}
         Err(e) => return Err(e),
     }
@@ -124,6 +142,7 @@ impl<S: Source> Merge<S> {
         Merge {
             heads: BinaryHeap::new(alloc),
             passed: None,
+            spare: None,
         }
     }
 
@@ -175,6 +194,14 @@ impl<S: Source> Merge<S> {
         Ok(merge)
     }
 
+    /// Takes back a row that isn't needed any more, so that a later one can stand where it stood. What the merge gives stays
+    /// the same.
+    pub fn reuse(&mut self, row: S::Row)
+        ensures { self.new ≡ record self.old { spare = self.new.spare } }
+    {
+        self.spare = Some(row);
+    }
+
     /// The row of the least place of all that are left and that stand as often as they have to, or `None` where there is none.
     /// Places that stand less often are passed over.
     ///
@@ -202,7 +229,7 @@ impl<S: Source> Merge<S> {
                 return Ok(None);
             };
             let place = head.next.place;
-            let row = match take_place(&mut self.heads, head) {
+            let row = match take_place(&mut self.heads, head, self.spare.take()) {
                 Ok(row) => row,
                 Err(e) => return Err(e),
             };

@@ -1,6 +1,6 @@
 //! The place that the fields of a record tell.
 
-ghost use Rattle.std.specs.Prelude.{◌≡◌, [], None, Some, if◌then◌else◌, slice_index_or};
+ghost use Rattle.std.specs.Prelude.{◌≡◌, [], None, Some, IfSome, true, if◌then◌else◌, slice_index_or};
 ghost use Rattle.std.specs.Str.{all_ascii_digits};
 ghost use Rattle.std.specs.Str.Parse.{digits_value};
 ghost use Rattle.csv.specs.Records.{fields_of};
@@ -26,10 +26,34 @@ fn are_digits(field: &[u8]) -> bool
     true
 }
 
+// Each number of so many digits has 64 bits.
+const MOST_DIGITS: usize = 19;
+
+// The number that a field of digits writes, or none where it has another byte or more digits.
+fn plain_number(field: &[u8]) -> Option<u64>
+    ensures { IfSome result (λ n. (is_number field.now ≡ true) × (n ≡ digits_value 10 field.now)) }
+{
+    if field.is_empty() || field.len() > MOST_DIGITS {
+        return None;
+    }
+    let mut value = 0u64;
+    for i in 0..field.len() {
+        let byte = field[i];
+        if !byte.is_ascii_digit() {
+            return None;
+        }
+        value = value * 10 + (byte - b'0') as u64;
+    }
+    Some(value)
+}
+
 // The number that a field of digits writes, if it has 64 bits.
 fn whole_number(field: &[u8]) -> Option<u64>
     ensures { result ≡ (if is_number field.now then Some (digits_value 10 field.now) else None) }
 {
+    if let Some(n) = plain_number(field) {
+        return Some(n);
+    }
     if !are_digits(field) {
         return None;
     }

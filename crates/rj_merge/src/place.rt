@@ -46,7 +46,13 @@ impl Ord for Place {
     ghost matches_eq = { Prim.search (comparing, rules) };
 
     fn cmp(&self, other: &Place) -> Ordering {
-        rank(self).cmp(&rank(other))
+        match (*self, *other) {
+            // (most rows of most joins are pairs)
+            (Place::Pair(left, right), Place::Pair(other_left, other_right)) => {
+                (left, right).cmp(&(other_left, other_right))
+            }
+            _ => rank(self).cmp(&rank(other)),
+        }
     }
 }
 

@@ -41,4 +41,13 @@ pub trait Source: Drop {
         ensures gives { tells self.old → Gives (reading self.old) result (reading self.new) }
         ensures rises { IfOk result (λ o. IfSome o (λ r. IsAbove (last self.old) r.place × (last self.new ≡ Some r.place))) }
         ensures copies { OnOk result (copies self.new ≡ copies self.old) };
+
+    /// Takes back a row that isn't needed any more, of this input or of another one of the merge, so that a later row can
+    /// stand where it stood. What the input gives stays the same.
+    fn reuse(&mut self, _row: Self::Row)
+        ensures tells { tells self.old → tells self.new }
+        ensures reading { reading self.new ≡ reading self.old }
+        ensures last { last self.new ≡ last self.old }
+        ensures copies { copies self.new ≡ copies self.old }
+    {}
 }

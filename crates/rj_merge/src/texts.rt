@@ -1,6 +1,7 @@
 //! Texts of placed rows merged into one text.
 
 ghost use Rattle.std.specs.Prelude.{◌≡◌, ◌≢◌, ◌⊎◌, ◌<◌, ◌+◌, ◌-◌, ◌^◌, ◌++◌, [], false, List, ℕ, Some, Err, All, Contains, IfOk, OnOk, map, vec_len};
+ghost use Rattle.std.specs.Box.{box_value};
 ghost use Rattle.std.specs.Io.KnownBytes.{Appends};
 ghost use Rattle.csv.specs.Records.{fields_of};
 ghost use Rattle.rj_csv_io.specs.Shown.{rows_text};
@@ -9,7 +10,7 @@ ghost use Rattle.rj_merge.specs.declared.place.Place.{Place};
 ghost use Rattle.rj_merge.specs.declared.place.Placed.{Placed};
 ghost use Rattle.rj_merge.specs.declared.refused.MergeRefused.{MergeRefused};
 ghost use Rattle.rj_merge.specs.Copies.{StandsTooOften, copied_rows};
-ghost use Rattle.rj_merge.specs.Inputs.{TellTexts, copies_of, header_fault, input_reading, input_tells, own_copies};
+ghost use Rattle.rj_merge.specs.Inputs.{TellTexts, boxed_copies, boxed_reading, boxed_tells, copies_of, header_fault};
 ghost use Rattle.rj_merge.specs.MergedTexts.{HaveNoFault, IsFaultOfTexts, IsMergedText, head_rows, records_text};
 ghost use Rattle.rj_merge.specs.Merging.{faults_of_inputs, lists_of_inputs};
 ghost use Rattle.rj_merge.specs.Sources.{is_outside};
@@ -18,7 +19,7 @@ ghost use Rattle.rj_merge.specs.Wholes.{IsMergeOf};
 
 use crate::block::{add_row, empty_block, put_block};
 use crate::copies::MergeInput;
-use crate::fields::Fields;
+use crate::fields::{Fields, WholeRow};
 use crate::header::Header;
 use crate::input::TextSource;
 use crate::merge::Merge;
@@ -31,21 +32,41 @@ use rj_csv_io::Output;
 use std::alloc::{AllocError, Global};
 use std::io::Read;
 
+// Inputs, each on the heap.
+fn on_heap<'n, R: Read + Drop>(
+    alloc: Global,
+    sources: Vec<TextSource<'n, R>>,
+) -> Result<Vec<Box<TextSource<'n, R>>>, AllocError>
+    ensures { IfOk result (λ v. map box_value v.items ≡ sources.entry.items) }
+{
+    let mut left = sources.into_iter();
+    let mut all = Vec::new(alloc);
+    'sources: while let Some(source) = left.next() {
+        let Ok(boxed) = Box::new(alloc, source) else {
+            return Err(AllocError);
+        };
+        if all.push(boxed).is_err() {
+            return Err(AllocError);
+        }
+    }
+    Ok(all)
+}
+
 // Merges inputs, and puts their rows on the output behind what stands in a block.
 fn put_rows<'n, R: Read + Drop, O: Output>(
     alloc: Global,
-    sources: Vec<TextSource<'n, R>>,
+    sources: Vec<Box<TextSource<'n, R>>>,
     block: Writer<Vec<u8>>,
     output: &mut O,
 ) -> Result<(), MergeTextsRefused>
     requires { O.count output.old < 2 ^ 64 - 1 }
-    ensures merge { OnOk result ((text : List ℕ) → HasWritten block text [] → All (input_tells R.remaining) sources.entry.items
-        → (rows : List (Placed (List (List ℕ)))) × IsMergeOf (copied_rows (lists_of_inputs own_copies (input_reading R.remaining) sources.entry.items)) rows
+    ensures merge { OnOk result ((text : List ℕ) → HasWritten block text [] → All (boxed_tells R.remaining) sources.entry.items
+        → (rows : List (Placed (List (List ℕ)))) × IsMergeOf (copied_rows (lists_of_inputs boxed_copies (boxed_reading R.remaining) sources.entry.items)) rows
         × Appends (O.told output.old) (O.told output.new) (text ++ records_text rows)) }
-    ensures faults { OnOk result (All (input_tells R.remaining) sources.entry.items → faults_of_inputs (input_reading R.remaining) sources.entry.items ≡ []) }
-    ensures fault { (e : MergeRefused) → result ≡ Err (MergeTextsRefused.Merge e) → is_outside e ≡ false → All (input_tells R.remaining) sources.entry.items
-        → Contains (faults_of_inputs (input_reading R.remaining) sources.entry.items) e
-        ⊎ ((place : Place) × (e ≡ MergeRefused.RepeatedPlace place) × StandsTooOften (copied_rows (lists_of_inputs own_copies (input_reading R.remaining) sources.entry.items)) place) }
+    ensures faults { OnOk result (All (boxed_tells R.remaining) sources.entry.items → faults_of_inputs (boxed_reading R.remaining) sources.entry.items ≡ []) }
+    ensures fault { (e : MergeRefused) → result ≡ Err (MergeTextsRefused.Merge e) → is_outside e ≡ false → All (boxed_tells R.remaining) sources.entry.items
+        → Contains (faults_of_inputs (boxed_reading R.remaining) sources.entry.items) e
+        ⊎ ((place : Place) × (e ≡ MergeRefused.RepeatedPlace place) × StandsTooOften (copied_rows (lists_of_inputs boxed_copies (boxed_reading R.remaining) sources.entry.items)) place) }
     ensures device { result ≡ Err MergeTextsRefused.WriteDevice → O.count output.new ≡ O.count output.old + 1 }
     ensures kept { result ≢ Err MergeTextsRefused.WriteDevice → O.count output.new ≡ O.count output.old }
 {
@@ -61,7 +82,7 @@ fn put_rows<'n, R: Read + Drop, O: Output>(
             Err(e) => return Err(MergeTextsRefused::Merge(e)),
         };
         match add_row(alloc, &placed.row, &mut block, output) {
-            Ok(()) => {}
+            Ok(()) => merge.reuse(placed.row),
             Err(e) => return Err(e),
         }
     }
@@ -71,16 +92,24 @@ fn put_rows<'n, R: Read + Drop, O: Output>(
 // A block with the header that stands above rows from this place on, if one does.
 fn begin_block(
     alloc: Global,
-    header: &Header,
+    header: Header,
     from: Option<Place>,
 ) -> Result<Writer<Vec<u8>>, AllocError>
-    ensures { IfOk result (λ block. HasWritten block (rows_text (head_rows from (others header.now.columns (fields_of header.now.names)))) []) }
+    ensures { IfOk result (λ block. HasWritten block (rows_text (head_rows from (others header.columns (fields_of header.names)))) []) }
 {
     let mut block = empty_block(alloc);
     if from.is_some() {
         return Ok(block);
     }
-    let names = Fields::without_place(alloc, &header.names, header.columns)?;
+    let Header { names, columns } = header;
+    let whole = WholeRow {
+        fields: names,
+        columns,
+    };
+    let Ok(whole) = Box::new(alloc, whole) else {
+        return Err(AllocError);
+    };
+    let names = Fields::without_place(whole);
     names.write(&mut block)?;
     Ok(block)
 }
@@ -91,7 +120,7 @@ fn begin_block(
 /// rows are merged. The header stands above rows that begin nowhere: so the texts of ranges, one after another, are the text
 /// of the whole (`ranges_are_whole`).
 ///
-/// It holds a block and one row of each text.
+/// It holds a block, one row of each text, and one row more.
 ///
 /// # Errors
 ///
@@ -120,7 +149,10 @@ pub fn merge_texts<R: Read + Drop, O: Output>(
         Ok(opened) => opened,
         Err(e) => return Err(MergeTextsRefused::Merge(e)),
     };
-    let Ok(block) = begin_block(alloc, &header, how.from) else {
+    let Ok(block) = begin_block(alloc, header, how.from) else {
+        return Err(MergeTextsRefused::Merge(MergeRefused::Memory));
+    };
+    let Ok(sources) = on_heap(alloc, sources) else {
         return Err(MergeTextsRefused::Merge(MergeRefused::Memory));
     };
     put_rows(alloc, sources, block, output)

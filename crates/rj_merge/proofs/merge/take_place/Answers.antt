@@ -5,7 +5,7 @@ use Rattle.std.specs.BinaryHeap.{heap_items}
 use Rattle.std.proofs.lemmas.List.Elements.{All-head, All-tail}
 use Rattle.std.proofs.lemmas.List.Sorted.{Contains-permutation, IsPermutation-refl, IsPermutation-sym, IsPermutation-trans}
 use Rattle.rj_merge.specs.Copies.{needed}
-use Rattle.rj_merge.specs.Merging.{Passes, faults_of_heads, rows_of_heads}
+use Rattle.rj_merge.specs.Merging.{AllTell, Passes, faults_of_heads, rows_of_heads}
 use Rattle.rj_merge.specs.Places.{IsAbove, IsNotBelow}
 use Rattle.rj_merge.proofs.HeadFacts.{faults_taken, has_fault, holds_first, holds_rest, rows_taken}
 use Rattle.rj_merge.proofs.PlaceFacts.{not_below}
@@ -18,7 +18,8 @@ returns-in-Err-clause-fault g c = λ out all.
     let old = heap_items c.args.heads.now in
     let first = c.args.first in
     let tells = All-head (λ h. g.S.Source.tells h.source) first old all in
-    inl (has_fault g.S.Source.copies g.S.Source.reading (first ∷ old) old first c.in-Err.e (IsPermutation-refl (first ∷ old)) (c.in-Err.ensures.fault out tells))
+    let spared = c.with_spare.ensures in
+    inl (has_fault g.S.Source.copies g.S.Source.reading (first ∷ old) old first c.in-Err.e (IsPermutation-refl (first ∷ old)) (rw spared.reading at (c.in-Err.ensures.fault out (spared.tells tells))))
 
 pub heads-init : goal.heads-init
 heads-init g c =
@@ -27,19 +28,21 @@ heads-init g c =
     let first = c.args.first in
     let place = first.next.place in
     let number : c.needed-needed.result ≡ needed (g.S.Source.copies first.source) place = c.needed-needed.ensures.needed ∙ ap (λ k. needed k place) c.copies.ensures in
-    let newest = All-head (λ h. g.S.Source.last h.source ≡ Some h.next.place) first old c.requires.newest in
+    let spared = c.with_spare.ensures in
+    let newest = spared.last ∙ All-head (λ h. g.S.Source.last h.source ≡ Some h.next.place) first old c.requires.newest in
+    let first_tells = λ (all : AllTell g.S.Source.tells (first ∷ old)). spared.tells (All-head (λ h. g.S.Source.tells h.source) first old all) in
     record {
       small = c.needed-needed.ensures.small;
       heap = c.in-Ok.ensures.heap c.requires.heap;
       newest = c.in-Ok.ensures.newest (All-tail (λ h. g.S.Source.last h.source ≡ Some h.next.place) first old c.requires.newest);
       low = c.in-Ok.ensures.above (Some place) (λ p up. not_below (Some place) p (subst (λ l. IsAbove l p) newest up)) c.requires.low;
-      tells = λ all. c.in-Ok.ensures.tells (All-head (λ h. g.S.Source.tells h.source) first old all) (All-tail (λ h. g.S.Source.tells h.source) first old all);
+      tells = λ all. c.in-Ok.ensures.tells (first_tells all) (All-tail (λ h. g.S.Source.tells h.source) first old all);
       rows = λ all.
           subst (λ n. Takes first.next n 1 (rows_of_heads g.S.Source.copies g.S.Source.reading (first ∷ old)) (rows_of_heads g.S.Source.copies g.S.Source.reading new)) (sym number)
           (takes_first (g.S.Source.copies first.source) first.next _ _
-          (rows_taken g.S.Source.copies g.S.Source.reading (first ∷ old) old first new (IsPermutation-refl (first ∷ old)) (c.in-Ok.ensures.rows (All-head (λ h. g.S.Source.tells h.source) first old all))));
+          (rows_taken g.S.Source.copies g.S.Source.reading (first ∷ old) old first new (IsPermutation-refl (first ∷ old)) (rw (spared.copies, spared.reading) at (c.in-Ok.ensures.rows (first_tells all)))));
       faults = λ all.
-          faults_taken g.S.Source.copies g.S.Source.reading (first ∷ old) old first new (IsPermutation-refl (first ∷ old)) (c.in-Ok.ensures.faults (All-head (λ h. g.S.Source.tells h.source) first old all));
+          faults_taken g.S.Source.copies g.S.Source.reading (first ∷ old) old first new (IsPermutation-refl (first ∷ old)) (rw spared.reading at (c.in-Ok.ensures.faults (first_tells all)));
     }
 
 pub returns-in_default-clause-rows : goal.returns-in_default-clause-rows

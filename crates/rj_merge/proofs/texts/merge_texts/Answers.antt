@@ -2,9 +2,10 @@ use Rattle.std.proofs.Common.{◌++◌, ◌≡◌, refl}
 use Rattle.csv.specs.Records.{fields_of}
 use Rattle.rj_csv_io.specs.Shown.{rows_text}
 use Rattle.rj_csv_io.proofs.WriteFacts.{ok-holds}
-use Rattle.rj_merge.specs.Inputs.{copies_of}
+use Rattle.rj_merge.specs.Inputs.{boxed_copies, boxed_reading, copies_of}
 use Rattle.rj_merge.specs.MergedTexts.{head_rows, records_text}
 use Rattle.rj_merge.specs.Texts.{others}
+use Rattle.rj_merge.proofs.HeapFacts.{copies-boxed, readings-boxed, tells-boxed}
 use Rattle.rj_merge.proofs.MergedFacts.{fault_of_texts, faultless, merged}
 use Rattle.rj_merge.proofs.WrittenFacts.{ok-if}
 use Rattle.rj_merge.proofs.texts.merge_texts.Goals as goal
@@ -15,24 +16,40 @@ returns-clause-merge g c =
     let opened = c.in-Ok.ensures in
     let header = c.in-Ok.opened.header in
     let sources = c.in-Ok.opened.sources.items in
+    let boxed = c.in-Ok-on_heap.sources.items in
+    let same = c.in-Ok-on_heap.ensures in
+    let copies = copies_of c.args.inputs.items in
     let head = rows_text (head_rows c.args.how.from (others header.columns (fields_of header.names))) in
     ok-if c.put_rows.result (λ well. λ texts tell.
-    let put = ok-holds c.put_rows.result well c.put_rows.ensures.merge head c.in-Ok-begin_block.ensures (opened.tells texts tell) in (
+    let put = ok-holds c.put_rows.result well c.put_rows.ensures.merge head c.in-Ok-begin_block.ensures (tells-boxed known boxed sources same (opened.tells texts tell)) in (
       head ++ records_text put.0,
-      merged known c.args.how (copies_of c.args.inputs.items) texts sources opened.copies (opened.readings texts tell) header.columns (fields_of header.names) put.0 (opened.header texts tell) opened.places put.1,
+      merged boxed_copies (boxed_reading known) c.args.how copies texts boxed (copies-boxed known boxed sources same copies opened.copies) (readings-boxed known boxed sources same _ (opened.readings texts tell))
+          header.columns (fields_of header.names) put.0 (opened.header texts tell) opened.places put.1,
       put.2,
     ))
 
 pub returns-clause-faults : goal.returns-clause-faults
 returns-clause-faults g c =
+    let known = g.R.Read.remaining in
     let opened = c.in-Ok.ensures in
+    let sources = c.in-Ok.opened.sources.items in
+    let boxed = c.in-Ok-on_heap.sources.items in
+    let same = c.in-Ok-on_heap.ensures in
+    let copies = copies_of c.args.inputs.items in
     ok-if c.put_rows.result (λ well. λ texts tell.
-    faultless g.R.Read.remaining c.args.how (copies_of c.args.inputs.items) texts c.in-Ok.opened.sources.items opened.copies (opened.readings texts tell) (ok-holds c.put_rows.result well c.put_rows.ensures.faults (opened.tells texts tell)))
+    faultless boxed_copies (boxed_reading known) c.args.how copies texts boxed (copies-boxed known boxed sources same copies opened.copies) (readings-boxed known boxed sources same _ (opened.readings texts tell))
+    (ok-holds c.put_rows.result well c.put_rows.ensures.faults (tells-boxed known boxed sources same (opened.tells texts tell))))
 
 pub returns-clause-fault : goal.returns-clause-fault
 returns-clause-fault g c = λ e is out texts tell.
+    let known = g.R.Read.remaining in
     let opened = c.in-Ok.ensures in
-    fault_of_texts g.R.Read.remaining c.args.how (copies_of c.args.inputs.items) texts c.in-Ok.opened.sources.items opened.copies (opened.readings texts tell) e (c.put_rows.ensures.fault e is out (opened.tells texts tell))
+    let sources = c.in-Ok.opened.sources.items in
+    let boxed = c.in-Ok-on_heap.sources.items in
+    let same = c.in-Ok-on_heap.ensures in
+    let copies = copies_of c.args.inputs.items in
+    fault_of_texts boxed_copies (boxed_reading known) c.args.how copies texts boxed (copies-boxed known boxed sources same copies opened.copies) (readings-boxed known boxed sources same _ (opened.readings texts tell)) e
+    (c.put_rows.ensures.fault e is out (tells-boxed known boxed sources same (opened.tells texts tell)))
 
 pub returns-in-Err-clause-first : goal.returns-in-Err-clause-first
 returns-in-Err-clause-first g c = λ texts tell f is. (
@@ -46,3 +63,6 @@ returns-in_default-clause-first g c = λ texts tell f is. let none = c.in-Ok.ens
 
 pub returns-clause-first : goal.returns-clause-first
 returns-clause-first g c = λ texts tell f is. let none = c.in-Ok.ensures.headers texts tell in absurd (cc)
+
+pub returns-in_default-on_heap-clause-first : goal.returns-in_default-on_heap-clause-first
+returns-in_default-on_heap-clause-first g c = λ texts tell f is. let none = c.in-Ok.ensures.headers texts tell in absurd (cc)

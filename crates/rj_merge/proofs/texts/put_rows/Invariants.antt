@@ -1,5 +1,6 @@
 use Rattle.std.proofs.Common.{◌≡◌}
 use Rattle.std.specs.BinaryHeap.{heap_items}
+use Rattle.rj_merge.specs.Inputs.{boxed_copies, boxed_reading, boxed_tells}
 use Rattle.rj_merge.specs.Merging.{AreHeads}
 use Rattle.rj_merge.proofs.PutFacts.{HasPut, source_last}
 use Rattle.rj_merge.proofs.texts.put_rows.Given as goal
@@ -7,6 +8,6 @@ use Rattle.rj_merge.proofs.texts.put_rows.Given as goal
 abbrev pub invariant-rows : goal.invariant-rows
 invariant-rows g l = record {
   lawful : AreHeads source_last l.merge.passed (heap_items l.merge.heads);
-  put : HasPut g.R.Read.remaining l.fn.sources.items l.merge.passed (heap_items l.merge.heads) (g.O.Output.told l.fn.output) l.fn.block l.block (g.O.Output.told l.output);
+  put : HasPut (boxed_tells g.R.Read.remaining) boxed_copies (boxed_reading g.R.Read.remaining) l.fn.sources.items l.merge.passed (heap_items l.merge.heads) (g.O.Output.told l.fn.output) l.fn.block l.block (g.O.Output.told l.output);
   count : g.O.Output.count l.output ≡ g.O.Output.count l.fn.output;
 }

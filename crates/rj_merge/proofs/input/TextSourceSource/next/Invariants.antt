@@ -9,6 +9,7 @@ invariant-rows g l = record {
   tells : input_tells g.R.Read.remaining l.fn.self → input_tells g.R.Read.remaining l.self;
   rows : input_tells g.R.Read.remaining l.fn.self → (input_reading g.R.Read.remaining l.fn.self).rows ≡ (input_reading g.R.Read.remaining l.self).rows;
   fault : input_tells g.R.Read.remaining l.fn.self → (input_reading g.R.Read.remaining l.fn.self).fault ≡ (input_reading g.R.Read.remaining l.self).fault;
+  columns : l.whole.value.columns ≡ l.self.columns;
   copies : l.self.copies ≡ l.fn.self.copies;
   above : (place : Place) → IsAbove l.self.last place → IsAbove l.fn.self.last place;
 }
