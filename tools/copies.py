@@ -13,8 +13,9 @@ from pathlib import Path
 
 import together
 
-# How many copies with an edit stand in one check at most.
-MOST = 30
+# How many copies with an edit stand in one check at most: with more of them the last check of a crate of dear functions takes long when
+# all others are done, and with fewer the libraries are read more often.
+MOST = 15
 
 
 def are_copied(edits):
