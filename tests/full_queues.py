@@ -20,7 +20,7 @@ import soak
 SECONDS = 20
 MOST_HUNG = 4
 CREWS = [(workers, lanes) for workers in (1, 4, 8) for lanes in (1, 3)]
-# How many allocations of a kind are refused for each crew where not all are.
+# How many allocations of a kind are refused for each setting of workers where not all are.
 SOME = 250
 
 

@@ -4,7 +4,7 @@
 
 use clap::{Arg, ArgAction, Command, Error, value_parser};
 use rj_csv_io::{CountedReader, CountedWriter, ReadRefused, read_all};
-use rj_fault::{Fault, Told, VERSION, read_words, tell, texts_of};
+use rj_fault::{ExitReason, Fault, VERSION, read_words, tell, texts_of};
 use rj_script::arrivals;
 use std::alloc::{AllocError, Global};
 use std::env::Env;
@@ -33,7 +33,7 @@ impl From<AllocError> for Failure {
     }
 }
 
-impl Told for Failure {
+impl ExitReason for Failure {
     ghost use Rattle.arrivals.specs.Failures.{clap_error_of, exit_of};
     ghost use Rattle.arrivals.specs.declared.Failure.TheVariants.{WriteDevice};
 

@@ -1,7 +1,7 @@
 //! The line and the exit status of each failure, typed from docs/specification.md.
 
 use crate::{Failure, read_line};
-use rj_fault::Told;
+use rj_fault::ExitReason;
 use std::alloc::Global;
 use std::test::Fail;
 

@@ -1,7 +1,7 @@
 //! Why nothing, or not all, was merged.
 
 use clap::Error;
-use rj_fault::Told;
+use rj_fault::ExitReason;
 use rj_merge::{MergeRefused, MergeTextsRefused, Place};
 use std::alloc::{AllocError, Global};
 use std::fmt;
@@ -72,7 +72,7 @@ fn name_of(alloc: Global, files: &[&str], input: u32) -> Result<String, AllocErr
     }
 }
 
-impl Told for Failure {
+impl ExitReason for Failure {
     ghost use Rattle.merges.specs.Failures.{clap_error_of, exit_of};
     ghost use Rattle.merges.specs.declared.failure.Failure.TheVariants.{WriteDevice};
 

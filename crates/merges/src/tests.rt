@@ -3,7 +3,7 @@
 use crate::copies::read_copies;
 use crate::failure::Failure;
 use crate::read_and_merge;
-use rj_fault::Told;
+use rj_fault::ExitReason;
 use rj_merge::{MergeRefused, MergeTextsRefused, Place};
 use std::alloc::Global;
 use std::test::Fail;

@@ -7,7 +7,7 @@ use std::alloc::Global;
 mod calls;
 
 /// What a seat knows: its part of the right to know the whole, and whether it has raised the word and has seen it raised. No value of it is made.
-pub struct Look {
+pub struct HaltToken {
     pub parts: u64,
     pub raises: u64,
     pub sees: u64,
@@ -16,7 +16,7 @@ pub struct Look {
 /// The key is the number of seats.
 pub struct RaisedBySome;
 
-impl TableRule<(), Look, u32> for RaisedBySome {
+impl TableRule<(), HaltToken, u32> for RaisedBySome {
     ghost use Rattle.rj_exchange.specs.Halting.{Halting, look};
 
     ghost holds = { Halting };
@@ -26,7 +26,7 @@ impl TableRule<(), Look, u32> for RaisedBySome {
 
 struct Raises;
 
-impl Play<(), Look> for Raises {
+impl Play<(), HaltToken> for Raises {
     ghost use Rattle.rj_exchange.specs.Halting.{raising};
 
     ghost then = { raising };
@@ -34,7 +34,7 @@ impl Play<(), Look> for Raises {
 
 struct Looks;
 
-impl Play<(), Look> for Looks {
+impl Play<(), HaltToken> for Looks {
     ghost use Rattle.rj_exchange.specs.Halting.{looking};
 
     ghost then = { looking };
@@ -42,7 +42,7 @@ impl Play<(), Look> for Looks {
 
 struct CutLook;
 
-impl Split<Look> for CutLook {
+impl Split<HaltToken> for CutLook {
     ghost use Rattle.rj_exchange.specs.Halting.{look};
     ghost use Rattle.std.specs.Prelude.{◌-◌};
 
@@ -51,7 +51,7 @@ impl Split<Look> for CutLook {
     ghost right = { λ v. look 1 0 0 };
 }
 
-impl Join<Look> for CutLook {
+impl Join<HaltToken> for CutLook {
     ghost use Rattle.rj_exchange.specs.Halting.{look};
     ghost use Rattle.std.specs.Prelude.{◌+◌};
 
@@ -63,7 +63,7 @@ impl Join<Look> for CutLook {
 /// A word that is raised or not, and once raised stays so.
 #[derive(Drop)]
 pub struct Halt {
-    table: Table<(), Look, u32, RaisedBySome, Global>,
+    table: Table<(), HaltToken, u32, RaisedBySome, Global>,
     ghost one_word: { (table.shared.table_id.words ≡ 1) × (table.shared.table_id.slots ≡ 0) },
     ghost some_seat: { 1 ≤ table.shared.key },
 }
@@ -71,7 +71,7 @@ pub struct Halt {
 /// A right to raise the [`Halt`] that it was opened with, and to look at it.
 #[derive(Drop)]
 pub struct HaltSeat {
-    seat: Seat<(), Look>,
+    seat: Seat<(), HaltToken>,
     raised: bool,
     seen: bool,
     ghost whole: { (seat.me.1 ≡ []) × (seat.me.0.parts ≡ 1) },

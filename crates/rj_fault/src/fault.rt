@@ -3,7 +3,7 @@
 ghost use Rattle.std.specs.Prelude.{◌≡◌, Some};
 ghost use Rattle.rj_fault.specs.Faults.{side_text, status_of};
 
-use crate::told::Told;
+use crate::exit_reason::ExitReason;
 use rj_condition::Word;
 use rj_csv_io::WriteRefused;
 use std::alloc::AllocError;
@@ -177,7 +177,7 @@ impl From<WriteRefused> for Fault {
     }
 }
 
-impl Told for Fault {
+impl ExitReason for Fault {
     ghost use Rattle.rj_fault.specs.Faults.{clap_error_of, status_of};
     ghost use Rattle.rj_fault.specs.declared.fault.Fault.TheVariants.{WriteDevice};
 

@@ -1,14 +1,14 @@
 //! Why a program of this repository ended without its output, how that is told, and the words that it was started with.
 #![tactic(auto)]
 
+mod exit_reason;
 mod fault;
 mod reading;
-mod told;
 mod words;
 
+pub use exit_reason::{ExitReason, tell};
 pub use fault::{Fault, Side};
 pub use reading::fault_of_read;
-pub use told::{Told, tell};
 pub use words::{read_words, texts_of};
 
 /// The version of the programs, which `--version` prints.

@@ -107,7 +107,7 @@ const OPTIONS: [LineOption; 31] = [
     LineOption {
         name: "workers",
         takes: Takes::Number(1, 64),
-        help: "Threads that scan the tables, and as many that join, 1 to 64 [default: 1]",
+        help: "Threads that read the files, scan the tables, join and write: so many of each, 1 to 64 [default: 1]",
     },
     LineOption {
         name: "block",
@@ -137,8 +137,8 @@ const OPTIONS: [LineOption; 31] = [
     LineOption {
         name: "stats",
         takes: Takes::Nothing,
-        help: "Print on standard error how many rows each partition had, how many pairs and rows in no pair \
-            the joined table has, and where --piece is given how many pieces were joined",
+        help: "Print on standard error, after the rows, how many rows each partition had, how many pairs and rows \
+            in no pair the joined table has, and where --piece is given how many pieces were joined",
     },
     LineOption {
         name: "explain",
@@ -148,7 +148,7 @@ const OPTIONS: [LineOption; 31] = [
     LineOption {
         name: "output",
         takes: Takes::Text,
-        help: "File that gets the whole result at the end, or nothing [default: standard output]",
+        help: "File that gets the result once all of it is made; after a fault it is as it was [default: standard output]",
     },
     LineOption {
         name: "order",

@@ -3,6 +3,6 @@ pub mod Arrivals
 pub mod Scans
 pub mod Takes
 pub mod Ends
-pub mod Crews
-pub mod Hands
+pub mod Settings
+pub mod Workers
 pub mod Sharing

@@ -12,7 +12,7 @@ use Rattle.rj_exchange.specs.Stripes.{IsStripeSeatOf, Holds, held}
 use Rattle.rj_workers.specs.declared.scan.Stop.{Stop}
 use Rattle.rj_workers.specs.declared.scan.Stop.TheVariants.{Halted, Refused}
 use Rattle.rj_workers.specs.declared.scan.Scanner.{Scanner}
-use Rattle.rj_workers.specs.declared.floor.Floor.{Floor}
+use Rattle.rj_workers.specs.declared.shared.Shared.{Shared}
 use Rattle.rj_workers.specs.Posts.{Due, Posts, OnlyPlanned, HasPosted, NothingPosted}
 
 abbrev pub Stopped : HaltSeat → Type 0
@@ -49,7 +49,7 @@ AreNewOutboxes e n os = (length os ≡ n)
     × ((s : ℕ) (d : Outbox) → s < n → IsOutboxOf e (slice_index_or os s d) × ((slice_index_or os s d).number ≡ s)
     × NothingPosted (sents (slice_index_or os s d)))
 
-abbrev pub IsScanner : {J G : Type 0} → Floor J G → Scanner → Type 0
+abbrev pub IsScanner : {J G : Type 0} → Shared J G → Scanner → Type 0
 IsScanner shared me = IsScannerOf shared.exchange.now shared.halt.now shared.stripes.now me
 
 -- it is the same scanner, with the same stripes
@@ -71,8 +71,8 @@ pub record IsScanOf (due : Due) (block stripes : ℕ) (e : Exchange) (h : Halt) 
   pub planned : OnlyPlanned due block (sents me.outbox)
   pub posted : Stopped me.seat ⊎ HasPostedHeld due block stripes e me
 
-abbrev pub IsScan : {J G : Type 0} → Due → Floor J G → ℕ → Scanner → Type 0
-IsScan due shared n me = IsScanOf due shared.crew.block shared.crew.workers shared.exchange.now shared.halt.now shared.stripes.now n me
+abbrev pub IsScan : {J G : Type 0} → Due → Shared J G → ℕ → Scanner → Type 0
+IsScan due shared n me = IsScanOf due shared.settings.block shared.settings.workers shared.exchange.now shared.halt.now shared.stripes.now n me
 
 -- what all scanners hand back, by outbox
 abbrev pub AreScans : Due → ℕ → ℕ → Exchange → Halt → Stripes → List Scanner → Type 0

@@ -12,8 +12,8 @@ use Rattle.rj_workers.specs.declared.take.Held.{Held}
 use Rattle.rj_workers.specs.declared.take.Building.{Building}
 use Rattle.rj_workers.specs.declared.take.Building.TheVariants.{Waiting, Left, Done}
 use Rattle.rj_workers.specs.declared.take.Taker.{Taker}
-use Rattle.rj_workers.specs.declared.crew.Crew.{Crew}
-use Rattle.rj_workers.specs.declared.floor.Floor.{Floor}
+use Rattle.rj_workers.specs.declared.settings.WorkerSettings.{WorkerSettings}
+use Rattle.rj_workers.specs.declared.shared.Shared.{Shared}
 use Rattle.rj_workers.specs.Arrivals.{IsArrived, IsTaking, rows_by_sender}
 use Rattle.rj_workers.specs.Scans.{Stopped}
 
@@ -44,8 +44,8 @@ pub record IsHeldOf {T : Type 0} (builds : Builds T) (e : Exchange) (stripes blo
   pub taking : IsTaking e (stripes + stripes) block h.inbox h.ledger
   pub built : IsBuilding builds h.inbox.partition h.ledger h.building
 
-abbrev pub IsHeld : {J G T : Type 0} → Builds T → Floor J G → Held T → Type 0
-IsHeld builds shared h = IsHeldOf builds shared.exchange.now shared.crew.workers shared.crew.block h
+abbrev pub IsHeld : {J G T : Type 0} → Builds T → Shared J G → Held T → Type 0
+IsHeld builds shared h = IsHeldOf builds shared.exchange.now shared.settings.workers shared.settings.block h
 
 -- a taker's tokens are of these words and tickets
 pub record IsTakerOf {T : Type 0} (h o : Halt) (t : Tickets) (me : Taker T) : Type 0 where
@@ -53,7 +53,7 @@ pub record IsTakerOf {T : Type 0} (h o : Halt) (t : Tickets) (me : Taker T) : Ty
   pub look : IsHaltSeatOf o me.look
   pub draws : IsSeatOf t me.draws
 
-abbrev pub IsTaker : {J G T : Type 0} → Floor J G → Taker T → Type 0
+abbrev pub IsTaker : {J G T : Type 0} → Shared J G → Taker T → Type 0
 IsTaker shared me = IsTakerOf shared.halt.now shared.done.now shared.tickets.now me
 
 -- a taker as it starts
@@ -65,21 +65,21 @@ pub record IsTakeOf {T : Type 0} (builds : Builds T) (e : Exchange) (h : Halt) (
   pub seat : IsHaltSeatOf h me.seat
   pub held : Stopped me.seat ⊎ All (IsHeldOf builds e stripes block) me.all.items
 
-abbrev pub IsTake : {J G T : Type 0} → Builds T → Floor J G → Taker T → Type 0
-IsTake builds shared me = IsTakeOf builds shared.exchange.now shared.halt.now shared.crew.workers shared.crew.block me
+abbrev pub IsTake : {J G T : Type 0} → Builds T → Shared J G → Taker T → Type 0
+IsTake builds shared me = IsTakeOf builds shared.exchange.now shared.halt.now shared.settings.workers shared.settings.block me
 
 -- inboxes as they were opened
 abbrev pub AreFresh : Exchange → List Inbox → Type 0
 AreFresh e is = (p : ℕ) (i : Inbox) → slice_get is p ≡ Some i → IsInboxOf e i × (i.partition ≡ p) × IsArrived (takens i) []
 
--- a room's inboxes are as they were opened, and its ledgers are for the senders and the block of this crew
-pub record IsRoomOf (e : Exchange) (crew : Crew) (inboxes : List Inbox) (senders block : ℕ) : Type 0 where
+-- inboxes as they were opened, and ledgers for the senders and the block of these settings
+pub record AreOpenedOf (e : Exchange) (settings : WorkerSettings) (inboxes : List Inbox) (senders block : ℕ) : Type 0 where
   pub fresh : AreFresh e inboxes
-  pub both : senders ≡ crew.workers + crew.workers
-  pub rows : block ≡ crew.block
+  pub both : senders ≡ settings.workers + settings.workers
+  pub rows : block ≡ settings.block
 
-abbrev pub IsRoom : {J G : Type 0} → Floor J G → List Inbox → ℕ → ℕ → Type 0
-IsRoom f inboxes senders block = IsRoomOf f.exchange.now f.crew inboxes senders block
+abbrev pub AreOpened : {J G : Type 0} → Shared J G → List Inbox → ℕ → ℕ → Type 0
+AreOpened f inboxes senders block = AreOpenedOf f.exchange.now f.settings inboxes senders block
 
 -- the place of partition p is empty, or has what a taker owned there
 abbrev pub IsSlot : {T : Type 0} → Builds T → Exchange → ℕ → ℕ → ℕ → Option (Held T) → Type 0

@@ -5,16 +5,16 @@ ghost use Rattle.rj_exchange.specs.Halt.{AnyRaised, AnySeen, AreAllHaltSeats, Is
 ghost use Rattle.rj_exchange.specs.Stripes.{AreAllStripeSeats, held, stripes_of};
 ghost use Rattle.rj_exchange.specs.Tickets.{EachOnce};
 ghost use Rattle.rj_workers.specs.Arrivals.{IsDelivered, due_lists, rows_by_sender};
-ghost use Rattle.rj_workers.specs.Hands.{AreWords, IsBackOf};
+ghost use Rattle.rj_workers.specs.Workers.{IsCoordination, AreEndedWorkersOf};
 ghost use Rattle.rj_workers.specs.Takes.{IsHeldOf, IsBuilding};
 ghost use Rattle.rj_workers.specs.Ends.{AreSettled, AreSlots};
 
-use crate::crew::Back;
+use crate::coordination::Coordination;
 use crate::ending::{EndShared, Ended, finish_all};
 use crate::job::Job;
 use crate::scan::Scanner;
 use crate::take::{Building, Held, Taker};
-use crate::words::Words;
+use crate::workers::EndedWorkers;
 use rj_exchange::{Halt, HaltSeat, Outbox, StripeSeat, Stripes};
 use rj_ledger::{Ledger, contained_suffice, shape_stays};
 use std::alloc::{AllocError, Global};
@@ -109,7 +109,7 @@ fn place_group<J: Job>(
     group: Vec<Held<J::Built>>,
 )
     requires slots { AreSlots (J.builds shared.now.job.now) shared.now slots.old.items }
-    requires group { All (IsHeldOf (J.builds shared.now.job.now) shared.now.exchange.now shared.now.crew.workers shared.now.crew.block) group.items }
+    requires group { All (IsHeldOf (J.builds shared.now.job.now) shared.now.exchange.now shared.now.settings.workers shared.now.settings.block) group.items }
     ensures { AreSlots (J.builds shared.now.job.now) shared.now slots.new.items }
 {
     let _shared = shared;
@@ -126,7 +126,7 @@ fn place_all<J: Job>(
     groups: Vec<Vec<Held<J::Built>>>,
 ) -> Result<Vec<Option<Held<J::Built>>>, AllocError>
     requires { All
-        (λ g. All (IsHeldOf (J.builds shared.now.job.now) shared.now.exchange.now shared.now.crew.workers shared.now.crew.block) g.items) groups.items }
+        (λ g. All (IsHeldOf (J.builds shared.now.job.now) shared.now.exchange.now shared.now.settings.workers shared.now.settings.block) g.items) groups.items }
     ensures { IfOk result (λ v. AreSlots (J.builds shared.now.job.now) shared.now v.items) }
 {
     let mut slots = no_slots(alloc, shared.exchange.partitions())?;
@@ -137,7 +137,7 @@ fn place_all<J: Job>(
 }
 
 // Whether no worker has raised the word halt, and none has seen it raised.
-fn are_calm(halt: Halt, seats: Vec<HaltSeat>) -> bool
+fn is_unraised(halt: Halt, seats: Vec<HaltSeat>) -> bool
     requires { AreAllHaltSeats halt seats.items }
     ensures raised { IsTrue result → AnyRaised seats.items → ⊥ }
     ensures seen { IsTrue result → AnySeen seats.items → ⊥ }
@@ -159,16 +159,16 @@ pub(crate) fn conclude<R: Wait, J: Job>(
     rt: &R,
     alloc: Global,
     shared: &EndShared<'_, J>,
-    words: Words,
-    back: Back<J::Built>,
+    words: Coordination,
+    back: EndedWorkers<J::Built>,
     own: HaltSeat,
 ) -> Result<Vec<Ended<J::Built>>, AllocError>
-    requires block { 0 < shared.now.crew.block }
-    requires words { AreWords shared.now.crew words × (shared.now.exchange.now.outboxes ≡ shared.now.crew.workers) }
-    requires back { IsBackOf (J.due shared.now.job.now) (J.builds shared.now.job.now) shared.now.exchange.now words.halt words.stripes shared.now.crew back }
+    requires block { 0 < shared.now.settings.block }
+    requires words { IsCoordination shared.now.settings words × (shared.now.exchange.now.outboxes ≡ shared.now.settings.workers) }
+    requires back { AreEndedWorkersOf (J.due shared.now.job.now) (J.builds shared.now.job.now) shared.now.exchange.now words.halt words.stripes shared.now.settings back }
     requires own { IsHaltSeatOf words.halt own }
     ensures len { IfOk result (λ v. length v.items ≡ shared.now.exchange.now.partitions) }
-    ensures each { let senders = shared.now.crew.workers + shared.now.crew.workers in
+    ensures each { let senders = shared.now.settings.workers + shared.now.settings.workers in
         IfOk result (λ v. AreSettled (J.builds shared.now.job.now) (J.due shared.now.job.now) senders shared.now.exchange.now.partitions v.items) }
 {
     contained_suffice();
@@ -178,7 +178,7 @@ pub(crate) fn conclude<R: Wait, J: Job>(
     let outboxes = hand_scanned(alloc, back.scanners, &mut seats, &mut draws)?;
     let groups = hand_taken(alloc, back.takers, &mut seats)?;
     add(&mut seats, own)?;
-    if !are_calm(words.halt, seats) {
+    if !is_unraised(words.halt, seats) {
         return Err(AllocError);
     }
     if !are_scanned(rt, words.stripes, draws) {

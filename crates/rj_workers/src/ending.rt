@@ -7,8 +7,8 @@ ghost use Rattle.rj_workers.specs.Arrivals.{AreFirstOf, AreOutboxes, HasArrived,
 ghost use Rattle.rj_workers.specs.Takes.{IsHeldOf, IsBuilding};
 ghost use Rattle.rj_workers.specs.Ends.{AreSlots, IsEnded};
 
-use crate::crew::Crew;
 use crate::job::Job;
+use crate::settings::WorkerSettings;
 use crate::take::{Building, Held, offer};
 use rj_exchange::{Exchange, Outbox, Posted, Stub};
 use rj_ledger::{Ledger, complete_stays};
@@ -20,7 +20,7 @@ use std::vec::IntoIter;
 pub(crate) struct EndShared<'a, J> {
     pub(crate) exchange: &'a Exchange,
     pub(crate) job: &'a J,
-    pub(crate) crew: Crew,
+    pub(crate) settings: WorkerSettings,
 }
 
 impl<J> Clone for EndShared<'_, J> {
@@ -68,9 +68,9 @@ fn finish_one<R: Wait, J: Job>(
     held: Held<J::Built>,
     stubs: Vec<Stub>,
 ) -> Result<Ended<J::Built>, AllocError>
-    requires held { IsHeldOf (J.builds shared.now.job.now) shared.now.exchange.now shared.now.crew.workers shared.now.crew.block held }
+    requires held { IsHeldOf (J.builds shared.now.job.now) shared.now.exchange.now shared.now.settings.workers shared.now.settings.block held }
     requires stubs { AreStubsOf shared.now.exchange.now held.inbox.partition stubs.items }
-    ensures arrived { let senders = shared.now.crew.workers + shared.now.crew.workers in IfOk result (λ d. HasArrived senders shared.now.crew.block
+    ensures arrived { let senders = shared.now.settings.workers + shared.now.settings.workers in IfOk result (λ d. HasArrived senders shared.now.settings.block
         shared.now.exchange.now.outboxes shared.now.exchange.now.lanes (map sent_of stubs.items) held.inbox.partition d.ledger) }
     ensures number { IfOk result (λ d. d.partition ≡ held.inbox.partition) }
     ensures built { IfOk result (λ d. IsBuilding (J.builds shared.now.job.now) held.inbox.partition d.ledger d.building) }
@@ -154,9 +154,9 @@ pub(crate) fn finish_all<R: Wait, J: Job>(
     requires slots { AreSlots (J.builds shared.now.job.now) shared.now slots.items }
     requires outboxes { AreOutboxes shared.now.exchange.now outboxes.items }
     ensures len { IfOk result (λ v. length v.items ≡ shared.now.exchange.now.partitions) }
-    ensures each { let senders = shared.now.crew.workers + shared.now.crew.workers in
+    ensures each { let senders = shared.now.settings.workers + shared.now.settings.workers in
         IfOk result (λ v. (p : ℕ) (d : _) → p < shared.now.exchange.now.partitions →
-        IsEnded (J.builds shared.now.job.now) senders shared.now.crew.block shared.now.exchange.now (stub_lists outboxes.items) p
+        IsEnded (J.builds shared.now.job.now) senders shared.now.settings.block shared.now.exchange.now (stub_lists outboxes.items) p
         (slice_index_or v.items p d)) }
 {
     let mut lists = lists_of(alloc, outboxes)?;

@@ -7,9 +7,8 @@
 #![tactic(auto)]
 
 mod closing;
-mod crew;
+mod coordination;
 mod ending;
-mod floor;
 mod gate;
 mod job;
 mod laws;
@@ -19,17 +18,19 @@ mod post;
 mod run;
 mod scan;
 mod scope;
+mod settings;
+mod shared;
 mod shares;
 mod sharing;
 mod start;
 mod take;
-mod words;
+mod workers;
 
 pub use closing::Delivered;
-pub use crew::Crew;
 pub use gate::{Gate, Open, Place};
 pub use job::Job;
 pub use laws::closed_once_delivered;
 pub use run::run_workers;
+pub use settings::WorkerSettings;
 pub use shares::Shares;
 pub use sharing::run_shares;

@@ -10,7 +10,7 @@ use std::marker::{Brand, PhantomData};
 use std::sync::{Mutex, Wait};
 
 /// Names the inboxes of an exchange as they were opened, and how its ledgers are opened. Each run picks its own.
-pub(crate) trait Room: Send + Sync {
+pub(crate) trait Opened: Send + Sync {
     ghost use Rattle.std.specs.Prelude.{ℕ, List};
     ghost use Rattle.rj_exchange.specs.declared.boxes.Inbox.{Inbox};
 
@@ -21,7 +21,7 @@ pub(crate) trait Room: Send + Sync {
     ghost block: { ℕ };
 }
 
-impl Room for Brand {
+impl Opened for Brand {
     ghost use Rattle.std.specs.Prelude.{[]};
 
     ghost inboxes = { [] };
@@ -33,7 +33,7 @@ impl Room for Brand {
 
 /// The inbox of a partition as it was opened, with nothing taken, and its ledger, to which nothing was offered.
 #[derive(Drop)]
-pub(crate) struct Untouched<B: Room> {
+pub(crate) struct Untouched<B: Opened> {
     inbox: Inbox,
     ledger: Ledger,
     of: PhantomData<B>,
@@ -44,7 +44,7 @@ pub(crate) struct Untouched<B: Room> {
 /// What a place holds until it is taken.
 pub(crate) type Place<B> = Mutex<Option<Untouched<B>>>;
 
-fn as_opened<B: Room>(inbox: Inbox, ledger: Ledger) -> Untouched<B>
+fn as_opened<B: Opened>(inbox: Inbox, ledger: Ledger) -> Untouched<B>
     requires same { slice_get B.inboxes inbox.partition ≡ Some inbox }
     requires fresh { ledger ≡ opened inbox.partition B.senders B.block }
 {
@@ -56,7 +56,7 @@ fn as_opened<B: Room>(inbox: Inbox, ledger: Ledger) -> Untouched<B>
 }
 
 /// A place for each partition.
-pub(crate) fn open_places<B: Room>(
+pub(crate) fn open_places<B: Opened>(
     alloc: Global,
     inboxes: Vec<Inbox>,
     senders: u32,
@@ -76,7 +76,7 @@ pub(crate) fn open_places<B: Room>(
 }
 
 /// Takes what the place of a partition holds. None where it is empty, or holds what is of another partition.
-pub(crate) fn take_place<B: Room, R: Wait>(
+pub(crate) fn take_place<B: Opened, R: Wait>(
     rt: &R,
     places: &[Place<B>],
     partition: usize,

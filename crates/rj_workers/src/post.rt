@@ -7,10 +7,10 @@ ghost use Rattle.rj_exchange.specs.Boxes.{sents, queue_of};
 ghost use Rattle.rj_workers.specs.Posts.{KeepsPosts, AddsLeft, AreInRange, Sent, IsLeft, IsPosted, is_sent, to_post};
 ghost use Rattle.rj_workers.specs.Scans.{Stopped, IsScanner, SameScanner};
 
-use crate::floor::Floor;
 use crate::gate::{Gate, Place};
 use crate::pause::Pause;
 use crate::scan::Scanner;
+use crate::shared::Shared;
 use rj_exchange::Full;
 use rj_ledger::Parcel;
 use std::sync::Wait;
@@ -55,7 +55,7 @@ fn all_sent(lists: &[Sending]) -> bool
 // Posts the next parcel of a list, where there is one and its queue has room for it. It says whether it did.
 fn post_next<R: Wait, J, G: Gate>(
     rt: &R,
-    shared: &Floor<'_, J, G>,
+    shared: &Shared<'_, J, G>,
     me: &mut Scanner,
     list: &mut Sending,
 ) -> bool
@@ -80,7 +80,7 @@ fn post_next<R: Wait, J, G: Gate>(
 // Posts a list until it finds a queue full. It says whether it posted any parcel.
 fn post_some<R: Wait, J, G: Gate>(
     rt: &R,
-    shared: &Floor<'_, J, G>,
+    shared: &Shared<'_, J, G>,
     me: &mut Scanner,
     list: &mut Sending,
 ) -> bool
@@ -102,7 +102,7 @@ fn post_some<R: Wait, J, G: Gate>(
 // Posts of each list what its queues have room for. It says whether it posted any parcel.
 fn post_round<R: Wait, J, G: Gate>(
     rt: &R,
-    shared: &Floor<'_, J, G>,
+    shared: &Shared<'_, J, G>,
     me: &mut Scanner,
     lists: &mut Vec<Sending>,
 ) -> bool
@@ -123,7 +123,7 @@ fn post_round<R: Wait, J, G: Gate>(
 /// Posts all lists, each in its order. Where nothing has room it waits. None where it sees the word halt.
 pub(crate) fn post_all<R: Wait + Clock, J, G: Gate>(
     rt: &R,
-    shared: &Floor<'_, J, G>,
+    shared: &Shared<'_, J, G>,
     me: &mut Scanner,
     lists: Vec<Sending>,
 ) -> Option<()>

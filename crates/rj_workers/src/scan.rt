@@ -5,15 +5,15 @@ ghost use Rattle.rj_ledger.specs.Cutting.{plan};
 ghost use Rattle.rj_exchange.specs.Boxes.{sents};
 ghost use Rattle.rj_exchange.specs.Stripes.{held, Holds, puts};
 ghost use Rattle.rj_exchange.specs.Striping.{stripe as counted, without};
-ghost use Rattle.rj_workers.specs.Crews.{IsReady};
+ghost use Rattle.rj_workers.specs.Settings.{IsReady};
 ghost use Rattle.rj_workers.specs.declared.post.Sending.{Sending};
 ghost use Rattle.rj_workers.specs.Posts.{KeepsPosts, OnlyPlanned, NothingPosted, AreDue, IsCutStripe, to_post};
 ghost use Rattle.rj_workers.specs.Scans.{Stopped, StopsAt, IsScanner, SameScanner, HasPostedStripe, IsScan};
 
-use crate::floor::Floor;
 use crate::gate::{Gate, Place};
 use crate::job::Job;
 use crate::post::{Sending, post_all};
+use crate::shared::Shared;
 use rj_exchange::{HaltSeat, Outbox, StripeSeat, put_back_undoes};
 use rj_ledger::{cut, cut_is_planned};
 use rj_radix::Scattered;
@@ -59,25 +59,25 @@ fn cut_part(
 // The parcels that the two senders of a stripe have, partition by partition.
 fn cut_stripe<J: Job, G>(
     alloc: Global,
-    shared: &Floor<'_, J, G>,
+    shared: &Shared<'_, J, G>,
     stripe: u32,
     lefts: &Scattered,
     rights: &Scattered,
 ) -> Result<Vec<Sending>, AllocError>
-    requires block { 0 < shared.now.crew.block }
-    requires stripe { (stripe < shared.now.crew.workers) × (shared.now.crew.workers ≤ 64) }
+    requires block { 0 < shared.now.settings.block }
+    requires stripe { (stripe < shared.now.settings.workers) × (shared.now.settings.workers ≤ 64) }
     requires lefts { AreDue (J.due shared.now.job.now) stripe shared.now.exchange.now.partitions lefts.now }
-    requires rights { AreDue (J.due shared.now.job.now) (shared.now.crew.workers + stripe) shared.now.exchange.now.partitions rights.now }
-    ensures { IfOk result (λ v. IsCutStripe (J.due shared.now.job.now) shared.now.crew.block shared.now.crew.workers shared.now.exchange.now stripe v.items) }
+    requires rights { AreDue (J.due shared.now.job.now) (shared.now.settings.workers + stripe) shared.now.exchange.now.partitions rights.now }
+    ensures { IfOk result (λ v. IsCutStripe (J.due shared.now.job.now) shared.now.settings.block shared.now.settings.workers shared.now.exchange.now stripe v.items) }
 {
     cut_is_planned();
-    let block = shared.crew.block;
+    let block = shared.settings.block;
     let mut lists = Vec::new(alloc);
     for partition in 0..shared.exchange.partitions() {
         let left_rows = lefts.part(partition as usize);
         cut_part(alloc, &mut lists, left_rows, stripe, partition, block)?;
         let right_rows = rights.part(partition as usize);
-        let sender = shared.crew.workers + stripe;
+        let sender = shared.settings.workers + stripe;
         cut_part(alloc, &mut lists, right_rows, sender, partition, block)?;
     }
     Ok(lists)
@@ -86,12 +86,12 @@ fn cut_stripe<J: Job, G>(
 // Scatters a stripe of both tables, and cuts it into parcels. The scattered rows go before any is posted.
 fn prepare<J: Job, G>(
     alloc: Global,
-    shared: &Floor<'_, J, G>,
+    shared: &Shared<'_, J, G>,
     stripe: u32,
 ) -> Result<Vec<Sending>, AllocError>
     requires ready { IsReady (J.stripes shared.now.job.now) (J.partitions shared.now.job.now) shared.now }
-    requires stripe { stripe < shared.now.crew.workers }
-    ensures { IfOk result (λ v. IsCutStripe (J.due shared.now.job.now) shared.now.crew.block shared.now.crew.workers shared.now.exchange.now stripe v.items) }
+    requires stripe { stripe < shared.now.settings.workers }
+    ensures { IfOk result (λ v. IsCutStripe (J.due shared.now.job.now) shared.now.settings.block shared.now.settings.workers shared.now.exchange.now stripe v.items) }
 {
     let (lefts, rights) = shared.job.scatter(alloc, stripe)?;
     let lists = cut_stripe(alloc, shared, stripe, &lefts, &rights)?;
@@ -102,19 +102,19 @@ fn prepare<J: Job, G>(
 fn scan_stripe<R: Wait + Clock, J: Job, G: Gate>(
     rt: &R,
     alloc: Global,
-    shared: &Floor<'_, J, G>,
+    shared: &Shared<'_, J, G>,
     me: &mut Scanner,
     stripe: u32,
 ) -> Result<(), Stop>
     requires ready { IsReady (J.stripes shared.now.job.now) (J.partitions shared.now.job.now) shared.now }
-    requires stripe { stripe < shared.now.crew.workers }
+    requires stripe { stripe < shared.now.settings.workers }
     requires me { IsScanner shared.now me.old }
     ensures me { IsScanner shared.now me.new × SameScanner me.old me.new }
     ensures kept { KeepsPosts (sents me.old.outbox) (sents me.new.outbox) }
     ensures added { let due = J.due shared.now.job.now in
-        OnlyPlanned due shared.now.crew.block (sents me.old.outbox) → OnlyPlanned due shared.now.crew.block (sents me.new.outbox) }
+        OnlyPlanned due shared.now.settings.block (sents me.old.outbox) → OnlyPlanned due shared.now.settings.block (sents me.new.outbox) }
     ensures all { MatchResult result
-        (λ _. HasPostedStripe (J.due shared.now.job.now) shared.now.crew.block shared.now.crew.workers shared.now.exchange.now stripe (sents me.new.outbox))
+        (λ _. HasPostedStripe (J.due shared.now.job.now) shared.now.settings.block shared.now.settings.workers shared.now.exchange.now stripe (sents me.new.outbox))
         (StopsAt me.new.seat) }
 {
     shared.gate.pass(Place::Stripe(stripe));
@@ -130,7 +130,7 @@ fn scan_stripe<R: Wait + Clock, J: Job, G: Gate>(
 // Puts a stripe back that it could not scan for want of memory. A stripe that was put back too often makes it raise the word halt: None.
 fn give_up<R: Wait, J, G>(
     rt: &R,
-    shared: &Floor<'_, J, G>,
+    shared: &Shared<'_, J, G>,
     me: &mut Scanner,
     stripe: u32,
     count: u32,
@@ -139,9 +139,9 @@ fn give_up<R: Wait, J, G>(
     requires stripe { Holds me.old.draws stripe }
     ensures me { IsScanner shared.now me.new × (me.new.outbox ≡ me.old.outbox) }
     ensures back { MatchOption result (Stopped me.new.seat) (λ _. held me.new.draws ≡ without stripe (held me.old.draws)) }
-    ensures count { IfSome result (λ _. (count < shared.now.crew.retries) × (puts me.new.draws ≡ puts me.old.draws ++ counted stripe (count + 1) ∷ [])) }
+    ensures count { IfSome result (λ _. (count < shared.now.settings.retries) × (puts me.new.draws ≡ puts me.old.draws ++ counted stripe (count + 1) ∷ [])) }
 {
-    if count < shared.crew.retries {
+    if count < shared.settings.retries {
         shared
             .stripes
             .put_back(rt, &mut me.draws, stripe, count + 1);
@@ -155,7 +155,7 @@ fn give_up<R: Wait, J, G>(
 pub(crate) fn scan<R: Wait + Clock, J: Job, G: Gate>(
     rt: &R,
     alloc: Global,
-    shared: &Floor<'_, J, G>,
+    shared: &Shared<'_, J, G>,
     mut me: Scanner,
 ) -> Scanner
     requires ready { IsReady (J.stripes shared.now.job.now) (J.partitions shared.now.job.now) shared.now }

@@ -3,16 +3,16 @@ ghost use Rattle.std.specs.Prelude.{◌≡◌, ◌<◌, ℕ, IfOk, IfSome, lengt
 ghost use Rattle.std.specs.PromisedHandle.{KeepsEach};
 ghost use Rattle.rj_exchange.specs.Halt.{IsHaltSeatOf};
 ghost use Rattle.rj_exchange.specs.Tickets.{limit_of};
-ghost use Rattle.rj_workers.specs.Crews.{IsReady, IsReadyOf};
-ghost use Rattle.rj_workers.specs.Hands.{AreHands, AreHandsOf, IsBack, IsBackOf};
-ghost use Rattle.rj_workers.specs.Takes.{IsRoom, IsRoomOf};
+ghost use Rattle.rj_workers.specs.Settings.{IsReady, IsReadyOf};
+ghost use Rattle.rj_workers.specs.Workers.{AreNewWorkers, AreNewWorkersOf, AreEndedWorkers, AreEndedWorkersOf};
+ghost use Rattle.rj_workers.specs.Takes.{AreOpened, AreOpenedOf};
 
-use crate::crew::{Back, Hands};
-use crate::floor::Floor;
 use crate::gate::Gate;
 use crate::job::Job;
-use crate::places::{Place, Room};
+use crate::places::{Opened, Place};
+use crate::shared::Shared;
 use crate::start::{start_scanners, start_takers};
+use crate::workers::{EndedWorkers, NewWorkers};
 use rj_exchange::HaltSeat;
 use std::alloc::{AllocError, Global};
 use std::sync::Wait;
@@ -35,33 +35,33 @@ fn joined<R: Threads, T: Drop, P: Promise<T>>(
 }
 
 // What the workers of one scope hand back. None where a thread or memory is refused.
-fn run_in<'s, E, B: Room, R: Threads + Wait + Clock + Sync, J: Job + Sync, G: Gate + Sync>(
+fn run_in<'s, E, B: Opened, R: Threads + Wait + Clock + Sync, J: Job + Sync, G: Gate + Sync>(
     scope: &Scope<'s, E>,
     rt: &'s R,
     alloc: Global,
-    floor: &Floor<'s, J, G>,
+    shared: &Shared<'s, J, G>,
     places: &'s [Place<B>],
-    hands: Hands<J::Built>,
-) -> Option<Back<J::Built>>
+    workers: NewWorkers<J::Built>,
+) -> Option<EndedWorkers<J::Built>>
 where
     J::Built: Send,
-    requires ready { IsReady (J.stripes floor.now.job.now) (J.partitions floor.now.job.now) floor.now }
-    requires places { limit_of floor.now.tickets.now ≡ length places.now }
-    requires room { IsRoom floor.now B.inboxes B.senders B.block }
-    requires hands { AreHands floor.now hands }
-    ensures { IfSome result (IsBack (J.due floor.now.job.now) (J.builds floor.now.job.now) floor.now) }
+    requires ready { IsReady (J.stripes shared.now.job.now) (J.partitions shared.now.job.now) shared.now }
+    requires places { limit_of shared.now.tickets.now ≡ length places.now }
+    requires opened { AreOpened shared.now B.inboxes B.senders B.block }
+    requires workers { AreNewWorkers shared.now workers }
+    ensures { IfSome result (AreEndedWorkers (J.due shared.now.job.now) (J.builds shared.now.job.now) shared.now) }
 {
-    let Hands {
+    let NewWorkers {
         scanners,
         takers,
         mut over,
-    } = hands;
-    let takers = start_takers(scope, rt, alloc, floor, places, takers)?;
-    let scanners = start_scanners(scope, rt, alloc, floor, scanners)?;
+    } = workers;
+    let takers = start_takers(scope, rt, alloc, shared, places, takers)?;
+    let scanners = start_scanners(scope, rt, alloc, shared, scanners)?;
     let scanned = joined(rt, scanners)?;
-    floor.done.raise(&mut over);
+    shared.done.raise(&mut over);
     let taken = joined(rt, takers)?;
-    Some(Back {
+    Some(EndedWorkers {
         scanners: scanned,
         takers: taken,
     })
@@ -69,30 +69,30 @@ where
 
 // What the workers of one scope hand back, with the starting thread's seat. Where they hand back nothing it raises the word
 // halt, so that those that were started end.
-fn run_or_halt<'s, E, B: Room, R: Threads + Wait + Clock + Sync, J: Job + Sync, G: Gate + Sync>(
+fn run_or_halt<'s, E, B: Opened, R: Threads + Wait + Clock + Sync, J: Job + Sync, G: Gate + Sync>(
     scope: &Scope<'s, E>,
     rt: &'s R,
     alloc: Global,
-    floor: &Floor<'s, J, G>,
+    shared: &Shared<'s, J, G>,
     places: &'s [Place<B>],
-    hands: Hands<J::Built>,
+    workers: NewWorkers<J::Built>,
     own: HaltSeat,
-) -> Result<(Back<J::Built>, HaltSeat), AllocError>
+) -> Result<(EndedWorkers<J::Built>, HaltSeat), AllocError>
 where
     J::Built: Send,
-    requires ready { IsReady (J.stripes floor.now.job.now) (J.partitions floor.now.job.now) floor.now }
-    requires places { limit_of floor.now.tickets.now ≡ length places.now }
-    requires room { IsRoom floor.now B.inboxes B.senders B.block }
-    requires hands { AreHands floor.now hands }
-    requires own { IsHaltSeatOf floor.now.halt.now own }
-    ensures back { IfOk result (λ r. IsBack (J.due floor.now.job.now) (J.builds floor.now.job.now) floor.now r.0) }
-    ensures own { IfOk result (λ r. IsHaltSeatOf floor.now.halt.now r.1) }
+    requires ready { IsReady (J.stripes shared.now.job.now) (J.partitions shared.now.job.now) shared.now }
+    requires places { limit_of shared.now.tickets.now ≡ length places.now }
+    requires opened { AreOpened shared.now B.inboxes B.senders B.block }
+    requires workers { AreNewWorkers shared.now workers }
+    requires own { IsHaltSeatOf shared.now.halt.now own }
+    ensures back { IfOk result (λ r. AreEndedWorkers (J.due shared.now.job.now) (J.builds shared.now.job.now) shared.now r.0) }
+    ensures own { IfOk result (λ r. IsHaltSeatOf shared.now.halt.now r.1) }
 {
     let mut own = own;
-    match run_in(scope, rt, alloc, floor, places, hands) {
+    match run_in(scope, rt, alloc, shared, places, workers) {
         Some(back) => Ok((back, own)),
         None => {
-            floor.halt.raise(&mut own);
+            shared.halt.raise(&mut own);
             Err(AllocError)
         }
     }
@@ -100,40 +100,40 @@ where
 
 /// What all workers hand back, with the starting thread's seat. Where a thread or memory is refused the word halt is raised,
 /// and nothing comes back.
-pub(crate) fn work<B: Room, R: Threads + Wait + Clock + Sync, J: Job + Sync, G: Gate + Sync>(
+pub(crate) fn work<B: Opened, R: Threads + Wait + Clock + Sync, J: Job + Sync, G: Gate + Sync>(
     rt: &R,
     alloc: Global,
-    floor: &Floor<'_, J, G>,
+    shared: &Shared<'_, J, G>,
     places: &[Place<B>],
-    hands: Hands<J::Built>,
+    workers: NewWorkers<J::Built>,
     own: HaltSeat,
-) -> Result<(Back<J::Built>, HaltSeat), AllocError>
+) -> Result<(EndedWorkers<J::Built>, HaltSeat), AllocError>
 where
     J::Built: Send,
-    requires ready { IsReady (J.stripes floor.now.job.now) (J.partitions floor.now.job.now) floor.now }
-    requires places { limit_of floor.now.tickets.now ≡ length places.now }
-    requires room { IsRoom floor.now B.inboxes B.senders B.block }
-    requires hands { AreHands floor.now hands }
-    requires own { IsHaltSeatOf floor.now.halt.now own }
-    ensures back { IfOk result (λ r. IsBack (J.due floor.now.job.now) (J.builds floor.now.job.now) floor.now r.0) }
-    ensures own { IfOk result (λ r. IsHaltSeatOf floor.now.halt.now r.1) }
+    requires ready { IsReady (J.stripes shared.now.job.now) (J.partitions shared.now.job.now) shared.now }
+    requires places { limit_of shared.now.tickets.now ≡ length places.now }
+    requires opened { AreOpened shared.now B.inboxes B.senders B.block }
+    requires workers { AreNewWorkers shared.now workers }
+    requires own { IsHaltSeatOf shared.now.halt.now own }
+    ensures back { IfOk result (λ r. AreEndedWorkers (J.due shared.now.job.now) (J.builds shared.now.job.now) shared.now r.0) }
+    ensures own { IfOk result (λ r. IsHaltSeatOf shared.now.halt.now r.1) }
 {
-    let f = *floor;
+    let f = *shared;
     thread::scope(
         thread::scope_env(),
         rt,
-        move |scope| -> Result<(Back<J::Built>, HaltSeat), AllocError>
-            requires { IsReadyOf (J.stripes f.job.now) (J.partitions f.job.now) f.exchange.now f.stripes.now f.crew
-                × (limit_of f.tickets.now ≡ length places.now) × IsRoomOf f.exchange.now f.crew B.inboxes B.senders B.block
-                × AreHandsOf f.exchange.now f.halt.now f.done.now f.stripes.now f.tickets.now hands × IsHaltSeatOf f.halt.now own }
-            ensures back { IfOk result (λ r. IsBackOf (J.due f.entry.job.now) (J.builds f.entry.job.now) f.entry.exchange.now
-                f.entry.halt.now f.entry.stripes.now f.entry.crew r.0) }
+        move |scope| -> Result<(EndedWorkers<J::Built>, HaltSeat), AllocError>
+            requires { IsReadyOf (J.stripes f.job.now) (J.partitions f.job.now) f.exchange.now f.stripes.now f.settings
+                × (limit_of f.tickets.now ≡ length places.now) × AreOpenedOf f.exchange.now f.settings B.inboxes B.senders B.block
+                × AreNewWorkersOf f.exchange.now f.halt.now f.done.now f.stripes.now f.tickets.now workers × IsHaltSeatOf f.halt.now own }
+            ensures back { IfOk result (λ r. AreEndedWorkersOf (J.due f.entry.job.now) (J.builds f.entry.job.now) f.entry.exchange.now
+                f.entry.halt.now f.entry.stripes.now f.entry.settings r.0) }
             ensures own { IfOk result (λ r. IsHaltSeatOf f.entry.halt.now r.1) }
         {
-            let floor = Floor::new(
-                f.exchange, f.halt, f.done, f.stripes, f.tickets, f.job, f.gate, f.crew,
+            let shared = Shared::new(
+                f.exchange, f.halt, f.done, f.stripes, f.tickets, f.job, f.gate, f.settings,
             );
-            run_or_halt(scope, rt, alloc, &floor, places, hands, own)
+            run_or_halt(scope, rt, alloc, &shared, places, workers, own)
         },
     )
 }

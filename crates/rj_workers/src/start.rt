@@ -1,15 +1,15 @@
 //! How scanners and takers are started.
 ghost use Rattle.std.specs.Prelude.{◌≡◌, ◌<◌, ◌≤◌, ◌++◌, ◌∷◌, [], ℕ, All, IfSome, length, slice_index_or};
 ghost use Rattle.rj_exchange.specs.Tickets.{limit_of};
-ghost use Rattle.rj_workers.specs.Crews.{IsReady, IsReadyOf};
+ghost use Rattle.rj_workers.specs.Settings.{IsReady, IsReadyOf};
 ghost use Rattle.rj_workers.specs.Scans.{IsNewScanner, AreNewScanners, IsScan, IsScanOf};
-ghost use Rattle.rj_workers.specs.Takes.{IsRoom, IsRoomOf, IsNewTaker, IsTake, IsTakeOf};
+ghost use Rattle.rj_workers.specs.Takes.{AreOpened, AreOpenedOf, IsNewTaker, IsTake, IsTakeOf};
 
-use crate::floor::Floor;
 use crate::gate::Gate;
 use crate::job::Job;
-use crate::places::{Place, Room};
+use crate::places::{Opened, Place};
 use crate::scan::{Scanner, scan};
+use crate::shared::Shared;
 use crate::take::{Taker, take_all};
 use std::alloc::Global;
 use std::sync::Wait;
@@ -19,7 +19,7 @@ use std::time::Clock;
 /// That a scanner hands back what it posted.
 #[derive(Drop)]
 pub(crate) struct ScanOf<'a, J, G> {
-    shared: Floor<'a, J, G>,
+    shared: Shared<'a, J, G>,
     number: u32,
 }
 
@@ -33,7 +33,7 @@ pub(crate) type ScanHandle<'a, J, G> = PromisedHandle<Scanner, ScanOf<'a, J, G>>
 /// That a taker hands back what it took.
 #[derive(Drop)]
 pub(crate) struct TakeOf<'a, J, G> {
-    shared: Floor<'a, J, G>,
+    shared: Shared<'a, J, G>,
 }
 
 impl<'a, J: Job, G> Promise<Taker<J::Built>> for TakeOf<'a, J, G> {
@@ -58,7 +58,7 @@ fn start_scanner<'s, E, R: Wait + Clock + Sync, J: Job + Sync, G: Gate + Sync>(
     scope: &Scope<'s, E>,
     rt: &'s R,
     alloc: Global,
-    shared: &Floor<'s, J, G>,
+    shared: &Shared<'s, J, G>,
     number: u32,
     me: Scanner,
 ) -> Option<ScanHandle<'s, J, G>>
@@ -73,16 +73,16 @@ where
     let started = scope.spawn_with(
         ScanOf { shared: f, number },
         move || -> Scanner
-            requires { IsReadyOf (J.stripes f.job.now) (J.partitions f.job.now) f.exchange.now f.stripes.now f.crew
+            requires { IsReadyOf (J.stripes f.job.now) (J.partitions f.job.now) f.exchange.now f.stripes.now f.settings
                 × IsNewScanner f.exchange.now f.halt.now f.stripes.now number me }
-            ensures { IsScanOf (J.due f.entry.job.now) f.entry.crew.block f.entry.crew.workers f.entry.exchange.now
+            ensures { IsScanOf (J.due f.entry.job.now) f.entry.settings.block f.entry.settings.workers f.entry.exchange.now
                 f.entry.halt.now f.entry.stripes.now number result }
         {
             let _number = number;
-            let floor = Floor::new(
-                f.exchange, f.halt, f.done, f.stripes, f.tickets, f.job, f.gate, f.crew,
+            let shared = Shared::new(
+                f.exchange, f.halt, f.done, f.stripes, f.tickets, f.job, f.gate, f.settings,
             );
-            scan(rt, alloc, &floor, me)
+            scan(rt, alloc, &shared, me)
         },
     );
     started.ok()
@@ -93,7 +93,7 @@ pub(crate) fn start_scanners<'s, E, R: Wait + Clock + Sync, J: Job + Sync, G: Ga
     scope: &Scope<'s, E>,
     rt: &'s R,
     alloc: Global,
-    shared: &Floor<'s, J, G>,
+    shared: &Shared<'s, J, G>,
     scanners: Vec<Scanner>,
 ) -> Option<Vec<ScanHandle<'s, J, G>>>
 where
@@ -116,19 +116,19 @@ where
 }
 
 // Starts one taker. None where no thread can be made.
-fn start_taker<'s, E, B: Room, R: Wait + Clock + Sync, J: Job + Sync, G: Gate + Sync>(
+fn start_taker<'s, E, B: Opened, R: Wait + Clock + Sync, J: Job + Sync, G: Gate + Sync>(
     scope: &Scope<'s, E>,
     rt: &'s R,
     alloc: Global,
-    shared: &Floor<'s, J, G>,
+    shared: &Shared<'s, J, G>,
     places: &'s [Place<B>],
     me: Taker<J::Built>,
 ) -> Option<TakeHandle<'s, J, G>>
 where
     J::Built: Send,
-    requires job { J.stripes shared.now.job.now ≡ shared.now.crew.workers }
+    requires job { J.stripes shared.now.job.now ≡ shared.now.settings.workers }
     requires places { limit_of shared.now.tickets.now ≡ length places.now }
-    requires room { IsRoom shared.now B.inboxes B.senders B.block }
+    requires opened { AreOpened shared.now B.inboxes B.senders B.block }
     requires me { IsNewTaker shared.now.halt.now shared.now.done.now shared.now.tickets.now me }
     ensures { IfSome result (λ h. h.promise.shared ≡ shared.now) }
 {
@@ -136,33 +136,33 @@ where
     let started = scope.spawn_with(
         TakeOf { shared: f },
         move || -> Taker<J::Built>
-            requires { (J.stripes f.job.now ≡ f.crew.workers) × (limit_of f.tickets.now ≡ length places.now)
-                × IsRoomOf f.exchange.now f.crew B.inboxes B.senders B.block × IsNewTaker f.halt.now f.done.now f.tickets.now me }
-            ensures { IsTakeOf (J.builds f.entry.job.now) f.entry.exchange.now f.entry.halt.now f.entry.crew.workers f.entry.crew.block result }
+            requires { (J.stripes f.job.now ≡ f.settings.workers) × (limit_of f.tickets.now ≡ length places.now)
+                × AreOpenedOf f.exchange.now f.settings B.inboxes B.senders B.block × IsNewTaker f.halt.now f.done.now f.tickets.now me }
+            ensures { IsTakeOf (J.builds f.entry.job.now) f.entry.exchange.now f.entry.halt.now f.entry.settings.workers f.entry.settings.block result }
         {
-            let floor = Floor::new(
-                f.exchange, f.halt, f.done, f.stripes, f.tickets, f.job, f.gate, f.crew,
+            let shared = Shared::new(
+                f.exchange, f.halt, f.done, f.stripes, f.tickets, f.job, f.gate, f.settings,
             );
-            take_all(rt, alloc, &floor, places, me)
+            take_all(rt, alloc, &shared, places, me)
         },
     );
     started.ok()
 }
 
 /// Starts all takers. None where a thread or memory is refused.
-pub(crate) fn start_takers<'s, E, B: Room, R: Wait + Clock + Sync, J: Job + Sync, G: Gate + Sync>(
+pub(crate) fn start_takers<'s, E, B: Opened, R: Wait + Clock + Sync, J: Job + Sync, G: Gate + Sync>(
     scope: &Scope<'s, E>,
     rt: &'s R,
     alloc: Global,
-    shared: &Floor<'s, J, G>,
+    shared: &Shared<'s, J, G>,
     places: &'s [Place<B>],
     takers: Vec<Taker<J::Built>>,
 ) -> Option<Vec<TakeHandle<'s, J, G>>>
 where
     J::Built: Send,
-    requires job { J.stripes shared.now.job.now ≡ shared.now.crew.workers }
+    requires job { J.stripes shared.now.job.now ≡ shared.now.settings.workers }
     requires places { limit_of shared.now.tickets.now ≡ length places.now }
-    requires room { IsRoom shared.now B.inboxes B.senders B.block }
+    requires opened { AreOpened shared.now B.inboxes B.senders B.block }
     requires takers { All (IsNewTaker shared.now.halt.now shared.now.done.now shared.now.tickets.now) takers.items }
     ensures len { IfSome result (λ v. length v.items ≡ length takers.items) }
     ensures each { IfSome result (λ v. All (λ h. h.promise.shared ≡ shared.now) v.items) }

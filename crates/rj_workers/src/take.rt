@@ -2,14 +2,14 @@
 ghost use Rattle.std.specs.Prelude.{◌≡◌, ◌<◌, ◌+◌, All, IfOk, false, length};
 ghost use Rattle.rj_ledger.specs.Ledgers.{after_offer};
 ghost use Rattle.rj_exchange.specs.Tickets.{limit_of};
-ghost use Rattle.rj_workers.specs.Takes.{IsTaker, IsHeld, IsTake, IsTried, IsRoom, is_settled};
+ghost use Rattle.rj_workers.specs.Takes.{IsTaker, IsHeld, IsTake, IsTried, AreOpened, is_settled};
 
-use crate::floor::Floor;
 use crate::gate::{Gate, Place};
 use crate::job::Job;
 use crate::pause::Pause;
 use crate::places;
-use crate::places::{Room, take_place};
+use crate::places::{Opened, take_place};
+use crate::shared::Shared;
 use rj_exchange::{HaltSeat, Inbox, Seat};
 use rj_ledger::{Ledger, Parcel, complete_stays, shape_stays};
 use std::alloc::{AllocError, Global};
@@ -57,7 +57,7 @@ pub(crate) fn offer(ledger: &mut Ledger, parcel: Parcel) -> Result<(), AllocErro
 // Takes once at one lane, and says whether a parcel came.
 fn take_once<R: Wait, J: Job, G>(
     rt: &R,
-    shared: &Floor<'_, J, G>,
+    shared: &Shared<'_, J, G>,
     held: &mut Held<J::Built>,
     lane: u32,
 ) -> Result<bool, AllocError>
@@ -76,7 +76,7 @@ fn take_once<R: Wait, J: Job, G>(
 // Takes once at each lane of a partition.
 fn take_lanes<R: Wait, J: Job, G>(
     rt: &R,
-    shared: &Floor<'_, J, G>,
+    shared: &Shared<'_, J, G>,
     held: &mut Held<J::Built>,
 ) -> Result<bool, AllocError>
     requires { IsHeld (J.builds shared.now.job.now) shared.now held.old }
@@ -94,10 +94,10 @@ fn take_lanes<R: Wait, J: Job, G>(
 // Builds a partition that is complete, where its rows pass the test of the job.
 fn build_complete<J: Job, G: Gate>(
     alloc: Global,
-    shared: &Floor<'_, J, G>,
+    shared: &Shared<'_, J, G>,
     held: &mut Held<J::Built>,
 ) -> Result<(), AllocError>
-    requires job { J.stripes shared.now.job.now ≡ shared.now.crew.workers }
+    requires job { J.stripes shared.now.job.now ≡ shared.now.settings.workers }
     requires held { IsHeld (J.builds shared.now.job.now) shared.now held.old }
     ensures held { IfOk result (λ _. IsHeld (J.builds shared.now.job.now) shared.now held.new) }
     ensures tried { IfOk result (λ _. is_settled held.old.building ≡ false → IsTried (J.joinable shared.now.job.now) held.new.ledger held.new.building) }
@@ -130,10 +130,10 @@ fn is_settled<T>(held: &Held<T>) -> bool
 fn take_round<R: Wait, J: Job, G: Gate>(
     rt: &R,
     alloc: Global,
-    shared: &Floor<'_, J, G>,
+    shared: &Shared<'_, J, G>,
     all: &mut Vec<Held<J::Built>>,
 ) -> Result<bool, AllocError>
-    requires job { J.stripes shared.now.job.now ≡ shared.now.crew.workers }
+    requires job { J.stripes shared.now.job.now ≡ shared.now.settings.workers }
     requires all { All (IsHeld (J.builds shared.now.job.now) shared.now) all.old.items }
     ensures { IfOk result (λ _. All (IsHeld (J.builds shared.now.job.now) shared.now) all.new.items) }
 {
@@ -150,10 +150,10 @@ fn take_round<R: Wait, J: Job, G: Gate>(
 fn take_at<R: Wait, J: Job, G: Gate>(
     rt: &R,
     alloc: Global,
-    shared: &Floor<'_, J, G>,
+    shared: &Shared<'_, J, G>,
     held: &mut Held<J::Built>,
 ) -> Result<bool, AllocError>
-    requires job { J.stripes shared.now.job.now ≡ shared.now.crew.workers }
+    requires job { J.stripes shared.now.job.now ≡ shared.now.settings.workers }
     requires held { IsHeld (J.builds shared.now.job.now) shared.now held.old }
     ensures { IfOk result (λ _. IsHeld (J.builds shared.now.job.now) shared.now held.new) }
 {
@@ -165,14 +165,14 @@ fn take_at<R: Wait, J: Job, G: Gate>(
 }
 
 // Draws a partition. It says whether one was left.
-fn draw<B: Room, R: Wait, J: Job, G: Gate>(
+fn draw<B: Opened, R: Wait, J: Job, G: Gate>(
     rt: &R,
-    shared: &Floor<'_, J, G>,
+    shared: &Shared<'_, J, G>,
     places: &[places::Place<B>],
     me: &mut Taker<J::Built>,
 ) -> Result<bool, AllocError>
     requires places { limit_of shared.now.tickets.now ≡ length places.now }
-    requires room { IsRoom shared.now B.inboxes B.senders B.block }
+    requires opened { AreOpened shared.now B.inboxes B.senders B.block }
     requires me { IsTaker shared.now me.old }
     requires all { All (IsHeld (J.builds shared.now.job.now) shared.now) me.old.all.items }
     ensures me { IsTaker shared.now me.new }
@@ -202,15 +202,15 @@ fn is_waiting<T>(all: &[Held<T>]) -> bool {
 }
 
 // Draws a further partition where the newest one is settled, unless none was left.
-fn draw_next<B: Room, R: Wait, J: Job, G: Gate>(
+fn draw_next<B: Opened, R: Wait, J: Job, G: Gate>(
     rt: &R,
-    shared: &Floor<'_, J, G>,
+    shared: &Shared<'_, J, G>,
     places: &[places::Place<B>],
     me: &mut Taker<J::Built>,
     spent: &mut bool,
 ) -> Result<(), AllocError>
     requires places { limit_of shared.now.tickets.now ≡ length places.now }
-    requires room { IsRoom shared.now B.inboxes B.senders B.block }
+    requires opened { AreOpened shared.now B.inboxes B.senders B.block }
     requires me { IsTaker shared.now me.old }
     requires all { All (IsHeld (J.builds shared.now.job.now) shared.now) me.old.all.items }
     ensures me { IsTaker shared.now me.new }
@@ -228,10 +228,10 @@ fn draw_next<B: Room, R: Wait, J: Job, G: Gate>(
 fn take_newest<R: Wait, J: Job, G: Gate>(
     rt: &R,
     alloc: Global,
-    shared: &Floor<'_, J, G>,
+    shared: &Shared<'_, J, G>,
     all: &mut Vec<Held<J::Built>>,
 ) -> Result<bool, AllocError>
-    requires job { J.stripes shared.now.job.now ≡ shared.now.crew.workers }
+    requires job { J.stripes shared.now.job.now ≡ shared.now.settings.workers }
     requires all { All (IsHeld (J.builds shared.now.job.now) shared.now) all.old.items }
     ensures { IfOk result (λ _. All (IsHeld (J.builds shared.now.job.now) shared.now) all.new.items) }
 {
@@ -244,17 +244,17 @@ fn take_newest<R: Wait, J: Job, G: Gate>(
 }
 
 // Draws a partition where none is open, and takes at the newest one, and at all others where nothing came there.
-fn step<B: Room, R: Wait, J: Job, G: Gate>(
+fn step<B: Opened, R: Wait, J: Job, G: Gate>(
     rt: &R,
     alloc: Global,
-    shared: &Floor<'_, J, G>,
+    shared: &Shared<'_, J, G>,
     places: &[places::Place<B>],
     me: &mut Taker<J::Built>,
     spent: &mut bool,
 ) -> Result<bool, AllocError>
-    requires job { J.stripes shared.now.job.now ≡ shared.now.crew.workers }
+    requires job { J.stripes shared.now.job.now ≡ shared.now.settings.workers }
     requires places { limit_of shared.now.tickets.now ≡ length places.now }
-    requires room { IsRoom shared.now B.inboxes B.senders B.block }
+    requires opened { AreOpened shared.now B.inboxes B.senders B.block }
     requires me { IsTaker shared.now me.old }
     requires all { All (IsHeld (J.builds shared.now.job.now) shared.now) me.old.all.items }
     ensures me { IsTaker shared.now me.new }
@@ -269,16 +269,16 @@ fn step<B: Room, R: Wait, J: Job, G: Gate>(
 
 /// Takes until it sees the word halt, or has drawn all that it could and seen the word done, and then finds nothing. Where
 /// it is refused memory, or finds a place empty, it raises the word halt.
-pub(crate) fn take_all<B: Room, R: Wait + Clock, J: Job, G: Gate>(
+pub(crate) fn take_all<B: Opened, R: Wait + Clock, J: Job, G: Gate>(
     rt: &R,
     alloc: Global,
-    shared: &Floor<'_, J, G>,
+    shared: &Shared<'_, J, G>,
     places: &[places::Place<B>],
     mut me: Taker<J::Built>,
 ) -> Taker<J::Built>
-    requires job { J.stripes shared.now.job.now ≡ shared.now.crew.workers }
+    requires job { J.stripes shared.now.job.now ≡ shared.now.settings.workers }
     requires places { limit_of shared.now.tickets.now ≡ length places.now }
-    requires room { IsRoom shared.now B.inboxes B.senders B.block }
+    requires opened { AreOpened shared.now B.inboxes B.senders B.block }
     requires me { IsTaker shared.now me }
     requires all { All (IsHeld (J.builds shared.now.job.now) shared.now) me.all.items }
     ensures { IsTake (J.builds shared.now.job.now) shared.now result }

@@ -1,6 +1,6 @@
 //! Why a file wasn't divided.
 
-use rj_command::{Fault, Told};
+use rj_command::{ExitReason, Fault};
 use std::alloc::AllocError;
 
 /// Why a file wasn't divided. The text is the line that is printed, without its line end; a fault of a file or of the
@@ -29,7 +29,7 @@ impl From<AllocError> for Failure {
     }
 }
 
-impl Told for Failure {
+impl ExitReason for Failure {
     ghost use Rattle.shards.specs.Failures.{clap_error_of, exit_of, unwritten};
 
     ghost exit = { exit_of };

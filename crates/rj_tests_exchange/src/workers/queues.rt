@@ -7,7 +7,7 @@ ghost use Rattle.std.specs.Prelude.{◌≤◌};
 
 use crate::workers::dealt::{PARTITIONS, deal};
 use crate::workers::waiting::{FEW_TURNS, TURNS, wait_for};
-use rj_workers::{Crew, Gate, Place, run_workers};
+use rj_workers::{Gate, Place, WorkerSettings, run_workers};
 use std::alloc::Global;
 use std::sync::Wait;
 use std::sync::atomic::{AtomicU64, Ordering};
@@ -67,7 +67,7 @@ fn posted<R: Threads + Wait + Clock + Sync>(
 {
     let job = deal(alloc, 1)?;
     let gate = Hold::of(room);
-    let crew = Crew {
+    let settings = WorkerSettings {
         workers: 1,
         partitions: PARTITIONS,
         block: 1,
@@ -75,7 +75,7 @@ fn posted<R: Threads + Wait + Clock + Sync>(
         capacity,
         retries: 0,
     };
-    let delivered = run_workers(rt, alloc, &job, &gate, crew);
+    let delivered = run_workers(rt, alloc, &job, &gate, settings);
     let (before, all) = (
         gate.before.load(Ordering::SeqCst),
         gate.posted.load(Ordering::SeqCst),

@@ -3,7 +3,7 @@ ghost use Rattle.std.specs.Prelude.{◌≡◌, ◌<◌, ◌≤◌, ◌+◌, ℕ,
 
 use crate::workers::dealt::{Dealt, PARTITIONS, deal};
 use rj_ledger::Ledger;
-use rj_workers::{Crew, Delivered, Open, run_workers};
+use rj_workers::{Delivered, Open, WorkerSettings, run_workers};
 use std::alloc::{AllocError, Global};
 use std::sync::Wait;
 use std::test::Fail;
@@ -23,7 +23,7 @@ fn run<R: Threads + Wait + Clock + Sync>(
     ensures senders { IfSome result (λ r. (p : ℕ) (d : _) → p < 3 →
         length (slice_index_or r.ledgers.items p d).senders ≡ job.now.stripes + job.now.stripes) }
 {
-    let crew = Crew {
+    let settings = WorkerSettings {
         workers: job.stripes,
         partitions: PARTITIONS,
         block,
@@ -31,7 +31,7 @@ fn run<R: Threads + Wait + Clock + Sync>(
         capacity: 1,
         retries,
     };
-    match run_workers(rt, alloc, job, &Open, crew) {
+    match run_workers(rt, alloc, job, &Open, settings) {
         Ok(delivered) => Some(delivered),
         Err(_) => None,
     }

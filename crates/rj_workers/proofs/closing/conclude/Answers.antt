@@ -15,7 +15,7 @@ use Rattle.rj_workers.specs.Posts.{Due}
 use Rattle.rj_workers.specs.Arrivals.{AreOutboxes, stub_lists}
 use Rattle.rj_workers.specs.Takes.{Builds, IsHeldOf}
 use Rattle.rj_workers.specs.Ends.{IsEnded}
-use Rattle.rj_workers.proofs.Wholes.{seats_of_all, seats_are, seats_many, all_calm, scans_calm, takes_held, scans_outboxes, settled_of}
+use Rattle.rj_workers.proofs.Wholes.{seats_of_all, seats_are, seats_many, all_unraised, scans_calm, takes_held, scans_outboxes, settled_of}
 use Rattle.rj_workers.proofs.closing.conclude.Goals as goal
 
 -- the seats of all, from how they were put behind one another
@@ -26,14 +26,14 @@ all_seats old a b c rs ts own e f g h = h ∙ ap (λ (l : List HaltSeat). l ++ o
 all_draws : (old a : List StripeSeat) (rs : List Scanner) → old ≡ [] → a ≡ old ++ map (λ (r : Scanner). r.draws) rs → a ≡ map (λ (r : Scanner). r.draws) rs
 all_draws old a rs e f = f ∙ ap (λ (l : List StripeSeat). l ++ map (λ (r : Scanner). r.draws) rs) e
 
-pub are_calm-requires : goal.are_calm-requires
-are_calm-requires g c =
+pub is_unraised-requires : goal.is_unraised-requires
+is_unraised-requires g c =
     let is = all_seats c.new-seats.result.items c.hand_scanned.new.seats.items c.hand_taken.new.seats.items c.add.new.list.items c.args.back.scanners.items c.args.back.takers.items c.args.own
     c.new-seats.ensures.items c.in_ok-outboxes.ensures.seats c.in_ok-groups.ensures.seats c.in_ok-add.ensures in
     let due : Due = g.J.Job.due c.args.shared.now.job.now in let builds : Builds _ = g.J.Job.builds c.args.shared.now.job.now in let e : Exchange = c.args.shared.now.exchange.now in let r = c.requires in (
-      seats_many due builds c.args.shared.now.crew.workers c.args.shared.now.crew.block e c.args.words.halt c.args.words.stripes c.args.back.scanners.items c.args.back.takers.items
+      seats_many due builds c.args.shared.now.settings.workers c.args.shared.now.settings.block e c.args.words.halt c.args.words.stripes c.args.back.scanners.items c.args.back.takers.items
           c.args.own r.back.scanned r.back.taken r.own c.add.new.list.items is ∙ ap (λ (n : ℕ). n + n + 1) r.words.1 ∙ sym r.words.0.halt_seats,
-      seats_are due builds c.args.shared.now.crew.workers c.args.shared.now.crew.block e c.args.words.halt c.args.words.stripes c.args.back.scanners.items c.args.back.takers.items
+      seats_are due builds c.args.shared.now.settings.workers c.args.shared.now.settings.block e c.args.words.halt c.args.words.stripes c.args.back.scanners.items c.args.back.takers.items
           c.args.own r.back.scanned r.back.taken r.own c.add.new.list.items is,
     )
 
@@ -51,8 +51,8 @@ place_all-requires g c =
     let is = all_seats c.new-seats.result.items c.hand_scanned.new.seats.items c.hand_taken.new.seats.items c.add.new.list.items c.args.back.scanners.items c.args.back.takers.items c.args.own
     c.new-seats.ensures.items c.in_ok-outboxes.ensures.seats c.in_ok-groups.ensures.seats c.in_ok-add.ensures in
     let due : Due = g.J.Job.due c.args.shared.now.job.now in let builds : Builds _ = g.J.Job.builds c.args.shared.now.job.now in let e : Exchange = c.args.shared.now.exchange.now in let r = c.requires in
-    let count : ℕ = c.args.shared.now.crew.workers in let block : ℕ = c.args.shared.now.crew.block in
-    let calm = all_calm c.add.new.list.items (c.if-not-are_calm.ensures.raised refl) (c.if-not-are_calm.ensures.seen refl) in
+    let count : ℕ = c.args.shared.now.settings.workers in let block : ℕ = c.args.shared.now.settings.block in
+    let calm = all_unraised c.add.new.list.items (c.if-not-is_unraised.ensures.raised refl) (c.if-not-is_unraised.ensures.seen refl) in
     let held = takes_held due builds count block e c.args.words.halt c.args.words.stripes c.args.back.scanners.items c.args.back.takers.items c.args.own r.back.scanned r.back.taken r.own c.add.new.list.items is calm in
     subst (All (λ (v : Vec (Held _) Global). All (IsHeldOf builds e count block) v.items)) (sym c.in_ok-groups.ensures.groups)
     (All-map (λ (v : Vec (Held _) Global). All (IsHeldOf builds e count block) v.items) (λ (t : Taker _). t.all) c.args.back.takers.items held)
@@ -62,7 +62,7 @@ finish_all-requires-clause-outboxes g c =
     let is = all_seats c.new-seats.result.items c.hand_scanned.new.seats.items c.hand_taken.new.seats.items c.add.new.list.items c.args.back.scanners.items c.args.back.takers.items c.args.own
     c.new-seats.ensures.items c.in_ok-outboxes.ensures.seats c.in_ok-groups.ensures.seats c.in_ok-add.ensures in
     let due : Due = g.J.Job.due c.args.shared.now.job.now in let builds : Builds _ = g.J.Job.builds c.args.shared.now.job.now in let e : Exchange = c.args.shared.now.exchange.now in let r = c.requires in
-    let count : ℕ = c.args.shared.now.crew.workers in let block : ℕ = c.args.shared.now.crew.block in
+    let count : ℕ = c.args.shared.now.settings.workers in let block : ℕ = c.args.shared.now.settings.block in
     subst (AreOutboxes e) (sym c.in_ok-outboxes.ensures.outboxes) (scans_outboxes due count block e c.args.words.halt c.args.words.stripes c.args.back.scanners.items r.back.scanned)
 
 pub returns-clause-each : goal.returns-clause-each
@@ -70,8 +70,8 @@ returns-clause-each g c =
     let is = all_seats c.new-seats.result.items c.hand_scanned.new.seats.items c.hand_taken.new.seats.items c.add.new.list.items c.args.back.scanners.items c.args.back.takers.items c.args.own
     c.new-seats.ensures.items c.in_ok-outboxes.ensures.seats c.in_ok-groups.ensures.seats c.in_ok-add.ensures in
     let due : Due = g.J.Job.due c.args.shared.now.job.now in let builds : Builds _ = g.J.Job.builds c.args.shared.now.job.now in let e : Exchange = c.args.shared.now.exchange.now in let r = c.requires in
-    let count : ℕ = c.args.shared.now.crew.workers in let block : ℕ = c.args.shared.now.crew.block in let rs : List Scanner = c.args.back.scanners.items in
-    let calm = all_calm c.add.new.list.items (c.if-not-are_calm.ensures.raised refl) (c.if-not-are_calm.ensures.seen refl) in
+    let count : ℕ = c.args.shared.now.settings.workers in let block : ℕ = c.args.shared.now.settings.block in let rs : List Scanner = c.args.back.scanners.items in
+    let calm = all_unraised c.add.new.list.items (c.if-not-is_unraised.ensures.raised refl) (c.if-not-is_unraised.ensures.seen refl) in
     let quiet = scans_calm due builds count block e c.args.words.halt c.args.words.stripes rs c.args.back.takers.items c.args.own r.back.scanned r.back.taken r.own c.add.new.list.items is calm in
     let drew = all_draws c.new-draws.result.items c.hand_scanned.new.draws.items rs c.new-draws.ensures.items c.in_ok-outboxes.ensures.draws in
     let each : EachOnce c.args.words.stripes.limit (map held c.hand_scanned.new.draws.items) = c.if-not-are_scanned.ensures refl in

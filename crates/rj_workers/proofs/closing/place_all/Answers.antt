@@ -13,4 +13,4 @@ place_group-requires-clause-group g c =
     let zs : List (Vec (Held _) Global) = into_iter_items c.next.new.self in
     let all : List (Vec (Held _) Global) = c.args.groups.items in let x : Vec (Held _) Global = c.in-Some.group in
     let n = next_at xs ys zs all x c.in-Some.ensures.steps.0 v.rest in
-    subst (λ (o : Vec (Held _) Global). All (IsHeldOf builds c.args.shared.now.exchange.now c.args.shared.now.crew.workers c.args.shared.now.crew.block) o.items) n.1 (c.requires (length xs) x n.0)
+    subst (λ (o : Vec (Held _) Global). All (IsHeldOf builds c.args.shared.now.exchange.now c.args.shared.now.settings.workers c.args.shared.now.settings.block) o.items) n.1 (c.requires (length xs) x n.0)

@@ -14,7 +14,7 @@ held_at builds e count block xs ys zs all x is parts each = let n = next_at xs y
 
 pub loop-held-preserved : goal.loop-held-preserved
 loop-held-preserved g c =
-    let builds : Builds _ = g.J.Job.builds c.args.shared.now.job.now in let count : ℕ = c.args.shared.now.crew.workers in let block : ℕ = c.args.shared.now.crew.block in
+    let builds : Builds _ = g.J.Job.builds c.args.shared.now.job.now in let count : ℕ = c.args.shared.now.settings.workers in let block : ℕ = c.args.shared.now.settings.block in
     let v = c.loop-held.invariant in let e : Exchange = c.args.shared.now.exchange.now in let xs : List (Held _) = c.loop-held.yielded in
     let ys : List (Held _) = into_iter_items c.loop-held.held-iterator in let zs : List (Held _) = into_iter_items c.next.new.self in
     let all : List (Held _) = c.args.group.items in let x : Held _ = c.in-Some.held in let steps = c.in-Some.ensures.steps in let slots : List (Option (Held _)) = c.loop-held.slots.items in

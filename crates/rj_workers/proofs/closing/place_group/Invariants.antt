@@ -9,5 +9,5 @@ invariant-loop-held g l = record {
   rest : l.yielded ++ into_iter_items l.held-iterator ≡ l.fn.group.items;
   rest_len : into_iter_len l.held-iterator ≡ length (into_iter_items l.held-iterator);
   len : length l.slots.items ≡ l.shared.exchange.now.partitions;
-  each : (p : ℕ) (d : _) → p < l.shared.exchange.now.partitions → IsSlot (g.J.Job.builds l.shared.job.now) l.shared.exchange.now l.shared.crew.workers l.shared.crew.block p (slice_index_or l.slots.items p d);
+  each : (p : ℕ) (d : _) → p < l.shared.exchange.now.partitions → IsSlot (g.J.Job.builds l.shared.job.now) l.shared.exchange.now l.shared.settings.workers l.shared.settings.block p (slice_index_or l.slots.items p d);
 }

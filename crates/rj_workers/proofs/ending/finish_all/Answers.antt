@@ -29,7 +29,7 @@ slot_at builds e count block xs ys zs all x h is parts one len each =
 pub next_stubs-requires : goal.next_stubs-requires
 next_stubs-requires g c =
     let v = c.loop-slot.invariant in let e : Exchange = c.args.shared.now.exchange.now in
-    let s = slot_at (g.J.Job.builds c.args.shared.now.job.now) c.args.shared.now.exchange.now c.args.shared.now.crew.workers c.args.shared.now.crew.block c.loop-slot.yielded
+    let s = slot_at (g.J.Job.builds c.args.shared.now.job.now) c.args.shared.now.exchange.now c.args.shared.now.settings.workers c.args.shared.now.settings.block c.loop-slot.yielded
     (into_iter_items c.loop-slot.slot-iterator)
     (into_iter_items c.next.new.self) c.args.slots.items c.in-Some.slot c.in-Some-slot.held c.in-Some.ensures.steps.0 c.loop-slot.invariant.rest c.in-Some-slot.is c.requires.slots.0 c.requires.slots.1 in
     let old : List (IntoIter Stub Global) = c.loop-slot.lists.items in
@@ -37,14 +37,14 @@ next_stubs-requires g c =
 
 pub finish_one-requires-clause-held : goal.finish_one-requires-clause-held
 finish_one-requires-clause-held g c =
-    (slot_at (g.J.Job.builds c.args.shared.now.job.now) c.args.shared.now.exchange.now c.args.shared.now.crew.workers c.args.shared.now.crew.block c.loop-slot.yielded
+    (slot_at (g.J.Job.builds c.args.shared.now.job.now) c.args.shared.now.exchange.now c.args.shared.now.settings.workers c.args.shared.now.settings.block c.loop-slot.yielded
     (into_iter_items c.loop-slot.slot-iterator)
     (into_iter_items c.next.new.self) c.args.slots.items c.in-Some.slot c.in-Some-slot.held c.in-Some.ensures.steps.0 c.loop-slot.invariant.rest c.in-Some-slot.is c.requires.slots.0 c.requires.slots.1).2
 
 pub finish_one-requires-clause-stubs : goal.finish_one-requires-clause-stubs
 finish_one-requires-clause-stubs g c =
     let v = c.loop-slot.invariant in let e : Exchange = c.args.shared.now.exchange.now in
-    let s = slot_at (g.J.Job.builds c.args.shared.now.job.now) c.args.shared.now.exchange.now c.args.shared.now.crew.workers c.args.shared.now.crew.block c.loop-slot.yielded
+    let s = slot_at (g.J.Job.builds c.args.shared.now.job.now) c.args.shared.now.exchange.now c.args.shared.now.settings.workers c.args.shared.now.settings.block c.loop-slot.yielded
     (into_iter_items c.loop-slot.slot-iterator)
     (into_iter_items c.next.new.self) c.args.slots.items c.in-Some.slot c.in-Some-slot.held c.in-Some.ensures.steps.0 c.loop-slot.invariant.rest c.in-Some-slot.is c.requires.slots.0 c.requires.slots.1 in
     let old : List (IntoIter Stub Global) = c.loop-slot.lists.items in let ss : List Stub = c.in_ok-stubs.stubs.items in let L : List (List Stub) = map into_iter_items old in
@@ -58,10 +58,10 @@ loop-slot-preserved g c =
     let all : List (Option (Held _)) = c.args.slots.items in let x : Option (Held _) = c.in-Some.slot in let h : Held _ = c.in-Some-slot.held in
     let xs : List (Option (Held _)) = c.loop-slot.yielded in let os : List Outbox = c.args.outboxes.items in
     let steps = c.in-Some.ensures.steps in
-    let s = slot_at (g.J.Job.builds c.args.shared.now.job.now) c.args.shared.now.exchange.now c.args.shared.now.crew.workers c.args.shared.now.crew.block c.loop-slot.yielded
+    let s = slot_at (g.J.Job.builds c.args.shared.now.job.now) c.args.shared.now.exchange.now c.args.shared.now.settings.workers c.args.shared.now.settings.block c.loop-slot.yielded
     (into_iter_items c.loop-slot.slot-iterator)
     (into_iter_items c.next.new.self) c.args.slots.items c.in-Some.slot c.in-Some-slot.held c.in-Some.ensures.steps.0 c.loop-slot.invariant.rest c.in-Some-slot.is c.requires.slots.0 c.requires.slots.1 in
-    let builds : Builds _ = g.J.Job.builds c.args.shared.now.job.now in let senders : ℕ = c.args.shared.now.crew.workers + c.args.shared.now.crew.workers in let block : ℕ = c.args.shared.now.crew.block in
+    let builds : Builds _ = g.J.Job.builds c.args.shared.now.job.now in let senders : ℕ = c.args.shared.now.settings.workers + c.args.shared.now.settings.workers in let block : ℕ = c.args.shared.now.settings.block in
     let old : List (IntoIter Stub Global) = c.loop-slot.lists.items in let new : List (IntoIter Stub Global) = c.next_stubs.new.lists.items in let ss : List Stub = c.in_ok-stubs.stubs.items in
     let L : List (List Stub) = map into_iter_items old in
     let len : length L ≡ e.outboxes = length-map old into_iter_items ∙ v.many in

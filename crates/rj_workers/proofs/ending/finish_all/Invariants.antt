@@ -12,5 +12,5 @@ invariant-loop-slot g l = let e = l.shared.exchange.now in record {
   many : length l.lists.items ≡ e.outboxes;
   left : (o : ℕ) → o < e.outboxes → slice_index_or (map into_iter_items l.lists.items) o [] ≡ drop (length l.yielded * e.lanes) (slice_index_or (stub_lists l.fn.outboxes.items) o []);
   len : length l.all.items ≡ length l.yielded;
-  each : (p : ℕ) (d : _) → p < length l.yielded → IsEnded (g.J.Job.builds l.shared.job.now) (l.shared.crew.workers + l.shared.crew.workers) l.shared.crew.block e (stub_lists l.fn.outboxes.items) p (slice_index_or l.all.items p d);
+  each : (p : ℕ) (d : _) → p < length l.yielded → IsEnded (g.J.Job.builds l.shared.job.now) (l.shared.settings.workers + l.shared.settings.workers) l.shared.settings.block e (stub_lists l.fn.outboxes.items) p (slice_index_or l.all.items p d);
 }

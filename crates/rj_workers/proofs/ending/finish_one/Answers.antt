@@ -13,7 +13,7 @@ use Rattle.rj_workers.proofs.ending.finish_one.Goals as goal
 pub returns-clause-arrived : goal.returns-clause-arrived
 returns-clause-arrived g c =
     let e : Exchange = c.args.shared.now.exchange.now in let inbox : Inbox = c.args.held.inbox in let t = c.requires.held.taking in let a = t.1 in let xs : List Parcel = a.0 in let f = c.in-Ok.ensures.all in
-    let rests : List PostedVec = c.in-Ok.finished.rest.items in let opening : LedgerValue = opened inbox.partition (c.args.shared.now.crew.workers + c.args.shared.now.crew.workers) c.args.shared.now.crew.block in (
+    let rests : List PostedVec = c.in-Ok.finished.rest.items in let opening : LedgerValue = opened inbox.partition (c.args.shared.now.settings.workers + c.args.shared.now.settings.workers) c.args.shared.now.settings.block in (
       xs ++ parcels_of rests,
       all_arrived e.outboxes e.lanes c.args.stubs.items (takens inbox) rests xs c.requires.stubs.many (length-map inbox.ends.items taken_of ∙ t.0.takes.many) f.0 a.1 f.1,
       c.in_ok-offer_rests.ensures ∙ ap (λ (u : LedgerValue). after_all u (parcels_of rests)) a.2 ∙ sym (after_append opening xs (parcels_of rests)),

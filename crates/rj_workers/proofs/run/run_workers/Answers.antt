@@ -2,18 +2,18 @@ use Rattle.std.proofs.Common.{refl}
 use Rattle.rj_workers.proofs.Openings.{new_outboxes, fresh_inboxes}
 use Rattle.rj_workers.proofs.run.run_workers.Goals as goal
 
-pub run_in_room-requires-clause-outboxes : goal.run_in_room-requires-clause-outboxes
-run_in_room-requires-clause-outboxes g c κs within = new_outboxes c.in_ok-exchange.exchange c.in_ok-exchange.outboxes.items c.in_ok-exchange.inboxes.items c.args.crew.workers c.args.crew.partitions c.in_ok-exchange.ensures.opened
+pub run_opened-requires-clause-outboxes : goal.run_opened-requires-clause-outboxes
+run_opened-requires-clause-outboxes g c κs within = new_outboxes c.in_ok-exchange.exchange c.in_ok-exchange.outboxes.items c.in_ok-exchange.inboxes.items c.args.settings.workers c.args.settings.partitions c.in_ok-exchange.ensures.opened
 
-pub run_in_room-requires-clause-inboxes : goal.run_in_room-requires-clause-inboxes
-run_in_room-requires-clause-inboxes g c κs within = (c.in_ok-exchange.ensures.opened.3, refl)
+pub run_opened-requires-clause-inboxes : goal.run_opened-requires-clause-inboxes
+run_opened-requires-clause-inboxes g c κs within = (c.in_ok-exchange.ensures.opened.3, refl)
 
-pub run_in_room-requires-clause-fresh : goal.run_in_room-requires-clause-fresh
-run_in_room-requires-clause-fresh g c κs within = fresh_inboxes c.in_ok-exchange.exchange c.in_ok-exchange.outboxes.items c.in_ok-exchange.inboxes.items c.args.crew.workers c.args.crew.partitions c.in_ok-exchange.ensures.opened
+pub run_opened-requires-clause-fresh : goal.run_opened-requires-clause-fresh
+run_opened-requires-clause-fresh g c κs within = fresh_inboxes c.in_ok-exchange.exchange c.in_ok-exchange.outboxes.items c.in_ok-exchange.inboxes.items c.args.settings.workers c.args.settings.partitions c.in_ok-exchange.ensures.opened
 
-pub run_in_room-requires-clause-room : goal.run_in_room-requires-clause-room
-run_in_room-requires-clause-room g c κs within = record {
-  fresh = fresh_inboxes c.in_ok-exchange.exchange c.in_ok-exchange.outboxes.items c.in_ok-exchange.inboxes.items c.args.crew.workers c.args.crew.partitions c.in_ok-exchange.ensures.opened;
+pub run_opened-requires-clause-opened : goal.run_opened-requires-clause-opened
+run_opened-requires-clause-opened g c κs within = record {
+  fresh = fresh_inboxes c.in_ok-exchange.exchange c.in_ok-exchange.outboxes.items c.in_ok-exchange.inboxes.items c.args.settings.workers c.args.settings.partitions c.in_ok-exchange.ensures.opened;
   both = refl;
   rows = refl;
 }

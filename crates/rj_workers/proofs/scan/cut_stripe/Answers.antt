@@ -8,7 +8,7 @@ use Rattle.rj_workers.proofs.scan.cut_stripe.Goals as goal
 pub loop-partition-preserved : goal.loop-partition-preserved
 loop-partition-preserved g c =
     let v = c.loop-partition.invariant in let e : Exchange = c.args.shared.now.exchange.now in let due : Due = g.J.Job.due c.args.shared.now.job.now in let p : ℕ = c.loop-partition.partition in
-    let block : ℕ = c.args.shared.now.crew.block in let one : ℕ = c.args.stripe in let two : ℕ = c.args.shared.now.crew.workers + c.args.stripe in
+    let block : ℕ = c.args.shared.now.settings.block in let one : ℕ = c.args.stripe in let two : ℕ = c.args.shared.now.settings.workers + c.args.stripe in
     let lt : p < e.partitions = omega (arith, c.loop-partition-test.true, c.partitions-partition-end.ensures) in
     let left = c.part-left_rows.ensures ∙ (c.requires.lefts.each p lt).same in
     let right = c.part-right_rows.ensures ∙ (c.requires.rights.each p lt).same in

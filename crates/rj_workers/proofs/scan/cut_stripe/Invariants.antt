@@ -6,8 +6,8 @@ use Rattle.rj_workers.proofs.scan.cut_stripe.Given as goal
 
 abbrev pub invariant-loop-partition : goal.invariant-loop-partition
 invariant-loop-partition g l = let due = g.J.Job.due l.shared.job.now in record {
-  planned : (x : Parcel) → IsLeft l.lists.items x → IsPlanned due l.shared.crew.block x;
+  planned : (x : Parcel) → IsLeft l.lists.items x → IsPlanned due l.shared.settings.block x;
   range : AreInRange l.shared.exchange.now (IsLeft l.lists.items);
-  left : HasCut due l.shared.crew.block l.stripe l.partition l.lists.items;
-  right : HasCut due l.shared.crew.block (l.shared.crew.workers + l.stripe) l.partition l.lists.items;
+  left : HasCut due l.shared.settings.block l.stripe l.partition l.lists.items;
+  right : HasCut due l.shared.settings.block (l.shared.settings.workers + l.stripe) l.partition l.lists.items;
 }

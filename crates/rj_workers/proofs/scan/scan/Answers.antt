@@ -13,7 +13,7 @@ pub loop-preserved-in-Ok : goal.loop-preserved-in-Ok
 loop-preserved-in-Ok g c =
     let v = c.loop.invariant in let s = c.in-Ok.ensures in let d = c.in-Some-draw.ensures in
     let due : Due = g.J.Job.due c.args.shared.now.job.now in let e : Exchange = c.args.shared.now.exchange.now in
-    let block : ℕ = c.args.shared.now.crew.block in let count : ℕ = c.args.shared.now.crew.workers in
+    let block : ℕ = c.args.shared.now.settings.block in let count : ℕ = c.args.shared.now.settings.workers in
     let a : Posts = sents c.loop.me.outbox in let b : Posts = sents c.scan_stripe.new.me.outbox in record {
       me = s.me.0;
       number = s.me.1.0 ∙ v.number;
@@ -37,7 +37,7 @@ pub loop-preserved : goal.loop-preserved
 loop-preserved g c =
     let v = c.loop.invariant in let s = c.in-Err-Refused.ensures in let d = c.in-Some-draw.ensures in let r = c.in-Some-give_up.ensures in
     let due : Due = g.J.Job.due c.args.shared.now.job.now in let e : Exchange = c.args.shared.now.exchange.now in
-    let block : ℕ = c.args.shared.now.crew.block in let count : ℕ = c.args.shared.now.crew.workers in
+    let block : ℕ = c.args.shared.now.settings.block in let count : ℕ = c.args.shared.now.settings.workers in
     let a : Posts = sents c.loop.me.outbox in let b : Posts = sents c.scan_stripe.new.me.outbox in let same = r.me.1 in
     let drew = ap held s.me.1.1 ∙ d.held.0 in record {
       me = r.me.0;
@@ -53,6 +53,6 @@ returns-in_default-give_up g c =
     let due : Due = g.J.Job.due c.args.shared.now.job.now in record {
       scanner = r.me.0;
       number = ap (λ (o : Outbox). o.number) same ∙ s.me.1.0 ∙ v.number;
-      planned = subst (λ (o : Outbox). OnlyPlanned due c.args.shared.now.crew.block (sents o)) (sym same) (s.added v.planned);
+      planned = subst (λ (o : Outbox). OnlyPlanned due c.args.shared.now.settings.block (sents o)) (sym same) (s.added v.planned);
       posted = inl r.back;
     }

@@ -8,6 +8,6 @@ abbrev pub invariant-loop : goal.invariant-loop
 invariant-loop g l = let due = g.J.Job.due l.shared.job.now in record {
   me : IsScanner l.shared l.me;
   number : l.me.outbox.number ≡ l.fn.me.outbox.number;
-  planned : OnlyPlanned due l.shared.crew.block (sents l.me.outbox);
-  posted : HasPostedHeld due l.shared.crew.block l.shared.crew.workers l.shared.exchange.now l.me;
+  planned : OnlyPlanned due l.shared.settings.block (sents l.me.outbox);
+  posted : HasPostedHeld due l.shared.settings.block l.shared.settings.workers l.shared.exchange.now l.me;
 }

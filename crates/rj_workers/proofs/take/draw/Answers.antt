@@ -7,9 +7,9 @@ use Rattle.rj_workers.proofs.take.draw.Goals as goal
 
 pub returns-clause-all : goal.returns-clause-all
 returns-clause-all g c =
-    let p : ℕ = c.in-Some.partition in let t = c.in-Some-take_place.ensures in let f = c.requires.room.fresh p c.in-Some-take_place.inbox t.0 in let r = c.requires.room in
-    let senders : ℕ = c.args.shared.now.crew.workers + c.args.shared.now.crew.workers in let block : ℕ = c.args.shared.now.crew.block in
+    let p : ℕ = c.in-Some.partition in let t = c.in-Some-take_place.ensures in let f = c.requires.opened.fresh p c.in-Some-take_place.inbox t.0 in let r = c.requires.opened in
+    let senders : ℕ = c.args.shared.now.settings.workers + c.args.shared.now.settings.workers in let block : ℕ = c.args.shared.now.settings.block in
     let is : c.in-Some-take_place.ledger ≡ opened c.in-Some-take_place.inbox.partition senders block =
-    t.1 ∙ ap (λ (q : ℕ). opened q g.B.Room.senders g.B.Room.block) (sym f.1) ∙ ap (λ (n : ℕ). opened c.in-Some-take_place.inbox.partition n g.B.Room.block) r.both ∙ ap (opened c.in-Some-take_place.inbox.partition senders) r.rows in
+    t.1 ∙ ap (λ (q : ℕ). opened q g.B.Opened.senders g.B.Opened.block) (sym f.1) ∙ ap (λ (n : ℕ). opened c.in-Some-take_place.inbox.partition n g.B.Opened.block) r.both ∙ ap (opened c.in-Some-take_place.inbox.partition senders) r.rows in
     let builds = g.J.Job.builds c.args.shared.now.job.now in
     subst (All (IsHeld builds c.args.shared.now)) (sym c.in_ok-push.ensures.items) (All-push (IsHeld builds c.args.shared.now) c.args.me.now.all.items _ c.requires.all (record { taking = (f.0, ([], f.2, is)); built = tt }))

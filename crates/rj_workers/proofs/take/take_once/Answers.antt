@@ -12,7 +12,7 @@ use Rattle.rj_workers.proofs.take.take_once.Goals as goal
 
 pub returns-in_default : goal.returns-in_default
 returns-in_default g c =
-    let h = c.requires.held in let t = h.taking in let a = t.1 in let senders : ℕ = c.args.shared.now.crew.workers + c.args.shared.now.crew.workers in let block : ℕ = c.args.shared.now.crew.block in record {
+    let h = c.requires.held in let t = h.taking in let a = t.1 in let senders : ℕ = c.args.shared.now.settings.workers + c.args.shared.now.settings.workers in let block : ℕ = c.args.shared.now.settings.block in record {
       taking = (
         c.take.ensures.inbox t.0,
         (a.0, subst (λ (w : Takes). IsArrived w a.0) (sym c.in_default.ensures.taken.0) a.1, a.2 ∙ ap (λ (p : ℕ). after_all (opened p senders block) a.0) (sym c.take.ensures.same.1)),
@@ -22,7 +22,7 @@ returns-in_default g c =
 
 pub returns : goal.returns
 returns g c =
-    let h = c.requires.held in let t = h.taking in let a = t.1 in let senders : ℕ = c.args.shared.now.crew.workers + c.args.shared.now.crew.workers in let block : ℕ = c.args.shared.now.crew.block in
+    let h = c.requires.held in let t = h.taking in let a = t.1 in let senders : ℕ = c.args.shared.now.settings.workers + c.args.shared.now.settings.workers in let block : ℕ = c.args.shared.now.settings.block in
     let x : Parcel = c.in-Some.parcel in let took = c.in-Some.ensures.taken in let inbox : Inbox = c.args.held.now.inbox in
     let many = t.0.takes.many in let len = length-map inbox.ends.items taken_of in let lane = c.requires.lane in
     let lt : c.args.lane < length (takens inbox) = omega arith in

@@ -1,48 +1,31 @@
-//! The numbers of a run, and what each of its workers starts with.
+//! The workers of a run, as they start and as they end.
 ghost use Rattle.std.specs.Prelude.{◌≡◌, All, IfOk, IfSome, length};
 ghost use Rattle.std.specs.Vec.Iter.{into_iter_items};
 ghost use Rattle.rj_exchange.specs.Halt.{IsHaltSeatOf};
 ghost use Rattle.rj_exchange.specs.Tickets.{IsSeatOf};
-ghost use Rattle.rj_workers.specs.Hands.{AreHandsOf, AreSeats};
+ghost use Rattle.rj_workers.specs.Workers.{AreNewWorkersOf, AreSeats};
 ghost use Rattle.rj_workers.specs.Scans.{AreNewOutboxes, AreNewScanners, IsFreshDraws};
 ghost use Rattle.rj_workers.specs.Takes.{IsNewTaker};
 
+use crate::coordination::{Coordination, Seats};
 use crate::scan::Scanner;
 use crate::take::Taker;
-use crate::words::{Seats, Words};
 use rj_exchange::{Exchange, Halt, HaltSeat, Outbox, Seat, StripeSeat, Stripes};
 use std::alloc::{AllocError, Global};
 use std::vec::IntoIter;
 
-/// The numbers of a run.
-#[derive(Clone, Copy, Debug)]
-pub struct Crew {
-    /// How many scanners there are, how many takers, and how many stripes each table has: 1 to 64.
-    pub workers: u32,
-    /// How many partitions there are, 1 to 1,024.
-    pub partitions: u32,
-    /// How many rows a block has at most, from 1 on.
-    pub block: u32,
-    /// How many lanes lead to a partition, 1 to 4.
-    pub lanes: u32,
-    /// How many parcels a queue holds at most, 1 to 4,096.
-    pub capacity: u32,
-    /// How often a stripe may be scanned again.
-    pub retries: u32,
-}
-
-/// What the workers of a run start with.
+/// The workers of a run as they start.
 #[derive(Drop)]
-pub(crate) struct Hands<T> {
+pub(crate) struct NewWorkers<T> {
     pub(crate) scanners: Vec<Scanner>,
     pub(crate) takers: Vec<Taker<T>>,
     // The starting thread's seat at the word done.
     pub(crate) over: HaltSeat,
 }
 
-/// What the workers of a run hand back.
+/// The workers of a run as they end.
 #[derive(Drop)]
-pub(crate) struct Back<T> {
+pub(crate) struct EndedWorkers<T> {
     pub(crate) scanners: Vec<Scanner>,
     pub(crate) takers: Vec<Taker<T>>,
 }
@@ -89,7 +72,7 @@ fn next_draws(stripes: &Stripes, seats: &mut IntoIter<StripeSeat, Global>) -> Op
 fn make_scanners(
     alloc: Global,
     exchange: &Exchange,
-    words: &Words,
+    words: &Coordination,
     outboxes: Vec<Outbox>,
     seats: &mut IntoIter<HaltSeat, Global>,
     draws: Vec<StripeSeat>,
@@ -122,7 +105,7 @@ fn make_scanners(
 // A taker for each seat at the tickets.
 fn make_takers<T: Drop>(
     alloc: Global,
-    words: &Words,
+    words: &Coordination,
     seats: &mut IntoIter<HaltSeat, Global>,
     looks: &mut IntoIter<HaltSeat, Global>,
     draws: Vec<Seat>,
@@ -152,16 +135,16 @@ fn make_takers<T: Drop>(
 }
 
 /// What all workers start with, and the starting thread's seat at the word halt.
-pub(crate) fn make_hands<T: Drop>(
+pub(crate) fn make_workers<T: Drop>(
     alloc: Global,
     exchange: &Exchange,
-    words: &Words,
+    words: &Coordination,
     outboxes: Vec<Outbox>,
     seats: Seats,
-) -> Result<(Hands<T>, HaltSeat), AllocError>
+) -> Result<(NewWorkers<T>, HaltSeat), AllocError>
     requires outboxes { AreNewOutboxes exchange.now exchange.now.outboxes outboxes.items }
     requires seats { AreSeats words.now exchange.now.outboxes seats }
-    ensures hands { IfOk result (λ r. AreHandsOf exchange.now words.now.halt words.now.done words.now.stripes words.now.tickets r.0) }
+    ensures workers { IfOk result (λ r. AreNewWorkersOf exchange.now words.now.halt words.now.done words.now.stripes words.now.tickets r.0) }
     ensures own { IfOk result (λ r. IsHaltSeatOf words.now.halt r.1) }
 {
     let mut at_halt = seats.halt.into_iter();
@@ -172,10 +155,10 @@ pub(crate) fn make_hands<T: Drop>(
     let scanners = make_scanners(alloc, exchange, words, outboxes, &mut at_halt, draws)?;
     let draws = seats.tickets;
     let takers = make_takers(alloc, words, &mut at_halt, &mut at_done, draws)?;
-    let hands = Hands {
+    let workers = NewWorkers {
         scanners,
         takers,
         over,
     };
-    Ok((hands, own))
+    Ok((workers, own))
 }

@@ -1,36 +1,36 @@
 //! The words, tickets and stripes of a run.
 ghost use Rattle.std.specs.Prelude.{◌≡◌, ◌≤◌, IfOk};
-ghost use Rattle.rj_workers.specs.Hands.{AreSeats, AreWords};
+ghost use Rattle.rj_workers.specs.Workers.{AreSeats, IsCoordination};
 
-use crate::crew::Crew;
-use crate::floor::Floor;
+use crate::settings::WorkerSettings;
+use crate::shared::Shared;
 use rj_exchange::{Exchange, Halt, HaltSeat, Seat, StripeSeat, Stripes, Tickets};
 use std::alloc::{AllocError, Global};
 use std::sync::Wait;
 
 /// What workers share beside the exchange.
 #[derive(Drop)]
-pub(crate) struct Words {
+pub(crate) struct Coordination {
     pub(crate) halt: Halt,
     pub(crate) done: Halt,
     pub(crate) stripes: Stripes,
     pub(crate) tickets: Tickets,
 }
 
-impl Words {
+impl Coordination {
     /// What all workers share.
-    pub(crate) fn floor<'a, J, G>(
+    pub(crate) fn shared<'a, J, G>(
         &'a self,
         exchange: &'a Exchange,
         job: &'a J,
         gate: &'a G,
-        crew: Crew,
-    ) -> Floor<'a, J, G>
-        ensures shared { (result.exchange ≡ exchange.entry) × (result.job ≡ job.entry) × (result.gate ≡ gate.entry) × (result.crew ≡ crew) }
+        settings: WorkerSettings,
+    ) -> Shared<'a, J, G>
+        ensures shared { (result.exchange ≡ exchange.entry) × (result.job ≡ job.entry) × (result.gate ≡ gate.entry) × (result.settings ≡ settings) }
         ensures words { (result.halt.now ≡ self.now.halt) × (result.done.now ≡ self.now.done)
             × (result.stripes.now ≡ self.now.stripes) × (result.tickets.now ≡ self.now.tickets) }
     {
-        Floor::new(
+        Shared::new(
             exchange,
             &self.halt,
             &self.done,
@@ -38,7 +38,7 @@ impl Words {
             &self.tickets,
             job,
             gate,
-            crew,
+            settings,
         )
     }
 }
@@ -54,21 +54,21 @@ pub(crate) struct Seats {
 
 /// The words of a run, with a seat at the word halt for each worker and the starting thread, and one at the word done for
 /// each taker and the starting thread.
-pub(crate) fn open_words<R: Wait>(
+pub(crate) fn open_coordination<R: Wait>(
     rt: &R,
     alloc: Global,
-    crew: Crew,
-) -> Result<(Words, Seats), AllocError>
-    requires workers { (1 ≤ crew.workers) × (crew.workers ≤ 64) }
-    ensures words { IfOk result (λ r. AreWords crew r.0) }
-    ensures seats { IfOk result (λ r. AreSeats r.0 crew.workers r.1) }
+    settings: WorkerSettings,
+) -> Result<(Coordination, Seats), AllocError>
+    requires workers { (1 ≤ settings.workers) × (settings.workers ≤ 64) }
+    ensures words { IfOk result (λ r. IsCoordination settings r.0) }
+    ensures seats { IfOk result (λ r. AreSeats r.0 settings.workers r.1) }
 {
-    let count = crew.workers;
+    let count = settings.workers;
     let (halt, at_halt) = Halt::open(alloc, count + count + 1)?;
     let (done, at_done) = Halt::open(alloc, count + 1)?;
-    let (tickets, at_tickets) = Tickets::open(alloc, u64::from(crew.partitions), count)?;
+    let (tickets, at_tickets) = Tickets::open(alloc, u64::from(settings.partitions), count)?;
     let (stripes, at_stripes) = Stripes::open(rt, alloc, count, count)?;
-    let words = Words {
+    let words = Coordination {
         halt,
         done,
         stripes,

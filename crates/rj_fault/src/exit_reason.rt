@@ -9,7 +9,7 @@ use clap::Error;
 use std::fmt::Display;
 
 /// Why a program ended without its output. Its text is the line that is printed, without its line end.
-pub trait Told: Display + Drop {
+pub trait ExitReason: Display + Drop {
     // The exit status.
     ghost exit: { Self → ℕ };
 
@@ -33,34 +33,34 @@ pub trait Told: Display + Drop {
 }
 
 // Prints the line, and gives the exit status.
-fn tell_line<T: Told>(rt: &impl Eprint, told: &T) -> u8
-    ensures { result ≡ T.exit told.now }
+fn tell_line<T: ExitReason>(rt: &impl Eprint, reason: &T) -> u8
+    ensures { result ≡ T.exit reason.now }
 {
-    let _ = eprintln!(rt; "{told}");
-    told.status()
+    let _ = eprintln!(rt; "{reason}");
+    reason.status()
 }
 
 // The exit status behind what `clap` tells, which could be printed or not: help and the version that couldn't be printed end as a
 // failed write, which is told.
-fn status_by_clap<T: Told>(rt: &impl Eprint, told: &T, error: &Error, printed: bool) -> u8
-    ensures printed { printed ≡ true → result ≡ T.exit told.now }
+fn status_by_clap<T: ExitReason>(rt: &impl Eprint, reason: &T, error: &Error, printed: bool) -> u8
+    ensures printed { printed ≡ true → result ≡ T.exit reason.now }
     ensures unprinted { printed ≡ false → IsAskedFor (Some error.now) → result ≡ T.exit T.unwritten }
-    ensures either { (result ≡ T.exit told.now) ⊎ (IsAskedFor (Some error.now) × (result ≡ T.exit T.unwritten)) }
+    ensures either { (result ≡ T.exit reason.now) ⊎ (IsAskedFor (Some error.now) × (result ≡ T.exit T.unwritten)) }
 {
     if printed || error.use_stderr() {
-        return told.status();
+        return reason.status();
     }
     tell_line(rt, &T::failed_write())
 }
 
 /// Prints why there is no output on standard error, or help or the version on standard output, and gives the exit status.
 /// Where help or the version couldn't be printed, the status is that of a failed write.
-pub fn tell<R: Print + Eprint, T: Told>(rt: &R, told: &T) -> u8
-    ensures { (result ≡ T.exit told.now) ⊎ (IsAskedFor (T.of_clap told.now) × (result ≡ T.exit T.unwritten)) }
+pub fn tell<R: Print + Eprint, T: ExitReason>(rt: &R, reason: &T) -> u8
+    ensures { (result ≡ T.exit reason.now) ⊎ (IsAskedFor (T.of_clap reason.now) × (result ≡ T.exit T.unwritten)) }
 {
-    if let Some(error) = told.by_clap() {
+    if let Some(error) = reason.by_clap() {
         let printed = error.print(rt).is_ok();
-        return status_by_clap(rt, told, error, printed);
+        return status_by_clap(rt, reason, error, printed);
     }
-    tell_line(rt, told)
+    tell_line(rt, reason)
 }

@@ -1,12 +1,12 @@
 //! What all workers of a run share.
 ghost use Rattle.std.specs.Prelude.{◌≡◌};
 
-use crate::crew::Crew;
+use crate::settings::WorkerSettings;
 use rj_exchange::{Exchange, Halt, Stripes, Tickets};
 use std::alloc::AllocError;
 
 /// What all workers of a run share.
-pub(crate) struct Floor<'a, J, G> {
+pub(crate) struct Shared<'a, J, G> {
     /// The queues that lead from scanners to takers.
     pub(crate) exchange: &'a Exchange,
     /// Is raised where memory or a thread is refused.
@@ -22,18 +22,18 @@ pub(crate) struct Floor<'a, J, G> {
     /// What workers pass at each place.
     pub(crate) gate: &'a G,
     /// The numbers of the run.
-    pub(crate) crew: Crew,
+    pub(crate) settings: WorkerSettings,
 }
 
-impl<J, G> Clone for Floor<'_, J, G> {
+impl<J, G> Clone for Shared<'_, J, G> {
     fn clone(&self) -> Result<Self, AllocError> {
         Ok(*self)
     }
 }
 
-impl<J, G> Copy for Floor<'_, J, G> {}
+impl<J, G> Copy for Shared<'_, J, G> {}
 
-impl<'a, J, G> Floor<'a, J, G> {
+impl<'a, J, G> Shared<'a, J, G> {
     pub(crate) fn new(
         exchange: &'a Exchange,
         halt: &'a Halt,
@@ -42,7 +42,7 @@ impl<'a, J, G> Floor<'a, J, G> {
         tickets: &'a Tickets,
         job: &'a J,
         gate: &'a G,
-        crew: Crew,
+        settings: WorkerSettings,
     ) -> Self
         ensures { result ≡ record {
           exchange = exchange.entry;
@@ -52,10 +52,10 @@ impl<'a, J, G> Floor<'a, J, G> {
           tickets = tickets.entry;
           job = job.entry;
           gate = gate.entry;
-          crew = crew;
+          settings = settings;
         } }
     {
-        Floor {
+        Shared {
             exchange,
             halt,
             done,
@@ -63,7 +63,7 @@ impl<'a, J, G> Floor<'a, J, G> {
             tickets,
             job,
             gate,
-            crew,
+            settings,
         }
     }
 }

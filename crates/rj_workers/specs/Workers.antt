@@ -1,0 +1,50 @@
+-- What the workers of a run start with, and what they hand back.
+use Rattle.std.specs.Prelude.{◌≡◌, ℕ, ◌+◌, length, All}
+use Rattle.rj_exchange.specs.declared.boxes.Exchange.{Exchange}
+use Rattle.rj_exchange.specs.declared.halt.Halt.{Halt}
+use Rattle.rj_exchange.specs.declared.stripes.Stripes.{Stripes}
+use Rattle.rj_exchange.specs.declared.tickets.Tickets.{Tickets}
+use Rattle.rj_exchange.specs.Halt.{IsHaltSeatOf, halt_seats_of}
+use Rattle.rj_exchange.specs.Stripes.{stripes_of, stripe_seats_of}
+use Rattle.rj_exchange.specs.Tickets.{IsSeatOf, limit_of}
+use Rattle.rj_workers.specs.declared.settings.WorkerSettings.{WorkerSettings}
+use Rattle.rj_workers.specs.declared.workers.NewWorkers.{NewWorkers}
+use Rattle.rj_workers.specs.declared.workers.EndedWorkers.{EndedWorkers}
+use Rattle.rj_workers.specs.declared.shared.Shared.{Shared}
+use Rattle.rj_workers.specs.declared.coordination.Coordination.{Coordination}
+use Rattle.rj_workers.specs.declared.coordination.Seats.{Seats}
+use Rattle.rj_workers.specs.Posts.{Due}
+use Rattle.rj_workers.specs.Scans.{AreNewScanners, AreScans, IsFreshDraws}
+use Rattle.rj_workers.specs.Takes.{Builds, AreTakes, IsNewTaker}
+
+-- words, stripes and tickets by these settings: a seat at the word halt for each scanner, each taker and the starting thread
+pub record IsCoordination (settings : WorkerSettings) (w : Coordination) : Type 0 where
+  pub halt_seats : halt_seats_of w.halt ≡ settings.workers + settings.workers + 1
+  pub drawn : stripes_of w.stripes ≡ settings.workers
+  pub stripe_seats : stripe_seats_of w.stripes ≡ settings.workers
+  pub limit : limit_of w.tickets ≡ settings.partitions
+
+-- seats at these words, of stripes and tickets one for each of n workers
+pub record AreSeats (w : Coordination) (n : ℕ) (s : Seats) : Type 0 where
+  pub at_halt : All (IsHaltSeatOf w.halt) s.halt.items
+  pub at_done : All (IsHaltSeatOf w.done) s.done.items
+  pub at_stripes : All (IsFreshDraws w.stripes) s.stripes.items
+  pub at_tickets : All (IsSeatOf w.tickets) s.tickets.items
+  pub takers : length s.tickets.items ≡ n
+
+-- a scanner for each outbox and as many takers, as they start
+pub record AreNewWorkersOf {T : Type 0} (e : Exchange) (h o : Halt) (st : Stripes) (t : Tickets) (x : NewWorkers T) : Type 0 where
+  pub scanning : AreNewScanners e h st e.outboxes x.scanners.items
+  pub taking : All (IsNewTaker h o t) x.takers.items
+  pub many : length x.takers.items ≡ e.outboxes
+  pub looking : IsHaltSeatOf o x.over
+
+abbrev pub AreNewWorkers : {J G T : Type 0} → Shared J G → NewWorkers T → Type 0
+AreNewWorkers f x = AreNewWorkersOf f.exchange.now f.halt.now f.done.now f.stripes.now f.tickets.now x
+
+pub record AreEndedWorkersOf {T : Type 0} (due : Due) (builds : Builds T) (e : Exchange) (h : Halt) (st : Stripes) (settings : WorkerSettings) (b : EndedWorkers T) : Type 0 where
+  pub scanned : AreScans due settings.block settings.workers e h st b.scanners.items
+  pub taken : AreTakes builds e h settings.workers settings.block e.outboxes b.takers.items
+
+abbrev pub AreEndedWorkers : {J G T : Type 0} → Due → Builds T → Shared J G → EndedWorkers T → Type 0
+AreEndedWorkers due builds f b = AreEndedWorkersOf due builds f.exchange.now f.halt.now f.stripes.now f.settings b
