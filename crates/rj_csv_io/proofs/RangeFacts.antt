@@ -58,9 +58,27 @@ range-more null rows from i low h =
     rw (next, more, map-append, at)
     (rows_text-append (map (map (shown null)) (take (i - from) (drop from rows))) (row ∷ []) ∙ ap (λ t. rows_text (map (map (shown null)) (take (i - from) (drop from rows))) ++ t) (rows_text-one row))
 
--- the text of a header and then that of all rows
-pub header-rows : (null : List ℕ) (header : List (List ℕ)) (rows : List (List Content)) → row_text default_writer header ++ range_text null rows 0 (length rows) ≡ table_text null header rows
+-- no rows
+pub rows-none : rows_text [] ≡ []
 unfolding rows_text
-header-rows null header rows =
+rows-none = refl
+
+-- the texts of rows that follow each other
+pub rows-join : (null : List ℕ) (rows more : List (List Content))
+    → rows_text (map (map (shown null)) rows) ++ rows_text (map (map (shown null)) more) ≡ rows_text (map (map (shown null)) (rows ++ more))
+rows-join null rows more = rw map-append (sym (rows_text-append (map (map (shown null)) rows) (map (map (shown null)) more)))
+
+-- the text of a header and then that of rows
+pub header-join : (null : List ℕ) (header : List (List ℕ)) (rows : List (List Content)) → row_text default_writer header ++ rows_text (map (map (shown null)) rows) ≡ table_text null header rows
+unfolding rows_text
+header-join null header rows = refl
+
+-- the range of all rows
+pub range-whole : (null : List ℕ) (rows : List (List Content)) → range_text null rows 0 (length rows) ≡ rows_text (map (map (shown null)) rows)
+range-whole null rows =
     let all : take (length rows - 0) rows ≡ rows = take_all (length rows - 0) rows (omega arith) in
-    ap (λ (r : List (List Content)). row_text default_writer header ++ rows_text (map (map (shown null)) r)) all
+    ap (λ (r : List (List Content)). rows_text (map (map (shown null)) r)) all
+
+-- the text of a header and then that of the range of all rows
+pub header-rows : (null : List ℕ) (header : List (List ℕ)) (rows : List (List Content)) → row_text default_writer header ++ range_text null rows 0 (length rows) ≡ table_text null header rows
+header-rows null header rows = ap (λ t. row_text default_writer header ++ t) (range-whole null rows) ∙ header-join null header rows

@@ -1,13 +1,14 @@
 //! Laws of reading and writing, for the crates above.
 
-ghost use Rattle.std.specs.Prelude.{◌≡◌, List, ℕ, [], true, false, slice_index_or, All, Ok, Some};
+ghost use Rattle.std.specs.Prelude.{◌≡◌, ◌++◌, List, ℕ, [], true, false, map, slice_index_or, All, Ok, Some};
+ghost use Rattle.csv.specs.Writing.{default_writer, row_text};
 ghost use Rattle.rj_columns.specs.Contents.{Content, FitsType};
 ghost use Rattle.rj_columns.specs.Tables.{FitsTypes, TableValue};
 ghost use Rattle.rj_columns.specs.declared.cell.ColumnType.{ColumnType};
 ghost use Rattle.rj_csv_io.specs.Ambiguous.{AreApart, AreClear};
 ghost use Rattle.rj_csv_io.specs.Cuts.{has_bom};
 ghost use Rattle.rj_csv_io.specs.RoundTrips.{CanReadBack, IsHeld, IsNoneOf};
-ghost use Rattle.rj_csv_io.specs.Shown.{shown, table_text};
+ghost use Rattle.rj_csv_io.specs.Shown.{rows_text, shown, table_text};
 ghost use Rattle.rj_csv_io.specs.Tables.{are_null_texts, is_null_text, read_of, records_read};
 ghost use Rattle.rj_csv_io.specs.Typed.{is_null_field, read_cell};
 
@@ -76,4 +77,14 @@ pub fn read_tables_hold_their_types()
 pub fn mark_is_of_the_first_name()
     ensures { (null : List ℕ) (names : List (List ℕ)) (rows : List (List Content))
         → has_bom (slice_index_or names 0 []) ≡ false → has_bom (table_text null names rows) ≡ false }
+{}
+
+/// Texts of rows that follow each other are the text of all these rows, and behind the text of a header they are the text of
+/// a table.
+pub fn texts_follow_each_other()
+    ensures none { rows_text [] ≡ [] }
+    ensures rows { (null : List ℕ) (rows more : List (List Content))
+        → rows_text (map (map (shown null)) rows) ++ rows_text (map (map (shown null)) more) ≡ rows_text (map (map (shown null)) (rows ++ more)) }
+    ensures table { (null : List ℕ) (header : List (List ℕ)) (rows : List (List Content))
+        → row_text default_writer header ++ rows_text (map (map (shown null)) rows) ≡ table_text null header rows }
 {}

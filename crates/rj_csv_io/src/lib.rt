@@ -23,6 +23,7 @@ mod read_whole;
 mod refused;
 mod stretches;
 mod text;
+mod texts;
 mod write;
 mod write_in_parts;
 mod write_more;
@@ -35,7 +36,7 @@ pub use input::{CountedReader, Input, read_all};
 pub use laws::{
     cells_read_back, mark_is_of_the_first_name, null_texts_read_as_null, read_cells_read_back,
     read_tables_hold_their_types, read_tables_read_back, read_tables_read_back_by_others,
-    tables_read_back, told_apart,
+    tables_read_back, texts_follow_each_other, told_apart,
 };
 pub use null_text::{are_lawful_nulls, is_lawful_null};
 pub use output::{CountedWriter, Failed, Output};
@@ -44,6 +45,7 @@ pub use read_parts::read_table_in_parts;
 pub use read_whole::read_table;
 pub use refused::ReadRefused;
 pub use stretches::last_cut;
+pub use texts::{texts_of_rows, write_texts};
 pub use write::{WriteRefused, write_rows};
 pub use write_in_parts::write_rows_in_parts;
 pub use write_more::write_more_rows;

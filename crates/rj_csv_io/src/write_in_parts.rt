@@ -1,14 +1,15 @@
 //! Writing a header and the rows of a source, whose texts several threads make.
 
-ghost use Rattle.std.specs.Prelude.{◌≡◌, ◌≢◌, ◌<◌, ◌≤◌, ◌+◌, ◌-◌, ◌^◌, length, max, map, IfOk, OnOk, OnErr, Err, IsTrue};
+ghost use Rattle.std.specs.Prelude.{◌≡◌, ◌≢◌, ◌<◌, ◌≤◌, ◌+◌, ◌-◌, ◌^◌, length, max, map, IfOk, OnOk, Err, IsTrue};
 ghost use Rattle.std.specs.Io.KnownBytes.{Appends};
 ghost use Rattle.std.specs.List.{concat};
 ghost use Rattle.rj_csv_io.specs.RowParts.{part_start, IsPartText, ArePartTexts};
-ghost use Rattle.rj_csv_io.specs.Shown.{range_text, table_text};
+ghost use Rattle.rj_csv_io.specs.Shown.{range_text, rows_text, shown, table_text};
 ghost use Rattle.rj_csv_io.specs.Tables.{is_null_text};
 
-use crate::output::{Failed, Output};
-use crate::range::{text_of_header, texts_of_range};
+use crate::output::Output;
+use crate::range::texts_of_range;
+use crate::texts::write_texts;
 use crate::write::WriteRefused;
 use rj_columns::RowSource;
 use std::alloc::{AllocError, Global};
@@ -87,42 +88,24 @@ fn job_count(rows: u64, parts: usize) -> usize
     parts.saturating_add(1)
 }
 
-// The texts of a header and of a source's rows in so many parts, each by a thread.
-fn table_texts<R: Threads + Sync, S: RowSource + Sync>(
+// The texts of a source's rows in so many parts, each by a thread.
+fn texts_of_parts<R: Threads + Sync, S: RowSource + Sync>(
     rt: &R,
     alloc: Global,
-    header: &[&str],
     source: &S,
     null: &str,
     parts: usize,
 ) -> Result<Vec<Vec<u8>>, AllocError>
     requires { 0 < parts }
-    ensures { IfOk result (λ v. concat (map (λ t. t.items) v.items) ≡ table_text null.now (map (λ n. n.now) header.now) (S.contents source.now)) }
+    ensures { IfOk result (λ v. concat (map (λ t. t.items) v.items) ≡ rows_text (map (map (shown null.now)) (S.contents source.now))) }
 {
-    let mut texts = Vec::new(alloc);
-    texts.push(text_of_header(alloc, header)?)?;
     let made = thread::map_indices(
         rt,
         alloc,
         job_count(source.rows(), parts),
         &|part| part_texts(alloc, source, null, parts, part),
     )?;
-    let mut more = all_made(alloc, made, source, null, parts)?;
-    texts.append(&mut more)?;
-    Ok(texts)
-}
-
-// Puts texts one after the other, up to the first that fails.
-fn put_all<O: Output>(output: &mut O, texts: &[Vec<u8>]) -> Result<(), Failed>
-    requires { O.count output.old < 2 ^ 64 - 1 }
-    ensures ok { OnOk result (Appends (O.told output.old) (O.told output.new) (concat (map (λ t. t.items) texts.now))) }
-    ensures kept { OnOk result (O.count output.new ≡ O.count output.old) }
-    ensures failed { OnErr result (O.count output.new ≡ O.count output.old + 1) }
-{
-    for i in 0..texts.len() {
-        output.put(texts[i].as_slice())?;
-    }
-    Ok(())
+    all_made(alloc, made, source, null, parts)
 }
 
 /// The same with so many parts, however few rows they have.
@@ -145,13 +128,10 @@ pub(crate) fn write_parts<R: Threads + Sync, O: Output, S: RowSource + Sync>(
     ensures device { result ≡ Err WriteRefused.WriteDevice → O.count output.new ≡ O.count output.old + 1 }
     ensures kept { result ≢ Err WriteRefused.WriteDevice → O.count output.new ≡ O.count output.old }
 {
-    let Ok(texts) = table_texts(rt, alloc, header, source, null, parts) else {
+    let Ok(texts) = texts_of_parts(rt, alloc, source, null, parts) else {
         return Err(WriteRefused::Memory);
     };
-    match put_all(output, texts.as_slice()) {
-        Ok(()) => Ok(()),
-        Err(Failed) => Err(WriteRefused::WriteDevice),
-    }
+    write_texts(alloc, output, header, texts.as_slice())
 }
 
 /// Writes a header and the rows of a source as `write_rows` does, with the texts of shares of the rows made by up

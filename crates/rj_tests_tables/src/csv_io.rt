@@ -10,6 +10,7 @@ mod parts_read;
 mod parts_written;
 mod pieces;
 mod read_back;
+mod texts_written;
 
 use rj_columns::{Cell, ColumnType, NumericType, RowSource, Table};
 use rj_csv_io::{

@@ -1,7 +1,7 @@
 use Rattle.std.proofs.Common.{◌∙◌, ◌<◌, refl, arith, length}
 use Rattle.std.proofs.KnownBytes.{Appends-nil, Appends-trans}
 use Rattle.rj_csv_io.proofs.RowPartFacts.{concat-take}
-use Rattle.rj_csv_io.proofs.write_in_parts.put_all.Goals as goal
+use Rattle.rj_csv_io.proofs.texts.put_all.Goals as goal
 
 pub loop-i-init : goal.loop-i-init
 loop-i-init g c = record { told = Appends-nil (g.O.Output.told c.args.output.now); count = refl; end = refl }
