@@ -36,8 +36,8 @@ use Rattle.rj_workers.specs.Ends.{IsEnded, IsSettled}
 use Rattle.rj_workers.proofs.Parts.{lists_at}
 
 -- seats that have neither raised nor seen the word
-abbrev pub IsUnraised : HaltSeat → Type 0
-IsUnraised s = Stopped s → ⊥
+abbrev pub IsCalm : HaltSeat → Type 0
+IsCalm s = Stopped s → ⊥
 
 module _ {A : Type 0} where
   pub at_place : (xs : List A) (i : ℕ) (d : A) → i < length xs → get_elem? xs i ≡ some (get_or xs i d)
@@ -55,7 +55,7 @@ module _ {A : Type 0} where
   All_of_map xs f P h i d lt = let n = length-map xs f in subst P (get_or-map f xs i d (f d) lt) (h i (f d) (omega arith))
 
 -- where the word was not raised, all seats are calm
-pub all_unraised : (ss : List HaltSeat) → (AnyRaised ss → ⊥) → (AnySeen ss → ⊥) → All IsUnraised ss
+pub all_unraised : (ss : List HaltSeat) → (AnyRaised ss → ⊥) → (AnySeen ss → ⊥) → All IsCalm ss
 all_unraised ss raised seen = λ i d lt stopped. elim stopped [
   | inl r ↦ raised (i, get_or ss i d, at_place ss i d lt, r)
   | inr s ↦ seen (i, get_or ss i d, at_place ss i d lt, s)
@@ -80,15 +80,15 @@ module _ {T : Type 0} (due : Due) (builds : Builds T) (stripes block : ℕ) (e :
       let a = ap length is in let b = length-append (map (λ (r : Scanner). r.seat) rs ++ map (λ (t : Taker T). t.seat) ts) (own ∷ []) in let c = length-append (map (λ (r : Scanner). r.seat) rs) (map (λ (t : Taker T). t.seat) ts) in
       let m = length-map rs (λ (r : Scanner). r.seat) in let n = length-map ts (λ (t : Taker T). t.seat) in let p = scans.0 in let q = takes.0 in omega arith
 
-  pub scans_calm : (ss : List HaltSeat) → ss ≡ seats_of_all rs ts own → All IsUnraised ss → (o : ℕ) (d : Scanner) → o < e.outboxes → IsUnraised (get_or rs o d).seat
-  scans_calm ss is calm o d lt = All_of_map rs (λ (r : Scanner). r.seat) IsUnraised
-      (All_left IsUnraised (map (λ (r : Scanner). r.seat) rs) (map (λ (t : Taker T). t.seat) ts)
-      (All_left IsUnraised (map (λ (r : Scanner). r.seat) rs ++ map (λ (t : Taker T). t.seat) ts) (own ∷ []) (subst (All IsUnraised) is calm))) o d (let n = scans.0 in omega arith)
+  pub scans_calm : (ss : List HaltSeat) → ss ≡ seats_of_all rs ts own → All IsCalm ss → (o : ℕ) (d : Scanner) → o < e.outboxes → IsCalm (get_or rs o d).seat
+  scans_calm ss is calm o d lt = All_of_map rs (λ (r : Scanner). r.seat) IsCalm
+      (All_left IsCalm (map (λ (r : Scanner). r.seat) rs) (map (λ (t : Taker T). t.seat) ts)
+      (All_left IsCalm (map (λ (r : Scanner). r.seat) rs ++ map (λ (t : Taker T). t.seat) ts) (own ∷ []) (subst (All IsCalm) is calm))) o d (let n = scans.0 in omega arith)
 
-  pub takes_held : (ss : List HaltSeat) → ss ≡ seats_of_all rs ts own → All IsUnraised ss → All (λ (t : Taker T). All (IsHeldOf builds e stripes block) t.all.items) ts
+  pub takes_held : (ss : List HaltSeat) → ss ≡ seats_of_all rs ts own → All IsCalm ss → All (λ (t : Taker T). All (IsHeldOf builds e stripes block) t.all.items) ts
   takes_held ss is calm i d lt =
-      let quiet = All_of_map ts (λ (t : Taker T). t.seat) IsUnraised
-      (All_right IsUnraised (map (λ (r : Scanner). r.seat) rs) (map (λ (t : Taker T). t.seat) ts) (All_left IsUnraised (map (λ (r : Scanner). r.seat) rs ++ map (λ (t : Taker T). t.seat) ts) (own ∷ []) (subst (All IsUnraised) is calm))) i d lt in
+      let quiet = All_of_map ts (λ (t : Taker T). t.seat) IsCalm
+      (All_right IsCalm (map (λ (r : Scanner). r.seat) rs) (map (λ (t : Taker T). t.seat) ts) (All_left IsCalm (map (λ (r : Scanner). r.seat) rs ++ map (λ (t : Taker T). t.seat) ts) (own ∷ []) (subst (All IsCalm) is calm))) i d lt in
       elim (takes.1 i d lt).held [ inl s ↦ absurd (quiet s) | inr a ↦ a ]
 
 -- a stripe that is held is some scanner's
@@ -116,7 +116,7 @@ module _ (due : Due) (stripes block : ℕ) (e : Exchange) (h : Halt) (st : Strip
 
 -- what scanners that are calm have posted is planned, and is all of the stripes, which they hold each once
 module _ (due : Due) (stripes block : ℕ) (e : Exchange) (h : Halt) (st : Stripes) (rs : List Scanner) (scans : AreScans due block stripes e h st rs)
-    (calm : (o : ℕ) (d : Scanner) → o < e.outboxes → IsUnraised (get_or rs o d).seat) (once : EachOnce stripes (map held (map (λ (r : Scanner). r.draws) rs)))
+    (calm : (o : ℕ) (d : Scanner) → o < e.outboxes → IsCalm (get_or rs o d).seat) (once : EachOnce stripes (map held (map (λ (r : Scanner). r.draws) rs)))
     (suffice : (q : ℕ) (xs : List Parcel) → All (IsPlanned due block) xs → ((s : ℕ) → s < stripes + stripes → All (Contains xs) (plan block (due s q) s q))
     → DeliversAll due q (stripes + stripes) (after_all (opened q (stripes + stripes) block) xs))
     (stays : (v : LedgerValue) (xs : List Parcel) → IsSameShape v (after_all v xs)) where

@@ -4,7 +4,7 @@ use Rattle.std.specs.Vec.Iter.{into_iter_items}
 use Rattle.std.proofs.lemmas.List.Elements.{All-pop}
 use Rattle.rj_exchange.specs.declared.halt.HaltSeat.{HaltSeat}
 use Rattle.rj_exchange.specs.declared.tickets.Seat.{Seat}
-use Rattle.rj_exchange.specs.Halt.{IsUnraised, IsHaltSeatOf}
+use Rattle.rj_exchange.specs.Halt.{IsCalm, IsHaltSeatOf}
 use Rattle.rj_exchange.specs.Tickets.{IsSeatOf}
 use Rattle.rj_workers.specs.declared.sharing.Drawn.{Drawn}
 use Rattle.rj_workers.specs.Sharing.{IsDrawnOf}
@@ -33,7 +33,7 @@ loop-result-preserved g c =
       seats_len = kept_len seats c.push-in-loop-result.new.self.items seat (length xs) (length (xs ++ x ∷ [])) c.in_ok-push-2.ensures.items v.seats_len long;
       seats = all_kept seats c.push-in-loop-result.new.self.items seat c.in_ok-push-2.ensures.items (IsHaltSeatOf c.args.halt.now) v.seats this.drawer.seat;
       made = λ calm.
-          let p = All-pop IsUnraised c.push-in-loop-result.new.self.items seats (Some seat) c.in_ok-push-2.ensures.items calm in
+          let p = All-pop IsCalm c.push-in-loop-result.new.self.items seats (Some seat) c.in_ok-push-2.ensures.items calm in
           by_worker makes old c.push.new.self.items draws c.loop-result.all.items c.append.new.self.items c.in_ok-drawer.field-0.made.items
           c.in_ok-push.ensures.items c.in_ok-append.ensures.items (v.made p.0) (this.made p.1);
     }

@@ -8,7 +8,7 @@ use Rattle.rj_workers.specs.Posts.{NothingPosted}
 use Rattle.rj_workers.specs.Scans.{IsNewScanner}
 use Rattle.rj_workers.proofs.Posts.{next_is, next_len, next_at}
 use Rattle.rj_workers.proofs.Parts.{kept_each, kept_len}
-use Rattle.rj_workers.proofs.settings.make_scanners.Goals as goal
+use Rattle.rj_workers.proofs.workers.make_scanners.Goals as goal
 
 pub loop-outbox-preserved : goal.loop-outbox-preserved
 loop-outbox-preserved c =

@@ -3,7 +3,7 @@ use Rattle.std.specs.Prelude.{All}
 use Rattle.std.specs.Vec.Iter.{into_iter_items, into_iter_len}
 use Rattle.rj_exchange.specs.Halt.{IsHaltSeatOf}
 use Rattle.rj_workers.specs.Scans.{AreNewScanners, IsFreshDraws}
-use Rattle.rj_workers.proofs.settings.make_scanners.Given as goal
+use Rattle.rj_workers.proofs.workers.make_scanners.Given as goal
 
 abbrev pub invariant-loop-outbox : goal.invariant-loop-outbox
 invariant-loop-outbox l = record {

@@ -6,7 +6,7 @@ use Rattle.rj_workers.specs.declared.take.Taker.{Taker}
 use Rattle.rj_workers.specs.Takes.{IsNewTaker}
 use Rattle.rj_workers.proofs.Posts.{next_is, next_len, next_at}
 use Rattle.rj_workers.proofs.Parts.{all_kept, kept_len}
-use Rattle.rj_workers.proofs.settings.make_takers.Goals as goal
+use Rattle.rj_workers.proofs.workers.make_takers.Goals as goal
 
 pub loop-draws-preserved : goal.loop-draws-preserved
 loop-draws-preserved g c =
