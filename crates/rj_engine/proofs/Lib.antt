@@ -26,3 +26,4 @@ pub mod KeyOrder
 pub mod ChosenFacts
 pub mod Repeats
 pub mod GroupFacts
+pub mod RunFacts

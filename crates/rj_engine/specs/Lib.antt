@@ -12,6 +12,7 @@ pub mod Once
 pub mod Expected
 pub mod Naming
 pub mod Chosen
+pub mod Shown
 pub mod Violations
 pub mod KeyGroups
 pub mod Reports

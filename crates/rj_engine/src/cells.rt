@@ -1,12 +1,13 @@
 //! The cells of a column, at members that follow each other.
 
-ghost use Rattle.std.specs.Prelude.{◌≡◌, ◌<◌, ◌≤◌, ◌++◌, All, OnOk, length, map, slice_get};
+ghost use Rattle.std.specs.Prelude.{◌≡◌, ◌<◌, ◌≤◌, ◌-◌, ◌++◌, All, OnOk, length, map, slice_get};
 ghost use Rattle.rj_columns.specs.Contents.{content_of, nothing};
 ghost use Rattle.rj_columns.specs.Scales.{coalesced, in_scale};
 ghost use Rattle.rj_columns.specs.Tables.{cell_of};
 ghost use Rattle.rj_engine.specs.Cells.{coalesced_scale, joined_cell, left_cell, members_rows, right_cell, scale_of};
 ghost use Rattle.rj_engine.specs.Cells.{IsLeftRow, IsMemberOf, IsRightRow};
 ghost use Rattle.rj_engine.specs.Marks.{row_on};
+ghost use Rattle.rj_engine.specs.Shown.{counted_from};
 ghost use Rattle.rj_engine.specs.declared.origin.Origin.TheVariants as origin;
 
 use crate::joined::Members;
@@ -14,37 +15,41 @@ use crate::marks::{PairSide, row_on};
 use rj_columns::{Cell, Table, in_scale};
 use std::alloc::AllocError;
 
-// Adds the cells of a column at these rows.
+// Adds the cells of a column at these rows of a table, whose first one has this number.
 fn add_rows<'s>(
     cells: &mut Vec<Cell<'s>>,
     table: &'s Table,
+    first: u32,
     col: usize,
     rows: &[u32],
 ) -> Result<(), AllocError>
-    requires rows { All (λ i. i < length table.now.rows) rows.now }
+    requires rows { All (λ i. i - first < length table.now.rows) rows.now }
     requires col { col < length table.now.types }
-    ensures { OnOk result (map content_of cells.new.items ≡ map content_of cells.old.items ++ map (λ i. cell_of table.now i col) rows.now) }
+    ensures { OnOk result (map content_of cells.new.items ≡ map content_of cells.old.items ++ map (λ i. cell_of table.now (i - first) col) rows.now) }
 {
     for row in rows {
-        cells.push(table.cell(u64::from(*row), col))?;
+        let place = row.saturating_sub(first);
+        cells.push(table.cell(u64::from(place), col))?;
     }
     Ok(())
 }
 
-// Adds the cells of a column at the rows of these pairs on a side.
+// Adds the cells of a column at the rows of these pairs on a side, in a table whose first row has this number.
 fn add_side<'s>(
     cells: &mut Vec<Cell<'s>>,
     table: &'s Table,
+    first: u32,
     col: usize,
     pairs: &[(u32, u32)],
     side: PairSide,
 ) -> Result<(), AllocError>
-    requires rows { All (λ p. row_on side p < length table.now.rows) pairs.now }
+    requires rows { All (λ p. row_on side p - first < length table.now.rows) pairs.now }
     requires col { col < length table.now.types }
-    ensures { OnOk result (map content_of cells.new.items ≡ map content_of cells.old.items ++ map (λ p. cell_of table.now (row_on side p) col) pairs.now) }
+    ensures { OnOk result (map content_of cells.new.items ≡ map content_of cells.old.items ++ map (λ p. cell_of table.now (row_on side p - first) col) pairs.now) }
 {
     for pair in pairs {
-        cells.push(table.cell(u64::from(row_on(side, *pair)), col))?;
+        let place = row_on(side, *pair).saturating_sub(first);
+        cells.push(table.cell(u64::from(place), col))?;
     }
     Ok(())
 }
@@ -59,20 +64,22 @@ fn add_nulls(cells: &mut Vec<Cell<'_>>, rows: &[u32]) -> Result<(), AllocError>
     Ok(())
 }
 
-/// Adds the cells of a column of the left table: null where a member has no left row.
+/// Adds the cells of a column of the left table, or of a segment of it, whose first row has this number: null where a member
+/// has no left row.
 pub(crate) fn add_left<'s>(
     cells: &mut Vec<Cell<'s>>,
     left: &'s Table,
+    first: u32,
     col: usize,
     members: Members<'_>,
 ) -> Result<(), AllocError>
-    requires rows { All (IsLeftRow left.now) (members_rows members) }
+    requires rows { All (λ m. IsLeftRow left.now (counted_from first m)) (members_rows members) }
     requires col { col < length left.now.types }
     ensures { OnOk result (map content_of cells.new.items
-        ≡ map content_of cells.old.items ++ map (λ m. left_cell left.now m col) (members_rows members.entry)) }
+        ≡ map content_of cells.old.items ++ map (λ m. left_cell left.now (counted_from first m) col) (members_rows members.entry)) }
 {
-    add_side(cells, left, col, members.pairs, PairSide::Left)?;
-    add_rows(cells, left, col, members.lone_left)?;
+    add_side(cells, left, first, col, members.pairs, PairSide::Left)?;
+    add_rows(cells, left, first, col, members.lone_left)?;
     add_nulls(cells, members.lone_right)?;
     Ok(())
 }
@@ -89,9 +96,9 @@ pub(crate) fn add_right<'s>(
     ensures { OnOk result (map content_of cells.new.items
         ≡ map content_of cells.old.items ++ map (λ m. right_cell right.now m col) (members_rows members.entry)) }
 {
-    add_side(cells, right, col, members.pairs, PairSide::Right)?;
+    add_side(cells, right, 0, col, members.pairs, PairSide::Right)?;
     add_nulls(cells, members.lone_left)?;
-    add_rows(cells, right, col, members.lone_right)?;
+    add_rows(cells, right, 0, col, members.lone_right)?;
     Ok(())
 }
 
@@ -106,21 +113,24 @@ fn cell_in_scale<'s>(table: &'s Table, row: u32, col: usize, scale: u8) -> Cell<
     in_scale(table.cell(u64::from(row), col), scale)
 }
 
-// Adds the cells of a column at these rows, in a scale that its values have at most.
+// Adds the cells of a column at these rows of a table, whose first one has this number, in a scale that its values have at most.
 fn add_rows_in_scale<'s>(
     cells: &mut Vec<Cell<'s>>,
     table: &'s Table,
+    first: u32,
     col: usize,
     rows: &[u32],
     scale: u8,
 ) -> Result<(), AllocError>
-    requires rows { All (λ i. i < length table.now.rows) rows.now }
+    requires rows { All (λ i. i - first < length table.now.rows) rows.now }
     requires col { col < length table.now.types }
     requires scale { (scale_of (slice_get table.now.types col) ≤ scale) × (scale ≤ 18) }
-    ensures { OnOk result (map content_of cells.new.items ≡ map content_of cells.old.items ++ map (λ i. in_scale scale (cell_of table.now i col)) rows.now) }
+    ensures { OnOk result (map content_of cells.new.items
+        ≡ map content_of cells.old.items ++ map (λ i. in_scale scale (cell_of table.now (i - first) col)) rows.now) }
 {
     for row in rows {
-        cells.push(cell_in_scale(table, *row, col, scale))?;
+        let place = row.saturating_sub(first);
+        cells.push(cell_in_scale(table, place, col, scale))?;
     }
     Ok(())
 }
@@ -148,46 +158,50 @@ fn coalesced_cell<'s>(
     in_scale(first, scale)
 }
 
-// Adds the coalesced cells of these pairs.
+// Adds the coalesced cells of these pairs. The left table's first row has this number.
 fn add_coalesced_pairs<'s>(
     cells: &mut Vec<Cell<'s>>,
     left: &'s Table,
+    first: u32,
     a: usize,
     right: &'s Table,
     b: usize,
     pairs: &[(u32, u32)],
     scale: u8,
 ) -> Result<(), AllocError>
-    requires rows { All (λ p. (p.0 < length left.now.rows) × (p.1 < length right.now.rows)) pairs.now }
+    requires rows { All (λ p. (p.0 - first < length left.now.rows) × (p.1 < length right.now.rows)) pairs.now }
     requires cols { (a < length left.now.types) × (b < length right.now.types) }
     requires scale { scale ≡ coalesced_scale left.now right.now a b }
     ensures { OnOk result (map content_of cells.new.items ≡ map content_of cells.old.items
-        ++ map (λ p. in_scale scale (coalesced (cell_of left.now p.0 a) (cell_of right.now p.1 b))) pairs.now) }
+        ++ map (λ p. in_scale scale (coalesced (cell_of left.now (p.0 - first) a) (cell_of right.now p.1 b))) pairs.now) }
 {
     for pair in pairs {
-        cells.push(coalesced_cell(left, a, right, b, *pair, scale))?;
+        let places = (pair.0.saturating_sub(first), pair.1);
+        cells.push(coalesced_cell(left, a, right, b, places, scale))?;
     }
     Ok(())
 }
 
-/// Adds the cells of two coalesced columns: the first that is not null, in the greater scale.
+/// Adds the cells of two coalesced columns: the first that is not null, in the greater scale. The left table's first row has
+/// this number.
 pub(crate) fn add_coalesced<'s>(
     cells: &mut Vec<Cell<'s>>,
     left: &'s Table,
+    first: u32,
     a: usize,
     right: &'s Table,
     b: usize,
     members: Members<'_>,
     scale: u8,
 ) -> Result<(), AllocError>
-    requires rows { All (IsMemberOf left.now right.now) (members_rows members) }
+    requires rows { All (λ m. IsMemberOf left.now right.now (counted_from first m)) (members_rows members) }
     requires cols { (a < length left.now.types) × (b < length right.now.types) }
     requires scale { scale ≡ coalesced_scale left.now right.now a b }
     ensures { OnOk result (map content_of cells.new.items ≡ map content_of cells.old.items
-        ++ map (λ m. joined_cell left.now right.now m (origin.Coalesced a b)) (members_rows members.entry)) }
+        ++ map (λ m. joined_cell left.now right.now (counted_from first m) (origin.Coalesced a b)) (members_rows members.entry)) }
 {
-    add_coalesced_pairs(cells, left, a, right, b, members.pairs, scale)?;
-    add_rows_in_scale(cells, left, a, members.lone_left, scale)?;
-    add_rows_in_scale(cells, right, b, members.lone_right, scale)?;
+    add_coalesced_pairs(cells, left, first, a, right, b, members.pairs, scale)?;
+    add_rows_in_scale(cells, left, first, a, members.lone_left, scale)?;
+    add_rows_in_scale(cells, right, 0, b, members.lone_right, scale)?;
     Ok(())
 }

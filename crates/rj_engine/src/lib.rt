@@ -20,7 +20,10 @@ mod partitions;
 mod pieces;
 mod ranges;
 mod reporting;
+mod run_view;
+mod runs;
 mod scattering;
+mod shown;
 mod sizes;
 mod view;
 mod violations;
@@ -42,5 +45,8 @@ pub use rj_settings::{
     Choice, ColumnChoice, Expectation, Matching, Repeated, RowKinds, RowOrder, Settings,
 };
 pub use rj_workers::{Gate, Open, Place};
+pub use run_view::RunView;
+pub use runs::{Run, cut_runs};
+pub use shown::Shown;
 pub use view::{View, chosen_header, header};
 pub use violations::{Violation, first_violation};

@@ -4,4 +4,4 @@ use Rattle.rj_engine.proofs.view.ViewRowSource.columns.Goals as goal
 
 pub returns-clause-wide : goal.returns-clause-wide
 returns-clause-wide c =
-    let v = c.self.inside in rw (← c.self.view_is) (cells-wide v.left.now v.right.now v.origins.items (shown_rows v.chosen v.joined.now.members))
+    let v = c.self.inside in rw (← c.self.view_is) (cells-wide v.left.now v.right.now v.shown.origins.items (shown_rows v.shown.chosen v.joined.now.members))

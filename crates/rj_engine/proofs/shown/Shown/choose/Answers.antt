@@ -4,7 +4,7 @@ use Rattle.rj_engine.specs.Chosen.{chosen_rows, left_place}
 use Rattle.rj_engine.specs.Join.{JoinedValue, rows_in}
 use Rattle.rj_engine.specs.declared.joined.JoinedRow.{JoinedRow}
 use Rattle.rj_engine.proofs.ChosenFacts.{chosen-columns-there, chosen-there, places-within}
-use Rattle.rj_engine.proofs.view.View.choose.Goals as goal
+use Rattle.rj_engine.proofs.shown.Shown.choose.Goals as goal
 
 pub choose_rows-requires : goal.choose_rows-requires
 choose_rows-requires c =
@@ -16,8 +16,8 @@ pub scales_of-requires : goal.scales_of-requires
 scales_of-requires c =
     rw (c.deref.ensures.value, c.in_ok-origins.ensures, c.partners.ensures, c.columns.ensures.count) (chosen-columns-there c.args.choice.now c.args.join.now c.args.left.now c.args.right.now c.requires.bound)
 
-pub invariant_of-result : goal.invariant_of-result
-invariant_of-result c =
+pub returns-clause-there : goal.returns-clause-there
+returns-clause-there c =
     let l = c.args.left.now in
     let r = c.args.right.now in
     let choice = c.args.choice.now in

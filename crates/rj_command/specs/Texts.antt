@@ -1,0 +1,53 @@
+-- The texts of the rows of a joined table, run by run.
+use Rattle.std.specs.Prelude.{◌≡◌, ◌<◌, ◌==◌, ℕ, Bool, List, [], All, filter, length, map, slice_index_or}
+use Rattle.std.specs.List.{concat}
+use Rattle.std.specs.declared.alloc.Global.{Global}
+use Rattle.std.specs.declared.vec.Vec.{Vec}
+use Rattle.rj_columns.specs.Contents.{Content}
+use Rattle.rj_columns.specs.Tables.{TableValue}
+use Rattle.rj_csv_io.specs.Shown.{rows_text, shown}
+use Rattle.rj_engine.specs.Join.{JoinedValue}
+use Rattle.rj_engine.specs.Shown.{IsRunWithin, run_view}
+use Rattle.rj_engine.specs.declared.runs.Run.{Run}
+use Rattle.rj_engine.specs.declared.shown.Shown.{Shown}
+
+-- texts, one after another
+abbrev pub whole_text : Vec (Vec ℕ Global) Global → List ℕ
+whole_text v = concat (map (λ (t : Vec ℕ Global). t.items) v.items)
+
+-- the text of rows of cells
+abbrev pub cells_text : List ℕ → List (List Content) → List ℕ
+cells_text null rows = rows_text (map (map (shown null)) rows)
+
+-- whether the left rows of a run stand in this segment
+abbrev pub is_of : ℕ → Run → Bool
+is_of segment run = run.segment == segment
+
+-- the text of a run, by its segment of the left table
+abbrev pub run_text : List ℕ → Shown → TableValue → TableValue → JoinedValue → Run → List ℕ
+run_text null s t r v run = cells_text null (run_view s t r v run).cells
+
+-- the texts of the runs of a segment, in their order
+abbrev pub AreRunTexts : List ℕ → Shown → TableValue → TableValue → JoinedValue → ℕ → List Run → Vec (Vec (Vec ℕ Global) Global) Global → Type 0
+AreRunTexts null s t r v segment runs texts = map whole_text texts.items ≡ map (run_text null s t r v) (filter (is_of segment) runs)
+
+-- the runs of a segment are within it
+abbrev pub AreWithin : TableValue → TableValue → JoinedValue → Shown → ℕ → List Run → Type 0
+AreWithin t r v s segment runs = All (λ run. run.segment ≡ segment → IsRunWithin t r v s run) runs
+
+-- a table of nothing
+abbrev pub no_table : TableValue
+no_table = record { names = []; types = []; rows = [] }
+
+-- the text of a run, by all segments
+abbrev pub text_in : List ℕ → Shown → List TableValue → TableValue → JoinedValue → Run → List ℕ
+text_in null s segments r v run = run_text null s (slice_index_or segments run.segment no_table) r v run
+
+-- these texts stand for each segment, one for each of its runs, in their order
+abbrev pub AreTextsOf : (Run → List ℕ) → List Run → List (Vec (Vec (Vec ℕ Global) Global) Global) → Type 0
+AreTextsOf text runs made =
+    (k : ℕ) (d : Vec (Vec (Vec ℕ Global) Global) Global) → k < length made → map whole_text (slice_index_or made k d).items ≡ map text (filter (is_of k) runs)
+
+-- so many texts stand for each segment
+abbrev pub AreCounted : List Run → List (Vec (Vec (Vec ℕ Global) Global) Global) → Type 0
+AreCounted runs made = (k : ℕ) (d : Vec (Vec (Vec ℕ Global) Global) Global) → k < length made → length (slice_index_or made k d).items ≡ length (filter (is_of k) runs)

@@ -1,0 +1,192 @@
+//! The texts of the rows that are shown of a joined table, made segment by segment of its left table.
+
+ghost use Rattle.std.specs.Prelude.{◌≡◌, ◌<◌, ℕ, List, All, IfOk, IfSome, Ok, Some, length, map, slice_index_or};
+ghost use Rattle.std.specs.List.{concat};
+ghost use Rattle.std.specs.Option.{ForSome};
+ghost use Rattle.rj_engine.specs.Shown.{IsShownOf, shown_view};
+ghost use Rattle.rj_engine.specs.declared.runs.Run.{Run};
+ghost use Rattle.rj_command.specs.Texts.{AreCounted, AreRunTexts, AreTextsOf, AreWithin, cells_text, no_table, text_in, whole_text};
+
+use crate::join::interim::{into_segments, texts_of_rows};
+use rj_columns::Table;
+use rj_engine::{Joined, Run, RunView, Shown, cut_runs};
+use std::alloc::{AllocError, Global};
+use std::thread::{self, Threads};
+
+// The texts of rows that follow each other, one after another.
+type Texts = Vec<Vec<u8>>;
+
+// A segment of the left table, until the texts of its runs are made, and then these.
+#[derive(Drop)]
+struct Share {
+    segment: Option<Table>,
+    texts: Result<Vec<Texts>, AllocError>,
+}
+
+// The texts of the runs that stand in a segment of the left table, in their order.
+fn texts_of_segment(
+    alloc: Global,
+    segment: &Table,
+    number: usize,
+    right: &Table,
+    joined: &Joined,
+    shown: &Shown,
+    runs: &[Run],
+    null: &str,
+) -> Result<Vec<Texts>, AllocError>
+    requires { AreWithin segment.now right.now joined.now.members shown.now number runs.now }
+    ensures { IfOk result (AreRunTexts null.now shown.now segment.now right.now joined.now.members number runs.now) }
+{
+    let mut texts = Vec::new(alloc);
+    for run in runs {
+        if run.segment() == number {
+            let rows = RunView::open(segment, right, joined, shown, *run);
+            texts.push(texts_of_rows(alloc, &rows, null)?)?;
+        }
+    }
+    Ok(texts)
+}
+
+// Makes the texts of the runs that stand in a segment, and gives the segment back.
+fn make_texts(
+    alloc: Global,
+    share: &mut Share,
+    number: usize,
+    right: &Table,
+    joined: &Joined,
+    shown: &Shown,
+    runs: &[Run],
+    null: &str,
+)
+    requires { ForSome share.old.segment (λ t. AreWithin t right.now joined.now.members shown.now number runs.now) }
+    ensures { IfSome share.old.segment (λ t. IfOk share.new.texts (AreRunTexts null.now shown.now t right.now joined.now.members number runs.now)) }
+{
+    let Some(segment) = share.segment.take() else {
+        return;
+    };
+    share.texts = texts_of_segment(alloc, &segment, number, right, joined, shown, runs, null);
+}
+
+// A share for each segment, whose texts aren't made yet.
+fn shares_of(alloc: Global, segments: Vec<Table>) -> Result<Vec<Share>, AllocError>
+    ensures { IfOk result (λ v. map (λ s. s.segment) v.items ≡ map (λ t. Some t) segments.items) }
+{
+    let mut shares = Vec::with_capacity(alloc, segments.len())?;
+    for segment in segments {
+        shares.push(Share {
+            segment: Some(segment),
+            texts: Err(AllocError),
+        })?;
+    }
+    Ok(shares)
+}
+
+// The texts of all segments, where each was made.
+fn all_made(alloc: Global, shares: Vec<Share>) -> Result<Vec<Vec<Texts>>, AllocError>
+    ensures { IfOk result (λ v. map (λ s. s.texts) shares.items ≡ map (λ t. Ok t) v.items) }
+{
+    let mut made = Vec::with_capacity(alloc, shares.len())?;
+    for share in shares {
+        let Share { segment: _, texts } = share;
+        made.push(texts?)?;
+    }
+    Ok(made)
+}
+
+// The texts of the runs of each segment, made by up to so many threads with the calling one. Each gives its segments back one
+// by one, as their texts are made.
+fn texts_of_segments<R: Threads + Sync>(
+    rt: &R,
+    alloc: Global,
+    segments: Vec<Table>,
+    right: &Table,
+    joined: &Joined,
+    shown: &Shown,
+    runs: &[Run],
+    null: &str,
+    workers: usize,
+) -> Result<Vec<Vec<Texts>>, AllocError>
+    requires workers { 0 < workers }
+    requires within { (k : ℕ) → k < length segments.items
+        → AreWithin (slice_index_or segments.items k no_table) right.now joined.now.members shown.now k runs.now }
+    ensures many { IfOk result (λ v. length v.items ≡ length segments.items) }
+    ensures texts { IfOk result (λ v. AreTextsOf (text_in null.now shown.now segments.items right.now joined.now.members) runs.now v.items) }
+{
+    let mut shares = shares_of(alloc, segments)?;
+    thread::for_each_mut(
+        rt,
+        shares.as_mut_slice(),
+        workers,
+        &|number, share: &mut Share| {
+            make_texts(alloc, share, number, right, joined, shown, runs, null)
+        },
+    );
+    all_made(alloc, shares)
+}
+
+// The texts of the runs, in the runs' order: those of each segment stand in the order of its runs.
+fn in_order(alloc: Global, made: Vec<Vec<Texts>>, runs: &[Run]) -> Result<Texts, AllocError>
+    requires segments { All (λ run. run.segment < length made.items) runs.now }
+    requires count { AreCounted runs.now made.items }
+    ensures { (text : Run → List ℕ) → AreTextsOf text runs.now made.items → IfOk result (λ v. whole_text v ≡ concat (map text runs.now)) }
+{
+    let mut made = made;
+    let mut texts = Vec::new(alloc);
+    for run in runs {
+        let own = &mut made[run.segment()];
+        let mut next = own.remove(0);
+        texts.append(&mut next)?;
+    }
+    Ok(texts)
+}
+
+// The texts of the runs of these segments, in the runs' order.
+fn texts_of_runs<R: Threads + Sync>(
+    rt: &R,
+    alloc: Global,
+    segments: Vec<Table>,
+    right: &Table,
+    joined: &Joined,
+    shown: &Shown,
+    runs: &[Run],
+    null: &str,
+    workers: usize,
+) -> Result<Texts, AllocError>
+    requires workers { 0 < workers }
+    requires segments { All (λ run. run.segment < length segments.items) runs.now }
+    requires within { (k : ℕ) → k < length segments.items
+        → AreWithin (slice_index_or segments.items k no_table) right.now joined.now.members shown.now k runs.now }
+    ensures { IfOk result (λ v. whole_text v ≡ concat (map (text_in null.now shown.now segments.items right.now joined.now.members) runs.now)) }
+{
+    let made = texts_of_segments(
+        rt, alloc, segments, right, joined, shown, runs, null, workers,
+    )?;
+    in_order(alloc, made, runs)
+}
+
+/// The texts of the rows that are shown of the joined table of two tables, one after another, made by up to so many threads with
+/// the calling one, at least one. The left table is taken apart into segments of at most 65,536 rows. A thread takes segments one
+/// after another, and gives each back as soon as the texts of its rows stand.
+///
+/// # Errors
+///
+/// Refuses only for want of memory.
+pub(crate) fn texts_of_joined<R: Threads + Sync>(
+    rt: &R,
+    alloc: Global,
+    left: Table,
+    right: &Table,
+    joined: &Joined,
+    shown: &Shown,
+    null: &str,
+    workers: usize,
+) -> Result<Texts, AllocError>
+    requires workers { 0 < workers }
+    requires shown { IsShownOf left right.now joined.now.members shown.now }
+    ensures { IfOk result (λ v. whole_text v ≡ cells_text null.now (shown_view shown.now left right.now joined.now.members).cells) }
+{
+    let _rows = left.rows();
+    let segments = into_segments(left, alloc)?;
+    let runs = cut_runs(alloc, &segments, joined, shown)?;
+    texts_of_runs(rt, alloc, segments, right, joined, shown, &runs, null, workers)
+}
