@@ -1,18 +1,20 @@
 //! How a table is built, row by row.
 
-ghost use Rattle.std.specs.Prelude.{◌≡◌, ◌<◌, ◌≤◌, ◌+◌, ◌-◌, ◌^◌, ◌++◌, ◌∷◌, [], map, length, OnOk, OnErr, IfOk, IfErr, Ok, Err, ◌≢◌};
+ghost use Rattle.std.specs.Prelude.{◌≡◌, ◌<◌, ◌-◌, ◌^◌, ◌++◌, ◌∷◌, [], map, length, OnOk, OnErr, IfOk, IfErr, Ok, Err, ◌≢◌};
 ghost use Rattle.rj_columns.specs.Names.{begun};
 ghost use Rattle.rj_columns.specs.Contents.{content_of};
-ghost use Rattle.rj_columns.specs.Columns.{AreFull, cut, changed, popped, without, grown_by};
 ghost use Rattle.rj_columns.specs.Tables.{FitsAt, FitsTypes, with_row};
 
 use crate::cell::{Cell, ColumnType};
-use crate::column::Column;
 use crate::names::{Names, lawful_names};
 use crate::refused::BuildRefused;
+use crate::segment::SEGMENT_ROWS;
+use crate::segment_builder::SegmentBuilder;
+use crate::segments::Segments;
 use crate::table::Table;
 use std::alloc::{AllocError, Global};
 use std::marker::Model;
+use std::mem;
 
 const MAX_COLUMNS: usize = 256;
 
@@ -23,89 +25,21 @@ const MAX_COLUMNS: usize = 256;
 #[derive(Drop)]
 pub struct TableBuilder {
     names: Names,
-    columns: Vec<Column>,
-    rows: u64,
-    filled: usize,
+    // The segments that are full, and the one that gets the rows.
+    closed: Segments,
+    current: SegmentBuilder,
 }
 
 impl Model for TableBuilder {
-    ghost use Rattle.std.specs.Prelude.{take};
     ghost use Rattle.rj_columns.specs.Tables.{BuilderValue};
 
     ghost Value = { BuilderValue };
 
-    ghost use Rattle.rj_columns.specs.Columns.{table_of, row_at, AreColumns};
+    ghost use Rattle.rj_columns.specs.Segments.{table_in, AreSegments};
 
-    ghost view = { λ a. record { table = table_of a.names a.columns.items a.rows; row = row_at (take a.filled a.columns.items) a.rows } };
+    ghost view = { λ a. record { table = table_in a.names a.closed a.current.table; row = a.current.row } };
 
-    ghost invariant = { λ a. AreColumns a.names a.columns.items a.filled a.rows };
-}
-
-// Empty columns of these types.
-fn empty_columns(alloc: Global, types: &[ColumnType]) -> Result<Vec<Column>, AllocError>
-    ensures { IfOk result (λ v. (map (λ c. c.kind) v.items ≡ types.now) × AreFull v.items 0) }
-{
-    let mut columns = Vec::new(alloc);
-    for kind in types {
-        columns.push(Column::new(alloc, *kind))?;
-    }
-    Ok(columns)
-}
-
-// Room for rows, where there is memory for it.
-fn reserve_all(columns: &mut Vec<Column>, rows: usize)
-    ensures { columns.new.items ≡ columns.old.items }
-{
-    for i in 0..columns.len() {
-        if columns[i].reserve(rows, 0).is_err() {
-            return;
-        }
-    }
-}
-
-// Cuts the first columns back to these rows.
-fn cut_back(columns: &mut Vec<Column>, filled: usize, rows: usize)
-    requires { filled ≤ length columns.old.items }
-    ensures { columns.new.items ≡ cut rows filled columns.old.items }
-{
-    for i in 0..filled {
-        columns[i].truncate(rows);
-    }
-}
-
-// Drops the last cells of the first columns.
-fn pop_each(columns: &mut Vec<Column>, pushed: usize)
-    requires { pushed ≤ length columns.old.items }
-    ensures { columns.new.items ≡ changed popped pushed columns.old.items }
-{
-    for i in 0..pushed {
-        columns[i].pop();
-    }
-}
-
-// Drops the cells of the first columns at a row.
-fn remove_each(columns: &mut Vec<Column>, filled: usize, row: usize)
-    requires { filled ≤ length columns.old.items }
-    ensures { columns.new.items ≡ changed (without row) filled columns.old.items }
-{
-    for i in 0..filled {
-        columns[i].remove(row);
-    }
-}
-
-// Adds a cell to each column. Where memory is refused the columns are as they were.
-fn push_each(columns: &mut Vec<Column>, cells: &[Cell<'_>]) -> Result<(), AllocError>
-    requires { FitsTypes (map (λ c. c.kind) columns.old.items) (map content_of cells.now) }
-    ensures ok { OnOk result (columns.new.items ≡ grown_by (map content_of cells.now) columns.old.items) }
-    ensures err { OnErr result (columns.new.items ≡ columns.old.items) }
-{
-    for i in 0..cells.len() {
-        if columns[i].push(cells[i]).is_err() {
-            pop_each(columns, i);
-            return Err(AllocError);
-        }
-    }
-    Ok(())
+    ghost invariant = { λ a. AreSegments a.names a.closed a.current.table };
 }
 
 impl TableBuilder {
@@ -136,22 +70,21 @@ impl TableBuilder {
         if names.len() != types.len() {
             return Err(BuildRefused::TypeCount);
         }
-        match empty_columns(alloc, types) {
-            Ok(columns) => Ok(TableBuilder {
+        match SegmentBuilder::new(alloc, types) {
+            Ok(current) => Ok(TableBuilder {
                 names,
-                columns,
-                rows: 0,
-                filled: 0,
+                closed: Segments::new(alloc),
+                current,
             }),
             Err(_) => Err(BuildRefused::Memory),
         }
     }
 
-    /// Makes room for more rows, as far as memory is granted. The table stays as it is.
+    /// Makes room for more rows, as far as memory is granted, and for 65,536 at most. The table stays as it is.
     pub fn reserve(&mut self, rows: usize)
         ensures { self.new ≡ self.old }
     {
-        reserve_all(&mut self.columns, rows);
+        self.current.reserve(rows.min(SEGMENT_ROWS));
     }
 
     /// Adds a cell to the row at hand: there is a column for it, and it is null or of that column's type.
@@ -164,18 +97,35 @@ impl TableBuilder {
         ensures ok { OnOk result (self.new ≡ record self.old { row = self.old.row ++ content_of cell.entry ∷ [] }) }
         ensures err { OnErr result (self.new ≡ self.old) }
     {
-        let at = self.filled;
-        self.columns[at].push(cell)?;
-        self.filled = at + 1;
-        Ok(())
+        self.make_room()?;
+        self.current.push_cell(cell)
     }
 
-    // Drops the cells of the row at hand.
-    fn drop_row(&mut self)
-        ensures { self.new ≡ record self.old { row = [] } }
+    // Begins another segment: there is no cell of a row at hand. Where memory is refused nothing is changed.
+    fn close(&mut self) -> Result<(), AllocError>
+        requires { self.old.row ≡ [] }
+        ensures { self.new ≡ self.old }
     {
-        cut_back(&mut self.columns, self.filled, self.rows as usize);
-        self.filled = 0;
+        let next = self.current.next()?;
+        let full = mem::replace(&mut self.current, next).finish();
+        match self.closed.push(full) {
+            Ok(()) => Ok(()),
+            Err(full) => {
+                self.current = SegmentBuilder::of(full);
+                Err(AllocError)
+            }
+        }
+    }
+
+    // Begins another segment where the one at hand is full. Where memory is refused nothing is changed.
+    #[inline]
+    fn make_room(&mut self) -> Result<(), AllocError>
+        ensures { self.new ≡ self.old }
+    {
+        if self.current.is_full() {
+            self.close()?;
+        }
+        Ok(())
     }
 
     /// Ends the row at hand, which has a cell for each column. There were fewer than 2^31 - 1 rows.
@@ -184,15 +134,14 @@ impl TableBuilder {
         requires room { length self.old.table.rows < 2 ^ 31 - 1 }
         ensures { self.new ≡ record { table = with_row self.old.table self.old.row; row = [] } }
     {
-        self.rows += 1;
-        self.filled = 0;
+        self.current.end_row();
     }
 
     /// How many rows it has so far.
     pub fn rows(&self) -> u64
         ensures { result ≡ length self.now.table.rows }
     {
-        self.rows
+        self.closed.rows() + self.current.rows()
     }
 
     /// Adds a row: one cell a column, each null or of the column's type. There were fewer than 2^31 - 1
@@ -207,30 +156,23 @@ impl TableBuilder {
         ensures ok { OnOk result (self.new ≡ record { table = with_row self.old.table (map content_of cells.now); row = [] }) }
         ensures err { OnErr result (self.new ≡ self.old) }
     {
-        push_each(&mut self.columns, cells)?;
-        let rows = self.rows;
-        remove_each(&mut self.columns, self.filled, rows as usize);
-        self.rows = rows + 1;
-        self.filled = 0;
-        Ok(())
+        self.make_room()?;
+        self.current.push_row(cells)
     }
 
     /// The table of the rows so far. Cells of a row that was not ended are dropped.
     pub fn finish(self) -> Table
         ensures { result ≡ self.table }
     {
-        let mut builder = self;
-        builder.drop_row();
         let TableBuilder {
             names,
-            columns,
-            rows,
-            filled: _,
-        } = builder;
+            closed,
+            current,
+        } = self;
         Table {
             names,
-            columns,
-            rows,
+            closed,
+            last: current.finish(),
         }
     }
 }

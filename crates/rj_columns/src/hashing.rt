@@ -1,8 +1,8 @@
 //! Hashes that take up the cells of a column at some rows.
 
-ghost use Rattle.std.specs.Prelude.{◌≡◌, ◌<◌, ℕ, All, Option, Some, length, map, slice_index_or};
+ghost use Rattle.std.specs.Prelude.{◌≡◌, ◌<◌, ◌≤◌, ◌-◌, ℕ, All, Option, Some, length, map, slice_index_or};
 ghost use Rattle.rj_columns.specs.Contents.{Content, IsInLimits, content_of, nothing};
-ghost use Rattle.rj_columns.specs.Hashed.{HaveTaken};
+ghost use Rattle.rj_columns.specs.Hashed.{AreRowsOf, HaveTaken};
 ghost use Rattle.rj_columns.specs.Stores.{decimal_content, number_content, text_content};
 ghost use Rattle.rj_columns.specs.Tables.{cell_of};
 ghost use Rattle.rj_columns.specs.Widths.{numbers_lent};
@@ -25,25 +25,37 @@ pub trait CellHash {
 }
 
 // Adds the numbers of 4 bytes at these rows, where none is null.
-fn hash_narrow<H: CellHash>(values: &[i32], rows: &[u32], by: &H, hashes: &mut [Option<u64>])
-    requires rows { All (λ r. r < length values.now) rows.now }
+fn hash_narrow<H: CellHash>(
+    values: &[i32],
+    from: usize,
+    rows: &[u32],
+    by: &H,
+    hashes: &mut [Option<u64>],
+)
+    requires rows { AreRowsOf values.now from rows.now }
     requires len { length hashes.old ≡ length rows.now }
-    ensures { HaveTaken (H.added by.now) (λ r. slice_index_or (map number_content (map Some values.now)) r nothing) rows.now hashes.old hashes.new }
+    ensures { HaveTaken (H.added by.now) (λ r. slice_index_or (map number_content (map Some values.now)) (r - from) nothing) rows.now hashes.old hashes.new }
 {
     for i in 0..rows.len() {
-        let cell = int_cell(Some(i64::from(values[rows[i] as usize])));
+        let cell = int_cell(Some(i64::from(values[rows[i] as usize - from])));
         hashes[i] = by.add(hashes[i], cell);
     }
 }
 
 // The same of numbers of 8 bytes.
-fn hash_wide<H: CellHash>(values: &[i64], rows: &[u32], by: &H, hashes: &mut [Option<u64>])
-    requires rows { All (λ r. r < length values.now) rows.now }
+fn hash_wide<H: CellHash>(
+    values: &[i64],
+    from: usize,
+    rows: &[u32],
+    by: &H,
+    hashes: &mut [Option<u64>],
+)
+    requires rows { AreRowsOf values.now from rows.now }
     requires len { length hashes.old ≡ length rows.now }
-    ensures { HaveTaken (H.added by.now) (λ r. slice_index_or (map number_content (map Some values.now)) r nothing) rows.now hashes.old hashes.new }
+    ensures { HaveTaken (H.added by.now) (λ r. slice_index_or (map number_content (map Some values.now)) (r - from) nothing) rows.now hashes.old hashes.new }
 {
     for i in 0..rows.len() {
-        let cell = int_cell(Some(values[rows[i] as usize]));
+        let cell = int_cell(Some(values[rows[i] as usize - from]));
         hashes[i] = by.add(hashes[i], cell);
     }
 }
@@ -51,37 +63,39 @@ fn hash_wide<H: CellHash>(values: &[i64], rows: &[u32], by: &H, hashes: &mut [Op
 // Adds the numbers at these rows, where none is null. Their width is asked once for all.
 fn hash_present<H: CellHash>(
     numbers: NumberSlice<'_>,
+    from: usize,
     rows: &[u32],
     by: &H,
     hashes: &mut [Option<u64>],
 )
-    requires rows { All (λ r. r < length (numbers_lent numbers)) rows.now }
+    requires rows { AreRowsOf (numbers_lent numbers) from rows.now }
     requires len { length hashes.old ≡ length rows.now }
-    ensures { HaveTaken (H.added by.now) (λ r. slice_index_or (map number_content (map Some (numbers_lent numbers.entry))) r nothing) rows.now hashes.old hashes.new }
+    ensures { HaveTaken (H.added by.now) (λ r. slice_index_or (map number_content (map Some (numbers_lent numbers.entry))) (r - from) nothing) rows.now hashes.old hashes.new }
 {
     match numbers {
-        NumberSlice::Narrow(values) => hash_narrow(values, rows, by, hashes),
-        NumberSlice::Wide(values) => hash_wide(values, rows, by, hashes),
+        NumberSlice::Narrow(values) => hash_narrow(values, from, rows, by, hashes),
+        NumberSlice::Wide(values) => hash_wide(values, from, rows, by, hashes),
     }
 }
 
 // Adds the whole numbers at these rows to the hashes at their places. Whether any is null is asked once for all.
 pub(crate) fn hash_ints<H: CellHash>(
     numbers: &Ints,
+    from: usize,
     rows: &[u32],
     by: &H,
     hashes: &mut [Option<u64>],
 )
-    requires rows { All (λ r. r < length numbers.now) rows.now }
+    requires rows { AreRowsOf numbers.now from rows.now }
     requires len { length hashes.old ≡ length rows.now }
-    ensures { HaveTaken (H.added by.now) (λ r. slice_index_or (map number_content numbers.now) r nothing) rows.now hashes.old hashes.new }
+    ensures { HaveTaken (H.added by.now) (λ r. slice_index_or (map number_content numbers.now) (r - from) nothing) rows.now hashes.old hashes.new }
 {
     if let Some(present) = numbers.present() {
-        hash_present(present, rows, by, hashes);
+        hash_present(present, from, rows, by, hashes);
         return;
     }
     for i in 0..rows.len() {
-        let cell = int_cell(numbers.get(rows[i] as usize));
+        let cell = int_cell(numbers.get(rows[i] as usize - from));
         hashes[i] = by.add(hashes[i], cell);
     }
 }
@@ -90,17 +104,18 @@ pub(crate) fn hash_ints<H: CellHash>(
 pub(crate) fn hash_decimals<H: CellHash>(
     numbers: &Ints,
     scale: u8,
+    from: usize,
     rows: &[u32],
     by: &H,
     hashes: &mut [Option<u64>],
 )
-    requires rows { All (λ r. r < length numbers.now) rows.now }
+    requires rows { AreRowsOf numbers.now from rows.now }
     requires limits { All IsInLimits (map (decimal_content scale) numbers.now) }
     requires len { length hashes.old ≡ length rows.now }
-    ensures { HaveTaken (H.added by.now) (λ r. slice_index_or (map (decimal_content scale) numbers.now) r nothing) rows.now hashes.old hashes.new }
+    ensures { HaveTaken (H.added by.now) (λ r. slice_index_or (map (decimal_content scale) numbers.now) (r - from) nothing) rows.now hashes.old hashes.new }
 {
     for i in 0..rows.len() {
-        let cell = decimal_cell(numbers.get(rows[i] as usize), scale);
+        let cell = decimal_cell(numbers.get(rows[i] as usize - from), scale);
         hashes[i] = by.add(hashes[i], cell);
     }
 }
@@ -108,23 +123,41 @@ pub(crate) fn hash_decimals<H: CellHash>(
 // Adds the texts at these rows to the hashes at their places.
 pub(crate) fn hash_texts<H: CellHash>(
     texts: &Texts,
+    from: usize,
     rows: &[u32],
     by: &H,
     hashes: &mut [Option<u64>],
 )
-    requires rows { All (λ r. r < length texts.now) rows.now }
+    requires rows { AreRowsOf texts.now from rows.now }
     requires len { length hashes.old ≡ length rows.now }
-    ensures { HaveTaken (H.added by.now) (λ r. slice_index_or (map text_content texts.now) r nothing) rows.now hashes.old hashes.new }
+    ensures { HaveTaken (H.added by.now) (λ r. slice_index_or (map text_content texts.now) (r - from) nothing) rows.now hashes.old hashes.new }
 {
     for i in 0..rows.len() {
-        let cell = text_cell(texts.get(rows[i] as usize));
+        let cell = text_cell(texts.get(rows[i] as usize - from));
         hashes[i] = by.add(hashes[i], cell);
     }
 }
 
+// Where the rows end that stand from a place on and are all in a segment, whose rows are those from `start` up to `end`: the
+// one at the place is.
+fn run_end(rows: &[u32], place: usize, start: u64, end: u64) -> usize
+    requires place { place < length rows.now }
+    requires from { start ≤ slice_index_or rows.now place 0 }
+    requires to { slice_index_or rows.now place 0 < end }
+    ensures more { place < result }
+    ensures inside { result ≤ length rows.now }
+    ensures each { (k : ℕ) → place ≤ k → k < result → (start ≤ slice_index_or rows.now k 0) × (slice_index_or rows.now k 0 < end) }
+{
+    let mut next = place + 1;
+    while next < rows.len() && u64::from(rows[next]) >= start && u64::from(rows[next]) < end {
+        next += 1;
+    }
+    next
+}
+
 impl Table {
     /// Adds the cells of a column at these rows to the hashes at the rows' places. It takes no memory, and what kind of
-    /// cells the column has is asked once for all rows, so that reads from memory overlap.
+    /// cells the column has is asked once for all rows that stand in one segment, so that reads from memory overlap.
     pub fn hash_cells<H: CellHash>(
         &self,
         col: usize,
@@ -137,6 +170,17 @@ impl Table {
         requires len { length hashes.old ≡ length rows.now }
         ensures { HaveTaken (H.added by.now) (λ r. cell_of self.now r col) rows.now hashes.old hashes.new }
     {
-        self.column(col).hash_cells(rows, by, hashes);
+        let mut done = 0;
+        while done < rows.len() {
+            let (start, segment) = self.find(u64::from(rows[done]));
+            let end = run_end(rows, done, start, start + segment.rows());
+            segment.column(col).hash_cells(
+                start as usize,
+                &rows[done..end],
+                by,
+                &mut hashes[done..end],
+            );
+            done = end;
+        }
     }
 }

@@ -61,7 +61,8 @@ impl Selection {
         requires table_col { table_col < length table.now.types }
         ensures { result ≡ are_equal (slice_index_or (slice_index_or self.now col []) place nothing) (cell_of table.now row table_col) }
     {
-        self.columns[col].is_equal(place, table.column(table_col), row as usize)
+        let (start, segment) = table.find(row);
+        self.columns[col].is_equal(place, segment.column(table_col), (row - start) as usize)
     }
 }
 

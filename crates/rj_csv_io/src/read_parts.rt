@@ -56,8 +56,8 @@ fn tables_of_parts(
     Ok(tables)
 }
 
-// The table of the texts' records under the header, which is the first record of the first text. As many texts as there are
-// workers at most are read at a time, and so are columns put together.
+// The table of the texts' records under the header, which is the first record of the first text. Each text is
+// read by a thread, all at a time.
 fn read_texts<R: Threads + Sync>(
     rt: &R,
     alloc: Global,
@@ -65,10 +65,8 @@ fn read_texts<R: Threads + Sync>(
     header: &ByteRecord,
     types: &[ColumnType],
     nulls: &[&str],
-    workers: usize,
 ) -> Result<Table, ReadRefused>
-    requires some { 0 < length texts.now }
-    requires workers { 0 < workers }
+    requires { 0 < length texts.now }
     ensures { IsReading (null_texts nulls.now) types.now (fields_of header.now) (under_header (map (λ t. t.now) texts.now)) result }
 {
     let read = thread::map_indices(
@@ -84,7 +82,7 @@ fn read_texts<R: Threads + Sync>(
         Ok(tables) => tables,
         Err(e) => return Err(e),
     };
-    match Table::concat(rt, alloc, tables.as_slice(), workers) {
+    match Table::concat(tables) {
         Ok(table) => Ok(table),
         Err(_) => Err(ReadRefused::Memory),
     }
@@ -123,7 +121,7 @@ fn read_in_parts<R: Threads + Sync>(
         Ok(_) => {}
         Err(e) => return Err(e),
     }
-    match read_texts(rt, alloc, texts, &header, types, nulls, parts) {
+    match read_texts(rt, alloc, texts, &header, types, nulls) {
         Ok(table) => Ok(table),
         Err(e) => Err(e),
     }
@@ -152,7 +150,7 @@ pub(crate) fn read_in_parts_of<R: Threads + Sync>(
 }
 
 /// Reads a table as [`read_table`] does, in up to so many parts at a time, each by a thread. The calling thread reads one
-/// of them, and as many threads at most put the columns of the parts together.
+/// of them. No cell is copied as the parts become one table.
 ///
 /// A part has at least 256 KiB, so that no thread is started for few bytes. The answer doesn't depend on the parts.
 ///

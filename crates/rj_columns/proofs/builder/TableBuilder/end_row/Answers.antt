@@ -1,36 +1,10 @@
-use Rattle.std.proofs.Common.{◌≡◌, ◌∙◌, map, length, refl, sym, arith, ℕ, List, take}
-use Rattle.rj_columns.proofs.RowFacts.{length-rows_of, Filling-size, Filling-end, rows_of-end}
-use Rattle.rj_columns.specs.Columns.{ColumnValue, Filling, row_at}
-use Rattle.std.proofs.lemmas.List.{length-map}
+use Rattle.std.proofs.Common.{ap}
+use Rattle.rj_columns.specs.Tables.{BuilderValue}
+use Rattle.rj_columns.proofs.SegmentFacts.{row-added}
 use Rattle.rj_columns.proofs.builder.TableBuilder.end_row.Goals as goal
-
-every : (columns : List ColumnValue) (k n : ℕ) → Filling columns k n → length (row_at (take k columns) n) ≡ length (map (λ c. c.kind) columns) → k ≡ length columns
-every columns k n h e =
-    let size = Filling-size columns k n h in
-    let kinds : length (map (λ (c : ColumnValue). c.kind) columns) ≡ length columns = length-map columns (λ (c : ColumnValue). c.kind) in
-    sym size ∙ e ∙ kinds
-
-pub overflow_add-self : goal.overflow_add-self
-overflow_add-self c =
-    let room = rw (← c.self.view_is) at c.requires.room in
-    let size = length-rows_of c.self.inside.columns.items c.self.inside.rows in
-    omega arith
 
 pub invariant_of-self : goal.invariant_of-self
 invariant_of-self c =
-    let all = every c.self.inside.columns.items c.self.inside.filled c.self.inside.rows c.self.invariant.filling (rw (← c.self.view_is) at c.requires.full) in
     let room = rw (← c.self.view_is) at c.requires.room in
-    let size = length-rows_of c.self.inside.columns.items c.self.inside.rows in
-    record {
-      few = c.self.invariant.few;
-      named = c.self.invariant.named;
-      lawful = c.self.invariant.lawful;
-      filling = Filling-end c.self.inside.columns.items c.self.inside.filled c.self.inside.rows c.self.invariant.filling all;
-      typed = c.self.invariant.typed;
-      within = omega arith;
-    }
-
-pub returns : goal.returns
-returns c =
-    let all = every c.self.inside.columns.items c.self.inside.filled c.self.inside.rows c.self.invariant.filling (rw (← c.self.view_is) at c.requires.full) in
-    rw (rows_of-end c.self.inside.columns.items c.self.inside.filled c.self.inside.rows all, ← c.self.view_is) refl
+    row-added c.self.inside.names c.self.inside.closed c.self.inside.current.table c.self.inside.current.row c.end_row.new.self.table c.self.invariant c.end_row.ensures.typed room
+    (ap (λ (b : BuilderValue). b.table) c.end_row.ensures.ended)

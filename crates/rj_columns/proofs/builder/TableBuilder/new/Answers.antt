@@ -2,44 +2,35 @@ use Rattle.std.proofs.Common.{◌≡◌, ◌≤◌, [], ℕ, List, length, map, 
 use Rattle.std.proofs.lemmas.Bool.{le-ltb, eq-eqb}
 use Rattle.std.proofs.lemmas.List.{length-map}
 use Rattle.rj_columns.specs.declared.cell.ColumnType.{ColumnType}
-use Rattle.rj_columns.specs.Columns.{ColumnValue, rows_of}
 use Rattle.rj_columns.specs.Names.{begun, name_fault}
-use Rattle.rj_columns.proofs.RowFacts.{Filling-start, empty-typed}
+use Rattle.std.proofs.lemmas.List.Elements.{All-nil}
+use Rattle.rj_columns.specs.Tables.{TableValue, FitsTypes}
 use Rattle.rj_columns.proofs.builder.TableBuilder.new.Goals as goal
 
 begun-ok : (names : List (List ℕ)) (types : List ColumnType) → length names ≤ 256 → name_fault [] names ≡ None → length names ≡ length types
     → begun names types ≡ Ok record { names = names; types = types; rows = [] }
 begun-ok names types few good same = rw (le-ltb 256 (length names) few, good, eq-eqb (length names) (length types) same) refl
 
-no-rows : (columns : List ColumnValue) → rows_of columns 0 ≡ []
-unfolding rows_of
-no-rows columns = refl
-
-pub returns-in-Ok-empty_columns-clause-table : goal.returns-in-Ok-empty_columns-clause-table
-returns-in-Ok-empty_columns-clause-table c =
+pub returns-in-Ok-new-clause-table : goal.returns-in-Ok-new-clause-table
+returns-in-Ok-new-clause-table c =
     let names = c.in-Ok.ensures.names in
     let size : length (map (λ (n : Bor (List ℕ)). n.now) c.args.names.now) ≡ length c.args.names.now = length-map c.args.names.now (λ (n : Bor (List ℕ)). n.now) in
     let count : length c.in-Ok.names ≡ length c.args.types.now = search rules in
     let shown : length c.in-Ok.names ≡ length (map (λ (n : Bor (List ℕ)). n.now) c.args.names.now) = ap length names.0 in
     let made = begun-ok (map (λ (n : Bor (List ℕ)). n.now) c.args.names.now) c.args.types.now (omega arith) names.1 (omega arith) in
-    rw (names.0, c.in-Ok-empty_columns.ensures.0, no-rows) (made, refl)
+    rw (names.0, c.in-Ok-new.ensures, c.new-in-Ok-new.ensures) (made, refl)
 
 pub invariant_of-result : goal.invariant_of-result
 invariant_of-result c =
     let names = c.in-Ok.ensures.names in
     let size : length (map (λ (n : Bor (List ℕ)). n.now) c.args.names.now) ≡ length c.args.names.now = length-map c.args.names.now (λ (n : Bor (List ℕ)). n.now) in
-    let shown : length c.in-Ok.names ≡ length (map (λ (n : Bor (List ℕ)). n.now) c.args.names.now) = ap length names.0 in
     let count : length c.in-Ok.names ≡ length c.args.types.now = search rules in
-    let kinds : length (map (λ (v : ColumnValue). v.kind) c.in-Ok-empty_columns.columns.items) ≡ length c.in-Ok-empty_columns.columns.items = length-map c.in-Ok-empty_columns.columns.items (λ (v : ColumnValue). v.kind) in
-    let types : length (map (λ (v : ColumnValue). v.kind) c.in-Ok-empty_columns.columns.items) ≡ length c.args.types.now = ap length c.in-Ok-empty_columns.ensures.0 in
-    record {
+    let shown : length c.in-Ok.names ≡ length (map (λ (n : Bor (List ℕ)). n.now) c.args.names.now) = ap length names.0 in
+    rw (c.in-Ok-new.ensures, c.new-in-Ok-new.ensures) record {
       few = omega arith;
       named = omega arith;
       lawful = rw names.0 names.1;
-      filling = Filling-start c.in-Ok-empty_columns.columns.items 0 c.in-Ok-empty_columns.ensures.1;
-      typed = empty-typed c.in-Ok-empty_columns.columns.items c.in-Ok-empty_columns.ensures.1;
+      alike = All-nil (λ (s : TableValue). s.types ≡ c.args.types.now);
+      typed = All-nil (FitsTypes c.args.types.now);
       within = omega arith;
     }
-
-pub returns-in-Ok-empty_columns-clause-columns : goal.returns-in-Ok-empty_columns-clause-columns
-returns-in-Ok-empty_columns-clause-columns c = (c.in-Ok-empty_columns.ensures.0, no-rows c.in-Ok-empty_columns.columns.items)
