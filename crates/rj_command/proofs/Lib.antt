@@ -1,5 +1,6 @@
 mod OperandFacts
 mod RunFacts
+pub mod TextFacts
 mod ApartFacts
 mod BackFacts
 mod NumberFacts

@@ -5,6 +5,7 @@ pub use Rattle.rj_line.specs.Named
 pub use Rattle.rj_line.specs.Options
 pub mod Operands
 pub mod Runs
+pub mod Texts
 pub mod Sides
 pub mod Statistics
 pub mod Expected

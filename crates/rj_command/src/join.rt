@@ -2,6 +2,7 @@
 
 mod counting;
 mod expected;
+mod interim;
 mod laws;
 mod naming;
 mod nulls;
@@ -11,6 +12,7 @@ mod running;
 mod shown;
 mod stats;
 mod strict;
+mod texts;
 mod types;
 mod violations;
 mod watching;

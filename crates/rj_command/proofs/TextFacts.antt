@@ -1,0 +1,185 @@
+-- The texts of runs, one after another.
+use Rattle.std.proofs.Common.{◌≡◌, ◌≢◌, ◌⊎◌, ℕ, zero, suc, ◌+◌, ◌-◌, ◌<◌, ◌≤◌, ◌==◌, Bool, true, false, cond, List, [], ◌∷◌, ◌++◌, All, refl, ap, sym, subst, ◌∙◌, arith, inl, inr, length, map, take, drop, get_or, set}
+use Rattle.std.specs.List.{concat, filter}
+use Rattle.std.specs.declared.alloc.Global.{Global}
+use Rattle.std.specs.declared.vec.Vec.{Vec}
+use Rattle.std.proofs.lemmas.Bool.{cases_Bool, cases_eq}
+use Rattle.std.proofs.lemmas.Bool.Decides.{nat_tests}
+use borrow.Author.Tests.{eqb-true}
+use Rattle.std.proofs.lemmas.List.{drop_more, get_or-set_other, get_or-set_same, append-nil, get_or_default, length-map, length-set, map-append, take_all}
+use Rattle.std.proofs.lemmas.List.Elements.{All-head, All-tail, filter_more}
+use Rattle.std.proofs.lemmas.List.Folds.{concat-append}
+use Rattle.rj_columns.specs.Contents.{Content}
+use Rattle.rj_columns.specs.Tables.{TableValue, rows_of_all}
+use Rattle.rj_csv_io.specs.Shown.{range_text, rows_text, shown}
+use Rattle.rj_csv_io.proofs.RangeFacts.{range-join, range-none}
+use Rattle.rj_engine.specs.declared.joined.JoinedRow.{JoinedRow}
+use Rattle.rj_engine.specs.declared.joined.JoinedRow.TheVariants.{Both, LeftOnly, RightOnly}
+use Rattle.rj_engine.specs.declared.runs.Run.{Run}
+use Rattle.rj_engine.specs.declared.shown.Shown.{Shown}
+use Rattle.rj_engine.specs.Cells.{IsMemberOf, joined_cells}
+use Rattle.rj_engine.specs.Chosen.{shown_rows}
+use Rattle.rj_engine.specs.Join.{JoinedValue}
+use Rattle.rj_engine.specs.Shown.{Follow, IsRunOf, IsShownOf, StandsWithin, shown_view}
+use Rattle.rj_engine.proofs.RunFacts.{run-cells, run-within}
+use Rattle.rj_command.specs.Texts.{AreCounted, AreTextsOf, AreWithin, cells_text, is_of, no_table, run_text, text_in, whole_text}
+
+abbrev Texts : Type 0
+Texts = Vec (Vec ℕ Global) Global
+
+-- ---- the runs of one segment
+
+same-segment : (a k : ℕ) → a ≡ k → (a == k) ≡ true
+same-segment a k is = grind (arith, nat_tests, is)
+
+other-segment : (a k : ℕ) → a ≢ k → (a == k) ≡ false
+other-segment a k isnt = grind (arith, nat_tests, isnt)
+
+-- one run more of this segment
+pub texts-more : (text : Run → List ℕ) (k : ℕ) (runs : List Run) (i : ℕ) (run : Run) (texts : List Texts) (more : Texts) → i < length runs → run ≡ get_or runs i run → run.segment ≡ k
+    → map whole_text texts ≡ map text (filter (is_of k) (take i runs)) → whole_text more ≡ text run
+    → map whole_text (texts ++ more ∷ []) ≡ map text (filter (is_of k) (take (i + 1) runs))
+texts-more text k runs i run texts more low is of before here =
+    let before-it = filter (is_of k) (take i runs) in
+    let yes : is_of k (get_or runs i run) ≡ true = ap (is_of k) (sym is) ∙ same-segment run.segment k of in
+    let next = filter_more (is_of k) runs i run low ∙ (λ t. before-it ++ cond (yes t) (sym is t ∷ []) []) in
+    map-append whole_text texts (more ∷ []) ∙ ((λ t. before t ++ here t ∷ []) ∙ (sym (map-append text before-it (run ∷ [])) ∙ ap (map text) (sym next)))
+
+-- one run more of another segment
+pub texts-same : (text : Run → List ℕ) (k : ℕ) (runs : List Run) (i : ℕ) (run : Run) (texts : List Texts) → i < length runs → run ≡ get_or runs i run → run.segment ≢ k
+    → map whole_text texts ≡ map text (filter (is_of k) (take i runs)) → map whole_text texts ≡ map text (filter (is_of k) (take (i + 1) runs))
+texts-same text k runs i run texts low is isnt before =
+    let before-it = filter (is_of k) (take i runs) in
+    let no : is_of k (get_or runs i run) ≡ false = ap (is_of k) (sym is) ∙ other-segment run.segment k isnt in
+    let next = filter_more (is_of k) runs i run low ∙ ((λ t. before-it ++ cond (no t) (sym is t ∷ []) []) ∙ append-nil before-it) in
+    before ∙ ap (map text) (sym next)
+
+-- what is alike of each run of a segment
+same-texts : (f g : Run → List ℕ) (k : ℕ) (runs : List Run) → ((run : Run) → run.segment ≡ k → f run ≡ g run) → map f (filter (is_of k) runs) ≡ map g (filter (is_of k) runs)
+same-texts f g k [] same = refl
+same-texts f g k (run ∷ runs) same = elim (cases_Bool (run.segment == k)) [
+  | inl yes ↦
+      let rest = same-texts f g k runs same in
+      let here = same run (eqb-true run.segment k yes) in
+      (λ t. map f (cond (yes t) (run ∷ filter (is_of k) runs) (filter (is_of k) runs)))
+      ∙ ((λ t. here t ∷ rest t) ∙ (λ t. map g (cond (sym yes t) (run ∷ filter (is_of k) runs) (filter (is_of k) runs))))
+  | inr no ↦
+      let rest = same-texts f g k runs same in
+      (λ t. map f (cond (no t) (run ∷ filter (is_of k) runs) (filter (is_of k) runs)))
+      ∙ (rest ∙ (λ t. map g (cond (sym no t) (run ∷ filter (is_of k) runs) (filter (is_of k) runs))))
+]
+
+-- the texts of a segment's runs, by all segments
+pub texts-in : (null : List ℕ) (s : Shown) (segments : List TableValue) (r : TableValue) (v : JoinedValue) (k : ℕ) (runs : List Run)
+    → map (run_text null s (get_or segments k no_table) r v) (filter (is_of k) runs) ≡ map (text_in null s segments r v) (filter (is_of k) runs)
+texts-in null s segments r v k runs =
+    same-texts (run_text null s (get_or segments k no_table) r v) (text_in null s segments r v) k runs (λ run is. ap (λ n. run_text null s (get_or segments n no_table) r v run) (sym is))
+
+-- ---- the runs in their order
+
+module _ (runs : List Run) (i : ℕ) (run : Run) (low : i < length runs) (is : run ≡ get_or runs i run) where
+  next-runs : drop i runs ≡ run ∷ drop (i + 1) runs
+  next-runs = drop_more runs i run low ∙ ap (λ r. r ∷ drop (i + 1) runs) (sym is)
+
+  own-runs : filter (is_of run.segment) (drop i runs) ≡ run ∷ filter (is_of run.segment) (drop (i + 1) runs)
+  own-runs = let yes = same-segment run.segment run.segment refl in
+      ap (filter (is_of run.segment)) next-runs ∙ (λ t. cond (yes t) (run ∷ filter (is_of run.segment) (drop (i + 1) runs)) (filter (is_of run.segment) (drop (i + 1) runs)))
+
+  other-runs : (k : ℕ) → k ≢ run.segment → filter (is_of k) (drop i runs) ≡ filter (is_of k) (drop (i + 1) runs)
+  other-runs k isnt = let no = other-segment run.segment k (λ e. isnt (sym e)) in
+      ap (filter (is_of k)) next-runs ∙ (λ t. cond (no t) (run ∷ filter (is_of k) (drop (i + 1) runs)) (filter (is_of k) (drop (i + 1) runs)))
+
+-- what is left of each segment once the next text of this run's segment is taken
+pub left-texts : (text : Run → List ℕ) (runs : List Run) (i : ℕ) (run : Run) (made : List (Vec Texts Global)) (own left : Vec Texts Global) (next : Texts) → i < length runs → run ≡ get_or runs i run
+    → run.segment < length made → own ≡ get_or made run.segment own → own.items ≡ next ∷ left.items → AreTextsOf text (drop i runs) made
+    → (whole_text next ≡ text run) × AreTextsOf text (drop (i + 1) runs) (set made run.segment left)
+left-texts text runs i run made own left next low is inside at taken before =
+    let k0 = run.segment in
+    let rest = filter (is_of k0) (drop (i + 1) runs) in
+    let all : whole_text next ∷ map whole_text left.items ≡ text run ∷ map text rest =
+        ap (map whole_text) (sym taken) ∙ (ap (λ (v : Vec Texts Global). map whole_text v.items) at ∙ (before k0 own inside ∙ ap (map text) (own-runs runs i run low is))) in
+    (ap (λ l. get_or l 0 []) all, λ k d lt.
+        let size = length-set made k0 left in
+        let here : k < length made = omega (arith, size, lt) in
+        elim (cases_eq k k0) [
+          | inl e ↦ subst (λ n. map whole_text (get_or (set made k0 left) n d).items ≡ map text (filter (is_of n) (drop (i + 1) runs))) (sym e)
+              (ap (λ (v : Vec Texts Global). map whole_text v.items) (get_or-set_same made k0 left d inside) ∙ ap (drop 1) all)
+          | inr ne ↦ ap (λ (v : Vec Texts Global). map whole_text v.items) (get_or-set_other made k0 k left d ne) ∙ (before k d here ∙ ap (map text) (other-runs runs i run low is k ne))
+        ])
+
+-- and how many those are
+pub left-counted : (runs : List Run) (i : ℕ) (run : Run) (made : List (Vec Texts Global)) (own left : Vec Texts Global) (next : Texts) → i < length runs → run ≡ get_or runs i run
+    → run.segment < length made → own ≡ get_or made run.segment own → own.items ≡ next ∷ left.items → AreCounted (drop i runs) made → AreCounted (drop (i + 1) runs) (set made run.segment left)
+left-counted runs i run made own left next low is inside at taken before =
+    let k0 = run.segment in
+    let rest = filter (is_of k0) (drop (i + 1) runs) in
+    let all : suc (length left.items) ≡ suc (length rest) =
+        ap length (sym taken) ∙ (ap (λ (v : Vec Texts Global). length v.items) at ∙ (before k0 own inside ∙ ap length (own-runs runs i run low is))) in
+    λ k d lt.
+        let size = length-set made k0 left in
+        let here : k < length made = omega (arith, size, lt) in
+        elim (cases_eq k k0) [
+          | inl e ↦ subst (λ n. length (get_or (set made k0 left) n d).items ≡ length (filter (is_of n) (drop (i + 1) runs))) (sym e)
+              (ap (λ (v : Vec Texts Global). length v.items) (get_or-set_same made k0 left d inside) ∙ omega (arith, all))
+          | inr ne ↦ ap (λ (v : Vec Texts Global). length v.items) (get_or-set_other made k0 k left d ne) ∙ (before k d here ∙ ap length (other-runs runs i run low is k ne))
+        ]
+
+-- a text of this run's segment is left
+pub next-there : (runs : List Run) (i : ℕ) (run : Run) (made : List (Vec Texts Global)) (own : Vec Texts Global) → i < length runs → run ≡ get_or runs i run
+    → run.segment < length made → own ≡ get_or made run.segment own → AreCounted (drop i runs) made → 0 < length own.items
+next-there runs i run made own low is inside at before =
+    let all : length own.items ≡ suc (length (filter (is_of run.segment) (drop (i + 1) runs))) =
+        ap (λ (v : Vec Texts Global). length v.items) at ∙ (before run.segment own inside ∙ ap length (own-runs runs i run low is)) in
+    omega (arith, all)
+
+-- ---- all runs
+
+-- the text of runs that follow one another up to the last row
+texts-follow : (null : List ℕ) (segments : List TableValue) (l r : TableValue) (v : JoinedValue) (s : Shown) (from : ℕ) (runs : List Run) → l.rows ≡ rows_of_all segments
+    → All (λ (t : TableValue). t.types ≡ l.types) segments → Follow from (length (shown_rows s.chosen v)) runs → All (IsRunOf segments (shown_rows s.chosen v)) runs
+    → concat (map (text_in null s segments r v) runs) ≡ range_text null (shown_view s l r v).cells from (length (shown_rows s.chosen v))
+unfolding Follow
+texts-follow null segments l r v s from [] rows types h each =
+    let n = length (shown_rows s.chosen v) in
+    sym (ap (λ k. range_text null (shown_view s l r v).cells k n) h ∙ range-none null (shown_view s l r v).cells n)
+texts-follow null segments l r v s from (run ∷ runs) rows types h each =
+    let n = length (shown_rows s.chosen v) in
+    let cells = (shown_view s l r v).cells in
+    let one = All-head (IsRunOf segments (shown_rows s.chosen v)) run runs each in
+    let others = All-tail (IsRunOf segments (shown_rows s.chosen v)) run runs each in
+    let t = get_or segments run.segment no_table in
+    let there : t ≡ get_or segments run.segment t = get_or_default segments run.segment no_table t one.segment in
+    let here : text_in null s segments r v run ≡ range_text null cells run.from run.to = ap (cells_text null) (run-cells segments l r t v s run rows (types run.segment no_table one.segment) one there) in
+    let rest = texts-follow null segments l r v s run.to runs rows types h.1 others in
+    (λ i. here i ++ rest i) ∙ (range-join null cells run.from run.to n one.order one.to ∙ ap (λ k. range_text null cells k n) h.0)
+
+-- the text of all runs is that of all rows
+pub whole-texts : (null : List ℕ) (segments : List TableValue) (l r : TableValue) (v : JoinedValue) (s : Shown) (runs : List Run) → l.rows ≡ rows_of_all segments
+    → All (λ (t : TableValue). t.types ≡ l.types) segments → Follow 0 (length (shown_rows s.chosen v)) runs → All (IsRunOf segments (shown_rows s.chosen v)) runs
+    → concat (map (text_in null s segments r v) runs) ≡ cells_text null (shown_view s l r v).cells
+whole-texts null segments l r v s runs rows types h each =
+    let all = shown_rows s.chosen v in
+    let cells = (shown_view s l r v).cells in
+    let size : length cells ≡ length all = length-map all (joined_cells l r s.origins.items) in
+    texts-follow null segments l r v s 0 runs rows types h each ∙ ap (cells_text null) (take_all (length all - 0) cells (omega (arith, size)))
+
+-- the runs of a segment are within it
+pub all-within : (segments : List TableValue) (l r : TableValue) (v : JoinedValue) (s : Shown) (runs : List Run) (k : ℕ) → l.rows ≡ rows_of_all segments
+    → All (λ (t : TableValue). t.types ≡ l.types) segments → IsShownOf l r v s → All (IsRunOf segments (shown_rows s.chosen v)) runs → k < length segments
+    → AreWithin (get_or segments k no_table) r v s k runs
+all-within segments l r v s runs k rows types h each low = λ i d lt is.
+    let t = get_or segments k no_table in
+    let there : t ≡ get_or segments k t = get_or_default segments k no_table t low in
+    run-within segments l r t v s (get_or runs i d) rows (types k no_table low) (each i d lt) (there ∙ ap (λ n. get_or segments n t) (sym is)) h
+
+pub all-segments : (segments : List TableValue) (rows : List JoinedRow) (runs : List Run) → All (IsRunOf segments rows) runs → All (λ (run : Run). run.segment < length segments) runs
+all-segments segments rows runs each = λ i d lt. (each i d lt).segment
+
+-- the left rows of members stand in the left table
+member-stands : (l r : TableValue) (row : JoinedRow) → IsMemberOf l r row → StandsWithin 0 (length l.rows) row
+member-stands l r (Both i j) h = (omega arith, h.0)
+member-stands l r (LeftOnly i) h = (omega arith, h.0)
+member-stands l r (RightOnly j) h = tt
+
+pub members-stand : (l r : TableValue) (rows : List JoinedRow) → All (IsMemberOf l r) rows → All (StandsWithin 0 (length l.rows)) rows
+members-stand l r rows h = λ i d lt. member-stands l r _ (h i d lt)
