@@ -6,6 +6,7 @@ pub use Rattle.rj_line.specs.Options
 pub mod Operands
 pub mod Runs
 pub mod Texts
+pub mod Prepared
 pub mod Sides
 pub mod Statistics
 pub mod Expected

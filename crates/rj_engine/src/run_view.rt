@@ -70,13 +70,7 @@ impl<'a> RunView<'a> {
             from: 0,
             to: count_of(&shown.chosen, joined),
         };
-        RunView {
-            segment: left,
-            right,
-            joined,
-            shown,
-            run,
-        }
+        RunView::open(left, right, joined, shown, run)
     }
 }
 

@@ -1,17 +1,24 @@
 //! The texts of the rows that are shown of a joined table, made segment by segment of its left table.
 
-ghost use Rattle.std.specs.Prelude.{◌≡◌, ◌<◌, ℕ, List, All, IfOk, IfSome, Ok, Some, length, map, slice_index_or};
+ghost use Rattle.std.specs.Prelude.{◌≡◌, ◌≢◌, ◌<◌, ◌+◌, ◌-◌, ◌^◌, ℕ, Err, IsTrue, List, OnOk, All, IfOk, IfSome, Ok, Some, length, map, slice_index_or};
+ghost use Rattle.std.specs.Io.KnownBytes.{Appends};
 ghost use Rattle.std.specs.List.{concat};
 ghost use Rattle.std.specs.Option.{ForSome};
+ghost use Rattle.rj_csv_io.specs.Shown.{table_text};
+ghost use Rattle.rj_csv_io.specs.Tables.{is_null_text};
 ghost use Rattle.rj_engine.specs.Shown.{IsShownOf, shown_view};
 ghost use Rattle.rj_engine.specs.declared.runs.Run.{Run};
 ghost use Rattle.rj_command.specs.Texts.{AreCounted, AreRunTexts, AreTextsOf, AreWithin, cells_text, no_table, text_in, whole_text};
 
-use crate::join::interim::{into_segments, texts_of_rows};
+use crate::join::interim::{into_segments, texts_of_rows, write_texts};
 use rj_columns::Table;
+use rj_csv_io::{Output, WriteRefused, write_rows_in_parts};
 use rj_engine::{Joined, Run, RunView, Shown, cut_runs};
 use std::alloc::{AllocError, Global};
 use std::thread::{self, Threads};
+
+// A left table that has at least so many rows for each thread is taken apart: then the threads have about as many segments each.
+const SHARE_ROWS: u64 = 262_144;
 
 // The texts of rows that follow each other, one after another.
 type Texts = Vec<Vec<u8>>;
@@ -125,12 +132,11 @@ fn texts_of_segments<R: Threads + Sync>(
 }
 
 // The texts of the runs, in the runs' order: those of each segment stand in the order of its runs.
-fn in_order(alloc: Global, made: Vec<Vec<Texts>>, runs: &[Run]) -> Result<Texts, AllocError>
+fn in_order(alloc: Global, mut made: Vec<Vec<Texts>>, runs: &[Run]) -> Result<Texts, AllocError>
     requires segments { All (λ run. run.segment < length made.items) runs.now }
     requires count { AreCounted runs.now made.items }
     ensures { (text : Run → List ℕ) → AreTextsOf text runs.now made.items → IfOk result (λ v. whole_text v ≡ concat (map text runs.now)) }
 {
-    let mut made = made;
     let mut texts = Vec::new(alloc);
     for run in runs {
         let own = &mut made[run.segment()];
@@ -189,4 +195,72 @@ pub(crate) fn texts_of_joined<R: Threads + Sync>(
     let segments = into_segments(left, alloc)?;
     let runs = cut_runs(alloc, &segments, joined, shown)?;
     texts_of_runs(rt, alloc, segments, right, joined, shown, &runs, null, workers)
+}
+
+// Writes a header, and behind it the rows that are shown of the joined table of two tables, with their texts made segment by segment
+// of the left table.
+fn write_segments<R: Threads + Sync, O: Output>(
+    rt: &R,
+    alloc: Global,
+    writer: &mut O,
+    header: &[&str],
+    left: Table,
+    right: &Table,
+    joined: &Joined,
+    shown: &Shown,
+    null: &str,
+    workers: usize,
+) -> Result<(), WriteRefused>
+    requires workers { 0 < workers }
+    requires shown { IsShownOf left right.now joined.now.members shown.now }
+    requires failures { O.count writer.old < 2 ^ 64 - 1 }
+    ensures ok { OnOk result (Appends (O.told writer.old) (O.told writer.new)
+        (table_text null.now (map (λ n. n.now) header.now) (shown_view shown.now left right.now joined.now.members).cells)) }
+    ensures memory { result ≡ Err WriteRefused.Memory → writer.new ≡ writer.old }
+    ensures device { result ≡ Err WriteRefused.WriteDevice → O.count writer.new ≡ O.count writer.old + 1 }
+    ensures kept { result ≢ Err WriteRefused.WriteDevice → O.count writer.new ≡ O.count writer.old }
+{
+    let Ok(texts) = texts_of_joined(rt, alloc, left, right, joined, shown, null, workers) else {
+        return Err(WriteRefused::Memory);
+    };
+    write_texts(alloc, writer, header, texts.as_slice())
+}
+
+/// Writes a header, and behind it the rows that are shown of the joined table of two tables, with their texts made by up to so many
+/// threads. All texts are made before the first is put. A left table of many rows is given back segment by segment, as the texts
+/// of its rows are made; of another one the rows are divided evenly among the threads.
+///
+/// # Errors
+///
+/// `Memory` where a growth was refused: the device is as it was. `WriteDevice` where the device failed: nothing is known of how much
+/// it took.
+pub(crate) fn write_shown<R: Threads + Sync, O: Output>(
+    rt: &R,
+    alloc: Global,
+    writer: &mut O,
+    header: &[&str],
+    left: Table,
+    right: &Table,
+    joined: &Joined,
+    shown: &Shown,
+    null: &str,
+    workers: usize,
+) -> Result<(), WriteRefused>
+    requires shown { IsShownOf left right.now joined.now.members shown.now }
+    requires header { length header.now ≡ length shown.now.origins.items }
+    requires null { IsTrue (is_null_text null.now) }
+    requires failures { O.count writer.old < 2 ^ 64 - 1 }
+    ensures ok { OnOk result (Appends (O.told writer.old) (O.told writer.new)
+        (table_text null.now (map (λ n. n.now) header.now) (shown_view shown.now left right.now joined.now.members).cells)) }
+    ensures memory { result ≡ Err WriteRefused.Memory → writer.new ≡ writer.old }
+    ensures device { result ≡ Err WriteRefused.WriteDevice → O.count writer.new ≡ O.count writer.old + 1 }
+    ensures kept { result ≢ Err WriteRefused.WriteDevice → O.count writer.new ≡ O.count writer.old }
+{
+    if workers > 0 && left.rows() / SHARE_ROWS >= workers as u64 {
+        return write_segments(
+            rt, alloc, writer, header, left, right, joined, shown, null, workers,
+        );
+    }
+    let rows = RunView::whole(&left, right, joined, shown);
+    write_rows_in_parts(rt, alloc, writer, header, &rows, null, workers)
 }

@@ -7,10 +7,10 @@ pub returns-in-Plain-clause-ok : goal.returns-in-Plain-clause-ok
 returns-in-Plain-clause-ok g c =
     let before = g.O.Output.told c.args.writer.now in
     let after = g.O.Output.told c.write_joined.new.writer in
-    subst (λ (h : Hash). IfOk c.write_joined.result (WritesTables (hash_value h) c.args.request.now c.args.operands.now before after)) (sym c.in-Plain.is) c.write_joined.ensures.ok
+    subst (λ (h : Hash). IfOk c.write_joined.result (WritesTables (hash_value h) c.args.request.now c.args.operands before after)) (sym c.in-Plain.is) c.write_joined.ensures.ok
 
 pub returns-in-Mixed-clause-ok : goal.returns-in-Mixed-clause-ok
 returns-in-Mixed-clause-ok g c =
     let before = g.O.Output.told c.args.writer.now in
     let after = g.O.Output.told c.write_joined-in-Mixed.new.writer in
-    subst (λ (h : Hash). IfOk c.write_joined-in-Mixed.result (WritesTables (hash_value h) c.args.request.now c.args.operands.now before after)) (sym c.in-Mixed.is) c.write_joined-in-Mixed.ensures.ok
+    subst (λ (h : Hash). IfOk c.write_joined-in-Mixed.result (WritesTables (hash_value h) c.args.request.now c.args.operands before after)) (sym c.in-Mixed.is) c.write_joined-in-Mixed.ensures.ok

@@ -11,8 +11,8 @@ use Rattle.rj_engine.proofs.run_view.RunView.whole.Goals as goal
 whole_rows : (rows : List JoinedRow) (n : _) → n ≡ length rows → map (counted_from 0) (take (n - 0) (drop 0 rows)) ≡ rows
 whole_rows rows n is = ap (map (counted_from 0)) (take_all (n - 0) rows (omega (arith, is))) ∙ all-counted-zero rows
 
-pub invariant_of-result : goal.invariant_of-result
-invariant_of-result c =
+pub open-requires : goal.open-requires
+open-requires c =
     let rows = shown_rows c.args.shown.now.chosen c.args.joined.now.members in
     (omega arith, omega (arith, c.count_of.ensures), subst (All (IsMemberOf c.args.left.now c.args.right.now)) (sym (whole_rows rows _ c.count_of.ensures)) c.requires.0, c.requires.1)
 
@@ -20,4 +20,4 @@ pub returns : goal.returns
 returns c =
     let rows = shown_rows c.args.shown.now.chosen c.args.joined.now.members in
     let os = c.args.shown.now.origins.items in
-    λ t. record { cells = map (joined_cells c.args.left.now c.args.right.now os) (whole_rows rows _ c.count_of.ensures t); width = length os }
+    c.open.ensures ∙ (λ t. record { cells = map (joined_cells c.args.left.now c.args.right.now os) (whole_rows rows _ c.count_of.ensures t); width = length os })
