@@ -3,6 +3,8 @@
 ghost use Rattle.std.specs.Prelude.{◌≡◌, length, IfOk};
 ghost use Rattle.rj_columns.specs.Contents.{content_of, decimal};
 
+mod segments;
+
 use rj_columns::{
     BuildRefused, Cell, ColumnType, NumericType, RowSource, Table, TableBuilder, are_equal_cells,
     coalesce, compare, in_scale,
