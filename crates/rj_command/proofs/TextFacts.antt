@@ -15,7 +15,8 @@ use Rattle.std.proofs.lemmas.List.Elements.{All-head, All-tail, filter_more}
 use Rattle.std.proofs.lemmas.List.Folds.{concat-append}
 use Rattle.rj_columns.specs.Contents.{Content}
 use Rattle.rj_columns.specs.Tables.{TableValue, rows_of_all}
-use Rattle.rj_csv_io.specs.Shown.{range_text, rows_text, shown}
+use Rattle.csv.specs.Writing.{default_writer, row_text}
+use Rattle.rj_csv_io.specs.Shown.{range_text, rows_text, shown, table_text}
 use Rattle.rj_csv_io.proofs.RangeFacts.{range-join, range-none}
 use Rattle.rj_engine.specs.declared.joined.JoinedRow.{JoinedRow}
 use Rattle.rj_engine.specs.declared.joined.JoinedRow.TheVariants.{Both, LeftOnly, RightOnly}
@@ -108,16 +109,18 @@ module _ (null : List ℕ) (s : Shown) (segments : List TableValue) (r : TableVa
       → map (λ (x : Share). x.texts) after ≡ map (λ (t : Vec Texts Global). Ok t) made
       → (length made ≡ length segments) × AreTextsOf (text_in null s segments r v) runs made
   made-texts after made many each all =
-      let long : length made ≡ length after = sym (length-map made (λ (t : Vec Texts Global). Ok t)) ∙ (ap length (sym all) ∙ length-map after (λ (x : Share). x.texts)) in
-      (long ∙ (many ∙ size), λ k d lt.
-          let e : Share = record { segment = Some no_table; texts = Ok d } in
-          let t = get_or segments k no_table in
-          let low : k < length shares = omega (arith, long, many, lt) in
-          let ok : (get_or after k e).texts ≡ Ok (get_or made k d) =
-              sym (get_or-map (λ (x : Share). x.texts) after k e) ∙ (ap (λ os. get_or os k (Ok d)) all ∙ get_or-map (λ (u : Vec Texts Global). Ok u) made k d) in
-          let one = subst (λ o. IfSome o (λ (u : TableValue). IfOk (get_or after k e).texts (AreRunTexts null s u r v k runs))) (segment-of k (Ok d)) (each k e low) in
-          let texts : AreRunTexts null s t r v k runs (get_or made k d) = subst (λ x. IfOk x (AreRunTexts null s t r v k runs)) ok one in
-          texts ∙ texts-in null s segments r v k runs)
+      let long : length made ≡ length after = sym (length-map made (λ (t : Vec Texts Global). Ok t)) ∙ (ap length (sym all) ∙ length-map after (λ (x : Share). x.texts)) in (
+        long ∙ (many ∙ size),
+        λ k d lt.
+            let e : Share = record { segment = Some no_table; texts = Ok d } in
+            let t = get_or segments k no_table in
+            let low : k < length shares = omega (arith, long, many, lt) in
+            let ok : (get_or after k e).texts ≡ Ok (get_or made k d) =
+            sym (get_or-map (λ (x : Share). x.texts) after k e) ∙ (ap (λ os. get_or os k (Ok d)) all ∙ get_or-map (λ (u : Vec Texts Global). Ok u) made k d) in
+            let one = subst (λ o. IfSome o (λ (u : TableValue). IfOk (get_or after k e).texts (AreRunTexts null s u r v k runs))) (segment-of k (Ok d)) (each k e low) in
+            let texts : AreRunTexts null s t r v k runs (get_or made k d) = subst (λ x. IfOk x (AreRunTexts null s t r v k runs)) ok one in
+            texts ∙ texts-in null s segments r v k runs,
+      )
 
 -- ---- the runs in their order
 
@@ -141,15 +144,17 @@ left-texts text runs i run made own left next low is inside at taken before =
     let k0 = run.segment in
     let rest = filter (is_of k0) (drop (i + 1) runs) in
     let all : whole_text next ∷ map whole_text left.items ≡ text run ∷ map text rest =
-        ap (map whole_text) (sym taken) ∙ (ap (λ (v : Vec Texts Global). map whole_text v.items) at ∙ (before k0 own inside ∙ ap (map text) (own-runs runs i run low is))) in
-    (ap (λ l. get_or l 0 []) all, λ k d lt.
-        let size = length-set made k0 left in
-        let here : k < length made = omega (arith, size, lt) in
-        elim (cases_eq k k0) [
-          | inl e ↦ subst (λ n. map whole_text (get_or (set made k0 left) n d).items ≡ map text (filter (is_of n) (drop (i + 1) runs))) (sym e)
-              (ap (λ (v : Vec Texts Global). map whole_text v.items) (get_or-set_same made k0 left d inside) ∙ ap (drop 1) all)
-          | inr ne ↦ ap (λ (v : Vec Texts Global). map whole_text v.items) (get_or-set_other made k0 k left d ne) ∙ (before k d here ∙ ap (map text) (other-runs runs i run low is k ne))
-        ])
+    ap (map whole_text) (sym taken) ∙ (ap (λ (v : Vec Texts Global). map whole_text v.items) at ∙ (before k0 own inside ∙ ap (map text) (own-runs runs i run low is))) in (
+      ap (λ l. get_or l 0 []) all,
+      λ k d lt.
+          let size = length-set made k0 left in
+          let here : k < length made = omega (arith, size, lt) in
+          elim (cases_eq k k0) [
+            | inl e ↦ subst (λ n. map whole_text (get_or (set made k0 left) n d).items ≡ map text (filter (is_of n) (drop (i + 1) runs))) (sym e)
+                (ap (λ (v : Vec Texts Global). map whole_text v.items) (get_or-set_same made k0 left d inside) ∙ ap (drop 1) all)
+            | inr ne ↦ ap (λ (v : Vec Texts Global). map whole_text v.items) (get_or-set_other made k0 k left d ne) ∙ (before k d here ∙ ap (map text) (other-runs runs i run low is k ne))
+          ],
+    )
 
 -- and how many those are
 pub left-counted : (runs : List Run) (i : ℕ) (run : Run) (made : List (Vec Texts Global)) (own left : Vec Texts Global) (next : Texts) → i < length runs → run ≡ get_or runs i run
@@ -158,22 +163,22 @@ left-counted runs i run made own left next low is inside at taken before =
     let k0 = run.segment in
     let rest = filter (is_of k0) (drop (i + 1) runs) in
     let all : suc (length left.items) ≡ suc (length rest) =
-        ap length (sym taken) ∙ (ap (λ (v : Vec Texts Global). length v.items) at ∙ (before k0 own inside ∙ ap length (own-runs runs i run low is))) in
+    ap length (sym taken) ∙ (ap (λ (v : Vec Texts Global). length v.items) at ∙ (before k0 own inside ∙ ap length (own-runs runs i run low is))) in
     λ k d lt.
-        let size = length-set made k0 left in
-        let here : k < length made = omega (arith, size, lt) in
-        elim (cases_eq k k0) [
-          | inl e ↦ subst (λ n. length (get_or (set made k0 left) n d).items ≡ length (filter (is_of n) (drop (i + 1) runs))) (sym e)
-              (ap (λ (v : Vec Texts Global). length v.items) (get_or-set_same made k0 left d inside) ∙ omega (arith, all))
-          | inr ne ↦ ap (λ (v : Vec Texts Global). length v.items) (get_or-set_other made k0 k left d ne) ∙ (before k d here ∙ ap length (other-runs runs i run low is k ne))
-        ]
+    let size = length-set made k0 left in
+    let here : k < length made = omega (arith, size, lt) in
+    elim (cases_eq k k0) [
+      | inl e ↦ subst (λ n. length (get_or (set made k0 left) n d).items ≡ length (filter (is_of n) (drop (i + 1) runs))) (sym e)
+          (ap (λ (v : Vec Texts Global). length v.items) (get_or-set_same made k0 left d inside) ∙ omega (arith, all))
+      | inr ne ↦ ap (λ (v : Vec Texts Global). length v.items) (get_or-set_other made k0 k left d ne) ∙ (before k d here ∙ ap length (other-runs runs i run low is k ne))
+    ]
 
 -- a text of this run's segment is left
 pub next-there : (runs : List Run) (i : ℕ) (run : Run) (made : List (Vec Texts Global)) (own : Vec Texts Global) → i < length runs → run ≡ get_or runs i run
     → run.segment < length made → own ≡ get_or made run.segment own → AreCounted (drop i runs) made → 0 < length own.items
 next-there runs i run made own low is inside at before =
     let all : length own.items ≡ suc (length (filter (is_of run.segment) (drop (i + 1) runs))) =
-        ap (λ (v : Vec Texts Global). length v.items) at ∙ (before run.segment own inside ∙ ap length (own-runs runs i run low is)) in
+    ap (λ (v : Vec Texts Global). length v.items) at ∙ (before run.segment own inside ∙ ap length (own-runs runs i run low is)) in
     omega (arith, all)
 
 -- the text of one run more
@@ -183,8 +188,8 @@ whole-more text runs i run before next after low is joined so here =
     let items : Vec ℕ Global → List ℕ = λ t. t.items in
     let runs-more = take_more runs i run low ∙ ap (λ r. take i runs ++ r ∷ []) (sym is) in
     let right = ap (λ rs. concat (map text rs)) runs-more
-        ∙ (ap concat (map-append text (take i runs) (run ∷ []))
-        ∙ (concat-append (map text (take i runs)) (text run ∷ []) ∙ ap (λ t. concat (map text (take i runs)) ++ t) (append-nil (text run)))) in
+    ∙ (ap concat (map-append text (take i runs) (run ∷ []))
+    ∙ (concat-append (map text (take i runs)) (text run ∷ []) ∙ ap (λ t. concat (map text (take i runs)) ++ t) (append-nil (text run)))) in
     ap (λ ts. concat (map items ts)) joined
     ∙ (ap concat (map-append items before.items next.items) ∙ (concat-append (map items before.items) (map items next.items) ∙ ((λ t. so t ++ here t) ∙ sym right)))
 
@@ -239,3 +244,9 @@ member-stands l r (RightOnly j) h = tt
 
 pub members-stand : (l r : TableValue) (rows : List JoinedRow) → All (IsMemberOf l r) rows → All (StandsWithin 0 (length l.rows)) rows
 members-stand l r rows h = λ i d lt. member-stands l r _ (h i d lt)
+
+-- under a header the text of rows is that of a table
+pub table-text : (null : List ℕ) (header : List (List ℕ)) (cells : List (List Content)) (texts : Texts) → whole_text texts ≡ cells_text null cells
+    → row_text default_writer header ++ whole_text texts ≡ table_text null header cells
+unfolding rows_text
+table-text null header cells texts is = ap (λ t. row_text default_writer header ++ t) is

@@ -21,7 +21,11 @@ pub(crate) fn into_segments(table: Table, alloc: Global) -> Result<Vec<Table>, A
     Err(AllocError)
 }
 
-pub(crate) fn texts_of_rows<S: RowSource>(alloc: Global, source: &S, null: &str) -> Result<Vec<Vec<u8>>, AllocError>
+pub(crate) fn texts_of_rows<S: RowSource>(
+    alloc: Global,
+    source: &S,
+    null: &str,
+) -> Result<Vec<Vec<u8>>, AllocError>
     ensures { IfOk result (λ v. concat (map (λ t. t.items) v.items) ≡ rows_text (map (map (shown null.now)) (S.contents source.now))) }
 {
     let _alloc = alloc;

@@ -220,7 +220,9 @@ pub(crate) fn texts_of_joined<R: Threads + Sync>(
     let _rows = left.rows();
     let segments = into_segments(left, alloc)?;
     let runs = cut_runs(alloc, &segments, joined, shown)?;
-    texts_of_runs(rt, alloc, segments, right, joined, shown, &runs, null, workers)
+    texts_of_runs(
+        rt, alloc, segments, right, joined, shown, &runs, null, workers,
+    )
 }
 
 // Writes a header, and behind it the rows that are shown of the joined table of two tables, with their texts made segment by segment
@@ -250,6 +252,33 @@ fn write_segments<R: Threads + Sync, O: Output>(
         return Err(WriteRefused::Memory);
     };
     write_texts(alloc, writer, header, texts.as_slice())
+}
+
+// Writes the same with the rows divided evenly among the threads, and the left table whole.
+fn write_whole<R: Threads + Sync, O: Output>(
+    rt: &R,
+    alloc: Global,
+    writer: &mut O,
+    header: &[&str],
+    left: &Table,
+    right: &Table,
+    joined: &Joined,
+    shown: &Shown,
+    null: &str,
+    workers: usize,
+) -> Result<(), WriteRefused>
+    requires shown { IsShownOf left.now right.now joined.now.members shown.now }
+    requires header { length header.now ≡ length shown.now.origins.items }
+    requires null { IsTrue (is_null_text null.now) }
+    requires failures { O.count writer.old < 2 ^ 64 - 1 }
+    ensures ok { OnOk result (Appends (O.told writer.old) (O.told writer.new)
+        (table_text null.now (map (λ n. n.now) header.now) (shown_view shown.now left.now right.now joined.now.members).cells)) }
+    ensures memory { result ≡ Err WriteRefused.Memory → writer.new ≡ writer.old }
+    ensures device { result ≡ Err WriteRefused.WriteDevice → O.count writer.new ≡ O.count writer.old + 1 }
+    ensures kept { result ≢ Err WriteRefused.WriteDevice → O.count writer.new ≡ O.count writer.old }
+{
+    let rows = RunView::whole(left, right, joined, shown);
+    write_rows_in_parts(rt, alloc, writer, header, &rows, null, workers)
 }
 
 /// Writes a header, and behind it the rows that are shown of the joined table of two tables, with their texts made by up to so many
@@ -287,6 +316,7 @@ pub(crate) fn write_shown<R: Threads + Sync, O: Output>(
             rt, alloc, writer, header, left, right, joined, shown, null, workers,
         );
     }
-    let rows = RunView::whole(&left, right, joined, shown);
-    write_rows_in_parts(rt, alloc, writer, header, &rows, null, workers)
+    write_whole(
+        rt, alloc, writer, header, &left, right, joined, shown, null, workers,
+    )
 }

@@ -29,7 +29,8 @@ loop-run-preserved c =
       count = subst (λ n. AreCounted (drop (i + 1) runs) (set made n left)) (sym named) (left-counted runs i run made own left next low is inside at taken c.loop-run.invariant.count);
       texts = λ text all.
           let before = c.loop-run.invariant.texts text all in
-          let now = left-texts text runs i run made own left next low is inside at taken before.0 in
-          (subst (λ n. AreTextsOf text (drop (i + 1) runs) (set made n left)) (sym named) now.1,
-            whole-more text runs i run c.loop-run.texts next c.append.new.self low is c.in_ok-append.ensures.items before.1 now.0);
+          let now = left-texts text runs i run made own left next low is inside at taken before.0 in (
+            subst (λ n. AreTextsOf text (drop (i + 1) runs) (set made n left)) (sym named) now.1,
+            whole-more text runs i run c.loop-run.texts next c.append.new.self low is c.in_ok-append.ensures.items before.1 now.0,
+          );
     }
