@@ -1,17 +1,22 @@
 -- The texts of runs, one after another.
 use Rattle.std.proofs.Common.{◌≡◌, ◌≢◌, ◌⊎◌, ℕ, zero, suc, ◌+◌, ◌-◌, ◌<◌, ◌≤◌, ◌==◌, Bool, true, false, cond, List, [], ◌∷◌, ◌++◌, All, refl, ap, sym, subst, ◌∙◌, arith, inl, inr, length, map, take, drop, get_or, set}
+use Rattle.std.specs.Prelude.{IfOk, IfSome, Ok, Option, Result, Some, unwrap_or}
+use Rattle.std.specs.Option.{ForSome}
 use Rattle.std.specs.List.{concat, filter}
+use Rattle.std.specs.declared.alloc.AllocError.{AllocError}
+use Rattle.std.proofs.Math.ListN.{get_or-map}
 use Rattle.std.specs.declared.alloc.Global.{Global}
 use Rattle.std.specs.declared.vec.Vec.{Vec}
 use Rattle.std.proofs.lemmas.Bool.{cases_Bool, cases_eq}
 use Rattle.std.proofs.lemmas.Bool.Decides.{nat_tests}
 use borrow.Author.Tests.{eqb-true}
-use Rattle.std.proofs.lemmas.List.{drop_more, get_or-set_other, get_or-set_same, append-nil, get_or_default, length-map, length-set, map-append, take_all}
+use Rattle.std.proofs.lemmas.List.{drop_more, get_or-set_other, get_or-set_same, append-nil, get_or_default, length-map, length-set, map-append, take_all, take_more}
 use Rattle.std.proofs.lemmas.List.Elements.{All-head, All-tail, filter_more}
 use Rattle.std.proofs.lemmas.List.Folds.{concat-append}
 use Rattle.rj_columns.specs.Contents.{Content}
 use Rattle.rj_columns.specs.Tables.{TableValue, rows_of_all}
-use Rattle.rj_csv_io.specs.Shown.{range_text, rows_text, shown}
+use Rattle.csv.specs.Writing.{default_writer, row_text}
+use Rattle.rj_csv_io.specs.Shown.{range_text, rows_text, shown, table_text}
 use Rattle.rj_csv_io.proofs.RangeFacts.{range-join, range-none}
 use Rattle.rj_engine.specs.declared.joined.JoinedRow.{JoinedRow}
 use Rattle.rj_engine.specs.declared.joined.JoinedRow.TheVariants.{Both, LeftOnly, RightOnly}
@@ -22,7 +27,8 @@ use Rattle.rj_engine.specs.Chosen.{shown_rows}
 use Rattle.rj_engine.specs.Join.{JoinedValue}
 use Rattle.rj_engine.specs.Shown.{Follow, IsRunOf, IsShownOf, StandsWithin, shown_view}
 use Rattle.rj_engine.proofs.RunFacts.{run-cells, run-within}
-use Rattle.rj_command.specs.Texts.{AreCounted, AreTextsOf, AreWithin, cells_text, is_of, no_table, run_text, text_in, whole_text}
+use Rattle.rj_command.specs.declared.join.texts.Share.{Share}
+use Rattle.rj_command.specs.Texts.{AreCounted, AreRunTexts, AreTextsOf, AreWithin, cells_text, is_of, no_table, run_text, text_in, whole_text}
 
 abbrev Texts : Type 0
 Texts = Vec (Vec ℕ Global) Global
@@ -41,8 +47,8 @@ pub texts-more : (text : Run → List ℕ) (k : ℕ) (runs : List Run) (i : ℕ)
     → map whole_text (texts ++ more ∷ []) ≡ map text (filter (is_of k) (take (i + 1) runs))
 texts-more text k runs i run texts more low is of before here =
     let before-it = filter (is_of k) (take i runs) in
-    let yes : is_of k (get_or runs i run) ≡ true = ap (is_of k) (sym is) ∙ same-segment run.segment k of in
-    let next = filter_more (is_of k) runs i run low ∙ (λ t. before-it ++ cond (yes t) (sym is t ∷ []) []) in
+    let own : is_of k (get_or runs i run) ≡ true = ap (is_of k) (sym is) ∙ same-segment run.segment k of in
+    let next = filter_more (is_of k) runs i run low ∙ (λ t. before-it ++ cond (own t) (sym is t ∷ []) []) in
     map-append whole_text texts (more ∷ []) ∙ ((λ t. before t ++ here t ∷ []) ∙ (sym (map-append text before-it (run ∷ [])) ∙ ap (map text) (sym next)))
 
 -- one run more of another segment
@@ -50,23 +56,23 @@ pub texts-same : (text : Run → List ℕ) (k : ℕ) (runs : List Run) (i : ℕ)
     → map whole_text texts ≡ map text (filter (is_of k) (take i runs)) → map whole_text texts ≡ map text (filter (is_of k) (take (i + 1) runs))
 texts-same text k runs i run texts low is isnt before =
     let before-it = filter (is_of k) (take i runs) in
-    let no : is_of k (get_or runs i run) ≡ false = ap (is_of k) (sym is) ∙ other-segment run.segment k isnt in
-    let next = filter_more (is_of k) runs i run low ∙ ((λ t. before-it ++ cond (no t) (sym is t ∷ []) []) ∙ append-nil before-it) in
+    let apart : is_of k (get_or runs i run) ≡ false = ap (is_of k) (sym is) ∙ other-segment run.segment k isnt in
+    let next = filter_more (is_of k) runs i run low ∙ ((λ t. before-it ++ cond (apart t) (sym is t ∷ []) []) ∙ append-nil before-it) in
     before ∙ ap (map text) (sym next)
 
 -- what is alike of each run of a segment
 same-texts : (f g : Run → List ℕ) (k : ℕ) (runs : List Run) → ((run : Run) → run.segment ≡ k → f run ≡ g run) → map f (filter (is_of k) runs) ≡ map g (filter (is_of k) runs)
 same-texts f g k [] same = refl
 same-texts f g k (run ∷ runs) same = elim (cases_Bool (run.segment == k)) [
-  | inl yes ↦
+  | inl own ↦
       let rest = same-texts f g k runs same in
-      let here = same run (eqb-true run.segment k yes) in
-      (λ t. map f (cond (yes t) (run ∷ filter (is_of k) runs) (filter (is_of k) runs)))
-      ∙ ((λ t. here t ∷ rest t) ∙ (λ t. map g (cond (sym yes t) (run ∷ filter (is_of k) runs) (filter (is_of k) runs))))
-  | inr no ↦
+      let here = same run (eqb-true run.segment k own) in
+      (λ t. map f (cond (own t) (run ∷ filter (is_of k) runs) (filter (is_of k) runs)))
+      ∙ ((λ t. here t ∷ rest t) ∙ (λ t. map g (cond (sym own t) (run ∷ filter (is_of k) runs) (filter (is_of k) runs))))
+  | inr other ↦
       let rest = same-texts f g k runs same in
-      (λ t. map f (cond (no t) (run ∷ filter (is_of k) runs) (filter (is_of k) runs)))
-      ∙ (rest ∙ (λ t. map g (cond (sym no t) (run ∷ filter (is_of k) runs) (filter (is_of k) runs))))
+      (λ t. map f (cond (other t) (run ∷ filter (is_of k) runs) (filter (is_of k) runs)))
+      ∙ (rest ∙ (λ t. map g (cond (sym other t) (run ∷ filter (is_of k) runs) (filter (is_of k) runs))))
 ]
 
 -- the texts of a segment's runs, by all segments
@@ -75,6 +81,47 @@ pub texts-in : (null : List ℕ) (s : Shown) (segments : List TableValue) (r : T
 texts-in null s segments r v k runs =
     same-texts (run_text null s (get_or segments k no_table) r v) (text_in null s segments r v) k runs (λ run is. ap (λ n. run_text null s (get_or segments n no_table) r v run) (sym is))
 
+-- ---- shares
+
+module _ (null : List ℕ) (s : Shown) (segments : List TableValue) (r : TableValue) (v : JoinedValue) (runs : List Run) (shares : List Share) (is : map (λ (x : Share). x.segment) shares ≡ map (λ (t : TableValue). Some t) segments) where
+  size : length shares ≡ length segments
+  size = sym (length-map shares (λ (x : Share). x.segment)) ∙ (ap length is ∙ length-map segments (λ (t : TableValue). Some t))
+
+  -- the segment of a share
+  segment-of : (k : ℕ) (x : Result (Vec Texts Global) AllocError)
+      → (get_or shares k (record { segment = Some no_table; texts = x })).segment ≡ Some (get_or segments k no_table)
+  segment-of k x =
+      sym (get_or-map (λ (y : Share). y.segment) shares k (record { segment = Some no_table; texts = x }))
+      ∙ (ap (λ os. get_or os k (Some no_table)) is ∙ get_or-map (λ (t : TableValue). Some t) segments k no_table)
+
+  -- the runs of a share's segment are within it
+  pub shares-within : ((k : ℕ) → k < length segments → AreWithin (get_or segments k no_table) r v s k runs)
+      → (k : ℕ) (d : Share) → k < length shares → ForSome (get_or shares k d).segment (λ (t : TableValue). AreWithin t r v s k runs)
+  shares-within within k d low t at =
+      let e : Share = record { segment = Some no_table; texts = d.texts } in
+      let one = ap (λ (x : Share). x.segment) (get_or_default shares k e d low) ∙ at in
+      let same : get_or segments k no_table ≡ t = ap (λ o. unwrap_or o no_table) (sym (segment-of k d.texts) ∙ one) in
+      subst (λ (u : TableValue). AreWithin u r v s k runs) same (within k (subst (λ n. k < n) size low))
+
+  -- the texts that are made of all shares
+  pub made-texts : (after : List Share) (made : List (Vec Texts Global)) → length after ≡ length shares
+      → ((k : ℕ) (d : Share) → k < length shares → IfSome (get_or shares k d).segment (λ (t : TableValue). IfOk (get_or after k d).texts (AreRunTexts null s t r v k runs)))
+      → map (λ (x : Share). x.texts) after ≡ map (λ (t : Vec Texts Global). Ok t) made
+      → (length made ≡ length segments) × AreTextsOf (text_in null s segments r v) runs made
+  made-texts after made many each all =
+      let long : length made ≡ length after = sym (length-map made (λ (t : Vec Texts Global). Ok t)) ∙ (ap length (sym all) ∙ length-map after (λ (x : Share). x.texts)) in (
+        long ∙ (many ∙ size),
+        λ k d lt.
+            let e : Share = record { segment = Some no_table; texts = Ok d } in
+            let t = get_or segments k no_table in
+            let low : k < length shares = omega (arith, long, many, lt) in
+            let ok : (get_or after k e).texts ≡ Ok (get_or made k d) =
+            sym (get_or-map (λ (x : Share). x.texts) after k e) ∙ (ap (λ os. get_or os k (Ok d)) all ∙ get_or-map (λ (u : Vec Texts Global). Ok u) made k d) in
+            let one = subst (λ o. IfSome o (λ (u : TableValue). IfOk (get_or after k e).texts (AreRunTexts null s u r v k runs))) (segment-of k (Ok d)) (each k e low) in
+            let texts : AreRunTexts null s t r v k runs (get_or made k d) = subst (λ x. IfOk x (AreRunTexts null s t r v k runs)) ok one in
+            texts ∙ texts-in null s segments r v k runs,
+      )
+
 -- ---- the runs in their order
 
 module _ (runs : List Run) (i : ℕ) (run : Run) (low : i < length runs) (is : run ≡ get_or runs i run) where
@@ -82,12 +129,12 @@ module _ (runs : List Run) (i : ℕ) (run : Run) (low : i < length runs) (is : r
   next-runs = drop_more runs i run low ∙ ap (λ r. r ∷ drop (i + 1) runs) (sym is)
 
   own-runs : filter (is_of run.segment) (drop i runs) ≡ run ∷ filter (is_of run.segment) (drop (i + 1) runs)
-  own-runs = let yes = same-segment run.segment run.segment refl in
-      ap (filter (is_of run.segment)) next-runs ∙ (λ t. cond (yes t) (run ∷ filter (is_of run.segment) (drop (i + 1) runs)) (filter (is_of run.segment) (drop (i + 1) runs)))
+  own-runs = let own = same-segment run.segment run.segment refl in
+      ap (filter (is_of run.segment)) next-runs ∙ (λ t. cond (own t) (run ∷ filter (is_of run.segment) (drop (i + 1) runs)) (filter (is_of run.segment) (drop (i + 1) runs)))
 
   other-runs : (k : ℕ) → k ≢ run.segment → filter (is_of k) (drop i runs) ≡ filter (is_of k) (drop (i + 1) runs)
-  other-runs k isnt = let no = other-segment run.segment k (λ e. isnt (sym e)) in
-      ap (filter (is_of k)) next-runs ∙ (λ t. cond (no t) (run ∷ filter (is_of k) (drop (i + 1) runs)) (filter (is_of k) (drop (i + 1) runs)))
+  other-runs k isnt = let apart = other-segment run.segment k (λ e. isnt (sym e)) in
+      ap (filter (is_of k)) next-runs ∙ (λ t. cond (apart t) (run ∷ filter (is_of k) (drop (i + 1) runs)) (filter (is_of k) (drop (i + 1) runs)))
 
 -- what is left of each segment once the next text of this run's segment is taken
 pub left-texts : (text : Run → List ℕ) (runs : List Run) (i : ℕ) (run : Run) (made : List (Vec Texts Global)) (own left : Vec Texts Global) (next : Texts) → i < length runs → run ≡ get_or runs i run
@@ -97,15 +144,17 @@ left-texts text runs i run made own left next low is inside at taken before =
     let k0 = run.segment in
     let rest = filter (is_of k0) (drop (i + 1) runs) in
     let all : whole_text next ∷ map whole_text left.items ≡ text run ∷ map text rest =
-        ap (map whole_text) (sym taken) ∙ (ap (λ (v : Vec Texts Global). map whole_text v.items) at ∙ (before k0 own inside ∙ ap (map text) (own-runs runs i run low is))) in
-    (ap (λ l. get_or l 0 []) all, λ k d lt.
-        let size = length-set made k0 left in
-        let here : k < length made = omega (arith, size, lt) in
-        elim (cases_eq k k0) [
-          | inl e ↦ subst (λ n. map whole_text (get_or (set made k0 left) n d).items ≡ map text (filter (is_of n) (drop (i + 1) runs))) (sym e)
-              (ap (λ (v : Vec Texts Global). map whole_text v.items) (get_or-set_same made k0 left d inside) ∙ ap (drop 1) all)
-          | inr ne ↦ ap (λ (v : Vec Texts Global). map whole_text v.items) (get_or-set_other made k0 k left d ne) ∙ (before k d here ∙ ap (map text) (other-runs runs i run low is k ne))
-        ])
+    ap (map whole_text) (sym taken) ∙ (ap (λ (v : Vec Texts Global). map whole_text v.items) at ∙ (before k0 own inside ∙ ap (map text) (own-runs runs i run low is))) in (
+      ap (λ l. get_or l 0 []) all,
+      λ k d lt.
+          let size = length-set made k0 left in
+          let here : k < length made = omega (arith, size, lt) in
+          elim (cases_eq k k0) [
+            | inl e ↦ subst (λ n. map whole_text (get_or (set made k0 left) n d).items ≡ map text (filter (is_of n) (drop (i + 1) runs))) (sym e)
+                (ap (λ (v : Vec Texts Global). map whole_text v.items) (get_or-set_same made k0 left d inside) ∙ ap (drop 1) all)
+            | inr ne ↦ ap (λ (v : Vec Texts Global). map whole_text v.items) (get_or-set_other made k0 k left d ne) ∙ (before k d here ∙ ap (map text) (other-runs runs i run low is k ne))
+          ],
+    )
 
 -- and how many those are
 pub left-counted : (runs : List Run) (i : ℕ) (run : Run) (made : List (Vec Texts Global)) (own left : Vec Texts Global) (next : Texts) → i < length runs → run ≡ get_or runs i run
@@ -114,23 +163,35 @@ left-counted runs i run made own left next low is inside at taken before =
     let k0 = run.segment in
     let rest = filter (is_of k0) (drop (i + 1) runs) in
     let all : suc (length left.items) ≡ suc (length rest) =
-        ap length (sym taken) ∙ (ap (λ (v : Vec Texts Global). length v.items) at ∙ (before k0 own inside ∙ ap length (own-runs runs i run low is))) in
+    ap length (sym taken) ∙ (ap (λ (v : Vec Texts Global). length v.items) at ∙ (before k0 own inside ∙ ap length (own-runs runs i run low is))) in
     λ k d lt.
-        let size = length-set made k0 left in
-        let here : k < length made = omega (arith, size, lt) in
-        elim (cases_eq k k0) [
-          | inl e ↦ subst (λ n. length (get_or (set made k0 left) n d).items ≡ length (filter (is_of n) (drop (i + 1) runs))) (sym e)
-              (ap (λ (v : Vec Texts Global). length v.items) (get_or-set_same made k0 left d inside) ∙ omega (arith, all))
-          | inr ne ↦ ap (λ (v : Vec Texts Global). length v.items) (get_or-set_other made k0 k left d ne) ∙ (before k d here ∙ ap length (other-runs runs i run low is k ne))
-        ]
+    let size = length-set made k0 left in
+    let here : k < length made = omega (arith, size, lt) in
+    elim (cases_eq k k0) [
+      | inl e ↦ subst (λ n. length (get_or (set made k0 left) n d).items ≡ length (filter (is_of n) (drop (i + 1) runs))) (sym e)
+          (ap (λ (v : Vec Texts Global). length v.items) (get_or-set_same made k0 left d inside) ∙ omega (arith, all))
+      | inr ne ↦ ap (λ (v : Vec Texts Global). length v.items) (get_or-set_other made k0 k left d ne) ∙ (before k d here ∙ ap length (other-runs runs i run low is k ne))
+    ]
 
 -- a text of this run's segment is left
 pub next-there : (runs : List Run) (i : ℕ) (run : Run) (made : List (Vec Texts Global)) (own : Vec Texts Global) → i < length runs → run ≡ get_or runs i run
     → run.segment < length made → own ≡ get_or made run.segment own → AreCounted (drop i runs) made → 0 < length own.items
 next-there runs i run made own low is inside at before =
     let all : length own.items ≡ suc (length (filter (is_of run.segment) (drop (i + 1) runs))) =
-        ap (λ (v : Vec Texts Global). length v.items) at ∙ (before run.segment own inside ∙ ap length (own-runs runs i run low is)) in
+    ap (λ (v : Vec Texts Global). length v.items) at ∙ (before run.segment own inside ∙ ap length (own-runs runs i run low is)) in
     omega (arith, all)
+
+-- the text of one run more
+pub whole-more : (text : Run → List ℕ) (runs : List Run) (i : ℕ) (run : Run) (before next after : Texts) → i < length runs → run ≡ get_or runs i run → after.items ≡ before.items ++ next.items
+    → whole_text before ≡ concat (map text (take i runs)) → whole_text next ≡ text run → whole_text after ≡ concat (map text (take (i + 1) runs))
+whole-more text runs i run before next after low is joined so here =
+    let items : Vec ℕ Global → List ℕ = λ t. t.items in
+    let runs-more = take_more runs i run low ∙ ap (λ r. take i runs ++ r ∷ []) (sym is) in
+    let right = ap (λ rs. concat (map text rs)) runs-more
+    ∙ (ap concat (map-append text (take i runs) (run ∷ []))
+    ∙ (concat-append (map text (take i runs)) (text run ∷ []) ∙ ap (λ t. concat (map text (take i runs)) ++ t) (append-nil (text run)))) in
+    ap (λ ts. concat (map items ts)) joined
+    ∙ (ap concat (map-append items before.items next.items) ∙ (concat-append (map items before.items) (map items next.items) ∙ ((λ t. so t ++ here t) ∙ sym right)))
 
 -- ---- all runs
 
@@ -183,3 +244,9 @@ member-stands l r (RightOnly j) h = tt
 
 pub members-stand : (l r : TableValue) (rows : List JoinedRow) → All (IsMemberOf l r) rows → All (StandsWithin 0 (length l.rows)) rows
 members-stand l r rows h = λ i d lt. member-stands l r _ (h i d lt)
+
+-- under a header the text of rows is that of a table
+pub table-text : (null : List ℕ) (header : List (List ℕ)) (cells : List (List Content)) (texts : Texts) → whole_text texts ≡ cells_text null cells
+    → row_text default_writer header ++ whole_text texts ≡ table_text null header cells
+unfolding rows_text
+table-text null header cells texts is = ap (λ t. row_text default_writer header ++ t) is

@@ -2,7 +2,6 @@
 
 mod counting;
 mod expected;
-mod interim;
 mod laws;
 mod naming;
 mod nulls;

@@ -8,11 +8,11 @@ ghost use Rattle.rj_csv_io.specs.Shown.{table_text};
 ghost use Rattle.rj_csv_io.specs.Tables.{is_null_text};
 ghost use Rattle.rj_engine.specs.Shown.{IsShownOf, shown_view};
 ghost use Rattle.rj_engine.specs.declared.runs.Run.{Run};
+ghost use Rattle.rj_command.specs.declared.join.texts.Share.{Share};
 ghost use Rattle.rj_command.specs.Texts.{AreCounted, AreRunTexts, AreTextsOf, AreWithin, cells_text, no_table, text_in, whole_text};
 
-use crate::join::interim::{into_segments, texts_of_rows, write_texts};
 use rj_columns::Table;
-use rj_csv_io::{Output, WriteRefused, write_rows_in_parts};
+use rj_csv_io::{Output, WriteRefused, texts_of_rows, write_rows_in_parts, write_texts};
 use rj_engine::{Joined, Run, RunView, Shown, cut_runs};
 use std::alloc::{AllocError, Global};
 use std::thread::{self, Threads};
@@ -100,8 +100,40 @@ fn all_made(alloc: Global, shares: Vec<Share>) -> Result<Vec<Vec<Texts>>, AllocE
     Ok(made)
 }
 
-// The texts of the runs of each segment, made by up to so many threads with the calling one. Each gives its segments back one
-// by one, as their texts are made.
+// Makes the texts of all shares, by up to so many threads with the calling one. Each thread gives its segments back one by one, as
+// their texts are made.
+fn make_shares<R: Threads + Sync>(
+    rt: &R,
+    alloc: Global,
+    mut shares: Vec<Share>,
+    right: &Table,
+    joined: &Joined,
+    shown: &Shown,
+    runs: &[Run],
+    null: &str,
+    workers: usize,
+) -> Vec<Share>
+    requires workers { 0 < workers }
+    requires within { (k : ℕ) (d : Share) → k < length shares.items
+        → ForSome (slice_index_or shares.items k d).segment (λ t. AreWithin t right.now joined.now.members shown.now k runs.now) }
+    ensures many { length result.items ≡ length shares.items }
+    ensures each { (k : ℕ) (d : Share) → k < length shares.items → IfSome (slice_index_or shares.items k d).segment (λ t.
+        IfOk (slice_index_or result.items k d).texts (AreRunTexts null.now shown.now t right.now joined.now.members k runs.now)) }
+{
+    thread::for_each_mut(
+        rt,
+        shares.as_mut_slice(),
+        workers,
+        &|number, share: &mut Share|
+            requires { ForSome share.now.segment (λ t. AreWithin t right.now joined.now.members shown.now number runs.now) }
+            ensures { IfSome share.entry.now.segment (λ t. IfOk share.exit.now.texts
+                (AreRunTexts null.entry.now shown.entry.now t right.entry.now joined.entry.now.members number runs.entry.now)) }
+        { make_texts(alloc, share, number, right, joined, shown, runs, null) },
+    );
+    shares
+}
+
+// The texts of the runs of each segment, made by up to so many threads.
 fn texts_of_segments<R: Threads + Sync>(
     rt: &R,
     alloc: Global,
@@ -116,19 +148,12 @@ fn texts_of_segments<R: Threads + Sync>(
     requires workers { 0 < workers }
     requires within { (k : ℕ) → k < length segments.items
         → AreWithin (slice_index_or segments.items k no_table) right.now joined.now.members shown.now k runs.now }
-    ensures many { IfOk result (λ v. length v.items ≡ length segments.items) }
-    ensures texts { IfOk result (λ v. AreTextsOf (text_in null.now shown.now segments.items right.now joined.now.members) runs.now v.items) }
+    ensures { IfOk result (λ v. (length v.items ≡ length segments.items)
+        × AreTextsOf (text_in null.now shown.now segments.items right.now joined.now.members) runs.now v.items) }
 {
-    let mut shares = shares_of(alloc, segments)?;
-    thread::for_each_mut(
-        rt,
-        shares.as_mut_slice(),
-        workers,
-        &|number, share: &mut Share| {
-            make_texts(alloc, share, number, right, joined, shown, runs, null)
-        },
-    );
-    all_made(alloc, shares)
+    let shares = shares_of(alloc, segments)?;
+    let made = make_shares(rt, alloc, shares, right, joined, shown, runs, null, workers);
+    all_made(alloc, made)
 }
 
 // The texts of the runs, in the runs' order: those of each segment stand in the order of its runs.
@@ -192,9 +217,11 @@ pub(crate) fn texts_of_joined<R: Threads + Sync>(
     ensures { IfOk result (λ v. whole_text v ≡ cells_text null.now (shown_view shown.now left right.now joined.now.members).cells) }
 {
     let _rows = left.rows();
-    let segments = into_segments(left, alloc)?;
+    let segments = left.into_segments(alloc)?;
     let runs = cut_runs(alloc, &segments, joined, shown)?;
-    texts_of_runs(rt, alloc, segments, right, joined, shown, &runs, null, workers)
+    texts_of_runs(
+        rt, alloc, segments, right, joined, shown, &runs, null, workers,
+    )
 }
 
 // Writes a header, and behind it the rows that are shown of the joined table of two tables, with their texts made segment by segment
@@ -224,6 +251,33 @@ fn write_segments<R: Threads + Sync, O: Output>(
         return Err(WriteRefused::Memory);
     };
     write_texts(alloc, writer, header, texts.as_slice())
+}
+
+// Writes the same with the rows divided evenly among the threads, and the left table whole.
+fn write_whole<R: Threads + Sync, O: Output>(
+    rt: &R,
+    alloc: Global,
+    writer: &mut O,
+    header: &[&str],
+    left: &Table,
+    right: &Table,
+    joined: &Joined,
+    shown: &Shown,
+    null: &str,
+    workers: usize,
+) -> Result<(), WriteRefused>
+    requires shown { IsShownOf left.now right.now joined.now.members shown.now }
+    requires header { length header.now ≡ length shown.now.origins.items }
+    requires null { IsTrue (is_null_text null.now) }
+    requires failures { O.count writer.old < 2 ^ 64 - 1 }
+    ensures ok { OnOk result (Appends (O.told writer.old) (O.told writer.new)
+        (table_text null.now (map (λ n. n.now) header.now) (shown_view shown.now left.now right.now joined.now.members).cells)) }
+    ensures memory { result ≡ Err WriteRefused.Memory → writer.new ≡ writer.old }
+    ensures device { result ≡ Err WriteRefused.WriteDevice → O.count writer.new ≡ O.count writer.old + 1 }
+    ensures kept { result ≢ Err WriteRefused.WriteDevice → O.count writer.new ≡ O.count writer.old }
+{
+    let rows = RunView::whole(left, right, joined, shown);
+    write_rows_in_parts(rt, alloc, writer, header, &rows, null, workers)
 }
 
 /// Writes a header, and behind it the rows that are shown of the joined table of two tables, with their texts made by up to so many
@@ -261,6 +315,7 @@ pub(crate) fn write_shown<R: Threads + Sync, O: Output>(
             rt, alloc, writer, header, left, right, joined, shown, null, workers,
         );
     }
-    let rows = RunView::whole(&left, right, joined, shown);
-    write_rows_in_parts(rt, alloc, writer, header, &rows, null, workers)
+    write_whole(
+        rt, alloc, writer, header, &left, right, joined, shown, null, workers,
+    )
 }
