@@ -20,6 +20,10 @@ const MOST_ROOM: u64 = 1 << 30;
 /// stood before.
 const TEXT_ROWS: u64 = 16384;
 
+// The fewest rows whose room is asked for at once: of fewer, the records that are written to find it take longer than the
+// growths that it spares.
+const LEAST_SAMPLED: u64 = 64 * BLOCK_ROWS;
+
 // Writes the record of the names.
 fn write_header(writer: &mut Writer<Vec<u8>>, header: &[&str]) -> Result<(), AllocError>
     ensures { (text : List ℕ) → HasWritten writer.old text []
@@ -114,7 +118,7 @@ fn likely_room<S: RowSource>(alloc: Global, source: &S, from: u64, to: u64, null
     requires within { to ≤ length (S.contents source.now) }
 {
     let rows = to - from;
-    if rows < 4 * BLOCK_ROWS {
+    if rows < LEAST_SAMPLED {
         return 0;
     }
     let middle = from + rows / 2;
