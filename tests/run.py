@@ -28,6 +28,7 @@ PARTS = (
     "examples",
     "devices",
     "sizes",
+    "segments",
     "cluster",
     "cluster_ends",
     "cluster_lost",

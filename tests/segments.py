@@ -1,0 +1,98 @@
+"""Tables of several segments: a left table of 600,000 rows, which is given back segment by segment as the result is made. Each kind
+of join and each order, by one worker and by two, beside what is worked out here; and by little memory either the whole result or
+`E18 Memory` and nothing."""
+import functools
+import pathlib
+import resource
+import subprocess
+
+import harness
+
+LEFT, RIGHT = 600_000, 1_100
+KEYS = LEFT // 2
+STEP = 300
+# The address spaces that are tried, in MiB.
+LEAST, MOST, BY = 20, 180, 10
+
+
+def key_of(row):
+    """The key of a left row: each stands in two rows, far from each other."""
+    return row * 37 % KEYS
+
+
+def partner_of(row):
+    """The right row of a left row, if it has one."""
+    at, rest = divmod(key_of(row), STEP)
+    return None if rest or at >= RIGHT else at
+
+
+@functools.cache
+def tables():
+    """The two files."""
+    left = "".join(f"{key_of(row)},t{row}\n" for row in range(LEFT))
+    right = "".join(f"{row * STEP},{-row}\n" for row in range(RIGHT))
+    return f"k,a\n{left}".encode(), f"k,b\n{right}".encode()
+
+
+def lines(kinds, in_left_order):
+    """The result's rows of these kinds: pairs, lone left rows and lone right ones."""
+    found = [(row, partner_of(row)) for row in range(LEFT)]
+    pairs = [(row, f"{key_of(row)},t{row},{-at}\n") for row, at in found if at is not None] if "pairs" in kinds else []
+    lone = [(row, f"{key_of(row)},t{row},\n") for row, at in found if at is None] if "lone-left" in kinds else []
+    rights = [f"{row * STEP},,{-row}\n" for row in range(RIGHT) if row * STEP >= KEYS] if "lone-right" in kinds else []
+    rows = sorted(pairs + lone) if in_left_order else pairs + lone
+    return "".join([*(line for _, line in rows), *rights])
+
+
+ALL = ("pairs", "lone-left", "lone-right")
+CASES = [
+    ("JOIN USING (k)", ("pairs",), []),
+    ("LEFT JOIN USING (k)", ("pairs", "lone-left"), []),
+    ("RIGHT JOIN USING (k)", ("pairs", "lone-right"), []),
+    ("FULL JOIN USING (k)", ALL, []),
+    ("FULL JOIN USING (k)", ALL, ["--order=left"]),
+    ("FULL JOIN USING (k)", ("lone-left", "lone-right"), ["--rows=lone-left,lone-right"]),
+    ("FULL JOIN USING (k)", ("lone-right",), ["--rows=lone-right"]),
+]
+
+
+def run(folder, clause, options, most=None):
+    """A run of radixjoin in a folder, with no more than so many bytes of address space."""
+
+    def limited():
+        if most:
+            resource.setrlimit(resource.RLIMIT_AS, (most, most))
+
+    words = ["--left=left.csv", "--right=right.csv", "--left-types=int,text", "--right-types=int,int", f"--join={clause}", *options]
+    ran = subprocess.run([harness.program("radixjoin"), *words], cwd=folder, capture_output=True, preexec_fn=limited, timeout=harness.SECONDS)
+    return harness.Ran(ran.returncode, ran.stdout, ran.stderr)
+
+
+def run_cases(tally, folder):
+    for clause, kinds, options in CASES:
+        wanted = f"k,a,b\n{lines(kinds, '--order=left' in options)}".encode()
+        for workers in (1, 2):
+            ran = run(folder, clause, [*options, f"--workers={workers}"])
+            tally.check(f"segments: {clause} {' '.join(options)} by {workers}", harness.differences(ran, wanted))
+
+
+def run_in_little_room(tally, folder):
+    """By each of many limits the whole result, or nothing of it; both are seen."""
+    clause, kinds, options = CASES[3]
+    wanted = f"k,a,b\n{lines(kinds, False)}".encode()
+    for workers in (1, 2):
+        ends = []
+        for room in range(LEAST, MOST, BY):
+            ran = run(folder, clause, [*options, f"--workers={workers}"], room << 20)
+            ends.append(ran.status)
+            expected = (wanted, b"", 0) if ran.status == 0 else (b"", b"radixjoin: E18 Memory\n", 5)
+            tally.check(f"segments: {clause} in {room} MiB by {workers}", harness.differences(ran, *expected))
+        tally.check(f"segments: both ends by {workers}", [] if {0, 5} == set(ends) else [f"statuses {ends}"])
+
+
+def run_all(tally):
+    with harness.folder() as name:
+        for side, content in zip(("left", "right"), tables()):
+            (pathlib.Path(name) / f"{side}.csv").write_bytes(content)
+        run_cases(tally, name)
+        run_in_little_room(tally, name)
