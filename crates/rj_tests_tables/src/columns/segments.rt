@@ -192,7 +192,7 @@ fn four_parts(rt: HostRuntime) -> Result<(), Fail> {
 #[tactic(auto, unfolding(rj_columns::specs::Tables::FitsTypes, rj_columns::specs::Tables::FitsAt))]
 fn rows_pushed(alloc: Global, rows: u64) -> Result<TableBuilder, Fail>
     requires { rows < 2 ^ 31 - 1 }
-    ensures { IfOk result (λ b. (b.table.types ≡ INT ∷ TEXT ∷ []) × (length b.table.rows ≡ rows) × (b.row ≡ [])) }
+    ensures { IfOk result (λ b. (b.table.types ≡ ColumnType.Int ∷ ColumnType.Text ∷ []) × (length b.table.rows ≡ rows) × (b.row ≡ [])) }
 {
     let names = [b"k".as_slice(), b"v".as_slice()];
     let mut builder = TableBuilder::new(alloc, names.as_slice(), [INT, TEXT].as_slice())?;
