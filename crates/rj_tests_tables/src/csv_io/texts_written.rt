@@ -83,7 +83,10 @@ fn is_told_of_texts(alloc: Global, texts: &[Vec<u8>], left: u64) -> bool {
 fn failing_writer_of_texts_sweep(rt: HostRuntime) -> Result<(), Fail> {
     let texts = texts_of_files(rt.alloc())?;
     for left in 0..7 {
-        assert!(rt; is_told_of_texts(rt.alloc(), texts.as_slice(), left), "at {left}");
+        assert!(rt;
+            is_told_of_texts(rt.alloc(), texts.as_slice(), left),
+            "at {left}"
+        );
     }
     Ok(())
 }
