@@ -235,6 +235,9 @@ fn rows_at_the_end_of_a_segment(rt: HostRuntime) -> Result<(), Fail> {
         number_at(&table, 65_537),
         number_at(&table, 65_538),
     ];
-    assert_eq!(rt; numbers, [Some(65_534), Some(65_535), Some(65_536), Some(65_537), None]);
+    assert_eq!(rt;
+        numbers,
+        [Some(65_534), Some(65_535), Some(65_536), Some(65_537), None]
+    );
     Ok(())
 }
