@@ -2,16 +2,15 @@
 use Rattle.std.proofs.Common.{◌≡◌, ℕ, zero, suc, ◌+◌, ◌-◌, ◌<◌, ◌≤◌, ◌^◌, List, [], ◌∷◌, ◌++◌, Some, All, refl, ap, sym, subst, ◌∙◌, arith, length, length-append, map, take, drop, get_or}
 use Rattle.std.specs.Prelude.{max, slice_get}
 use Rattle.std.proofs.lemmas.Grind.{flat_map-append}
-use Rattle.std.proofs.lemmas.List.{drop-drop, drop-map, drop-take, get_or-drop, get_or-take, length-drop, length-map, length-take-le, take-append-drop, take-map, take-take, take_all}
+use Rattle.std.proofs.lemmas.List.{append-nil, drop-drop, drop-map, drop-take, get_or-drop, get_or-take, length-drop, length-map, length-take-le, take-append-drop, take-map, take-take, take_all, take_more}
 use Rattle.std.proofs.lemmas.Option.{get_or_from_slice_get}
 use Rattle.std.proofs.Math.ListN.{get_or-map}
-use Rattle.std.proofs.lemmas.List.Concat.{get_or-flat_map}
+use Rattle.std.proofs.lemmas.List.Concat.{flat_map-append as flat_map-joined, get_or-flat_map}
 use Rattle.std.proofs.lemmas.List.Elements.{All-drop, All-head, All-map, All-tail, All-take}
 use Rattle.rj_columns.specs.Contents.{Content, nothing}
 use Rattle.rj_columns.specs.Scales.{coalesced, in_scale}
 use Rattle.rj_columns.specs.Tables.{TableValue, cell_of, rows_of_all}
 use Rattle.rj_columns.specs.declared.cell.ColumnType.{ColumnType}
-use Rattle.rj_columns.proofs.ColumnFacts.{count-more}
 use Rattle.rj_engine.specs.declared.joined.JoinedRow.{JoinedRow}
 use Rattle.rj_engine.specs.declared.joined.JoinedRow.TheVariants.{Both, LeftOnly, RightOnly}
 use Rattle.rj_engine.specs.declared.origin.Origin.{Origin}
@@ -92,7 +91,10 @@ fits-within from place to order inside low = omega (arith, order, inside, low)
 
 -- the next segment begins behind this one
 pub start-next : (segments : List TableValue) (k : ℕ) (t : TableValue) → k < length segments → t ≡ get_or segments k t → start_of segments k + length t.rows ≡ start_of segments (k + 1)
-start-next segments k t low is = count-more segments k (start_of segments k) t low is refl
+start-next segments k t low is =
+    let taken : take (k + 1) segments ≡ take k segments ++ t ∷ [] = take_more segments k t low ∙ ap (λ u. take k segments ++ u ∷ []) (sym is) in
+    let joined = flat_map-joined (λ (u : TableValue). u.rows) (take k segments) (t ∷ []) ∙ ap (λ r. rows_of_all (take k segments) ++ r) (append-nil t.rows) in
+    sym (ap length (ap rows_of_all taken ∙ joined) ∙ length-append (rows_of_all (take k segments)) t.rows)
 
 -- no segment begins behind the last row
 pub start-within : (segments : List TableValue) (k : ℕ) → start_of segments k ≤ length (rows_of_all segments)
