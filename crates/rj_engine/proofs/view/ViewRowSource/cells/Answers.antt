@@ -31,5 +31,5 @@ returns c =
     let cells = column_is v.left.now v.right.now os rows c.args.self.now.cells c.args.col c.args.from c.args.to o (origin.Left 0) own
     (sym (ap (λ w. w.cells) c.self.view_is)) c.requires.order c.requires.rows here at refl in
     let counted : map (λ row. joined_cell v.left.now v.right.now (counted_from 0 row) o) own ≡ map (λ row. joined_cell v.left.now v.right.now row o) own
-        = λ t. map (λ row. joined_cell v.left.now v.right.now (counted-zero row t) o) own in
+    = λ t. map (λ row. joined_cell v.left.now v.right.now (counted-zero row t) o) own in
     subst (λ more. OnOk c.add_shown.result (map content_of c.add_shown.new.cells.items ≡ map content_of c.args.cells.now.items ++ more)) (counted ∙ cells) (c.add_shown.ensures (origin.Left 0))
