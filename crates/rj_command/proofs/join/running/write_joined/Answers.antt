@@ -1,8 +1,12 @@
-use Rattle.std.proofs.Common.{◌∙◌, ap, sym, subst, map, length, ℕ, List, Bor, String, Global}
-use Rattle.std.specs.Prelude.{string_bytes}
+use Rattle.std.proofs.Common.{◌≡◌, ◌∙◌, Err, ap, refl, sym, subst, map, length, ℕ, List, Bor, String, Global}
+use Rattle.std.specs.Prelude.{string_bytes, IfErr, Result}
 use Rattle.std.specs.Io.KnownBytes.{Appends}
 use Rattle.std.proofs.lemmas.List.{length-map}
+use Rattle.std.proofs.lemmas.Result.{err_from_is_err_and}
 use Rattle.rj_csv_io.specs.Shown.{table_text}
+use Rattle.rj_csv_io.specs.declared.write.WriteRefused.{WriteRefused}
+use Rattle.rj_csv_io.specs.declared.write.WriteRefused.TheVariants as refused
+use Rattle.rj_fault.specs.Faults.{write_fault}
 use Rattle.rj_engine.specs.Cells.{ViewValue, name_of}
 use Rattle.rj_engine.specs.Chosen.{chosen_columns}
 use Rattle.rj_engine.specs.Shown.{shown_view}
@@ -36,3 +40,10 @@ returns-clause-ok g c =
     ap (λ header. table_text null header (shown_view p.shown l r p.joined.members).cells) header ∙ ap (λ (v : ViewValue). table_text null names v.cells) made.shown in
     let Writes : List ℕ → Type 0 = λ t. Appends (g.O.Output.told c.args.writer.now) (g.O.Output.told c.write_shown.new.writer) t in
     (made.counted, made.expected, made.told_apart, (names, made.named, subst Writes text c.in_ok-write_shown.ensures.ok))
+
+pub returns-in_err-write_shown-clause-kept : goal.returns-in_err-write_shown-clause-kept
+returns-in_err-write_shown-clause-kept g c = λ other. c.in_err-write_shown.ensures.kept (λ same.
+    let told = err_from_is_err_and c.from_residual-in_err-write_shown.result c.from_residual-in_err-write_shown.ensures.1 in
+    let device : c.in_err-write_shown.field-0.0 ≡ refused.WriteDevice
+    = subst (λ (w : Result (Unit {0}) WriteRefused). IfErr w (λ x. x ≡ refused.WriteDevice)) (sym same) refl in
+    other (told.1 ∙ ap Err (told.2 ∙ ap write_fault device)))
