@@ -48,8 +48,11 @@ fn is_numbered(alloc: Global, table: &Table, row: u64, number: u64) -> Result<bo
     if row >= table.rows() || table.columns() != 2 {
         return Ok(false);
     }
+    let Ok(whole) = i64::try_from(number) else {
+        return Ok(false);
+    };
     let text = format!(in alloc; "t{number}")?;
-    Ok(table.cell(row, 0) == Cell::Int(number as i64) && table.cell(row, 1) == Cell::Text(&text))
+    Ok(table.cell(row, 0) == Cell::Int(whole) && table.cell(row, 1) == Cell::Text(&text))
 }
 
 // The first row that hasn't its number, where rows are counted from this number on.
