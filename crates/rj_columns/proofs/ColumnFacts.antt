@@ -2,11 +2,9 @@
 use Rattle.std.proofs.Common.{◌≡◌, ◌≤◌, ◌<◌, ◌∙◌, ℕ, zero, suc, List, [], ◌∷◌, ◌++◌, map, length, take, Some, refl, sym, ap, subst, arith, get_or}
 use Rattle.std.specs.Prelude.{All, slice_get}
 use Rattle.std.proofs.lemmas.List.{length-map, map-append, get_or-map, take_all}
-use Rattle.std.proofs.lemmas.List.Elements.{All-head, All-tail}
 use Rattle.std.proofs.Math.Seq.{take-suc}
-use Rattle.rj_columns.specs.declared.cell.ColumnType.{ColumnType}
 use Rattle.rj_columns.specs.Contents.{nothing}
-use Rattle.rj_columns.specs.Tables.{TableValue, column_in, rows_of_all, AreAlike, concatenated}
+use Rattle.rj_columns.specs.Tables.{column_in}
 use Rattle.rj_columns.specs.Columns.{ColumnValue, row_at, rows_of, Filling, IsTyped, IsColumnOf}
 use Rattle.rj_columns.proofs.RowFacts.{Filling-full}
 
@@ -37,18 +35,3 @@ column-of columns n col c fills typed h e =
       sym (cells-to columns n col n c inside e size (omega arith) ∙ take_all n c.cells (omega arith)),
       subst IsTyped (sym e) (typed col c inside),
     )
-
--- tables of which each has these names and types
-pub AreAlike-of : (tables : List TableValue) (names : List (List ℕ)) (types : List ColumnType) → 0 < length tables → All (λ t. (t.names ≡ names) × (t.types ≡ types)) tables → AreAlike tables
-AreAlike-of [] names types some h = absurd (omega arith)
-AreAlike-of (t ∷ tables) names types some h = λ k d inside.
-    let first = All-head (λ (u : TableValue). (u.names ≡ names) × (u.types ≡ types)) t tables h in
-    let other = All-tail (λ (u : TableValue). (u.names ≡ names) × (u.types ≡ types)) t tables h k d inside in
-    (other.0 ∙ sym first.0, other.1 ∙ sym first.1)
-
-pub concatenated-of : (tables : List TableValue) (names : List (List ℕ)) (types : List ColumnType) → 0 < length tables → All (λ t. (t.names ≡ names) × (t.types ≡ types)) tables
-    → concatenated tables ≡ record { names = names; types = types; rows = rows_of_all tables }
-concatenated-of [] names types some h = absurd (omega arith)
-concatenated-of (t ∷ tables) names types some h =
-    let first = All-head (λ (u : TableValue). (u.names ≡ names) × (u.types ≡ types)) t tables h in
-    rw (first.0, first.1) refl

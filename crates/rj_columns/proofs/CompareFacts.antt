@@ -10,7 +10,7 @@ use Rattle.std.proofs.lemmas.Slice.Eq.{bytes_eq-Decides}
 use Rattle.std.proofs.lemmas.Map.Text.{is_eq-slice_cmp}
 use Rattle.rj_decimal.specs.Numbers.{Number}
 use Rattle.rj_decimal.specs.Order.{ordered, are_same}
-use Rattle.rj_decimal.proofs.Laws.{ordered-equal, same-reflexive, same-symmetric, same-whole}
+use Rattle.rj_decimal.proofs.Laws.{ordered-equal, same-symmetric, same-whole}
 use Rattle.rj_columns.specs.Contents.{Content, nothing, whole, decimal, word}
 use Rattle.rj_columns.specs.Compare.{Comparand, absent, number, text, seen, order_of, are_one, compared, are_equal, is_null}
 
@@ -34,16 +34,6 @@ order_of-equal (text s) (text t) = equal_texts s t
 
 pub compared-equal : (x y : Content) → (compared x y ≡ Some Equal) ↔ (are_equal x y ≡ true)
 compared-equal x y = order_of-equal (seen x) (seen y)
-
--- what is not null equals itself
-same_text : (s : List ℕ) → bytes_eq s s ≡ true
-same_text s = (bytes_eq-Decides s s).1 refl
-
-pub are_equal-self : (x : Content) → is_null x ≡ false → are_equal x x ≡ true
-are_equal-self nothing n = cc
-are_equal-self (whole n) e = same-reflexive (record { units = n; scale = 0 })
-are_equal-self (decimal units scale) e = same-reflexive (record { units = units; scale = scale })
-are_equal-self (word s) e = same_text s
 
 -- whole numbers are equal by themselves
 pub are_equal-whole : (m n : ℤ) → are_equal (whole m) (whole n) ≡ int_eq m n

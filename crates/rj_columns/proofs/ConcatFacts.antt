@@ -1,39 +1,17 @@
 -- Tables that become one, table by table, and one that is taken apart.
-use Rattle.std.proofs.Common.{◌≡◌, ◌<◌, ◌+◌, ◌∙◌, ℕ, List, [], ◌∷◌, ◌++◌, length, map, refl, sym, ap, arith, append_assoc, append-nil}
-use Rattle.std.specs.Prelude.{All, ◌≢◌}
-use Rattle.std.proofs.lemmas.List.{length-append}
+use Rattle.std.proofs.Common.{◌≡◌, ◌∙◌, ℕ, List, [], ◌∷◌, ◌++◌, map, refl, ap, arith, append_assoc}
+use Rattle.std.specs.Prelude.{All}
 use Rattle.std.proofs.lemmas.List.Elements.{All-append, All-tail, All-cons, All-nil}
 use Rattle.rj_columns.specs.declared.cell.ColumnType.{ColumnType}
 use Rattle.rj_columns.specs.Tables.{TableValue, rows_of_all, AreAlike, concatenated}
 use Rattle.rj_columns.specs.Segments.{table_in}
 use Rattle.rj_columns.proofs.SegmentFacts.{rows-more}
 
-concatenated-rows : (tables : List TableValue) → AreAlike tables → (concatenated tables).rows ≡ rows_of_all tables
-concatenated-rows [] a = absurd a
-concatenated-rows (t ∷ tables) a = refl
-
-pub next-alike : (whole part : TableValue) (rest : List TableValue) → AreAlike (whole ∷ part ∷ rest) → (part.names ≡ whole.names) × (part.types ≡ whole.types)
-next-alike whole part rest a = a 0 part (omega arith)
-
 pub alike-joined : (whole part new : TableValue) (rest : List TableValue) → AreAlike (whole ∷ part ∷ rest) → new ≡ record whole { rows = whole.rows ++ part.rows } → AreAlike (new ∷ rest)
 alike-joined whole part new rest a e = rw e (All-tail (λ (u : TableValue). (u.names ≡ whole.names) × (u.types ≡ whole.types)) part rest a)
 
 pub same-joined : (whole part new : TableValue) (rest : List TableValue) → new ≡ record whole { rows = whole.rows ++ part.rows } → concatenated (new ∷ rest) ≡ concatenated (whole ∷ part ∷ rest)
 same-joined whole part new rest e = rw e (ap (λ l. record { names = whole.names; types = whole.types; rows = l }) (append_assoc whole.rows part.rows (rows_of_all rest)))
-
-pub room-joined : (whole part : TableValue) (rest parts : List TableValue) (most : ℕ) → AreAlike parts → concatenated (whole ∷ part ∷ rest) ≡ concatenated parts → length (rows_of_all parts) < most
-    → length whole.rows + length part.rows < most
-room-joined whole part rest parts most a same low =
-    let all = concatenated-rows parts a in
-    let rows : whole.rows ++ (part.rows ++ rows_of_all rest) ≡ rows_of_all parts = ap (λ (t : TableValue). t.rows) same ∙ all in
-    let size : length (whole.rows ++ (part.rows ++ rows_of_all rest)) ≡ length (rows_of_all parts) = ap length rows in
-    let one = length-append whole.rows (part.rows ++ rows_of_all rest) in
-    let two = length-append part.rows (rows_of_all rest) in
-    omega arith
-
-pub whole-last : (whole : TableValue) (rest : List TableValue) → length rest ≡ 0 → whole ≡ concatenated (whole ∷ rest)
-whole-last whole [] e = ap (λ l. record { names = whole.names; types = whole.types; rows = l }) (sym (append-nil whole.rows))
-whole-last whole (t ∷ rest) e = absurd (omega arith)
 
 -- the rows of tables of one segment each
 rows-apart : (names : List (List ℕ)) (segments : List TableValue) → rows_of_all (map (table_in names []) segments) ≡ rows_of_all segments
@@ -55,10 +33,6 @@ pub same-parted : (names : List (List ℕ)) (types : List ColumnType) (closed ta
 same-parted names types closed tables end h e named typed =
     rw e (All-append (λ (t : TableValue). (t.names ≡ names) × (t.types ≡ types)) (map (table_in names []) closed) (end ∷ []) (same-apart names types closed h)
     (All-cons (λ (t : TableValue). (t.names ≡ names) × (t.types ≡ types)) end [] (named, typed) (All-nil (λ (t : TableValue). (t.names ≡ names) × (t.types ≡ types)))))
-
-pub some-parted : (tables : List TableValue) (end : TableValue) → tables ++ end ∷ [] ≢ []
-some-parted [] end = λ e. absurd (let size : length (end ∷ []) ≡ 0 = ap length e in omega arith)
-some-parted (t ∷ tables) end = λ e. absurd (let size : length (t ∷ (tables ++ end ∷ [])) ≡ 0 = ap length e in omega arith)
 
 -- one more table of one segment
 pub made-more : (names : List (List ℕ)) (tables new all rest : List TableValue) (t s : TableValue) → new ≡ tables ++ t ∷ [] → t ≡ table_in names [] s → tables ++ map (table_in names []) (s ∷ rest) ≡ all

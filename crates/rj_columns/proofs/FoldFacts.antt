@@ -1,5 +1,5 @@
 -- A look-up by the form in lower case finds the names that are alike when ASCII case is ignored.
-use Rattle.std.proofs.Common.{◌≡◌, ℕ, zero, suc, List, [], ◌∷◌, ◌++◌, Bool, false, map, length, Option, None, Some, String, Global, refl, sym, ap, ◌∙◌}
+use Rattle.std.proofs.Common.{◌≡◌, ℕ, zero, suc, List, [], ◌∷◌, ◌++◌, Bool, false, map, Option, None, Some, String, Global, refl, sym, ap, ◌∙◌}
 use Rattle.std.specs.Prelude.{string_bytes, slice_get}
 use Rattle.std.specs.List.{list_any}
 use Rattle.std.specs.Str.{bytes_eq, str_eq_ignore_ascii_case, str_to_ascii_lowercase}
@@ -31,10 +31,6 @@ AreFolded-push entries k v h e = All-push Folded entries (k, v) h e
 pub values-push : (entries : List Entry) (k v : String Global) → map string_bytes (values_of (entries ++ (k, v) ∷ [])) ≡ map string_bytes (values_of entries) ++ string_bytes v ∷ []
 values-push [] k v = refl
 values-push (e ∷ entries) k v = ap (λ t. string_bytes e.1 ∷ t) (values-push entries k v)
-
-pub length-names : (entries : List Entry) → length (map string_bytes (values_of entries)) ≡ length entries
-length-names [] = refl
-length-names (e ∷ entries) = ap suc (length-names entries)
 
 -- the name of the entry at a place
 pub name-at : (entries : List Entry) (i : ℕ) (e : Entry) → slice_get entries i ≡ Some e → slice_get (map string_bytes (values_of entries)) i ≡ Some (string_bytes e.1)

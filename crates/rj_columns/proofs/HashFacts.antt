@@ -1,7 +1,7 @@
 -- Hashes that take up the cells at rows one by one.
 use Rattle.std.proofs.Common.{◌≡◌, ◌<◌, ◌≤◌, ◌+◌, ◌-◌, ◌⊎◌, inl, inr, ℕ, List, [], Option, None, Some, ◌++◌, length, map, take, drop, set, get_or, refl, sym, ap, subst, ◌∙◌, arith}
 use Rattle.std.specs.Prelude.{All, slice_get, slice_range}
-use Rattle.std.proofs.lemmas.List.{length-append, length-drop, length-map, length-set, length-take-le, get_or-append_right, get_or-drop, get_or-map, get_or-set_same, get_or-set_other, get_or-take}
+use Rattle.std.proofs.lemmas.List.{length-append, length-drop, length-set, length-take-le, get_or-append_right, get_or-drop, get_or-map, get_or-set_same, get_or-set_other, get_or-take}
 use Rattle.std.proofs.lemmas.Option.{get_or_from_slice_get}
 use Rattle.std.proofs.Math.ListN.{get_or-append}
 use Rattle.rj_columns.specs.declared.cell.ColumnType.{ColumnType}
@@ -53,20 +53,9 @@ inside h = omega (arith, h.0, h.1)
 pub shown-at : {A : Type 0} (f : A → Content) (values : List A) (i : ℕ) (x : A) → i < length values → slice_get values i ≡ Some x → get_or (map f values) i nothing ≡ f x
 shown-at f values i x h e = get_or-map f values i x nothing h ∙ ap f (get_or_from_slice_get values i x x e)
 
--- the same cells, told by another function
-pub taken-same : (added : Option ℕ → Content → Option ℕ) (one two : ℕ → Content) (rows : List ℕ) (before now : List (Option ℕ)) → ((k : ℕ) → k < length rows → one (get_or rows k 0) ≡ two (get_or rows k 0))
-    → HaveTaken added one rows before now → HaveTaken added two rows before now
-taken-same added one two rows before now same z = record {
-  len = z.len;
-  each = λ k l. z.each k l ∙ ap (added (get_or before k None)) (same k l);
-}
-
 -- a table's column at a row
 pub column-cell : (t : TableValue) (col : ℕ) (cells : List Content) (row : ℕ) → cells ≡ column_in t.rows col → row < length t.rows → get_or cells row nothing ≡ cell_of t row col
 column-cell t col cells row e h = ap (λ l. get_or l row nothing) e ∙ get_or-map (λ r. get_or r col nothing) t.rows row [] nothing h
-
-pub column-long : (t : TableValue) (col : ℕ) (cells : List Content) → cells ≡ column_in t.rows col → length cells ≡ length t.rows
-column-long t col cells e = ap length e ∙ length-map t.rows (λ r. get_or r col nothing)
 
 -- the cells of a column are within their limits
 pub column-limits : (kind : ColumnType) (cells : List Content) → All (FitsType kind) cells → All IsInLimits cells

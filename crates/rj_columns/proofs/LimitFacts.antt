@@ -1,8 +1,7 @@
 -- Decimals that fit a column's type are within the limits of a comparison, and their units are numbers of 64 bits.
-use Rattle.std.proofs.Common.{◌<◌, ◌≤◌, ◌^◌, ℕ, zero, suc, ℤ, List, [], ◌∷◌, arith, lit<, w64, FitsSigned}
+use Rattle.std.proofs.Common.{◌<◌, ◌≤◌, ◌^◌, ℕ, zero, suc, ℤ, List, [], ◌∷◌, arith, lit<}
 use Rattle.std.specs.Prelude.{unsigned_abs}
 use Rattle.std.proofs.Math.Nat.{pow-le-pow_right}
-use Rattle.std.proofs.lemmas.Int.{fits_signed_from_abs}
 use Rattle.rj_decimal.specs.declared.numeric.NumericType.{NumericType}
 use Rattle.rj_columns.specs.declared.cell.ColumnType.{ColumnType}
 use Rattle.rj_columns.specs.declared.cell.ColumnType.TheVariants.{Int, Num, Text}
@@ -11,10 +10,6 @@ use Rattle.rj_columns.specs.Tables.{FitsAt}
 
 below_limit : (u : ℤ) (p : ℕ) → p ≤ 18 → unsigned_abs u < 10 ^ p → unsigned_abs u < 10 ^ 18
 below_limit u p l h = let most : 10 ^ p ≤ 10 ^ 18 = pow-le-pow_right {n = 10} (lit< tt) l in omega (arith, most, h)
-
--- units below 10^18 in size
-pub small_units : (u : ℤ) → unsigned_abs u < 10 ^ 18 → FitsSigned w64 u
-small_units u h = fits_signed_from_abs w64 u (omega (arith, h))
 
 -- a decimal of a numeric type
 pub decimal_limits : (t : NumericType) (units : ℤ) (scale : ℕ) → FitsType (Num t) (decimal units scale) → IsInLimits (decimal units scale)
@@ -27,9 +22,6 @@ FitsType-limits Int (decimal units scale) f = absurd f
 FitsType-limits (Num t) (decimal units scale) f = decimal_limits t units scale f
 FitsType-limits Text (decimal units scale) f = absurd f
 FitsType-limits k (word s) f = tt
-
-pub FitsType-units : (t : NumericType) (units : ℤ) (scale : ℕ) → FitsType (Num t) (decimal units scale) → FitsSigned w64 units
-FitsType-units t units scale f = small_units units (decimal_limits t units scale f).1
 
 pub FitsAt-limits : (types : List ColumnType) (i : ℕ) (x : Content) → FitsAt types i x → IsInLimits x
 unfolding FitsAt

@@ -3,7 +3,7 @@ use Rattle.std.proofs.Common.{◌≡◌, ◌≤◌, ◌<◌, ◌+◌, ◌-◌, �
 use Rattle.std.specs.Prelude.{slice_get, slice_index_or, replicate}
 use Rattle.std.specs.List.{remove}
 use Rattle.std.proofs.lemmas.List.{length-append, length-replicate}
-use Rattle.rj_columns.specs.Nulls.{unless, with_nulls, marked_at, marks_joined}
+use Rattle.rj_columns.specs.Nulls.{unless, with_nulls, marked_at}
 
 pub push-value : {A : Type 0} (values : List A) (nulls : List Bool) (x : A) → length nulls ≤ length values → with_nulls (values ++ x ∷ []) nulls ≡ with_nulls values nulls ++ Some x ∷ []
 unfolding with_nulls
@@ -28,14 +28,6 @@ join-marked [] w (x ∷ n) m h = absurd (omega arith)
 join-marked (y ∷ v) w [] m h = absurd (omega arith)
 join-marked (y ∷ v) w (x ∷ n) m h = ap (λ t. unless x y ∷ t) (join-marked v w n m (omega arith))
 
--- two columns, the second of them without marks
-join-plain : {A : Type 0} (v w : List A) (n : List Bool) → length n ≤ length v → with_nulls (v ++ w) n ≡ with_nulls v n ++ with_nulls w []
-unfolding with_nulls
-join-plain [] w [] h = refl
-join-plain [] w (x ∷ n) h = absurd (omega arith)
-join-plain (y ∷ v) w [] h = ap (λ t. Some y ∷ t) (join-plain v w [] (omega arith))
-join-plain (y ∷ v) w (x ∷ n) h = ap (λ t. unless x y ∷ t) (join-plain v w n (omega arith))
-
 -- marks that are filled up to a row
 length-padded : (nulls : List Bool) (row : ℕ) → length nulls ≤ row → length (nulls ++ replicate (row - length nulls) false) ≡ row
 length-padded nulls row h = omega (arith, length-append nulls (replicate (row - length nulls) false), length-replicate (row - length nulls) false)
@@ -44,13 +36,6 @@ join-padded : {A : Type 0} (v w : List A) (n m : List Bool) → length n ≤ len
 join-padded v w n m h =
     let all = join-marked v w (n ++ replicate (length v - length n) false) m (length-padded n (length v) h) in
     all ∙ ap (λ t. t ++ with_nulls w m) (pad-same v n (length v - length n))
-
-pub join-marks : {A : Type 0} (v w : List A) (n m : List Bool) → length n ≤ length v → with_nulls (v ++ w) (marks_joined n (length v) m) ≡ with_nulls v n ++ with_nulls w m
-join-marks v w n [] h = join-plain v w n h
-join-marks v w n (x ∷ m) h = join-padded v w n (x ∷ m) h
-
-pub join-shown : {A : Type 0} (v w : List A) (n m now : List Bool) (row : ℕ) → length n ≤ length v → row ≡ length v → now ≡ marks_joined n row m → with_nulls (v ++ w) now ≡ with_nulls v n ++ with_nulls w m
-join-shown v w n m now row h r e = rw (e, r) (join-marks v w n m h)
 
 one-null : {A : Type 0} (x : A) → with_nulls (x ∷ []) (true ∷ []) ≡ None ∷ []
 unfolding with_nulls

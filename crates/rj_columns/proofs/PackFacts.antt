@@ -1,9 +1,9 @@
 -- Texts in one buffer, after a push, a cut, a removal and a join.
 use Rattle.std.proofs.Common.{◌≡◌, ◌≢◌, ◌≤◌, ◌<◌, ◌+◌, ◌-◌, ◌∙◌, ℕ, zero, suc, List, [], ◌∷◌, ◌++◌, map, length, take, drop, refl, sym, ap, arith, append_assoc, get_or, add-one, subst}
-use Rattle.std.specs.Prelude.{All, slice_range, IsUtf8}
+use Rattle.std.specs.Prelude.{slice_range, IsUtf8}
 use Rattle.std.specs.List.{concat, remove, remove_range}
 use Rattle.std.proofs.lemmas.List.{length-append, length-map, length-drop, length-take-le, append-nil, take-append-drop, get_or-take, get_or-drop, get_or-map, get_or-append_right, ext_get_or}
-use Rattle.std.proofs.lemmas.List.Elements.{All-nil, All-cons, All-push, All-take, All-append, All-get_or}
+use Rattle.std.proofs.lemmas.List.Elements.{All-nil, All-push, All-take, All-get_or}
 use Rattle.std.proofs.lemmas.List.Folds.{concat-append}
 use Rattle.std.proofs.Math.ListN.{get_or-append}
 use Rattle.std.proofs.Common.{inl, inr, ◌⊎◌}
@@ -188,41 +188,6 @@ remove-packed bytes ends texts i start end p h s e =
       ends = rw (size, add-one, p.ends) (sym (ends-remove 0 texts i inside));
       utf8 = All-removed IsUtf8 texts i p.utf8;
     }
-
--- the texts of two columns
-ends-joined : (start before : ℕ) (texts more : List (List ℕ)) → before ≡ start + length (concat texts) → ends_from start (texts ++ more) ≡ ends_from start texts ++ ends_from before more
-unfolding ends_from
-ends-joined start before [] more e = let same : before ≡ start = omega arith in rw same refl
-ends-joined start before (t ∷ texts) more e =
-    ap (λ l. (start + length t) ∷ l) (ends-joined (start + length t) before texts more (omega (arith, length-append t (concat texts))))
-
-ends-raised : (start by : ℕ) (texts : List (List ℕ)) → map (λ e. by + e) (ends_from start texts) ≡ ends_from (by + start) texts
-unfolding ends_from
-ends-raised start by [] = refl
-ends-raised start by (t ∷ texts) =
-    let next : by + (start + length t) ≡ by + start + length t = omega arith in
-    rw (ends-raised (start + length t) by texts, next) refl
-
-pub join-packed : (bytes ends more others : List ℕ) (texts last : List (List ℕ)) (size : ℕ) → Packs bytes ends texts → Packs more others last → size ≡ length bytes
-    → Packs (bytes ++ more) (ends ++ map (λ e. size + e) others) (texts ++ last)
-join-packed bytes ends more others texts last size p q e =
-    let before : size + 0 ≡ 0 + length (concat texts) = omega (arith, ap length p.bytes) in
-    record {
-      bytes = rw (p.bytes, q.bytes) (sym (concat-append texts last));
-      ends = rw (p.ends, q.ends, ends-raised 0 size last) (sym (ends-joined 0 (size + 0) texts last before));
-      utf8 = All-append IsUtf8 texts last p.utf8 q.utf8;
-    }
-
--- no text ends behind the buffer
-ends-within : (start limit : ℕ) (texts : List (List ℕ)) → start + length (concat texts) ≤ limit → All (λ e. e ≤ limit) (ends_from start texts)
-unfolding ends_from
-ends-within start limit [] h = All-nil (λ e. e ≤ limit)
-ends-within start limit (t ∷ texts) h =
-    let size = length-append t (concat texts) in
-    All-cons (λ e. e ≤ limit) (start + length t) (ends_from (start + length t) texts) (omega arith) (ends-within (start + length t) limit texts (omega arith))
-
-pub ends-inside : (bytes ends : List ℕ) (texts : List (List ℕ)) → Packs bytes ends texts → All (λ e. e ≤ length bytes) ends
-ends-inside bytes ends texts p = rw p.ends (ends-within 0 (length bytes) texts (omega (arith, ap length p.bytes)))
 
 pub texts-utf8 : (bytes ends : List ℕ) (i : ℕ) → Packs bytes ends (texts_from 0 bytes ends) → i < length ends → IsUtf8 (slice_range bytes (start_at 0 ends i) (get_or ends i 0))
 texts-utf8 bytes ends i p h =

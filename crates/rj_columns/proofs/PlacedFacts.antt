@@ -29,20 +29,6 @@ before-next placed i d h =
     let step : take (suc i) (segments_in placed) ≡ take i (segments_in placed) ++ (get_or placed i d).segment ∷ [] = rw (add-one) at (more ∙ ap (λ s. take i (segments_in placed) ++ s ∷ []) at) in
     ap (λ l. length (rows_of_all l)) step ∙ count-more (take i (segments_in placed)) (get_or placed i d).segment
 
--- a row that is none of the segments up to a place is one of those behind it
-pub later : (placed : List Placed) (hints : List ℕ) (rows row at : ℕ) (d : Placed) → ArePlaced placed hints rows → row < rows → at < length placed → (get_or placed at d).end ≤ row
-    → (suc at < length placed) × (rows_before placed (suc at) ≤ row)
-later placed hints rows row at d p low h past =
-    let end = p.ends at d h in
-    let total = p.count in
-    elim (either (suc at) (length placed)) [
-      | inl more ↦ (more, omega arith)
-      | inr none ↦ let all = before-all placed (suc at) none in absurd (omega arith)
-    ]
-  where
-    either : (a b : ℕ) → (a < b) ⊎ (b ≤ a)
-    either a b = grind arith
-
 pub end-of : (placed : List Placed) (hints : List ℕ) (rows at : ℕ) (p : Placed) → ArePlaced placed hints rows → at < length placed → p ≡ get_or placed at p → p.end ≡ rows_before placed (suc at)
 end-of placed hints rows at p places h e = ap (λ (q : Placed). q.end) e ∙ places.ends at p h
 
@@ -61,15 +47,6 @@ found placed hints rows row at p places h low high e =
       from = omega arith;
       to = omega arith;
     }
-
--- the hint of a row
-pub hinted : (placed : List Placed) (hints : List ℕ) (rows row page at : ℕ) → ArePlaced placed hints rows → row < rows → page * 65536 ≤ row → row < page * 65536 + 65536 → at ≡ get_or hints page 0
-    → (at < length placed) × (rows_before placed at ≤ row)
-hinted placed hints rows row page at p low from to e =
-    let many = p.enough in
-    let inside : page < length hints = omega arith in
-    let hint = p.hints page inside in
-    (rw e hint.0, rw e (let most = hint.1 in omega arith))
 
 -- one more segment
 segments-more : (placed : List Placed) (p : Placed) → segments_in (placed ++ p ∷ []) ≡ segments_in placed ++ p.segment ∷ []

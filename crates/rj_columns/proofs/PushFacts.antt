@@ -16,12 +16,6 @@ pub changed-none : (f : ColumnValue → ColumnValue) (columns : List ColumnValue
 unfolding changed
 changed-none f columns = refl
 
-pub length-changed : (f : ColumnValue → ColumnValue) (k : ℕ) (columns : List ColumnValue) → length (changed f k columns) ≡ length columns
-unfolding changed
-length-changed f zero columns = refl
-length-changed f (suc k) [] = refl
-length-changed f (suc k) (c ∷ columns) = ap suc (length-changed f k columns)
-
 changed-next : (f : ColumnValue → ColumnValue) (i : ℕ) (columns : List ColumnValue) (d : ColumnValue) → i < length columns
     → slice_set (changed f i columns) i (f (slice_index_or (changed f i columns) i d)) ≡ changed f (suc i) columns
 unfolding changed

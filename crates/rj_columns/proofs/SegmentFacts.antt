@@ -55,16 +55,6 @@ part-closed names closed last s row first a f =
         ∙ (ap (λ n. get_or (rows_of_all closed) (n + k) []) f.start
         ∙ (get_or-flat_map (λ (t : TableValue). t.rows) closed f.place k s [] f.inside inside ∙ ap (λ (t : TableValue). get_or t.rows k []) (sym f.found)))
 
--- so is the last one
-pub part-last : (names : List (List ℕ)) (closed : List TableValue) (last : TableValue) (first : ℕ) → first ≡ length (rows_of_all closed) → IsPartOf (table_in names closed last) first last
-part-last names closed last first e =
-    let all = length-append (rows_of_all closed) last.rows in
-    record {
-      types = refl;
-      within = omega arith;
-      rows = λ k h. ap (λ n. get_or (rows_of_all closed ++ last.rows) (n + k) []) e ∙ get_or-append-add (rows_of_all closed) last.rows k [];
-    }
-
 -- a cell of a part
 pub part-cell : (t part : TableValue) (first row col : ℕ) → IsPartOf t first part → first ≤ row → row < first + length part.rows → cell_of part (row - first) col ≡ cell_of t row col
 part-cell t part first row col p low high =

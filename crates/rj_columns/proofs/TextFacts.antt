@@ -2,12 +2,12 @@
 use Rattle.std.proofs.Common.{◌≡◌, ◌≤◌, ◌<◌, ◌+◌, ◌-◌, ◌∙◌, ℕ, List, Bool, [], ◌∷◌, ◌++◌, map, length, take, drop, None, Some, refl, sym, ap, arith, get_or}
 use Rattle.std.specs.Prelude.{IsUtf8, true, false, slice_get, slice_index_or, slice_range}
 use Rattle.std.specs.List.{remove, remove_range}
-use Rattle.std.proofs.lemmas.List.{length-append, length-map, length-take, take_all, append-nil}
+use Rattle.std.proofs.lemmas.List.{length-append, length-take, take_all, append-nil}
 use Rattle.std.proofs.lemmas.Str.{IsUtf8-nil}
-use Rattle.rj_columns.specs.Nulls.{with_nulls, marked_at, marks_joined}
+use Rattle.rj_columns.specs.Nulls.{with_nulls, marked_at}
 use Rattle.rj_columns.specs.Packed.{start_at, texts_from, Packs, ArePacked}
-use Rattle.rj_columns.proofs.NullFacts.{push-value, push-null, length-marked, length-values, take-values, remove-values, join-marks, value-at}
-use Rattle.rj_columns.proofs.PackFacts.{texts-found, packed, length-texts, length-ends, push-packed, take-packed, remove-packed, join-packed, text-at}
+use Rattle.rj_columns.proofs.NullFacts.{push-value, push-null, length-marked, length-values, take-values, remove-values, value-at}
+use Rattle.rj_columns.proofs.PackFacts.{texts-found, packed, length-texts, length-ends, push-packed, take-packed, remove-packed, text-at}
 use Rattle.rj_columns.proofs.RemoveFacts.{remove-none, remove-within}
 
 -- a null
@@ -91,26 +91,6 @@ removed-shown bytes ends nulls row start end p h s e =
 
 pub unremoved : (bytes ends : List ℕ) (nulls : List Bool) (row : ℕ) → length ends ≤ row → with_nulls (texts_from 0 bytes ends) nulls ≡ remove (with_nulls (texts_from 0 bytes ends) nulls) row
 unremoved bytes ends nulls row h = sym (remove-none (with_nulls (texts_from 0 bytes ends) nulls) row (omega (arith, length-shown bytes ends nulls)))
-
--- the texts of two columns
-pub joined-packed : (bytes ends more others : List ℕ) (nulls marks now : List Bool) (size : ℕ) → ArePacked bytes ends nulls → ArePacked more others marks → size ≡ length bytes → length now ≤ length ends + length others
-    → ArePacked (bytes ++ more) (ends ++ map (λ e. size + e) others) now
-joined-packed bytes ends more others nulls marks now size p q e h =
-    let both = join-packed bytes ends more others (texts_from 0 bytes ends) (texts_from 0 more others) size p.texts q.texts e in
-    record {
-      texts = packed (bytes ++ more) (ends ++ map (λ e. size + e) others) (texts_from 0 bytes ends ++ texts_from 0 more others) both;
-      nulls = omega (arith, h, length-append ends (map (λ e. size + e) others), length-map others (λ e. size + e));
-    }
-
-pub joined-shown : (bytes ends more others : List ℕ) (nulls marks now : List Bool) (size row : ℕ) → ArePacked bytes ends nulls → ArePacked more others marks → size ≡ length bytes → row ≡ length ends
-    → now ≡ marks_joined nulls row marks
-    → with_nulls (texts_from 0 (bytes ++ more) (ends ++ map (λ e. size + e) others)) now ≡ with_nulls (texts_from 0 bytes ends) nulls ++ with_nulls (texts_from 0 more others) marks
-joined-shown bytes ends more others nulls marks now size row p q e r joined =
-    let both = join-packed bytes ends more others (texts_from 0 bytes ends) (texts_from 0 more others) size p.texts q.texts e in
-    let texts = texts-found (bytes ++ more) (ends ++ map (λ e. size + e) others) (texts_from 0 bytes ends ++ texts_from 0 more others) both in
-    let many = length-texts 0 bytes ends in
-    let here : row ≡ length (texts_from 0 bytes ends) = omega arith in
-    rw (texts, joined, here) (join-marks (texts_from 0 bytes ends) (texts_from 0 more others) nulls marks (omega (arith, p.nulls)))
 
 -- a row by its number
 pub row-inside : (bytes ends : List ℕ) (nulls : List Bool) (i : ℕ) → i < length (with_nulls (texts_from 0 bytes ends) nulls) → i < length ends

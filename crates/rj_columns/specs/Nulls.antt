@@ -13,8 +13,3 @@ with_nulls (x ∷ values) (n ∷ nulls) = unless n x ∷ with_nulls values nulls
 -- the marks of some rows, and a mark at a row behind them
 abbrev pub marked_at : List Bool → ℕ → List Bool
 marked_at nulls row = nulls ++ replicate (row - length nulls) false ++ true ∷ []
-
--- the marks of some rows, and then more from a row on
-abbrev pub marks_joined : List Bool → ℕ → List Bool → List Bool
-marks_joined nulls row [] = nulls
-marks_joined nulls row (m ∷ more) = nulls ++ replicate (row - length nulls) false ++ m ∷ more

@@ -92,6 +92,7 @@ impl TableBuilder {
     /// # Errors
     ///
     /// It fails only where memory is refused. The builder is then unchanged.
+    #[inline]
     pub fn push_cell(&mut self, cell: Cell<'_>) -> Result<(), AllocError>
         requires { FitsAt self.old.table.types (length self.old.row) (content_of cell) }
         ensures ok { OnOk result (self.new ≡ record self.old { row = self.old.row ++ content_of cell.entry ∷ [] }) }
@@ -129,6 +130,7 @@ impl TableBuilder {
     }
 
     /// Ends the row at hand, which has a cell for each column. There were fewer than 2^31 - 1 rows.
+    #[inline]
     pub fn end_row(&mut self)
         requires full { length self.old.row ≡ length self.old.table.types }
         requires room { length self.old.table.rows < 2 ^ 31 - 1 }

@@ -90,8 +90,8 @@ impl Table {
         Ok(whole)
     }
 
-    /// The table as tables of at most 65,536 rows each, one after another, under its names and types. A table without
-    /// rows is one table. No cell is copied.
+    /// The table as tables of a segment each, one after another, under its names and types: of at most 65,536 rows each
+    /// where there are columns. A table without rows is one table. No cell is copied.
     ///
     /// # Errors
     ///

@@ -58,61 +58,6 @@ fn lower_wide(ends: &mut Vec<u64>, from: usize, by: usize)
     }
 }
 
-// Adds ends, each raised by so many bytes. Where memory is refused the ends are as they were.
-fn extend_narrow(narrow: &mut Vec<u32>, more: &Vec<u32>, by: u32) -> Result<(), AllocError>
-    requires { All (λ e. by + e < 2 ^ 32) more.now.items }
-    ensures ok { OnOk result (narrow.new.items ≡ narrow.old.items ++ map (λ e. by + e) more.now.items) }
-    ensures err { OnErr result (narrow.new.items ≡ narrow.old.items) }
-{
-    let rows = narrow.len();
-    if narrow.extend(more.iter().map(|end| by + *end)).is_err() {
-        narrow.truncate(rows);
-        return Err(AllocError);
-    }
-    Ok(())
-}
-
-// The same of wide ones.
-fn extend_wide(wide: &mut Vec<u64>, more: &Vec<u64>, by: u64) -> Result<(), AllocError>
-    requires { All (λ e. by + e < 2 ^ 64) more.now.items }
-    ensures ok { OnOk result (wide.new.items ≡ wide.old.items ++ map (λ e. by + e) more.now.items) }
-    ensures err { OnErr result (wide.new.items ≡ wide.old.items) }
-{
-    let rows = wide.len();
-    if wide.extend(more.iter().map(|end| by + *end)).is_err() {
-        wide.truncate(rows);
-        return Err(AllocError);
-    }
-    Ok(())
-}
-
-// The same of wide ones, to which narrow ones are added.
-fn extend_widened(wide: &mut Vec<u64>, more: &Vec<u32>, by: u64) -> Result<(), AllocError>
-    requires { All (λ e. by + e < 2 ^ 64) more.now.items }
-    ensures ok { OnOk result (wide.new.items ≡ wide.old.items ++ map (λ e. by + e) more.now.items) }
-    ensures err { OnErr result (wide.new.items ≡ wide.old.items) }
-{
-    let rows = wide.len();
-    let raised = more.iter().map(|end| by + u64::from(*end));
-    if wide.extend(raised).is_err() {
-        wide.truncate(rows);
-        return Err(AllocError);
-    }
-    Ok(())
-}
-
-// The same of wide ones, to which ends of any width are added.
-fn extend_by_any(wide: &mut Vec<u64>, more: &Places, by: u64) -> Result<(), AllocError>
-    requires { All (λ e. by + e < 2 ^ 64) (ends_in more.now) }
-    ensures ok { OnOk result (wide.new.items ≡ wide.old.items ++ map (λ e. by + e) (ends_in more.now)) }
-    ensures err { OnErr result (wide.new.items ≡ wide.old.items) }
-{
-    match more {
-        Places::Narrow(more) => extend_widened(wide, more, by),
-        Places::Wide(more) => extend_wide(wide, more, by),
-    }
-}
-
 impl Ends {
     // No ends.
     pub(crate) fn new(alloc: Global) -> Ends
@@ -186,35 +131,6 @@ impl Ends {
             }
         }
         Ok(())
-    }
-
-    // Adds the ends of texts whose buffer comes behind so many bytes and ends at a size. They become wide where that size
-    // asks for it. Where memory is refused they are as they were.
-    pub(crate) fn append(
-        &mut self,
-        more: &Ends,
-        before: usize,
-        size: usize,
-    ) -> Result<(), AllocError>
-        requires behind { before ≤ size }
-        requires inside { All (λ e. before + e ≤ size) more.now }
-        ensures ok { OnOk result (self.new ≡ self.old ++ map (λ e. before + e) more.now) }
-        ensures err { OnErr result (self.new ≡ self.old) }
-    {
-        match &mut self.places {
-            Places::Narrow(ends) => {
-                if let Places::Narrow(others) = &more.places
-                    && size <= u32::MAX as usize
-                {
-                    return extend_narrow(ends, others, before as u32);
-                }
-                let mut wide = widened(ends)?;
-                extend_by_any(&mut wide, &more.places, before as u64)?;
-                self.places = Places::Wide(wide);
-                Ok(())
-            }
-            Places::Wide(ends) => extend_by_any(ends, &more.places, before as u64),
-        }
     }
 
     // Drops all but the first.

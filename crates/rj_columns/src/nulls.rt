@@ -1,7 +1,7 @@
 //! Marks of nulls, which reach no further than the last null.
 
 ghost use Rattle.std.specs.Prelude.{◌≡◌, ◌≤◌, ◌+◌, length, false, slice_index_or, OnOk, OnErr};
-ghost use Rattle.rj_columns.specs.Nulls.{marked_at, marks_joined};
+ghost use Rattle.rj_columns.specs.Nulls.{marked_at};
 
 use std::alloc::AllocError;
 
@@ -29,23 +29,4 @@ pub(crate) fn mark(nulls: &mut Vec<bool>, row: usize) -> Result<(), AllocError>
         return Err(AllocError);
     }
     Ok(())
-}
-
-// Adds marks from a row on, which stands behind all that are marked. Where memory is refused none was added, and the
-// marks may reach up to that row.
-pub(crate) fn add_marks(
-    nulls: &mut Vec<bool>,
-    row: usize,
-    more: &Vec<bool>,
-) -> Result<(), AllocError>
-    requires { length nulls.old.items ≤ row }
-    ensures ok { OnOk result (nulls.new.items ≡ marks_joined nulls.old.items row more.now.items) }
-    ensures within { length nulls.new.items ≤ row + length more.now.items }
-{
-    let marks = more.as_slice();
-    if marks.is_empty() {
-        return Ok(());
-    }
-    nulls.resize(row, false)?;
-    nulls.extend_from_slice(marks)
 }

@@ -115,28 +115,6 @@ impl Numbers {
         Ok(())
     }
 
-    // Adds other numbers after these. All become wide where the others are. Where memory is refused nothing is changed.
-    pub(crate) fn append(&mut self, other: &Numbers) -> Result<(), AllocError>
-        ensures ok { OnOk result (self.new ≡ self.old ++ other.now) }
-        ensures err { OnErr result (self.new ≡ self.old) }
-    {
-        match &mut self.values {
-            Values::Narrow(values) => match &other.values {
-                Values::Narrow(more) => values.extend_from_slice(more.as_slice()),
-                Values::Wide(more) => {
-                    let mut wide = widened(values)?;
-                    wide.extend_from_slice(more.as_slice())?;
-                    self.values = Values::Wide(wide);
-                    Ok(())
-                }
-            },
-            Values::Wide(values) => match &other.values {
-                Values::Narrow(more) => extend_widened(values, more),
-                Values::Wide(more) => values.extend_from_slice(more.as_slice()),
-            },
-        }
-    }
-
     // Drops all but the first.
     pub(crate) fn truncate(&mut self, rows: usize)
         ensures { self.new ≡ take rows self.old }

@@ -41,25 +41,6 @@ same-segment a k is = grind (arith, nat_tests, is)
 other-segment : (a k : ℕ) → a ≢ k → (a == k) ≡ false
 other-segment a k isnt = grind (arith, nat_tests, isnt)
 
--- one run more of this segment
-pub texts-more : (text : Run → List ℕ) (k : ℕ) (runs : List Run) (i : ℕ) (run : Run) (texts : List Texts) (more : Texts) → i < length runs → run ≡ get_or runs i run → run.segment ≡ k
-    → map whole_text texts ≡ map text (filter (is_of k) (take i runs)) → whole_text more ≡ text run
-    → map whole_text (texts ++ more ∷ []) ≡ map text (filter (is_of k) (take (i + 1) runs))
-texts-more text k runs i run texts more low is of before here =
-    let before-it = filter (is_of k) (take i runs) in
-    let own : is_of k (get_or runs i run) ≡ true = ap (is_of k) (sym is) ∙ same-segment run.segment k of in
-    let next = filter_more (is_of k) runs i run low ∙ (λ t. before-it ++ cond (own t) (sym is t ∷ []) []) in
-    map-append whole_text texts (more ∷ []) ∙ ((λ t. before t ++ here t ∷ []) ∙ (sym (map-append text before-it (run ∷ [])) ∙ ap (map text) (sym next)))
-
--- one run more of another segment
-pub texts-same : (text : Run → List ℕ) (k : ℕ) (runs : List Run) (i : ℕ) (run : Run) (texts : List Texts) → i < length runs → run ≡ get_or runs i run → run.segment ≢ k
-    → map whole_text texts ≡ map text (filter (is_of k) (take i runs)) → map whole_text texts ≡ map text (filter (is_of k) (take (i + 1) runs))
-texts-same text k runs i run texts low is isnt before =
-    let before-it = filter (is_of k) (take i runs) in
-    let apart : is_of k (get_or runs i run) ≡ false = ap (is_of k) (sym is) ∙ other-segment run.segment k isnt in
-    let next = filter_more (is_of k) runs i run low ∙ ((λ t. before-it ++ cond (apart t) (sym is t ∷ []) []) ∙ append-nil before-it) in
-    before ∙ ap (map text) (sym next)
-
 -- what is alike of each run of a segment
 same-texts : (f g : Run → List ℕ) (k : ℕ) (runs : List Run) → ((run : Run) → run.segment ≡ k → f run ≡ g run) → map f (filter (is_of k) runs) ≡ map g (filter (is_of k) runs)
 same-texts f g k [] same = refl
@@ -232,18 +213,6 @@ all-within segments l r v s runs k rows types h each low = λ i d lt is.
     let t = get_or segments k no_table in
     let there : t ≡ get_or segments k t = get_or_default segments k no_table t low in
     run-within segments l r t v s (get_or runs i d) rows (types k no_table low) (each i d lt) (there ∙ ap (λ n. get_or segments n t) (sym is)) h
-
-pub all-segments : (segments : List TableValue) (rows : List JoinedRow) (runs : List Run) → All (IsRunOf segments rows) runs → All (λ (run : Run). run.segment < length segments) runs
-all-segments segments rows runs each = λ i d lt. (each i d lt).segment
-
--- the left rows of members stand in the left table
-member-stands : (l r : TableValue) (row : JoinedRow) → IsMemberOf l r row → StandsWithin 0 (length l.rows) row
-member-stands l r (Both i j) h = (omega arith, h.0)
-member-stands l r (LeftOnly i) h = (omega arith, h.0)
-member-stands l r (RightOnly j) h = tt
-
-pub members-stand : (l r : TableValue) (rows : List JoinedRow) → All (IsMemberOf l r) rows → All (StandsWithin 0 (length l.rows)) rows
-members-stand l r rows h = λ i d lt. member-stands l r _ (h i d lt)
 
 -- under a header the text of rows is that of a table
 pub table-text : (null : List ℕ) (header : List (List ℕ)) (cells : List (List Content)) (texts : Texts) → whole_text texts ≡ cells_text null cells

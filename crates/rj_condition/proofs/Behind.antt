@@ -25,19 +25,11 @@ pub bind_some : {A B : Type 0} (r : Option A) (f : A → Option B) (y : B) → (
 bind_some (Some x) f y e = (x, refl, e)
 bind_some None f y e = cc
 
--- keywords
-keyword_same : (k : Keyword) → same_keyword k k ≡ true
-keyword_same k = (bytes_eq-Decides (spelling_of k) (spelling_of k)).1 refl
-
 keyword_is : (j k : Keyword) → same_keyword j k ≡ true → j ≡ k
 keyword_is j k e =
     let same : spelling_of j ≡ spelling_of k = (bytes_eq-Decides (spelling_of j) (spelling_of k)).0 e in
     some_same _ _
     (sym (spelled_once j) ∙ ap (λ (z : List ℕ). find (λ i. bytes_eq (str_to_ascii_lowercase z) (str_to_ascii_lowercase (spelling_of i))) all_keywords) same ∙ spelled_once k)
-
-pub after_here : (k : Keyword) (us : List Token) → after k (token.Keyword k ∷ us) ≡ Some us
-unfolding after
-after_here k us = ap (λ c. cond c (Some us) None) (keyword_same k)
 
 keyword_next : (k j : Keyword) (ts us : List Token) → cond (same_keyword j k) (Some ts) None ≡ Some us → token.Keyword j ∷ ts ≡ token.Keyword k ∷ us
 keyword_next k j ts us e = elim (chosen (same_keyword j k) _ _ us e) [

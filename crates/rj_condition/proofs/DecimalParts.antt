@@ -25,10 +25,6 @@ checked_is units scale true h p = ap (λ (q : is_short units scale ≡ true). So
     one_proof h p = Bool-set _ _ h p
 checked_is units scale false h p = cc
 
-pub checked_not : (units : ℤ) (scale : ℕ) (b : Bool) (h : is_short units scale ≡ b) → is_short units scale ≡ false → checked units scale b h ≡ None
-checked_not units scale true h n = cc
-checked_not units scale false h n = refl
-
 checked_some : (units : ℤ) (scale : ℕ) (b : Bool) (h : is_short units scale ≡ b) (d : DecimalLiteral) → checked units scale b h ≡ Some d → (d.scale ≡ scale) × (d.units ≡ units)
 checked_some units scale true h d e =
     let s = some_same _ _ e in

@@ -18,9 +18,6 @@ some_same x y e = cc
 abbrev pub is_quote : ℕ → ℕ → Bool
 is_quote q b = b == q
 
-in_front_none : (found : List ℕ) → in_front found None ≡ None
-in_front_none found = refl
-
 in_front_twice : (found more : List ℕ) (o : Option (List ℕ × List ℕ)) → in_front found (in_front more o) ≡ in_front (found ++ more) o
 in_front_twice found more (Some p) = ap (λ (z : List ℕ). Some (z, p.1)) (sym (append_assoc found more p.0))
 in_front_twice found more None = refl
@@ -44,9 +41,6 @@ after_quote_last q (b ∷ bs) e = ap (λ c. cond c (in_front (q ∷ []) (quoted 
 
 other_is : (q b : ℕ) → is_other q b ≡ true → is_quote q b ≡ false
 other_is q b e = elim (cases_Bool (is_quote q b)) [ inl h ↦ let f = ap not h in cc | inr h ↦ h ]
-
-quote_is_other : (q b : ℕ) → is_quote q b ≡ true → is_other q b ≡ false
-quote_is_other q b e = ap not e
 
 -- the run of other bytes in front, and what stands behind it
 pub record IsCut (q : ℕ) (rest front more : List ℕ) : Type 0 where

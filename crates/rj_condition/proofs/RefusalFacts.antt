@@ -19,17 +19,6 @@ pub using_at : (left right : List (List ℕ)) (ts : List Token) (i : ℕ) (n : N
     → refusal_at true left right ts i ≡ using_refusal left (take i ts) (place left n) (place right n)
 using_at left right ts i n e = rw e refl
 
--- a token that names no column is not refused
-pub point_not_refused : (using : Bool) (left right : List (List ℕ)) (ts : List Token) (i : ℕ) → is_point (slice_get ts (i + 1)) ≡ true → refusal_at using left right ts i ≡ None
-point_not_refused using left right ts i h = rw h refl
-
-pub no_name_not_refused : (using : Bool) (left right : List (List ℕ)) (ts : List Token) (i : ℕ) → name_of (slice_get ts i) ≡ None → refusal_at using left right ts i ≡ None
-no_name_not_refused using left right ts i g = go (is_point (slice_get ts (i + 1))) refl
-  where
-    go : (b : Bool) → is_point (slice_get ts (i + 1)) ≡ b → refusal_at using left right ts i ≡ None
-    go true h = rw h refl
-    go false h = rw (h, g) refl
-
 pub reference_at : (left right : List (List ℕ)) (ts : List Token) (i : ℕ) (n : Name) → column_at ts i ≡ Some record { qualifier = qualifier_at ts i; name = n }
     → refusal_at false left right ts i ≡ reference_refusal left right record { qualifier = qualifier_at ts i; name = n }
 reference_at left right ts i n e = rw e refl

@@ -18,18 +18,3 @@ place_next t xs i x h e = rw (drop_get xs i x h, e) refl
 
 pub drop_at : {A : Type 0} (xs : List A) (i : ℕ) (x : A) → i < length xs → x ≡ get_or xs i x → drop i xs ≡ x ∷ drop (i + 1) xs
 drop_at xs i x lt is = rw add-one (drop-cons xs i x lt ∙ ap (λ z. z ∷ drop (suc i) xs) (sym is))
-
-onto_onto : {B : Type 0} (xs ys : List B) (r : Result (List B) BindRefused) → onto xs (onto ys r) ≡ onto (xs ++ ys) r
-onto_onto xs ys (Ok zs) = ap Ok (sym (append_assoc xs ys zs))
-onto_onto xs ys (Err e) = refl
-
-pub each_next : {A B : Type 0} (m : A → Result B BindRefused) (xs : List A) (i : ℕ) (x : A) (done : List B) (y : B) (all : Result (List B) BindRefused) →
-    i < length xs → x ≡ get_or xs i x → m x ≡ Ok y → onto done (all_ok (map m (drop i xs))) ≡ all → onto (done ++ y ∷ []) (all_ok (map m (drop (i + 1) xs))) ≡ all
-each_next m xs i x done y all lt is e h =
-    let rest = all_ok (map m (drop (i + 1) xs)) in
-    sym (onto_onto done (y ∷ []) rest) ∙ sym (ap (λ z. onto done (all_ok (z ∷ map m (drop (i + 1) xs)))) e) ∙ sym (ap (λ z. onto done (all_ok (map m z))) (drop_at xs i x lt is)) ∙ h
-
-pub each_fault : {A B : Type 0} (m : A → Result B BindRefused) (xs : List A) (i : ℕ) (x : A) (done : List B) (f : BindRefused) (all : Result (List B) BindRefused) →
-    i < length xs → x ≡ get_or xs i x → m x ≡ Err f → onto done (all_ok (map m (drop i xs))) ≡ all → all ≡ Err f
-each_fault m xs i x done f all lt is e h =
-    sym h ∙ ap (λ z. onto done (all_ok (map m z))) (drop_at xs i x lt is) ∙ ap (λ z. onto done (all_ok (z ∷ map m (drop (i + 1) xs)))) e

@@ -28,9 +28,6 @@ find_some {A} p (y ∷ xs) x e = elim (cases_Bool (p y)) [
   | inr h ↦ find_some p xs x (sym (ap (λ c. cond c (Some y) (find p xs)) h) ∙ e)
 ]
 
-lower_spelling : Keyword → List ℕ
-lower_spelling k = str_to_ascii_lowercase (spelling_of k)
-
 -- no two keywords are spelled alike
 pub spelled_once : (k : Keyword) → find (λ j. bytes_eq (str_to_ascii_lowercase (spelling_of k)) (str_to_ascii_lowercase (spelling_of j))) all_keywords ≡ Some k
 spelled_once keyword.And = refl

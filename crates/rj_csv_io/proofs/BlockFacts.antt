@@ -84,19 +84,6 @@ block-at rows from n (suc width) col r h k =
           rw (e, ← size, get_or-append-add (block_of rows from n width) (part_of rows width from n) r nothing) (part-at rows width from n r k)
     ]
 
--- a block of no rows has no cells
-pub block-empty : (rows : List (List Content)) (from width : ℕ) → block_of rows from 0 width ≡ []
-unfolding block_of part_of
-block-empty rows from zero = refl
-block-empty rows from (suc width) = rw (block-empty rows from width) refl
-
-pub holds-none : (rows : List (List Content)) (width : ℕ) (b : Block) → b.cells.items ≡ [] → b.from ≡ 0 → b.to ≡ 0 → Holds rows width b
-holds-none rows width b e f t = record {
-  order = omega arith;
-  inside = omega arith;
-  cells = rw (e, f, t) (sym (block-empty rows 0 width));
-}
-
 -- before the first cell of a column, and after one more
 pub column-start : (rows : List (List Content)) (col from : ℕ) (base : List Content) → base ≡ base ++ part_of rows col from (from - from)
 column-start rows col from base =

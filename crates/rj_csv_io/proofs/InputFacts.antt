@@ -5,23 +5,6 @@ use Rattle.std.specs.Io.KnownBytes.{Consumes, IsAtEnd, Keeps}
 use Rattle.std.proofs.Math.Seq.{drop-append_seam, take-add, take-append_seam}
 use Rattle.std.proofs.lemmas.List.{append-nil, length-take, take-append-le, take-take, take_all}
 
-pub keeps-refl : (a : Option (List ℕ)) → Keeps a a
-keeps-refl None = tt
-keeps-refl (Some x) = refl
-
-pub keeps-more : (a b c : Option (List ℕ)) → Keeps a b → Keeps b c → Keeps a c
-keeps-more None b c p q = tt
-keeps-more (Some x) None c p q = absurd p
-keeps-more (Some x) (Some y) None p q = absurd q
-keeps-more (Some x) (Some y) (Some z) p q = q ∙ p
-
--- a read after some that gave nothing
-pub consumes-kept : (a b c : Option (List ℕ)) (xs : List ℕ) → Keeps a b → Consumes b c xs → Consumes a c xs
-consumes-kept None b c xs p q = tt
-consumes-kept (Some x) None c xs p q = absurd p
-consumes-kept (Some x) (Some y) None xs p q = absurd q
-consumes-kept (Some x) (Some y) (Some z) xs p q = sym p ∙ q
-
 -- before the first read
 pub consumes-none : (a : Option (List ℕ)) → Consumes a a []
 consumes-none None = tt

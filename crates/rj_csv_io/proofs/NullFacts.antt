@@ -92,7 +92,3 @@ whole-apart (negsuc n) null lawful = apart (45 ∷ decimal (suc n)) null lawful 
 pub decimal-apart : (scale : ℕ) (units : ℤ) (null : List ℕ) → is_null_text null ≡ true → bytes_eq (text_of scale units) null ≡ false
 decimal-apart scale (pos n) null lawful = apart (size_text scale n) null lawful (size-digit scale n)
 decimal-apart scale (negsuc n) null lawful = apart (45 ∷ size_text scale (suc n)) null lawful (rw (size-digit scale (suc n)) (or-true (is_ascii_digit 45)))
-
--- behind the last cell of a row there is none
-pub clear-past : (null : List ℕ) (rows : List (List Content)) (row col : ℕ) → length (slice_index_or rows row []) ≤ col → is_ambiguous null (cell_in rows row col) ≡ false
-clear-past null rows row col h = rw (get_or_past (slice_index_or rows row []) col nothing h) refl

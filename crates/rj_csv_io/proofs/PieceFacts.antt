@@ -35,10 +35,6 @@ one-last text end last other h o = elim (cases_lt last other) [
   ]
 ]
 
--- a byte other than LF is between quotes where the stretch began there
-still-open : (c : ℕ) → is_open_place (after_run place.Open c) ≡ true
-still-open c = refl
-
 still-closed : (p : Place) (c : ℕ) → is_open_place p ≡ false → is_open_place (after_run p c) ≡ false
 still-closed place.Fresh c h = go (is_separator c)
   where

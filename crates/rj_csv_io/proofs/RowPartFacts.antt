@@ -11,19 +11,9 @@ use Rattle.rj_csv_io.specs.RowParts.{part_start}
 pub start-none : (rows parts : ℕ) → 0 < parts → part_start rows parts 0 ≡ 0
 start-none rows parts h = omega arith
 
--- behind the last part there is no row
-pub start-all : (rows parts : ℕ) → 0 < parts → part_start rows parts parts ≡ rows
-start-all rows parts h = omega arith
-
 -- the parts follow each other
 pub start-order : (rows parts part : ℕ) → 0 < parts → part_start rows parts part ≤ part_start rows parts (part + 1)
 start-order rows parts part h = omega arith
-
--- and stand among the rows
-pub start-in : (rows parts part : ℕ) → 0 < parts → part ≤ parts → part_start rows parts part ≤ rows
-start-in rows parts part h k =
-    let less : rows / parts * part ≤ rows / parts * parts = mul-le-mul_left (rows / parts) k in
-    omega arith
 
 -- and behind the last one there are no rows
 pub start-past : (rows parts part : ℕ) → 0 < parts → parts ≤ part → rows ≤ part_start rows parts part

@@ -18,7 +18,7 @@ const MOST_ROOM: u64 = 1 << 30;
 
 /// The most rows whose records stand in one text of several, so that such a text finds room where the join's own lists
 /// stood before.
-const TEXT_ROWS: u64 = 16384;
+const TEXT_ROWS: u64 = 4096;
 
 // The fewest rows whose room is asked for at once: of fewer, the records that are written to find it take longer than the
 // growths that it spares.

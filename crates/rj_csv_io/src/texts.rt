@@ -12,7 +12,7 @@ use crate::write::WriteRefused;
 use rj_columns::RowSource;
 use std::alloc::{AllocError, Global};
 
-/// The records of a source's rows, without a header, as [`write_rows`] writes them: in texts of up to 16,384 rows that
+/// The records of a source's rows, without a header, as [`write_rows`] writes them: in texts of up to 4,096 rows that
 /// follow each other. No row makes one text, which is empty.
 ///
 /// # Errors

@@ -137,7 +137,7 @@ pub(crate) fn write_parts<R: Threads + Sync, O: Output, S: RowSource + Sync>(
 /// Writes a header and the rows of a source as `write_rows` does, with the texts of shares of the rows made by up
 /// to so many threads. Few rows take fewer threads.
 ///
-/// A share's text is made in texts of up to 16,384 rows, and all texts are made before the first is put. Then the header's
+/// A share's text is made in texts of up to 4,096 rows, and all texts are made before the first is put. Then the header's
 /// and each share's are put in order, each by a call of the device, up to the first call that fails.
 ///
 /// # Errors

@@ -91,29 +91,6 @@ reading-counts T refused.ReadDevice counts h = absurd h
 reading-counts T (refused.WriteDevice p) counts h = absurd h
 reading-counts T refused.Memory counts h = refl
 
--- nor where the device that gives bytes failed
-pub input-counts : (T : Type 0) (e : DivideRefused) (counts : List ℕ) → IsInputFault e → counts ≡ counts_after {T = T} (Err e) counts
-input-counts T (refused.Read f) counts h = absurd h
-input-counts T refused.TooLong counts h = absurd h
-input-counts T refused.ReadDevice counts h = refl
-input-counts T (refused.WriteDevice p) counts h = absurd h
-input-counts T refused.Memory counts h = refl
-
--- what an error says of counts, whatever there would have been
-pub same-counts : (T U : Type 0) (e : DivideRefused) (old new : List ℕ) → new ≡ counts_after {T = T} (Err e) old → new ≡ counts_after {T = U} (Err e) old
-same-counts T U (refused.Read f) old new h = h
-same-counts T U refused.TooLong old new h = h
-same-counts T U refused.ReadDevice old new h = h
-same-counts T U (refused.WriteDevice p) old new h = h
-same-counts T U refused.Memory old new h = h
-
-pub same-reads : (T U : Type 0) (e : DivideRefused) (old new : ℕ) → new ≡ reads_after {T = T} (Err e) old → new ≡ reads_after {T = U} (Err e) old
-same-reads T U (refused.Read f) old new h = h
-same-reads T U refused.TooLong old new h = h
-same-reads T U refused.ReadDevice old new h = h
-same-reads T U (refused.WriteDevice p) old new h = h
-same-reads T U refused.Memory old new h = h
-
 -- the device that gives bytes did not fail where a piece was not divided
 pub piece-reads : (T : Type 0) (e : DivideRefused) (old new : ℕ) → IsAfterReading e → new ≡ old → new ≡ reads_after {T = T} (Err e) old
 piece-reads T (refused.Read f) old new h same = same
@@ -121,17 +98,3 @@ piece-reads T refused.TooLong old new h same = same
 piece-reads T refused.ReadDevice old new h same = absurd h
 piece-reads T (refused.WriteDevice p) old new h same = same
 piece-reads T refused.Memory old new h same = same
-
-pub after-text : (e : DivideRefused) → IsReadingFault e → IsAfterReading e
-after-text (refused.Read f) h = tt
-after-text refused.TooLong h = tt
-after-text refused.ReadDevice h = absurd h
-after-text (refused.WriteDevice p) h = tt
-after-text refused.Memory h = tt
-
-pub after-put : (n : ℕ) (e : DivideRefused) → IsPutFault n e → IsAfterReading e
-after-put n (refused.Read f) h = tt
-after-put n refused.TooLong h = tt
-after-put n refused.ReadDevice h = absurd h
-after-put n (refused.WriteDevice p) h = tt
-after-put n refused.Memory h = tt

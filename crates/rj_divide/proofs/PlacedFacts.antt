@@ -5,27 +5,6 @@ use Rattle.rj_columns.specs.Contents.{Content, nothing, whole}
 use Rattle.rj_columns.specs.Tables.{cell_in, part_of}
 use Rattle.rj_divide.specs.Placed.{placed_cell_of, rows_at, with_place}
 
-get_or-front : (row more : List Content) (col : ℕ) (d : Content) → col < length row → get_or (row ++ more) col d ≡ get_or row col d
-get_or-front [] more col d h = absurd (omega arith)
-get_or-front (x ∷ row) more zero d h = refl
-get_or-front (x ∷ row) more (suc col) d h = get_or-front row more col d (omega (arith, h))
-
--- a cell before the place
-pub cell-before : (rows : List (List Content)) (width first i col : ℕ) → All (λ (r : List Content). length r ≡ width) rows → i < length rows → col < width
-    → placed_cell_of rows first i col ≡ cell_in rows i col
-cell-before rows width first i col wide low h =
-    let size : length (get_or rows i []) ≡ width = wide i [] low in
-    get_or-front (get_or rows i []) (whole (pos (first + i)) ∷ []) col nothing (omega (arith, size, h))
-
--- the place
-pub cell-last : (rows : List (List Content)) (width first i col : ℕ) → All (λ (r : List Content). length r ≡ width) rows → i < length rows → width ≤ col → col < width + 1
-    → placed_cell_of rows first i col ≡ whole (pos (first + i))
-cell-last rows width first i col wide low from to =
-    let row = get_or rows i [] in
-    let size : length row ≡ width = wide i [] low in
-    let e : col ≡ length row + 0 = omega (arith, size, from, to) in
-    ap (λ k. get_or (row ++ whole (pos (first + i)) ∷ []) k nothing) e ∙ get_or-append-add row (whole (pos (first + i)) ∷ []) 0 nothing
-
 -- the cell of a row among some
 pub cell-among : (rows : List (List Content)) (first : ℕ) (numbers : List ℕ) (k col : ℕ) → k < length numbers
     → cell_in (rows_at rows first numbers) k col ≡ placed_cell_of rows first (get_or numbers k 0) col

@@ -25,20 +25,6 @@ use Rattle.rj_divide.specs.Readings.{IsFaultBehind, IsFirstFault, IsHeaderRefusa
 abbrev Row : Type 0
 Row = Result (List Content) ReadRefused
 
--- a table's types are those that it was begun with
-pub begun-types : (names : List (List ℕ)) (types : List ColumnType) (t : TableValue) → begun names types ≡ Ok t → t.types ≡ types
-begun-types names types t e = go (nat_lt 256 (length names)) refl (name_fault [] names) refl (length names == length types) refl
-  where
-    go : (a : Bool) → nat_lt 256 (length names) ≡ a → (o : Option BuildRefused) → name_fault [] names ≡ o → (b : Bool) → (length names == length types) ≡ b → t.types ≡ types
-    go true ea o eo b eb = let h = rw ea at e in absurd (cc)
-    go false ea (Some x) eo b eb = let h = rw (ea, eo) at e in absurd (cc)
-    go false ea None eo true eb =
-        let h = rw (ea, eo, eb) at e in
-        let made : TableValue = record { names = names; types = types; rows = [] } in
-        let q : made ≡ t = cc in
-        ap (λ (v : TableValue). v.types) (sym q)
-    go false ea None eo false eb = let h = rw (ea, eo, eb) at e in absurd (cc)
-
 -- the fault with so many rows more
 abbrev later : ℕ → ReadRefused → ReadRefused
 later n read.NoHeader = read.NoHeader

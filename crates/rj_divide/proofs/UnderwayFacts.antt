@@ -212,12 +212,3 @@ module _ (nulls : List (List ℕ)) (types : List ColumnType) (part : List Conten
         go refused.ReadDevice tail all h = tt
         go (refused.WriteDevice p) tail all h = h
         go refused.Memory tail all h = tt
-
--- the device that gives bytes failed, or memory was refused
-pub input-fault : (nulls : List (List ℕ)) (types : List ColumnType) (block : ℕ) (is_first : Bool) (text : List ℕ) (outputs : ℕ) (e : DivideRefused) → IsInputFault e
-    → IsDivisionFault nulls types block is_first text outputs e
-input-fault nulls types block is_first text outputs (refused.Read f) h = absurd h
-input-fault nulls types block is_first text outputs refused.TooLong h = absurd h
-input-fault nulls types block is_first text outputs refused.ReadDevice h = tt
-input-fault nulls types block is_first text outputs (refused.WriteDevice p) h = absurd h
-input-fault nulls types block is_first text outputs refused.Memory h = tt

@@ -41,10 +41,6 @@ right-counted r col first (Both i j) = refl
 right-counted r col first (LeftOnly i) = refl
 right-counted r col first (RightOnly j) = refl
 
-pub all-right-counted : (r : TableValue) (col first : ℕ) (rows : List JoinedRow)
-    → map (λ m. right_cell r m col) rows ≡ map (λ m. right_cell r (counted_from first m) col) rows
-all-right-counted r col first rows = λ t. map (λ m. sym (right-counted r col first m) t) rows
-
 -- ---- parts
 
 -- a part of a part
@@ -104,9 +100,6 @@ start-within segments k =
     let sum = length-append (rows_of_all (take k segments)) (rows_of_all (drop k segments)) in
     let whole = ap length (sym both ∙ all) in
     omega (arith, sum, whole)
-
-pub start-last : (segments : List TableValue) (k : ℕ) → length segments ≤ k → start_of segments k ≡ length (rows_of_all segments)
-start-last segments k past = ap (λ ts. length (rows_of_all ts)) (take_all k segments past)
 
 -- ---- the cells of a run
 

@@ -63,19 +63,6 @@ draws k slots id me one fresh limit low few s r _ at small = let x : ℕ = get_o
       ((λ _. refl), (λ le. absurd (omega arith)), refl),
     ))
 
-pub opens : (k : Plan) → 1 ≤ k.seats → Drawing k (opening (0 ∷ []) [] (opening_view k))
-opens k some_seat = record {
-  one_word = refl;
-  parts = omega arith;
-  steps = refl;
-  numbers = λ h. (let m : min 0 k.limit ≡ 0 = omega arith in let e = ap (total_below h) m in omega arith);
-  fits = λ id v e. fresh id v e;
-}
-  where
-    fresh : (id : ℕ) (v : Draw) → get_elem? (opening_view k ∷ []) id ≡ some v → Fits k 0 v
-    fresh zero v e = subst (Fits k 0) (some-injective (opening_view k) v e) ((omega arith), (λ z. absurd (omega arith)), λ _. refl)
-    fresh (suc id) v e = absurd (some-ne-none v (sym e))
-
 pub cuts : (k : Plan) (id : ℕ) (v : Draw) → 1 < v.parts → v.nones ≡ 0 → Splits (Drawing k) id v (kept v) (cut_off v)
 cuts k id v some_parts fresh s r at = let l : Draw = kept v in let c : Draw = cut_off v in let vs : List Draw = set s.views id l in record {
   one_word = r.one_word;

@@ -38,20 +38,6 @@ looks k slots id me one s r _ at small = let x : ℕ = get_or s.words 0 0 in let
     (λ up. let w : HaltToken = look v.parts v.raises 1 in (w, keeps, tt, moved k s r x id me.1 v w at refl (omega arith) (omega arith) (omega arith) (λ _. up) (λ u. inl u) (λ _. up), ((λ _. refl), λ z. absurd (omega arith))))
     (λ down. (v, keeps, tt, moved k s r x id me.1 v v at refl (omega arith) (omega arith) (omega arith) mine (λ u. inl u) (r.seen id v at), ((λ u. absurd (omega arith)), λ z. refl)))
 
-pub opens : (k : ℕ) → 1 ≤ k → Halting k (opening (0 ∷ []) [] (look k 0 0))
-opens k some_seat = record {
-  one_word = refl;
-  parts = omega arith;
-  raised = λ up. absurd (omega arith);
-  by_some = λ up. absurd (omega arith);
-  seen = λ id v e any. absurd (unseen id v e any);
-  idle = λ id v e _. idles id v e;
-}
-  where
-    unseen : (id : ℕ) (v : HaltToken) → get_elem? (look k 0 0 ∷ []) id ≡ some v → 0 < v.sees → ⊥
-    unseen zero v e any = let q = ap (λ (y : HaltToken). y.sees) (some-injective (look k 0 0) v e) in omega arith
-    unseen (suc id) v e any = some-ne-none v (sym e)
-
     idles : (id : ℕ) (v : HaltToken) → get_elem? (look k 0 0 ∷ []) id ≡ some v → v.raises ≡ 0
     idles zero v e = ap (λ (y : HaltToken). y.raises) (sym (some-injective (look k 0 0) v e))
     idles (suc id) v e = absurd (some-ne-none v (sym e))

@@ -29,11 +29,6 @@ turned_tie Less = refl
 turned_tie Equal = refl
 turned_tie Greater = refl
 
-just_one : (n : ℕ) → 0 < n → (1 < n → ⊥) → n ≡ 1
-just_one zero some few = absurd (omega (arith, some))
-just_one (suc zero) some few = refl
-just_one (suc (suc n)) some few = absurd (few (omega arith))
-
 needed_single : (place : Place) → needed single place ≡ 1
 needed_single (Pair left right) = refl
 needed_single (LoneAmongPairs left) = refl

@@ -17,41 +17,6 @@ use Rattle.rj_merge.specs.declared.place.Place.{Place}
 use Rattle.rj_merge.specs.declared.place.Placed.{Placed}
 use Rattle.rj_merge.specs.MergedTexts.{IsTold, head_rows, records_text}
 
-abbrev known : Vec ℕ Global → Option (List ℕ)
-known v = Some v.items
-
-appended : (a b : Option (List ℕ)) (t bs : List ℕ) → a ≡ Some t → Appends a b bs → b ≡ Some (t ++ bs)
-appended None b t bs e h = absurd (cc)
-appended (Some x) None t bs e h = absurd h
-appended (Some x) (Some y) t bs e h = let q : x ≡ t = cc in rw (h, q) refl
-
-plain-style : (cfg : WriterBuilder) → cfg ≡ default_writer → cfg.style ≢ style.NonNumeric
-plain-style cfg e = rw e (λ h. cc h)
-
--- behind whole records nothing of another one is written
-nothing_begun : (w : Writer (Vec ℕ Global)) (text : List ℕ) → HasWritten w text [] → has_written w ≡ false
-unfolding is_blank
-nothing_begun w text h = go (has_written w) h.blank
-  where
-    go : (b : Bool) → true ≡ (not b && true) → b ≡ false
-    go true e = absurd (false≢true (sym e))
-    go false e = refl
-
--- one record more
-pub record-added : (a b : Writer (Vec ℕ Global)) (text : List ℕ) (fields : List (List ℕ)) → HasWritten a text []
-    → (fields_written a ≡ 0 → has_written a ≡ false → (writer_setup a).style ≢ style.NonNumeric → Appends (text_written known a) (text_written known b) (row_text (writer_setup a) fields))
-    → fields_written b ≡ 0 → has_written b ≡ false → writer_setup b ≡ writer_setup a → HasWritten b (text ++ row_text default_writer fields) []
-unfolding is_blank
-record-added a b text fields h bytes ended clean setup =
-    let more = rw h.setup at (bytes h.count (nothing_begun a text h) (plain-style (writer_setup a) h.setup)) in
-    record {
-      setup = setup ∙ h.setup;
-      count = ended;
-      blank = rw clean refl;
-      bytes = appended (text_written known a) (text_written known b) (text ++ []) (row_text default_writer fields) h.bytes more
-          ∙ ap Some (ap (λ t. t ++ row_text default_writer fields) (append-nil text) ∙ sym (append-nil (text ++ row_text default_writer fields)));
-    }
-
 -- what holds where a call went well, and what follows from it
 pub on-ok : {T E P Q : Type 0} (r : Result T E) → OnOk r P → (P → Q) → OnOk r Q
 on-ok (Ok x) h f = f h

@@ -21,9 +21,6 @@ model = numerals_by_value _ tells_digits
 above : (n : ℕ) → nat_lt 0 n ≡ true → 0 < n
 above n h = grind (arith, nat_tests)
 
-pub no_numeral : (limit : ℕ) (word : List ℕ) → is_numeral word ≡ false → ◌≡◌ {A = Option ℕ} None (number_of limit word)
-no_numeral limit word h = ap (λ (t : Bool). if t && nat_lt (digits_value 10 word) limit then Some (digits_value 10 word) else None) (sym h)
-
 -- a numeral is text
 pub numeral_is_text : (word : List ℕ) → is_numeral word ≡ true → IsUtf8 word
 numeral_is_text word h = IsUtf8-from_ascii word (IsAscii-from_digits word (model.to word (and_parts _ _ h).1))

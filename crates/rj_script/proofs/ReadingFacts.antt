@@ -13,20 +13,6 @@ abbrev pub onto : List ℕ → Option (List ℕ) → Option (List ℕ)
 onto done None = None
 onto done (Some ns) = Some (done ++ ns)
 
-pub onto-nothing : (o : Option (List ℕ)) → o ≡ onto [] o
-onto-nothing None = refl
-onto-nothing (Some ns) = refl
-
-pub onto-more : (done word : List ℕ) (words : List (List ℕ)) (n : ℕ) → Some n ≡ number_of (2 ^ 32) word → onto done (rows_of (word ∷ words)) ≡ onto (done ++ n ∷ []) (rows_of words)
-onto-more done word words n h = ap (λ (o : Option ℕ). onto done (with_first o (rows_of words))) (sym h) ∙ by_case (rows_of words)
-  where
-    by_case : (o : Option (List ℕ)) → onto done (with_first (Some n) o) ≡ onto (done ++ n ∷ []) o
-    by_case None = refl
-    by_case (Some ns) = ap Some (sym (append_assoc done (n ∷ []) ns))
-
-pub onto-stops : (done word : List ℕ) (words : List (List ℕ)) → ◌≡◌ {A = Option ℕ} None (number_of (2 ^ 32) word) → onto done (rows_of (word ∷ words)) ≡ None
-onto-stops done word words h = ap (λ (o : Option ℕ). onto done (with_first o (rows_of words))) (sym h)
-
 no_end : (words : List (List ℕ)) → (p : List ℕ) × (ps : List (List ℕ)) × (words ≡ p ∷ ps) → (length words == 0) ≡ false
 no_end words w = ap (λ (t : List (List ℕ)). length t == 0) w.2 ∙ apart (length w.1)
   where
@@ -42,19 +28,3 @@ pub body-other : (kind words : List ℕ) → bytes_eq kind (codes "rows") ≡ fa
 body-other kind words h =
     ap (λ (t : Bool). if t then option_map Rows (rows_of (words_of words)) else if bytes_eq kind (codes "close") && length (words_of words) == 0 then Some Close else None) h
     ∙ ap (λ (t : Bool). if t then Some Close else None) (ap (λ (t : Bool). bytes_eq kind (codes "close") && t) (no_end (words_of words) (split_some (λ b. b == 32) words)) ∙ and_false (bytes_eq kind (codes "close")))
-
--- no parcel without each of its parts
-pub parcel-no_partition : (a c : Option ℕ) (d : Option Body) → parcel_of a None c d ≡ None
-parcel-no_partition None c d = refl
-parcel-no_partition (Some n) c d = refl
-
-pub parcel-no_number : (a b : Option ℕ) (d : Option Body) → parcel_of a b None d ≡ None
-parcel-no_number None b d = refl
-parcel-no_number (Some n) None d = refl
-parcel-no_number (Some n) (Some m) d = refl
-
-pub parcel-no_body : (a b c : Option ℕ) → parcel_of a b c None ≡ None
-parcel-no_body None b c = refl
-parcel-no_body (Some n) None c = refl
-parcel-no_body (Some n) (Some m) None = refl
-parcel-no_body (Some n) (Some m) (Some k) = refl

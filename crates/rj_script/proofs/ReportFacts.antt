@@ -23,11 +23,6 @@ readings-line rest line more h l =
     ap (λ (ls : List (List ℕ)). map reading (filter (λ x. nat_lt 0 (length x)) ls)) h
     ∙ ap (λ (t : Bool). map reading (cond t (line ∷ filter (λ x. nat_lt 0 (length x)) (lines more)) (filter (λ x. nat_lt 0 (length x)) (lines more)))) (some_line (length line) l)
 
-pub readings-empty : (rest line more : List ℕ) → lines rest ≡ line ∷ lines more → line ≡ [] → readings rest ≡ readings more
-readings-empty rest line more h l =
-    ap (λ (ls : List (List ℕ)). map reading (filter (λ x. nat_lt 0 (length x)) ls)) h
-    ∙ ap (λ (x : List ℕ). map reading (cond (nat_lt 0 (length x)) (x ∷ filter (λ x. nat_lt 0 (length x)) (lines more)) (filter (λ x. nat_lt 0 (length x)) (lines more)))) l
-
 pub and_assoc : (a b c : Bool) → (a && (b && c)) ≡ ((a && b) && c)
 and_assoc true b c = refl
 and_assoc false b c = refl

@@ -18,12 +18,6 @@ split_at_index p xs i h none hit = ap (slice_split p) (around xs i 0 h) ∙ slic
 pub none_found : (p : ℕ → Bool) (xs : List ℕ) (i : ℕ) → length xs ≤ i → All (λ b. p b ≡ false) (take i xs) → slice_split p xs ≡ xs ∷ []
 none_found p xs i h none = slice_split_none p xs (subst (All (λ b. p b ≡ false)) (take_all i xs h) none)
 
-pub differs : (a b : ℕ) → a ≢ b → (a == b) ≡ false
-differs a b h = grind (arith, nat_tests)
-
-pub same_if : (a b : ℕ) → a ≡ b → (a == b) ≡ true
-same_if a b h = grind (arith, nat_tests)
-
 onto_some : (x : ℕ) (parts : List (List ℕ)) → (p : List ℕ) × (ps : List (List ℕ)) × (onto_first x parts ≡ p ∷ ps)
 onto_some x [] = (x ∷ [], [], refl)
 onto_some x (part ∷ parts) = (x ∷ part, parts, refl)
@@ -43,10 +37,3 @@ lines_more xs line more h = ap lines_of_parts h ∙ by_case (slice_split (λ b. 
   where
     by_case : (parts : List (List ℕ)) → (p : List ℕ) × (ps : List (List ℕ)) × (parts ≡ p ∷ ps) → lines_of_parts (line ∷ parts) ≡ strip_carriage_return line ∷ lines_of_parts parts
     by_case parts w = ap (λ (t : List (List ℕ)). lines_of_parts (line ∷ t)) w.2 ∙ ap (λ (t : List (List ℕ)). strip_carriage_return line ∷ lines_of_parts t) (sym w.2)
-
--- the last line, which no newline ends
-pub lines_last : (xs : List ℕ) → 0 < length xs → slice_split (λ b. b == 10) xs ≡ xs ∷ [] → lines xs ≡ xs ∷ lines []
-lines_last xs l h = ap lines_of_parts h ∙ ap (λ (t : Bool). if t then [] else xs ∷ []) (some (length xs) l)
-  where
-    some : (n : ℕ) → 0 < n → (n == 0) ≡ false
-    some n l = grind (arith, nat_tests)

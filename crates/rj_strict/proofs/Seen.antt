@@ -50,19 +50,9 @@ fresh : (fields : List Field) (f : Field) → place_of (fields ++ f ∷ []) noth
 fresh [] f = refl
 fresh (g ∷ fields) f = refl
 
-inside : (fields : List Field) (bytes : List ℕ) (c : ℕ) → place_of fields (within (non-escaped (bytes ++ c ∷ []))) ≡ place.Inside
-inside [] [] c = refl
-inside (g ∷ fields) [] c = refl
-inside [] (b ∷ bytes) c = refl
-inside (g ∷ fields) (b ∷ bytes) c = refl
-
 pub opens : (fields : List Field) (bytes : List ℕ) → place_of fields (opened bytes) ≡ place.Open
 opens [] bytes = refl
 opens (g ∷ fields) bytes = refl
-
-closes : (fields : List Field) (bytes : List ℕ) → place_of fields (within (escaped bytes)) ≡ place.Closed
-closes [] bytes = refl
-closes (g ∷ fields) bytes = refl
 
 header-more : (h : Header) (lines : List Line) (fields : List Field) (f : Field) (e : LineEnd)
     → header_seen h (lines ++ record { fields = record { before = fields; last = f }; ended = e } ∷ []) ≡ header_below (header_seen h lines) (length fields + 1)

@@ -25,9 +25,6 @@ near-field s = (omega arith, omega arith)
 near-same : (s : Standing) (p : Place) → Near s (Ok (record s { place = p }))
 near-same s p = (omega arith, omega arith)
 
-near-stays : (s : Standing) → Near s (Ok s)
-near-stays s = (omega arith, omega arith)
-
 near-empty : (s : Standing) → Near s (end_empty s)
 near-empty s = near-if s (forbids_empty s.header) _ _ tt (near-line s)
 

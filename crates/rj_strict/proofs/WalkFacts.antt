@@ -150,10 +150,6 @@ follow-more before (b ∷ text) c e f =
     let parts = and_parts (not (may_not_follow before b)) (all_follow b text) e in
     and_from (not (may_not_follow before b)) (all_follow b (text ++ c ∷ [])) parts.0 (follow-more b text c parts.1 f)
 
-pub last-push : (before : ℕ) (text : List ℕ) (c : ℕ) → last_of before (text ++ c ∷ []) ≡ c
-last-push before [] c = refl
-last-push before (b ∷ text) c = last-push b text c
-
 pub follow-none : (before : ℕ) → all_follow before [] ≡ true
 unfolding all_follow
 follow-none before = refl

@@ -61,12 +61,6 @@ Sound text seen left = (es : List TypeEntry) → AreEntries es (Some left) → A
 abbrev pub Only : List ℕ → List TypeEntry → List ℕ → Type 0
 Only text seen left = (all : List TypeEntry) → AreEntries all (Some text) → (es : List TypeEntry) × AreEntries es (Some left) × (labels all ≡ labels seen ++ labels es)
 
-pub sound_begin : (text : List ℕ) → Sound text [] text
-sound_begin text es are = are
-
-pub only_begin : (text : List ℕ) → Only text [] text
-only_begin text all are = (all, are, refl)
-
 pub sound_more : (text left more : List ℕ) (seen all : List TypeEntry) (e : TypeEntry) → all ≡ seen ++ e ∷ [] → Sound text seen left → BeginsEntry e left (Some more) → Sound text all more
 sound_more text left more seen all e push sound begins es are =
     subst (λ (x : List TypeEntry). AreEntries x (Some text)) (sym (append_assoc seen (e ∷ []) es) ∙ ap (λ (x : List TypeEntry). x ++ es) (sym push))
@@ -110,10 +104,6 @@ no_more left (f ∷ fs) none are = none f are.0 are.1
 pub none_whole : (text left : List ℕ) (seen : List TypeEntry) → Only text seen left → ((e : TypeEntry) (rest : Option (List ℕ)) → BeginsEntry e left rest → ⊥)
     → (all : List TypeEntry) → AreEntries all (Some text) → ⊥
 none_whole text left seen only none all are = let o = only all are in no_more left o.0 none o.1
-
--- less is left behind an entry
-pub less_left : (e : TypeEntry) (left more : List ℕ) → BeginsEntry e left (Some more) → length more < length left
-less_left e left more begins = omega (arith, ap length begins.2, length-append begins.0 (44 ∷ more))
 
 -- whether entries are alike is a matter of their labels
 count_labels : (p : Label → Bool) (entries : List TypeEntry) → count_by (λ e. p e.label) entries ≡ count_by p (labels entries)

@@ -20,9 +20,6 @@ use Rattle.rj_types.specs.Words.{IsTypeWord, before, text_of}
 use Rattle.rj_types.specs.declared.entry.Label.{Label}
 use Rattle.rj_types.specs.declared.entry.Label.TheVariants.{Place, Name, Rest}
 
-no_sign : (b sign : ℕ) → b ≢ sign → (b == sign) ≡ false
-no_sign b sign e = grind (arith, nat_tests)
-
 is_sign : (sign : ℕ) → (sign == sign) ≡ true
 is_sign sign = grind (arith, nat_tests)
 

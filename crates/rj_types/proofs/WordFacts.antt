@@ -158,11 +158,6 @@ no_word text first behind cut none whole comma t left begins = elim (type_cut t 
   | inr numeric ↦ comma t left numeric
 ]
 
-pub nothing_behind : (t : ColumnType) (first : List ℕ) (behind left : Option (List ℕ)) → behind ≡ None → IsNumericCut t first behind left → ⊥
-nothing_behind t first behind left nothing cut =
-    let e : ◌≡◌ {A = Option (List ℕ)} None (Some (before (end_word cut.numeric.scale) left)) = sym nothing ∙ cut.back in
-    cc
-
 pub no_second : (t : ColumnType) (first more second : List ℕ) (behind left next : Option (List ℕ)) → behind ≡ Some more → more ≡ before second next → has_no_comma second ≡ true
     → ((n : NumericType) → first ≡ begin_word n.precision → second ≢ end_word n.scale) → IsNumericCut t first behind left → ⊥
 no_second t first more second behind left next some cut none missing numeric =

@@ -46,9 +46,6 @@ nothing_left xs (y ∷ ys) all n z e is = absurd (omega arith)
 pub next_is : {A : Type 0} (xs ys zs all : List A) (y : A) → ys ≡ y ∷ zs → xs ++ ys ≡ all → (xs ++ y ∷ []) ++ zs ≡ all
 next_is xs ys zs all y e is = append_assoc xs (y ∷ []) zs ∙ ap (λ l. xs ++ l) (sym e) ∙ is
 
-pub next_within : {A : Type 0} (xs ys zs all : List A) (y : A) → ys ≡ y ∷ zs → xs ++ ys ≡ all → Contains all y
-next_within xs ys zs all y e is = subst (λ l. Contains l y) (next_is xs ys zs all y e is) (Contains-append_left (xs ++ y ∷ []) zs y (Contains-push xs y))
-
 pub next_len : {A : Type 0} (ys zs : List A) (y : A) (n m : ℕ) → ys ≡ y ∷ zs → n ≡ length ys → m + 1 ≡ n → m ≡ length zs
 next_len ys zs y n m e len less = let l = ap length e in omega arith
 

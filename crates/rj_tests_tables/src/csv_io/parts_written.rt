@@ -64,8 +64,8 @@ fn as_many_parts_as_asked_for(rt: HostRuntime) -> Result<(), Fail> {
     Ok(())
 }
 
-// Whether rows in so many parts are written, where the device takes the header and each part, or are refused with
-// one failure counted.
+// Whether rows in so many parts of two texts each are written, where the device takes the header and each text, or are
+// refused with one failure counted.
 fn is_told_in_parts<R: Threads + Sync>(
     rt: &R,
     alloc: Global,
@@ -77,7 +77,7 @@ fn is_told_in_parts<R: Threads + Sync>(
         return false;
     }
     let mut device = FailsOnce { left, failures: 0 };
-    let takes_all = left > parts as u64;
+    let takes_all = left.div_ceil(2) > parts as u64;
     match write_rows_in_parts(rt, alloc, &mut device, HEADER.as_slice(), table, "", parts) {
         Ok(()) => takes_all && device.failures() == 0,
         Err(e) => !takes_all && e == WriteRefused::WriteDevice && device.failures() == 1,
@@ -91,7 +91,7 @@ fn failing_writer_of_parts_sweep(rt: HostRuntime) -> Result<(), Fail> {
     for parts in 1..8usize {
         let file = file_of(alloc, parts * 4_097)?;
         let table = read_table(alloc, file.as_slice(), &[INT, TEXT], &[""])?;
-        for left in 0..10 {
+        for left in 0..18 {
             assert!(rt;
                 is_told_in_parts(&rt, alloc, &table, parts, left),
                 "{left} calls and {parts} parts"
@@ -101,8 +101,8 @@ fn failing_writer_of_parts_sweep(rt: HostRuntime) -> Result<(), Fail> {
     Ok(())
 }
 
-// How many calls of a device write so many rows in up to so many parts: one for the header, and one for each part of up
-// to 16,384 rows.
+// How many calls of a device write so many rows in up to so many parts: one for the header, and one for each text of up
+// to 4,096 rows of a part.
 fn calls_of<R: Threads + Sync>(
     rt: &R,
     alloc: Global,
@@ -123,14 +123,16 @@ fn calls_of<R: Threads + Sync>(
 }
 
 // Rows, parts, and the calls that they take.
-const CALLS: [(usize, usize, u64); 7] = [
+const CALLS: [(usize, usize, u64); 9] = [
     (0, 4, 1 + 1),
     (3, 7, 1 + 1),
-    (8_191, 4, 1 + 1),
+    (4_096, 0, 1 + 1),
+    (4_097, 0, 1 + 2),
+    (8_191, 4, 1 + 2),
     (8_192, 4, 1 + 2),
     (12_288, 7, 1 + 3),
-    (60_000, 4, 1 + 4),
-    (16_384, 0, 1 + 1),
+    (16_384, 0, 1 + 4),
+    (60_000, 4, 1 + 16),
 ];
 
 // The first of these cases, counted from 0, that takes another number of calls.

@@ -6,5 +6,5 @@ use Rattle.rj_csv_io.proofs.range.texts_of_range.Given as goal
 abbrev pub invariant-loop-text : goal.invariant-loop-text
 invariant-loop-text g l = record {
   texts : concat (map (λ t. t.items) l.texts.items) ≡ range_text l.null (g.S.RowSource.contents l.source) l.from l.row;
-  row : l.row ≡ l.from + min (l.to - l.from) (16384 * l._text);
+  row : l.row ≡ l.from + min (l.to - l.from) (4096 * l._text);
 }
