@@ -114,3 +114,12 @@ unfolding without_zeros
 zeros-none u s l n e =
     let P : ℕ → Type 0 = λ t. without_zeros u t ≡ record { units = u; scale = t } in
     sym (subst P (sym n) refl) ∙ e
+
+-- the hash law: one value, one hash, whatever the scales
+pub hash-same : (x y : Number) → are_same x y ≡ true → hash_of x ≡ hash_of y
+hash-same x y e = ap hash_of_least (least-same x y e)
+
+-- the hash of a whole number is the number modulo 2^64
+pub hash-whole : (v : ℤ) → hash_of (whole_number v) ≡ cast_unsigned w64 v
+unfolding without_zeros
+hash-whole v = refl

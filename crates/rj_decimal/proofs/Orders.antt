@@ -74,3 +74,11 @@ are_same-transitive x y z e f =
     ∙ (ap (λ v. finer v z.scale) (same-units x y e)
     ∙ (swap y.units x.scale z.scale
     ∙ (ap (λ v. finer v x.scale) (same-units y z f) ∙ swap z.units y.scale x.scale)))))
+
+-- whole numbers compare as they are
+pub ordered-whole : (m n : ℤ) → ordered (whole_number m) (whole_number n) ≡ int_cmp m n
+ordered-whole m n = sym (ordered-units (whole_number m) (whole_number n) refl)
+
+pub are_same-whole : (m n : ℤ) → are_same (whole_number m) (whole_number n) ≡ int_eq m n
+unfolding are_same
+are_same-whole m n = rw (finer-none m, finer-none n) refl

@@ -74,6 +74,15 @@ whole-room n s e small room some =
     let digits : 10 ^ 39 ≤ 10 ^ ((e - 1) + s) = pow-le-pow_right ten more in
     (div-lt_iff_lt-mul (ten_pow_pos s)).1 (omega (arith, digits, pow-add 10 (e - 1) s))
 
+-- the sign and the size
+pub text-above : (s : ℕ) (u : ℤ) → pos 0 ≤ℤ u → text_of s u ≡ size_text s (unsigned_abs u)
+text-above s (pos n) h = refl
+text-above s (negsuc n) h = absurd (omega (arith, ints))
+
+pub text-below : (s : ℕ) (u : ℤ) → u <ℤ pos 0 → text_of s u ≡ 45 ∷ size_text s (unsigned_abs u)
+text-below s (pos n) h = absurd (omega (arith, ints))
+text-below s (negsuc n) h = refl
+
 -- what is not 0 has a digit, and what is 10 or more has two
 pub more-room : (n k : ℕ) → 0 < n → n < 10 ^ k → 1 ≤ k
 more-room n zero p h = absurd (omega arith)
@@ -120,3 +129,8 @@ fraction-some s n at place old bytes some e f l m q h =
     ∙ (drop-set bytes place 46 inside
     ∙ (ap (λ xs. 46 ∷ xs) (ap (λ i. drop i bytes) next ∙ (h ∙ (ap (λ xs. last_digits s n ++ xs) (drop_all 258 old m) ∙ append-nil (last_digits s n))))
     ∙ sym (ap (λ b. cond b [] (46 ∷ last_digits s n)) some_digits)))
+
+-- in scale 0 the text is that of a whole number
+pub text-whole : (u : ℤ) → text_of 0 u ≡ signed_decimal u
+text-whole (pos n) = let same : n / 1 ≡ n = omega arith in ap (λ m. decimal m ++ []) same ∙ append-nil (decimal n)
+text-whole (negsuc n) = let same : suc n / 1 ≡ suc n = omega arith in ap (λ xs. 45 ∷ xs) (ap (λ m. decimal m ++ []) same ∙ append-nil (decimal (suc n)))
