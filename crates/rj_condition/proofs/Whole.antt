@@ -166,3 +166,6 @@ clause_complete _ _ cross = cross_read
 clause_complete _ _ (natural ts k h) = natural_read ts k h
 clause_complete _ _ (on ts k vs cs h l) = qualified_by ts k (token.Keyword keyword.On ∷ vs) h ∙ on_read k vs cs l
 clause_complete _ _ (using ts k vs ns h l) = qualified_by ts k (token.Keyword keyword.Using ∷ token.Sign sign.Open ∷ vs) h ∙ using_read k vs ns l
+
+pub one_clause : (ts : List Token) (c d : Clause) → Derives ts c → Derives ts d → c ≡ d
+one_clause ts c d p q = some_same _ _ (sym (clause_complete ts c p) ∙ clause_complete ts d q)

@@ -61,6 +61,10 @@ abbrev pub rest_view : Option (Bor (List Token)) → Option (List Token)
 rest_view (Some ts) = Some ts.now
 rest_view None = None
 
+abbrev pub view : {A : Type 0} → Option (A × Bor (List Token)) → Read A
+view (Some x) = Some (x.0, x.1.now)
+view None = None
+
 -- the tokens behind a keyword, and behind a sign, if it comes next
 abbrev pub same_keyword : Keyword → Keyword → Bool
 same_keyword j k = bytes_eq (spelling_of j) (spelling_of k)
@@ -75,6 +79,10 @@ after k _ = None
 unfoldable pub behind : Sign → List Token → Option (List Token)
 behind s (token.Sign r ∷ ts) = if same_sign r s then Some ts else None
 behind s _ = None
+
+-- a value, where its parenthesis is closed
+abbrev pub closed : {A : Type 0} → A → List Token → Read A
+closed x ts = behind sign.Close ts >>= λ us. Some (x, us)
 
 -- whether it came next, and the tokens behind it
 abbrev pub optionally : Option (List Token) → List Token → Bool × List Token
