@@ -38,10 +38,6 @@ looks k slots id me one s r _ at small = let x : ℕ = get_or s.words 0 0 in let
     (λ up. let w : HaltToken = look v.parts v.raises 1 in (w, keeps, tt, moved k s r x id me.1 v w at refl (omega arith) (omega arith) (omega arith) (λ _. up) (λ u. inl u) (λ _. up), ((λ _. refl), λ z. absurd (omega arith))))
     (λ down. (v, keeps, tt, moved k s r x id me.1 v v at refl (omega arith) (omega arith) (omega arith) mine (λ u. inl u) (r.seen id v at), ((λ u. absurd (omega arith)), λ z. refl)))
 
-    idles : (id : ℕ) (v : HaltToken) → get_elem? (look k 0 0 ∷ []) id ≡ some v → v.raises ≡ 0
-    idles zero v e = ap (λ (y : HaltToken). y.raises) (sym (some-injective (look k 0 0) v e))
-    idles (suc id) v e = absurd (some-ne-none v (sym e))
-
 pub cuts : (k id : ℕ) (v : HaltToken) → 1 < v.parts → Splits (Halting k) id v (look (v.parts - 1) v.raises v.sees) (look 1 0 0)
 cuts k id v some_parts s r at = let l : HaltToken = look (v.parts - 1) v.raises v.sees in let c : HaltToken = look 1 0 0 in let vs : List HaltToken = set s.views id l in
     let t = total-set (λ (u : HaltToken). u.raises) s.views id v l at in let a = total-snoc (λ (u : HaltToken). u.raises) vs c in record {
