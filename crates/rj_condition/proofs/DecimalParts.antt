@@ -5,7 +5,6 @@ use Rattle.std.specs.Prelude.{unsigned_abs, nat_lt, ◌&&◌, ◌==◌}
 use Rattle.std.specs.Char.{is_ascii_digit}
 use Rattle.std.specs.List.{prefix_len}
 use Rattle.std.specs.Str.Parse.{IsNumeral, AllDigits, without_leading_sign, signed_digits_value}
-use Rattle.std.proofs.lemmas.Bool.Decides.{nat_tests}
 use Rattle.std.proofs.lemmas.Bool.{and_parts, ltb-true, lt-ltb}
 use mir.Val.{SFits}
 use Rattle.rj_condition.specs.declared.decimal.DecimalLiteral.{DecimalLiteral}

@@ -1,12 +1,12 @@
 -- Operands that differ, one after another.
-use Rattle.std.proofs.Common.{◌≡◌, ℕ, ◌+◌, ◌<◌, List, length, drop, get_or, refl, Option, Some, None, option_map}
+use Rattle.std.proofs.Common.{◌≡◌, ℕ, ◌+◌, List, drop, refl, Option, Some, None, option_map}
 use Rattle.std.specs.Prelude.{slice_get}
 use Rattle.std.specs.List.{position_from}
 use Rattle.std.specs.Str.{str_eq_ignore_ascii_case}
 use Rattle.rj_columns.specs.Tables.{TableValue}
 use Rattle.rj_condition.specs.declared.bound.BoundOperand.TheVariants as bound
-use Rattle.rj_condition.specs.Mismatches.{Pair, apart, first_common, first_of}
-use Rattle.rj_condition.proofs.StepFacts.{drop_at, drop_get}
+use Rattle.rj_condition.specs.Mismatches.{Pair, apart, first_common}
+use Rattle.rj_condition.proofs.StepFacts.{drop_get}
 
 module _ (l r : TableValue) (i : ℕ) (n : List ℕ) where
   abbrev pub common_at : Option Pair

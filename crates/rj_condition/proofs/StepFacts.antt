@@ -1,10 +1,8 @@
 -- One more name, one more operand, one more condition.
-use Rattle.std.proofs.Common.{◌≡◌, ℕ, ◌+◌, ◌<◌, suc, List, [], ◌∷◌, ◌++◌, Bool, true, false, map, length, get_or, drop, refl, sym, ap, ◌∙◌, add-one, drop-cons, append_assoc, Some, Result, Ok, Err}
+use Rattle.std.proofs.Common.{◌≡◌, ℕ, ◌+◌, ◌<◌, suc, List, ◌∷◌, Bool, true, false, length, get_or, drop, refl, sym, ap, ◌∙◌, add-one, drop-cons, Some}
 use Rattle.std.specs.Prelude.{slice_get}
 use Rattle.std.specs.List.{position_from}
 use Rattle.std.proofs.lemmas.Option.{get_or_from_slice_get, slice_get_within}
-use Rattle.rj_condition.specs.declared.refused.BindRefused.{BindRefused}
-use Rattle.rj_condition.specs.Resolved.{onto, all_ok}
 
 -- what stands at a place, and what follows it
 pub drop_get : {A : Type 0} (xs : List A) (i : ℕ) (x : A) → slice_get xs i ≡ Some x → drop i xs ≡ x ∷ drop (i + 1) xs

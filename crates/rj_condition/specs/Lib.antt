@@ -2,6 +2,7 @@ pub mod Truths
 pub mod Means
 pub mod Joins
 pub mod Fits
+pub mod RowPairs
 pub mod Names
 pub mod Resolved
 pub mod Partners

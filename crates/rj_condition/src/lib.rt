@@ -22,6 +22,7 @@ mod predicates;
 mod refusals;
 mod refused;
 mod resolving;
+mod row_pair;
 mod splitting;
 mod steps;
 mod stop;
