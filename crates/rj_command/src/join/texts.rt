@@ -102,7 +102,7 @@ fn all_made(alloc: Global, shares: Vec<Share>) -> Result<Vec<Vec<Texts>>, AllocE
 
 // Makes the texts of all shares, by up to so many threads with the calling one. Each thread gives its segments back one by one, as
 // their texts are made.
-fn make_shares<R: Threads + Sync>(
+fn make_each<R: Threads + Sync>(
     rt: &R,
     alloc: Global,
     mut shares: Vec<Share>,
@@ -131,6 +131,38 @@ fn make_shares<R: Threads + Sync>(
         { make_texts(alloc, share, number, right, joined, shown, runs, null) },
     );
     shares
+}
+
+// Does the same without the calling thread: threads that start take over the memory that ended ones gave back, and the calling one has
+// none of it.
+fn make_shares<R: Threads + Sync>(
+    rt: &R,
+    alloc: Global,
+    shares: Vec<Share>,
+    right: &Table,
+    joined: &Joined,
+    shown: &Shown,
+    runs: &[Run],
+    null: &str,
+    workers: usize,
+) -> Vec<Share>
+    requires workers { 0 < workers }
+    requires within { (k : ℕ) (d : Share) → k < length shares.items
+        → ForSome (slice_index_or shares.items k d).segment (λ t. AreWithin t right.now joined.now.members shown.now k runs.now) }
+    ensures many { length result.items ≡ length shares.items }
+    ensures each { (k : ℕ) (d : Share) → k < length shares.items → IfSome (slice_index_or shares.items k d).segment (λ t.
+        IfOk (slice_index_or result.items k d).texts (AreRunTexts null.now shown.now t right.now joined.now.members k runs.now)) }
+{
+    let make = move || -> Vec<Share>
+        requires { (0 < workers) × ((k : ℕ) (d : Share) → k < length shares.items
+            → ForSome (slice_index_or shares.items k d).segment (λ t. AreWithin t right.now joined.now.members shown.now k runs.now)) }
+        ensures many { length result.items ≡ length shares.entry.items }
+        ensures each { (k : ℕ) (d : Share) → k < length shares.entry.items → IfSome (slice_index_or shares.entry.items k d).segment (λ t.
+            IfOk (slice_index_or result.items k d).texts
+            (AreRunTexts null.entry.now shown.entry.now t right.entry.now joined.entry.now.members k runs.entry.now)) }
+    { make_each(rt, alloc, shares, right, joined, shown, runs, null, workers) };
+    let (made, ()) = thread::join(rt, make, || {});
+    made
 }
 
 // The texts of the runs of each segment, made by up to so many threads.
