@@ -156,8 +156,8 @@ fn make_shares<R: Threads + Sync>(
     let make = move || -> Vec<Share>
         requires { (0 < workers) × ((k : ℕ) (d : Share) → k < length shares.items
             → ForSome (slice_index_or shares.items k d).segment (λ t. AreWithin t right.now joined.now.members shown.now k runs.now)) }
-        ensures many { length result.items ≡ length shares.entry.items }
-        ensures each { (k : ℕ) (d : Share) → k < length shares.entry.items → IfSome (slice_index_or shares.entry.items k d).segment (λ t.
+        ensures many { length result.items ≡ length shares.items }
+        ensures each { (k : ℕ) (d : Share) → k < length shares.items → IfSome (slice_index_or shares.items k d).segment (λ t.
             IfOk (slice_index_or result.items k d).texts
             (AreRunTexts null.entry.now shown.entry.now t right.entry.now joined.entry.now.members k runs.entry.now)) }
     { make_each(rt, alloc, shares, right, joined, shown, runs, null, workers) };
