@@ -106,7 +106,9 @@ def main():
     words = ["--left", left, "--right", right, *types, "--join", workload.clause()]
     alone, sharded = asked.folder / "alone.csv", asked.folder / "sharded.csv"
     with open(alone, "wb") as out:
-        told("radixjoin alone", *timed([ROOT / "crates" / "radixjoin" / "out" / "radixjoin", *words], stdout=out))
+        # (as `./radixjoin` and the processes of the cluster start it)
+        alone_in = {"GLIBC_TUNABLES": "glibc.malloc.arena_max=1", **os.environ}
+        told("radixjoin alone", *timed([ROOT / "crates" / "radixjoin" / "out" / "radixjoin", *words], stdout=out, env=alone_in))
     script = ["/usr/bin/python3", ROOT / "cluster" / "radixjoin-cluster", *words, "--out", sharded, "--parts", asked.parts]
     merges = [["--merges", count] for count in asked.merges] or [[]]
     spreads = [["--spread", size] for size in asked.spread] or [[]]

@@ -21,6 +21,8 @@ ROOT = BENCH.parent
 DATA = BENCH / "data"
 # With how many workers radixjoin runs beside its one.
 WORKERS = (2, 4)
+# All threads share one heap, as where `./radixjoin` starts the program. (The plain join has one thread, to which this is nothing.)
+ENVIRONMENT = {"GLIBC_TUNABLES": "glibc.malloc.arena_max=1", **os.environ}
 # The parts and multiples of a workload's rows that --sizes runs.
 SCALES = (0.25, 0.5, 1.0, 2.0, 4.0)
 
@@ -40,7 +42,7 @@ def measure(words):
     out = DATA / "out.csv"
     with open(out, "wb") as file:
         start = time.monotonic()
-        child = subprocess.Popen([str(word) for word in words], stdout=file)
+        child = subprocess.Popen([str(word) for word in words], stdout=file, env=ENVIRONMENT)
         _, status, usage = os.wait4(child.pid, 0)
         wall = time.monotonic() - start
     if status != 0:

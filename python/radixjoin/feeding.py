@@ -8,6 +8,8 @@ import selectors
 import subprocess
 from typing import Any, Generator, List, Sequence, Tuple
 
+from .programs import environment
+
 # What a program reads as one input: what stands before its name among the program's words, and its bytes, from one file at a time.
 Input = Tuple[str, Generator[bytes, None, None]]
 # How many files are open for each input: one that its bytes are of, and both ends of its pipe.
@@ -89,7 +91,8 @@ def run_program(line: Sequence[str], inputs: Sequence[Input], **how: Any) -> "su
     with contextlib.ExitStack() as stack:
         feeds: List[_Feed] = [_Feed(it, stack) for it in inputs]
         reads = [it.reads.fileno() for it in feeds]
-        with subprocess.Popen([*line, *(it.word for it in feeds)], pass_fds=reads, stderr=subprocess.PIPE, **how) as process:
+        words = [*line, *(it.word for it in feeds)]
+        with subprocess.Popen(words, pass_fds=reads, stderr=subprocess.PIPE, env=environment(), **how) as process:
             try:
                 for it in feeds:
                     it.reads.close()

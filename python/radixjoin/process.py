@@ -11,7 +11,7 @@ import threading
 from typing import IO, Any, BinaryIO, Iterator, List, Mapping, Optional, Sequence, Tuple, Union, cast
 
 from .faults import fault_of
-from .programs import encoded
+from .programs import encoded, environment
 from .tables import Table
 
 _SET_PIPE_SIZE = getattr(fcntl, "F_SETPIPE_SZ", 1031)
@@ -71,7 +71,7 @@ class Run:
             files = [b"--%s=%s" % (table.side.encode(), self._file(table, given, lent)) for table in tables]
             line = [encoded(program), *files, *map(encoded, words)]
             with _uninterrupted():
-                self._process = subprocess.Popen(line, stdin=subprocess.DEVNULL, stdout=output, stderr=self._told, pass_fds=given + lent)
+                self._process = subprocess.Popen(line, stdin=subprocess.DEVNULL, stdout=output, stderr=self._told, pass_fds=given + lent, env=environment())
                 while given:
                     os.close(given.pop())
                 self._feeder.process = self._process

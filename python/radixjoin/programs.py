@@ -7,7 +7,7 @@ import re
 import shutil
 import subprocess
 from pathlib import Path
-from typing import FrozenSet, Iterable, List, Set, Tuple, Union
+from typing import Dict, FrozenSet, Iterable, List, Set, Tuple, Union
 
 # Of a checkout its own folder. Where the repository was installed, this is PREFIX/share/radixjoin.
 _ROOT = Path(__file__).resolve().parent.parent.parent
@@ -49,6 +49,12 @@ def built(name: str) -> str:
     if not found:
         raise ProgramNotFound(f"the program {name} is neither built here nor on the PATH")
     return found
+
+
+def environment() -> Dict[str, str]:
+    """The variables that a program is run with: those of this process. Where they say nothing of the C library's memory all threads of
+    the program share one heap, so that each step finds room in what the ones before gave back."""
+    return {"GLIBC_TUNABLES": "glibc.malloc.arena_max=1", **os.environ}
 
 
 def find(program: Union[str, "os.PathLike[str]", None] = None) -> str:
