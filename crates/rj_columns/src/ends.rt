@@ -111,7 +111,7 @@ impl Ends {
     }
 
     // Adds an end. The ends become wide where it asks for that. Where memory is refused they are as they were.
-    #[inline]
+    #[inline(always)]
     pub(crate) fn push(&mut self, end: usize) -> Result<(), AllocError>
         ensures ok { OnOk result (self.new ≡ self.old ++ end ∷ []) }
         ensures err { OnErr result (self.new ≡ self.old) }

@@ -67,7 +67,7 @@ impl Segment {
     }
 
     // The cell at a row and a column.
-    #[inline]
+    #[inline(always)]
     pub(crate) fn cell(&self, row: u64, col: usize) -> Cell<'_>
         requires row { row < length self.now.rows }
         requires col { col < length self.now.types }

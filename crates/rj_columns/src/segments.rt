@@ -112,7 +112,7 @@ impl Segments {
     }
 
     // The segment that has a row: it is the one of the hint, or one of the few behind it.
-    #[inline]
+    #[inline(always)]
     pub(crate) fn find(&self, row: u64) -> &Placed
         requires { row < length (rows_of_all self.now) }
         ensures { IsFound self.now row result.now.start result.now.segment }

@@ -17,8 +17,8 @@ use rj_engine::{Joined, Run, RunView, Shown, cut_runs};
 use std::alloc::{AllocError, Global};
 use std::thread::{self, Threads};
 
-// A left table that has at least so many rows for each thread is taken apart: then the threads have about as many segments each.
-const SHARE_ROWS: u64 = 262_144;
+// A left table that has at least so many rows for each thread is taken apart, so that there are segments for each.
+const SHARE_ROWS: u64 = 98_304;
 
 // The texts of rows that follow each other, one after another.
 type Texts = Vec<Vec<u8>>;
