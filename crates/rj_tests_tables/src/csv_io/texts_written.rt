@@ -55,7 +55,7 @@ fn text_count(alloc: Global, rows: usize) -> Result<usize, Fail> {
 }
 
 // Rows, and the texts that they make.
-const TEXT_COUNTS: [(usize, usize); 5] = [(0, 1), (1, 1), (16_384, 1), (16_385, 2), (40_000, 3)];
+const TEXT_COUNTS: [(usize, usize); 5] = [(0, 1), (1, 1), (4_096, 1), (4_097, 2), (10_000, 3)];
 
 #[test]
 fn rows_of_a_text(rt: HostRuntime) -> Result<(), Fail> {
