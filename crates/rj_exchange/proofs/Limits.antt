@@ -13,6 +13,34 @@ use Rattle.rj_exchange.specs.declared.queue.Trace.{Trace}
 use Rattle.rj_exchange.specs.Passing.{of, Belongs, taker, sender, FitsSender, FitsTaker, Passing, HeldAt, Left, posted_by}
 use Rattle.rj_exchange.proofs.Of.{chosen, passed, of-append, append_none}
 
+-- n parcels of outbox j
+fill : Where → ℕ → ℕ → List Posted
+fill p j zero = []
+fill p j (suc n) = posted_by j (record { sender = 0; partition = p.partition; number = p.lane; body = Close }) ∷ fill p j n
+
+length-fill : (p : Where) (j n : ℕ) → length (fill p j n) ≡ n
+unfolding fill
+length-fill p j zero = refl
+length-fill p j (suc n) = ap suc (length-fill p j n)
+
+fill_belongs : (p : Where) (j n : ℕ) → p.lane < p.lanes → j < p.outboxes → All (Belongs p) (fill p j n)
+unfolding fill
+fill_belongs p j zero lane below = All-nil (Belongs p)
+fill_belongs p j (suc n) lane below = All-cons (Belongs p) _ (fill p j n) (refl, mod-eq_of_lt lane, below) (fill_belongs p j n lane below)
+
+of-fill : (p : Where) (k j n : ℕ) → j ≢ k → of k (fill p j n) ≡ []
+unfolding fill
+of-fill p k j zero ne = refl
+of-fill p k j (suc n) ne = passed j k _ _ ne ∙ of-fill p k j n ne
+
+-- beside another outbox, Full is allowed whatever this one has sent
+pub others_fill : (p : Where) (k j n : ℕ) (sent : List Parcel) → p.lane < p.lanes → j < p.outboxes → j ≢ k → Held n (HeldAt p k sent)
+others_fill p k j n sent lane below ne = (fill p j n, length-fill p j n, (fill_belongs p j n lane below, (sent, sym (append_none sent) ∙ ap (λ l. sent ++ l) (sym (of-fill p k j n ne)))))
+
+-- an inbox that has heard of no end is allowed None whatever it has taken
+pub none_untold : (p : Where) (made : ℕ) (taken : List Posted) → 0 < made → Left (taker p made taken []) []
+none_untold p made taken some_made = (All-nil (Belongs p), (λ k lt. absurd (omega arith), λ all. absurd (omega arith)))
+
 -- what one outbox sent has all its parcels, and none of another
 of_own : (k : ℕ) (xs : List Parcel) → of k (map (posted_by k) xs) ≡ xs
 of_own k [] = refl
@@ -60,6 +88,18 @@ module _ (p : Where) (k : ℕ) (sent before : List Parcel) (items : List Posted)
   take zero v e is = subst (FitsTaker 0 (owned k) p (map (posted_by k) before) items 0) (some-injective _ v e) fits_taker
   take (suc zero) v e is = absurd (true≢false (sym is ∙ ap (λ (z : Trace). z.takes) (sym (some-injective _ v e))))
   take (suc (suc pass)) v e is = absurd (some-ne-none v (sym e))
+
+-- each queue of which Full may tell an outbox is one that the rule admits: an inbox took what the outbox sent before
+pub held_is_all : (p : Where) (k : ℕ) (sent : List Parcel) (items : List Posted) → k < p.outboxes → (h : HeldAt p k sent items) → Passing items (two_views p k h.1.0 sent)
+held_is_all p k sent items below h = record {
+  reader = 0;
+  owner = owned k;
+  place = p;
+  got = map (posted_by k) h.1.0;
+  belong = h.0;
+  senders = send p k sent h.1.0 items below h.0 h.1.1;
+  takers = take p k sent h.1.0 items below h.0 h.1.1;
+}
 
 -- where there is one outbox, what the queue holds is what this one sent last
 of_all : (p : Where) (xs : List Posted) → p.outboxes ≡ 1 → All (Belongs p) xs → length (of 0 xs) ≡ length xs
