@@ -1,5 +1,5 @@
 """Tables of several segments: a left table of 600,000 rows, which is given back segment by segment as the result is made. Each kind
-of join and each order, by one worker and by two, beside what is worked out here; and by little memory either the whole result or
+of join and each order, by one worker, by two and by five, beside what is worked out here; and by little memory either the whole result or
 `E18 Memory` and nothing."""
 import functools
 import pathlib
@@ -71,7 +71,7 @@ def run(folder, clause, options, most=None):
 def run_cases(tally, folder):
     for clause, kinds, options in CASES:
         wanted = f"k,a,b\n{lines(kinds, '--order=left' in options)}".encode()
-        for workers in (1, 2):
+        for workers in (1, 2, 5):
             ran = run(folder, clause, [*options, f"--workers={workers}"])
             tally.check(f"segments: {clause} {' '.join(options)} by {workers}", harness.differences(ran, wanted))
 
