@@ -1,11 +1,16 @@
-"""Large frames: what this process takes beside the frames and the result, in terms of the CSV text of both and of the result."""
+"""Large frames: what this process takes beside the frames and the result, in terms of the CSV text of both and of the result. And what
+the program is told of its own memory."""
+import os
+import pathlib
 import random
 import resource
+import tempfile
 
 import pandas
 import telling
 
 import radixjoin
+from radixjoin import programs
 
 ROWS = 400_000
 MOST = 3
@@ -45,5 +50,21 @@ def large():
         yield f"{most / 1e6:.0f} MB beside the frames, {result / 1e6:.0f} of them for the result, for {size / 1e6:.0f} MB of text"
 
 
+def variables():
+    """One heap for all threads of the program, where this process says nothing of it, and else what it says."""
+    frame = pandas.DataFrame({"k": [1]})
+    with tempfile.TemporaryDirectory() as at:
+        script, told = pathlib.Path(at, "radixjoin"), pathlib.Path(at, "told")
+        script.write_text(f'#!/bin/sh\necho "$GLIBC_TUNABLES" > {told}\nexec {programs.find()} "$@"\n')
+        script.chmod(0o755)
+        os.environ.pop("GLIBC_TUNABLES", None)
+        radixjoin.join(frame, frame, using="k", program=script)
+        yield from telling.differs("where nothing is said", told.read_text(), "glibc.malloc.arena_max=1\n")
+        os.environ["GLIBC_TUNABLES"] = "glibc.malloc.arena_max=2"
+        radixjoin.join(frame, frame, using="k", program=script)
+        yield from telling.differs("where it is", told.read_text(), "glibc.malloc.arena_max=2\n")
+
+
 if __name__ == "__main__":
     telling.attempt("memory for large frames", large)
+    telling.attempt("one heap", variables)
