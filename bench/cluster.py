@@ -1,11 +1,12 @@
 #!/usr/bin/env python3
 """Times cluster/radixjoin-cluster on this machine beside radixjoin alone, on a workload: the time of each run, the time that all its
 processes had of the processors (which says more on a machine that does something else too), and the peak of memory of the largest
-process of each program. The bytes of all runs are compared. It needs Dask.
+process of each program, Python's own among them. The bytes of all runs are compared. It needs Dask.
 
-usage: cluster.py FOLDER [--workload NAME] [--scale F] [--parts N] [--processes N ..] [--merges N ..] [--spread BYTES ..] [--limit]
+usage: cluster.py FOLDER [--workload NAME] [--exchanged] [--scale F] [--parts N] [--processes N ..] [--merges N ..] [--spread BYTES ..] [--limit]
     FOLDER      where the tables are made, if they aren't there, and the results
     --workload  foreign_key, hot_left, in which half of all left rows have one key, or zipf_1.25
+    --exchanged the left table as the right one, and the right as the left
     --spread    each run is done with each of these limits of a shard's bytes
     --merges    each number of processes joins with each of these numbers of ranges of the merge, and not with the script's own
     --limit     also joins with a quarter of the address space that radixjoin alone needs"""
@@ -22,13 +23,22 @@ import time
 import workloads
 
 ROOT = pathlib.Path(__file__).resolve().parent.parent
+sys.path.insert(0, str(ROOT / "python"))
+
+from radixjoin import programs  # noqa: E402
+
 PROGRAMS = ("radixjoin", "shards", "merges")
+RADIXJOIN = ROOT / "crates" / "radixjoin" / "out" / "radixjoin"
 WORKLOADS = [it for it in (*workloads.WORKLOADS, *workloads.OF_SHARDS) if it.name in ("foreign_key", "hot_left", "zipf_1.25")]
 
 
-def peak_of(number, field):
-    """A peak of a process by its number, in MiB, and the name of its program; nothing where it has ended."""
+def peak_of(number, field, session):
+    """A peak of a process by its number, in MiB, and the name of its program; nothing where it has ended, or isn't of this session."""
     try:
+        with open(f"/proc/{number}/stat") as stat:
+            # (behind the name, which may have anything in it)
+            if int(stat.read().rpartition(")")[2].split()[3]) != session:
+                return 0, ""
         with open(f"/proc/{number}/status") as status:
             found = dict(line.split(":", 1) for line in status if ":" in line)
         return int(found[field].split()[0]) / 1024, found["Name"].strip()
@@ -37,10 +47,11 @@ def peak_of(number, field):
 
 
 class Watch:
-    """Looks at all processes of the three programs every few milliseconds, for the greatest peak of each."""
+    """Looks at all processes of a session every few milliseconds, for the greatest peak of each program."""
 
-    def __init__(self, field):
+    def __init__(self, field, session):
         self.field = field
+        self.session = session
         self.peaks = {}
         self.is_over = False
         self.thread = threading.Thread(target=self.look)
@@ -48,8 +59,8 @@ class Watch:
     def look(self):
         while not self.is_over:
             for number in filter(str.isdigit, os.listdir("/proc")):
-                peak, name = peak_of(number, self.field)
-                if name in PROGRAMS:
+                peak, name = peak_of(number, self.field, self.session)
+                if name:
                     self.peaks[name] = max(self.peaks.get(name, 0), peak)
             time.sleep(0.01)
 
@@ -71,14 +82,18 @@ def used():
 def timed(words, field="VmHWM", **how):
     """Runs a command; how long it took, how much of the processors, and the peaks of the programs that it started."""
     start, before = time.monotonic(), used()
-    with Watch(field) as watch:
-        subprocess.run([str(word) for word in words], check=True, **how)
+    ran = subprocess.Popen([str(word) for word in words], start_new_session=True, **how)
+    with Watch(field, ran.pid) as watch:
+        status = ran.wait()
+    if status:
+        sys.exit(f"cluster.py: {words[0]} ended with status {status}")
     return time.monotonic() - start, used() - before, watch.peaks
 
 
 def told(name, seconds, processors, peaks):
-    largest = max(peaks, key=peaks.get)
-    print(f"{name}: {seconds:.1f} s, {processors:.1f} s of processors, {peaks[largest]:.0f} MiB ({', '.join(f'{it} {peak:.0f}' for it, peak in sorted(peaks.items()))})", flush=True)
+    largest = max((it for it in peaks if it in PROGRAMS), key=peaks.get)
+    every = ", ".join(f"{it} {peak:.0f}" for it, peak in sorted(peaks.items()))
+    print(f"{name}: {seconds:.1f} s, {processors:.1f} s of processors, {peaks[largest]:.0f} MiB ({every})", flush=True)
 
 
 def compare(one, other):
@@ -90,6 +105,7 @@ def main():
     line = argparse.ArgumentParser(description=__doc__, formatter_class=argparse.RawDescriptionHelpFormatter)
     line.add_argument("folder", type=pathlib.Path)
     line.add_argument("--workload", choices=[it.name for it in WORKLOADS], default="foreign_key")
+    line.add_argument("--exchanged", action="store_true")
     line.add_argument("--scale", type=float, default=1.0)
     line.add_argument("--parts", type=int, default=16)
     line.add_argument("--processes", type=int, nargs="*", default=[1, 2, 4])
@@ -102,13 +118,14 @@ def main():
     if not left.exists() or not right.exists():
         words = [sys.executable, ROOT / "bench" / "workloads.py", asked.folder, workload.name, "--scale", asked.scale]
         subprocess.run([str(word) for word in words], check=True)
+    if asked.exchanged:
+        left, right = right, left
     types = ["--left-types", workload.types(), "--right-types", workload.types()]
     words = ["--left", left, "--right", right, *types, "--join", workload.clause()]
     alone, sharded = asked.folder / "alone.csv", asked.folder / "sharded.csv"
     with open(alone, "wb") as out:
         # (as `./radixjoin` and the processes of the cluster start it)
-        alone_in = {"GLIBC_TUNABLES": "glibc.malloc.arena_max=1", **os.environ}
-        told("radixjoin alone", *timed([ROOT / "crates" / "radixjoin" / "out" / "radixjoin", *words], stdout=out, env=alone_in))
+        told("radixjoin alone", *timed([RADIXJOIN, *words], stdout=out, env=programs.environment()))
     script = ["/usr/bin/python3", ROOT / "cluster" / "radixjoin-cluster", *words, "--out", sharded, "--parts", asked.parts]
     merges = [["--merges", count] for count in asked.merges] or [[]]
     spreads = [["--spread", size] for size in asked.spread] or [[]]
@@ -118,7 +135,7 @@ def main():
             compare(alone, sharded)
     if asked.limit:
         with open(alone, "wb") as out:
-            *_, peaks = timed([ROOT / "crates" / "radixjoin" / "out" / "radixjoin", *words], "VmPeak", stdout=out)
+            *_, peaks = timed([RADIXJOIN, *words], "VmPeak", stdout=out, env=programs.environment())
         quarter = int(peaks["radixjoin"] / 4)
         told(f"1 process, each program in {quarter} MiB of address space", *timed([*script, "--memory", quarter, "--processes", 1], "VmPeak"))
         compare(alone, sharded)

@@ -18,11 +18,15 @@ import workloads
 
 BENCH = pathlib.Path(__file__).resolve().parent
 ROOT = BENCH.parent
+sys.path.insert(0, str(ROOT / "python"))
+
+from radixjoin import programs  # noqa: E402
+
 DATA = BENCH / "data"
 # With how many workers radixjoin runs beside its one.
 WORKERS = (2, 4)
 # All threads share one heap, as where `./radixjoin` starts the program. (The plain join has one thread, to which this is nothing.)
-ENVIRONMENT = {"GLIBC_TUNABLES": "glibc.malloc.arena_max=1", **os.environ}
+ENVIRONMENT = programs.environment()
 # The parts and multiples of a workload's rows that --sizes runs.
 SCALES = (0.25, 0.5, 1.0, 2.0, 4.0)
 

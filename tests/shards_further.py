@@ -29,6 +29,8 @@ CASES = (
     ("places are no column of a clause", LEFT, RIGHT, INT_TEXT, f"{ON_K} AND left_place > 0", ["--right-null=-"]),
     ("null texts by side", LEFT, RIGHT, INT_TEXT, ON_K, BY_SIDE),
     ("null texts by side, and what is written", LEFT, RIGHT, INT_TEXT, ON_K, [*BY_SIDE, "--out-null=*"]),
+    ("a null text of two dashes", b"k,a\n--,x\n1,--\n", b"k,b\n1,--\n,-\n", INT_TEXT, ON_K, ["--left-null=--", "--right-null=", "--out-null=--"]),
+    ("the same of both files", b"k,a\n--,x\n1,--\n", b"k,b\n1,--\n--,\n", INT_TEXT, ON_K, ["--null=--"]),
     ("strictly", LEFT, RIGHT, INT_TEXT, ON_K, [*BY_SIDE, "--out-null=*", "--strict=full"]),
     ("each left row at its place", LEFT, RIGHT, INT_TEXT, ON_K, ["--right-null=-", "--order=left"]),
     ("each left row at its place, and such kinds of rows", LEFT, RIGHT, INT_TEXT, ON_K, ["--right-null=-", "--order", "left", "--rows", "lone-left,lone-right"]),

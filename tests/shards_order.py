@@ -19,7 +19,7 @@ HEADERS = (b"", b"\n", b"k,k\n", b"k\n", b"k,9\n", b'k,"a\n', b'k,a"\n', b"\nk,a
 BODIES = (b"", b"1\n", b"1,x\nz,y\n", b"1,\xff\n", b'1,"x\n', b"1,x\n\n2,y\n", b"1,x\n2,y", b'1,"x"y\n', b"1,x\r2,y\n", b"-,x\n1,-\n")
 CLAUSES = ("-1", "--", "JOIN USING (q)", "JOIN ON L.k = R.k AND", "JOIN ON a = 1", "JOIN ON L.k = R.a", "JOIN USING (k, K)", "JOIN ON k < 1")
 GOOD_CLAUSES = ("JOIN USING (k)", "FULL JOIN USING (k)", "LEFT JOIN ON L.k = R.k", "RIGHT JOIN ON R.k = L.k AND L.a <> 'q'", "NATURAL JOIN", "FULL JOIN ON L.a = R.a")
-TEXTS = ("-", "NULL", "~", "", "-", "NULL")
+TEXTS = ("-", "NULL", "~", "", "--", "NULL")
 BAD_TEXTS = ("no null", "1", "a,b", '"', "a text of seventeen", "\u00e4")
 TYPES = ("int,text", "k=int,*=text", "*=text,K=num(9,2)", '"k"=int,a=text', "a=text,k=num:9:2", "num(9,2),text", "*=text")
 BAD_TYPES = ("int", "int,int", "int,txt", "-1", "", "k=int", "k=int,text", "k=int,q=text,*=text", '"K"=int,*=text', "k=int,k=int,*=text", '"row 007"=int,*=text', "*=int", "@none")

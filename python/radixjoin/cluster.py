@@ -61,6 +61,8 @@ PLACES = {"left": LEFT, "right": RIGHT}
 MOST_MERGES, LEAST_MERGED = 1024, 16 << 20
 LIMITS = (("parts", 1, 1024), ("processes", 1, 1024), ("ranges", 1, 100_000), ("spread", 1, 1 << 60), ("merges", 1, MOST_MERGES), ("memory", 1, 1 << 40))
 PROGRAMS = ("radixjoin", "shards", "merges")
+# Stands for the text `--` of an option while the line is read: no word of a command line has this letter.
+DASHES = "\0"
 AMBIGUOUS = re.compile(r"radixjoin: E28 AmbiguousNull row (\d+) column (\d+)")
 
 
@@ -100,7 +102,7 @@ def parser() -> argparse.ArgumentParser:
 def read_line(words: Sequence[str]) -> argparse.Namespace:
     """What the words of the command line ask for."""
     line = parser()
-    asked = line.parse_args(with_lists(words))
+    asked = shown(line.parse_args(hidden(with_lists(words))))
     given = [word.partition("=")[0] for word in words if word.startswith("--")]
     for option in given:
         if given.count(option) > 1 and option not in SEVERAL:
@@ -115,6 +117,21 @@ def read_line(words: Sequence[str]) -> argparse.Namespace:
             line.error(f"--{option}: a join in shards writes all columns, so leave those out of the files that aren't wanted")
     if "matched-left" in (asked.rows or "").split(","):
         line.error("--rows: a join in shards has no matched-left, so join by USING with a right file of the keys alone, each once")
+    return asked
+
+
+def hidden(words: Sequence[str]) -> List[str]:
+    """The words with each text `--` of an option, as in `--null=--`, as argparse doesn't leave it out."""
+    return [f"{word[:-2]}{DASHES}" if word.startswith("--") and word.partition("=")[2] == "--" else word for word in words]
+
+
+def shown(asked: argparse.Namespace) -> argparse.Namespace:
+    """What is asked for with each such text as it was given."""
+    for name, value in vars(asked).items():
+        if isinstance(value, list):
+            setattr(asked, name, ["--" if it == DASHES else it for it in value])
+        elif value == DASHES:
+            setattr(asked, name, "--")
     return asked
 
 
