@@ -28,7 +28,6 @@ sys.path.insert(0, str(ROOT / "python"))
 from radixjoin import programs  # noqa: E402
 
 PROGRAMS = ("radixjoin", "shards", "merges")
-RADIXJOIN = ROOT / "crates" / "radixjoin" / "out" / "radixjoin"
 WORKLOADS = [it for it in (*workloads.WORKLOADS, *workloads.OF_SHARDS) if it.name in ("foreign_key", "hot_left", "zipf_1.25")]
 
 
@@ -96,6 +95,16 @@ def told(name, seconds, processors, peaks):
     print(f"{name}: {seconds:.1f} s, {processors:.1f} s of processors, {peaks[largest]:.0f} MiB ({every})", flush=True)
 
 
+def linked(folder):
+    """The folder of the three programs, as the tree has built them: so no run asks whether they are those of the sources."""
+    folder.mkdir(exist_ok=True)
+    for name in PROGRAMS:
+        link = folder / name
+        link.unlink(missing_ok=True)
+        link.symlink_to(programs.built(name))
+    return folder
+
+
 def compare(one, other):
     if not filecmp.cmp(one, other, shallow=False):
         sys.exit(f"{other} has other bytes than {one}")
@@ -123,10 +132,11 @@ def main():
     types = ["--left-types", workload.types(), "--right-types", workload.types()]
     words = ["--left", left, "--right", right, *types, "--join", workload.clause()]
     alone, sharded = asked.folder / "alone.csv", asked.folder / "sharded.csv"
+    built = linked(asked.folder / "programs")
     with open(alone, "wb") as out:
         # (as `./radixjoin` and the processes of the cluster start it)
-        told("radixjoin alone", *timed([RADIXJOIN, *words], stdout=out, env=programs.environment()))
-    script = ["/usr/bin/python3", ROOT / "cluster" / "radixjoin-cluster", *words, "--out", sharded, "--parts", asked.parts]
+        told("radixjoin alone", *timed([built / "radixjoin", *words], stdout=out, env=programs.environment()))
+    script = ["/usr/bin/python3", ROOT / "cluster" / "radixjoin-cluster", *words, "--out", sharded, "--parts", asked.parts, "--programs", built]
     merges = [["--merges", count] for count in asked.merges] or [[]]
     spreads = [["--spread", size] for size in asked.spread] or [[]]
     for processes in asked.processes:
@@ -135,7 +145,7 @@ def main():
             compare(alone, sharded)
     if asked.limit:
         with open(alone, "wb") as out:
-            *_, peaks = timed([RADIXJOIN, *words], "VmPeak", stdout=out, env=programs.environment())
+            *_, peaks = timed([built / "radixjoin", *words], "VmPeak", stdout=out, env=programs.environment())
         quarter = int(peaks["radixjoin"] / 4)
         told(f"1 process, each program in {quarter} MiB of address space", *timed([*script, "--memory", quarter, "--processes", 1], "VmPeak"))
         compare(alone, sharded)
