@@ -14,7 +14,7 @@ import harness
 import shards
 
 # For each program a text that its words have where a task runs it, and not before.
-STEPS = {"shards": "--out /", "radixjoin": "=/dev/fd/", "merges": "--order="}
+STEPS = {"shards": "--out ", "radixjoin": "=/dev/fd/", "merges": "--order="}
 # What a program does in place of its work: it waits for a signal, or is ended by one.
 WAITS = 'echo $PPID > "$0.number.new" && mv "$0.number.new" "$0.number"; exec sleep 60'
 IS_KILLED = "kill -9 $$"
@@ -33,14 +33,16 @@ def write_tables(folder, rows=ROWS):
     return [*words, *CLAUSE]
 
 
-def programs_in(folder, name, does, is_once=True):
-    """A folder of the programs, of which one does something else: the first time that a task runs it, or each time."""
+def programs_in(folder, name, does, is_once=True, step=None, again=":"):
+    """A folder of the programs, of which one does something else, the first time that a task runs it, or each time: with words that have a
+    text, where one is given. Each further time it may do something too."""
     folder.mkdir()
     for it in STEPS:
         (folder / it).symlink_to(harness.program(it))
     (folder / name).unlink()
     once = 'mkdir "$0.once" 2>/dev/null' if is_once else "true"
-    (folder / name).write_text(f'#!/bin/sh\ncase "$*" in *"{STEPS[name]}"*) if {once}; then {does}; fi;; esac\nexec "{harness.program(name)}" "$@"\n')
+    script = f'#!/bin/sh\ncase "$*" in *"{step or STEPS[name]}"*) if {once}; then {does}; else {again}; fi;; esac\nexec "{harness.program(name)}" "$@"\n'
+    (folder / name).write_text(script)
     (folder / name).chmod(0o755)
     return folder
 

@@ -38,17 +38,18 @@ class Twice(shards.OneByOne):
 
 
 class Tables:
-    """The tables that the joins of runs were handed: of each how many bytes its rows have, and how many rows there are."""
+    """The tables that the joins of runs were handed: of each join's left and right one how many bytes its rows have, and how many rows
+    there are."""
 
     def __init__(self):
         self.of_runs = {}
 
     def of_join(self, job, one, ranges, otherwise=SCRIPT.tables_of):
         """The tables of a join, the sizes of which are noted as they are read."""
-        sizes = self.of_runs.setdefault(job.folder(), {})[one.name()] = []
-        return [(word, self.noted(rows, sizes)) for word, rows in otherwise(job, one, ranges)]
+        sizes = self.of_runs.setdefault(job.folder(), {})[one.name()] = [(0, 0), (0, 0)]
+        return [(word, self.noted(rows, sizes, number)) for number, (word, rows) in enumerate(otherwise(job, one, ranges))]
 
-    def noted(self, chunks, sizes):
+    def noted(self, chunks, sizes, number):
         """The bytes of a table, the sizes of which are noted at the end."""
         with contextlib.closing(chunks):
             whole = b""
@@ -56,7 +57,7 @@ class Tables:
                 whole += chunk
                 yield chunk
         rows = text.split_header(whole)[1]
-        sizes.append((len(rows), text.records_in(rows)))
+        sizes[number] = (len(rows), text.records_in(rows))
 
     def of(self, folder):
         """The tables of a run with its scratch folder in this one."""

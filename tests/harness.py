@@ -38,14 +38,15 @@ class Tally:
         self.failed += other.failed
 
 
-def side_by_side(tally, tasks):
-    """Runs tasks, each of which takes a tally of its own, as many at a time as there are processors. It gives what each gave."""
+def side_by_side(tally, tasks, count=None):
+    """Runs tasks, each of which takes a tally of its own, so many at a time, or as many as there are processors. It gives what each
+    gave."""
 
     def ran(task):
         own = Tally()
         return task(own), own
 
-    with concurrent.futures.ThreadPoolExecutor(len(os.sched_getaffinity(0))) as pool:
+    with concurrent.futures.ThreadPoolExecutor(count or len(os.sched_getaffinity(0))) as pool:
         found = list(pool.map(ran, tasks))
     for _, own in found:
         tally.add(own)

@@ -311,7 +311,8 @@ def divide(job: Job, side: str, number: int, start: int, end: Optional[int]) -> 
     if not os.path.exists(path):
         with made(path) as new, folder_beside(new) as folder:
             upto = ["--to", str(end)] if end is not None else []
-            told = counts_in(job.run("shards", [*job.division(side), "--from", str(start), *upto, "--out", folder]))
+            # (by its name in the scratch folder, where the program runs: by its path that folder would be made anew when all is over)
+            told = counts_in(job.run("shards", [*job.division(side), "--from", str(start), *upto, "--out", os.path.basename(folder)]))
             pack(folder, job.parts, told, new)
     return told_of(path, job.parts)[0], sizes_of(path, job.parts)
 
