@@ -39,8 +39,9 @@ def joined(name, left, right, types, clause, stdout, *options, **how):
 STATISTICS = b"partition 0 left 1 right 0\npartition 1 left 1 right 1\npartition 2 left 0 right 0\npartition 3 left 1 right 0\npairs 1 lone-left 0 lone-right 0\n"
 TEXTS = b"k,a\nann,1\n,2\ncy,3\n", b"b,k\n4,bob\n5,cy\n6,\n"
 QUOTED = b'"a,b","say ""it"""\n1,x\n', b'"a,b",c\n1,"p,q"\n'
-# A left table of three segments, which is given back segment by segment.
+# Left tables that are given back segment by segment: one of three segments, by one worker, and the least for which two workers do that.
 LONG = b"k,a\n" + b"".join(b"%d,x\n" % row for row in range(140_000)), b"k,b\n139999,p\n5,q\n70000,\n"
+LONGER = b"k,a\n" + b"".join(b"%d,x\n" % row for row in range(2 * 98_304)), b"k,b\n196607,p\n5,q\n70000,\n"
 REPLAYED = b"held\naccepted 1\nheld\nrefused repeat\nunreadable\nsender 0 waiting 1 rows 9 9\nsender 0 gap 1 2\nsender 1 waiting 0 rows\nsender 1 gap 0 7\nincomplete\n"
 SCRIPT = b"0 0 2 rows 5 7\n0 0 0 rows 9 9\n1 0 7 close\n0 0 2 rows 1\nx\n"
 REPLAY = ["--partition=0", "--senders=2", "--block=2", "--gaps"]
@@ -55,6 +56,7 @@ RUNS = [
     joined("a null text", b"k\nNULL\n1\n", b"k,b\n1,NULL\n", ["int", "int,text"], "NATURAL FULL JOIN", b"k,b\n1,NULL\nNULL,NULL\n", "--null=NULL"),
     joined("two passes by the mixed hash", *TEXTS, ["text,int", "int,text"], "FULL JOIN USING (k)", b"k,a,b\ncy,3,5\nann,1,\n,2,\nbob,,4\n,,6\n", "--bits1=1", "--bits2=2", "--hash=mixed"),
     joined("segments", *LONG, ["int,text", "int,text"], "RIGHT JOIN USING (k)", b"k,a,b\n5,x,q\n70000,x,\n139999,x,p\n"),
+    joined("segments, two workers", *LONGER, ["int,text", "int,text"], "RIGHT JOIN USING (k)", b"k,a,b\n5,x,q\n70000,x,\n196607,x,p\n", "--workers=2"),
     Run("the version", ["--version"], {}, b"radixjoin 1.0.0\n"),
     Run("the version of arrivals", ["--version"], {}, b"arrivals 1.0.0\n", program="arrivals"),
     joined("a bad integer", b"k\n1\nx\n", b"k\n1\n", ["int", "int"], "CROSS JOIN", b"", stderr=b"radixjoin: E6 BadInteger left row 2 column 1\n", status=3),
