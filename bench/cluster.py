@@ -90,9 +90,9 @@ def timed(words, field="VmHWM", **how):
 
 
 def told(name, seconds, processors, peaks):
-    largest = max((it for it in peaks if it in PROGRAMS), key=peaks.get)
+    largest = max((peaks[it] for it in PROGRAMS if it in peaks), default=0)
     every = ", ".join(f"{it} {peak:.0f}" for it, peak in sorted(peaks.items()))
-    print(f"{name}: {seconds:.1f} s, {processors:.1f} s of processors, {peaks[largest]:.0f} MiB ({every})", flush=True)
+    print(f"{name}: {seconds:.1f} s, {processors:.1f} s of processors, {largest:.0f} MiB ({every})", flush=True)
 
 
 def linked(folder):

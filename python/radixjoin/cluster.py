@@ -121,7 +121,7 @@ def read_line(words: Sequence[str]) -> argparse.Namespace:
 
 
 def hidden(words: Sequence[str]) -> List[str]:
-    """The words with each text `--` of an option, as in `--null=--`, as argparse doesn't leave it out."""
+    """The words with each text `--` of an option, as in `--null=--`, in a form that argparse doesn't leave out."""
     return [f"{word[:-2]}{DASHES}" if word.startswith("--") and word.partition("=")[2] == "--" else word for word in words]
 
 
