@@ -1,4 +1,4 @@
--- Names by their form in lower case.
+-- Names by their form in lower case. The program's own: no public contract speaks of it.
 use Rattle.std.specs.Prelude.{◌≡◌, List, All, String, string_bytes}
 use Rattle.std.specs.Str.{str_to_ascii_lowercase}
 

@@ -1,4 +1,4 @@
--- Values and the marks of nulls, which reach no further than the last null.
+-- Values and the marks of nulls, which reach no further than the last null. The program's own: no public contract speaks of it.
 use Rattle.std.specs.Prelude.{ℕ, ◌-◌, List, [], ◌∷◌, ◌++◌, length, replicate, Option, None, Some, Bool, true, false, if◌then◌else◌}
 
 -- the value, or nothing where it is marked

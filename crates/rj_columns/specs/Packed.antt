@@ -1,4 +1,4 @@
--- Texts that stand one after another in a buffer of bytes, by the places where they end.
+-- Texts that stand one after another in a buffer of bytes, by the places where they end. The program's own: no public contract speaks of it.
 use Rattle.std.specs.Prelude.{ℕ, zero, suc, ◌≡◌, ◌+◌, ◌≤◌, List, [], ◌∷◌, Bool, length, All, slice_range, IsUtf8}
 use Rattle.std.specs.List.{concat}
 use Rattle.rj_columns.specs.declared.ends.Places.{Places}

@@ -1,4 +1,5 @@
 -- Segments, which are tables without names: how their rows make those of a table, and where a row is found.
+-- The program's own: no public contract speaks of it.
 use Rattle.std.specs.Prelude.{ℕ, ◌+◌, ◌≡◌, ◌<◌, ◌≤◌, ◌^◌, List, [], ◌++◌, None, length, take, slice_index_or, All}
 use Rattle.rj_columns.specs.Names.{name_fault}
 use Rattle.rj_columns.specs.Tables.{TableValue, FitsTypes, rows_of_all}

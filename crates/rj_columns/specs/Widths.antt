@@ -1,4 +1,4 @@
--- Whole numbers, whatever the width in which they are kept.
+-- Whole numbers, whatever the width in which they are kept. The program's own: no public contract speaks of it.
 use Rattle.std.specs.Prelude.{List, ℤ}
 use Rattle.rj_columns.specs.declared.numbers.NumberSlice.{NumberSlice}
 use Rattle.rj_columns.specs.declared.numbers.NumberSlice.TheVariants as lent

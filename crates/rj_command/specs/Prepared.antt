@@ -1,4 +1,4 @@
--- What is made of two tables before what is chosen of their joined table is written.
+-- What is made of two tables before what is chosen of their joined table is written. The program's own: no public contract speaks of it.
 use Rattle.std.specs.Prelude.{◌≡◌, ℕ, List, map, string_bytes}
 use Rattle.rj_columns.specs.Contents.{Content}
 use Rattle.rj_engine.specs.Chosen.{chosen_view}

@@ -1,4 +1,4 @@
--- The texts of the rows of a joined table, run by run.
+-- The texts of the rows of a joined table, run by run. The program's own: no public contract speaks of it.
 use Rattle.std.specs.Prelude.{◌≡◌, ◌<◌, ◌==◌, ℕ, Bool, List, [], All, filter, length, map, slice_index_or}
 use Rattle.std.specs.List.{concat}
 use Rattle.std.specs.declared.alloc.Global.{Global}

@@ -1,4 +1,4 @@
--- The reader's functions, on lists of tokens.
+-- The reader's functions, on lists of tokens. The program's own: of public contracts that of `first_mismatch` alone speaks of `predicate_at`.
 use Rattle.std.specs.Prelude.{◌≡◌, ℕ, zero, suc, List, [], ◌∷◌, ◌++◌, length, Option, Some, None, Result, Ok, Err, Bool, true, false, if◌then◌else◌}
 use Rattle.std.specs.Borrow.{Bor}
 use Rattle.std.specs.Str.{bytes_eq}

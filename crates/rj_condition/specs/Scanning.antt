@@ -1,4 +1,4 @@
--- What the functions of the lexer find, on lists of bytes.
+-- What the functions of the lexer find, on lists of bytes. The program's own, but for `quoted`.
 use Rattle.std.specs.Prelude.{ℕ, ℤ, pos, negsuc, ◌^◌, ◌==◌, ◌||◌, ◌+◌, ◌&&◌, not, Bool, nat_lt, List, [], ◌∷◌, ◌++◌, Option, Some, None, take, drop, length, if◌then◌else◌, true, false}
 use Rattle.std.specs.Char.{is_ascii_alphabetic, is_ascii_digit}
 use Rattle.std.specs.List.{prefix_len, find}

@@ -1,4 +1,4 @@
--- Rows in parts that follow each other, and the texts of the parts.
+-- Rows in parts that follow each other, and the texts of the parts. The program's own: no public contract speaks of it.
 use Rattle.std.specs.Prelude.{ℕ, ◌≡◌, ◌<◌, ◌+◌, ◌*◌, ◌/◌, ◌%◌, min, map, List, length, slice_index_or, Result, Ok, Err}
 use Rattle.std.specs.List.{concat}
 use Rattle.std.specs.declared.alloc.Global.{Global}

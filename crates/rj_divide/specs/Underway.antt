@@ -1,4 +1,4 @@
--- A division that is underway.
+-- A division that is underway. The program's own: no public contract speaks of it.
 use Rattle.std.specs.Prelude.{ℕ, ◌+◌, ◌≡◌, ◌≤◌, Bool, true, false, List, ◌++◌, length, drop, Option, Some}
 use Rattle.rj_columns.specs.declared.cell.ColumnType.{ColumnType}
 use Rattle.rj_columns.specs.Contents.{Content}

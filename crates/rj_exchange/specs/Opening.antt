@@ -1,4 +1,4 @@
--- What stands while an exchange is made.
+-- What stands while an exchange is made. The program's own: no public contract speaks of it.
 use Rattle.std.specs.Prelude.{◌≡◌, ℕ, ◌<◌, ◌+◌, ◌*◌, List, [], length, slice_index_or}
 use Rattle.crossbeam_queue.specs.Passes.{view, IsPassOf}
 use Rattle.rj_exchange.specs.declared.queue.Where.{Where}

@@ -1,4 +1,4 @@
--- How the check goes over a text, byte by byte.
+-- How the check goes over a text, byte by byte. The program's own: no public contract speaks of it.
 use Rattle.std.specs.Prelude.{ℕ, ◌+◌, ◌==◌, nat_lt, if◌then◌else◌, Bool, false, List, [], ◌∷◌, Result, Ok, Err}
 use Rattle.rj_strict.specs.Grammar.{comma, dquote, cr, lf}
 use Rattle.rj_strict.specs.Faults.{first_row}

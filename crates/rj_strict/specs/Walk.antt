@@ -1,4 +1,4 @@
--- Where a check stands after bytes that have no fault, and no empty line, whatever the header is.
+-- Where a check stands after bytes that have no fault, and no empty line, whatever the header is. The program's own: no public contract speaks of it.
 use Rattle.std.specs.Prelude.{ℕ, ◌==◌, ◌&&◌, ◌||◌, not, if◌then◌else◌, Bool, true, false, List, [], ◌∷◌, Option, Some, None, option_and_then, IfSome, slice_index_or, ◌<◌, ◌≡◌, length}
 use Rattle.rj_strict.specs.Grammar.{comma, dquote, cr, lf}
 use Rattle.rj_strict.specs.declared.standing.Place.{Place}

@@ -1,4 +1,4 @@
--- What the functions that read a label find, on lists of bytes.
+-- What the functions that read a label find, on lists of bytes. The program's own: no public contract speaks of it.
 use Rattle.std.specs.Prelude.{◌==◌, ℕ, Bool, true, false, if◌then◌else◌, nat_lt, length, take, drop, Option, Some, None, List, [], ◌∷◌}
 use Rattle.std.specs.List.{prefix_len}
 use Rattle.rj_condition.specs.Scanning.{quoted}

@@ -1,4 +1,4 @@
--- What scanners know, and what they hand back.
+-- What scanners know, and what they hand back. The program's own: no public contract speaks of it.
 use Rattle.std.specs.Prelude.{◌≡◌, ℕ, ◌+◌, ◌<◌, List, [], ◌⊎◌, length, slice_index_or}
 use Rattle.rj_exchange.specs.declared.boxes.Exchange.{Exchange}
 use Rattle.rj_exchange.specs.declared.boxes.Outbox.{Outbox}

@@ -1,4 +1,4 @@
--- What takers know, and what they hand back.
+-- What takers know, and what they hand back. The program's own: no public contract speaks of it.
 use Rattle.std.specs.Prelude.{◌≡◌, ℕ, ◌+◌, Bool, true, false, List, [], ◌⊎◌, Option, Some, IfSome, slice_get, length, All}
 use Rattle.rj_ledger.specs.Ledgers.{LedgerValue, IsComplete}
 use Rattle.rj_exchange.specs.declared.boxes.Exchange.{Exchange}

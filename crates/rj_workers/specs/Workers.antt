@@ -1,4 +1,4 @@
--- What the workers of a run start with, and what they hand back.
+-- What the workers of a run start with, and what they hand back. The program's own: no public contract speaks of it.
 use Rattle.std.specs.Prelude.{◌≡◌, ℕ, ◌+◌, length, All}
 use Rattle.rj_exchange.specs.declared.boxes.Exchange.{Exchange}
 use Rattle.rj_exchange.specs.declared.halt.Halt.{Halt}
