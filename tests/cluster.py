@@ -163,9 +163,8 @@ def run_with_fault(cluster, folder, words, row, tally):
 
 
 def run_all(tally):
-    python = harness.python_with("distributed")
+    python = harness.python_with_dask("cluster")
     if python is None:
-        print("cluster: left out, since there is no Dask (Debian's python3-dask and python3-distributed)")
         return
     with harness.folder() as programs:
         cluster = Cluster(python, programs)

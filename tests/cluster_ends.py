@@ -230,9 +230,8 @@ def run_full_in_cluster(on, folder, words, size, tally):
 
 
 def run_all(tally):
-    python = harness.python_with("distributed")
+    python = harness.python_with_dask("cluster_ends")
     if python is None:
-        print("cluster_ends: left out, since there is no Dask (Debian's python3-dask and python3-distributed)")
         return
     with harness.folder() as programs:
         on = cluster.Cluster(python, programs)

@@ -152,22 +152,9 @@ def run_by(tally):
 
 
 def run_all(tally):
-    python = harness.python_with("distributed", "tomllib")
-    if python is None:
-        print("cluster_killed: left out, since there is no Dask (Debian's python3-dask and python3-distributed)")
-        return
-    harness.run_script(tally, python, [__file__, "here"], SECONDS)
-
-
-def main(words):
-    tally = harness.Tally()
-    if words == ["here"]:
-        run_by(tally)
-    else:
-        run_all(tally)
-    print(f"{tally.passed} passed, {tally.failed} failed")
-    return 1 if tally.failed else 0
+    if python := harness.python_with_dask("cluster_killed", "tomllib"):
+        harness.run_script(tally, python, [__file__, "here"], SECONDS)
 
 
 if __name__ == "__main__":
-    sys.exit(main(sys.argv[1:]))
+    sys.exit(harness.end_of_script(sys.argv[1:], run_by, run_all))

@@ -89,9 +89,8 @@ def run_none_left(python, is_first, more, tally):
 
 
 def run_all(tally):
-    python = harness.python_with("distributed")
+    python = harness.python_with_dask("cluster_lost")
     if python is None:
-        print("cluster_lost: left out, since there is no Dask (Debian's python3-dask and python3-distributed)")
         return
     tasks = [lambda own, name=name: run_three_times(python, name, own) for name in cluster_ends.STEPS]
     tasks += [lambda own: run_each_time(python, own)]

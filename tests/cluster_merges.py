@@ -114,9 +114,8 @@ def run_all(tally):
     run_numbers(tally)
     run_ways(tally)
     run_many(tally)
-    python = harness.python_with("distributed")
+    python = harness.python_with_dask("cluster_merges: by processes")
     if python is None:
-        print("cluster_merges: by processes left out, since there is no Dask (Debian's python3-dask and python3-distributed)")
         return
     with harness.folder() as programs:
         on = cluster.Cluster(python, programs)

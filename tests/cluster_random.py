@@ -80,11 +80,8 @@ def run_random(client, seeds, tally):
 
 
 def run_all(tally):
-    python = harness.python_with("distributed", "tomllib")
-    if python is None:
-        print("cluster_random: left out, since there is no Dask (Debian's python3-dask and python3-distributed)")
-        return
-    harness.run_script(tally, python, [__file__], SECONDS)
+    if python := harness.python_with_dask("cluster_random", "tomllib"):
+        harness.run_script(tally, python, [__file__], SECONDS)
 
 
 def main(words):

@@ -126,6 +126,14 @@ def python_with(*modules):
     return None
 
 
+def python_with_dask(name, *modules):
+    """A Python that has Dask and some more modules. Where there is none it tells whose tests are left out, and gives None."""
+    python = python_with("distributed", *modules)
+    if python is None:
+        print(f"{name}: left out, since there is no Dask (Debian's python3-dask and python3-distributed)")
+    return python
+
+
 def run_script(tally, python, words, seconds):
     """Runs a script of tests, whose last line is 'N passed, M failed', by another Python. It counts what that counts."""
     name, ran = pathlib.Path(words[0]).stem, run([python, *words], ROOT, seconds=seconds)
@@ -137,3 +145,11 @@ def run_script(tally, python, words, seconds):
         tally.failed += int(counts[2])
     if not counts or ran.status != (counts[2] != "0"):
         tally.check(name, [f"status {ran.status}", last, *ran.stderr.decode(errors="replace").splitlines()[-20:]])
+
+
+def end_of_script(words, run_here, run_all):
+    """Runs a script of tests, by this Python where its word is `here`, and gives its exit status. Its last line is 'N passed, M failed'."""
+    tally = Tally()
+    (run_here if words == ["here"] else run_all)(tally)
+    print(f"{tally.passed} passed, {tally.failed} failed")
+    return 1 if tally.failed else 0
