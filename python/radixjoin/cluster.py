@@ -25,6 +25,7 @@ import stat
 import subprocess
 import sys
 import tempfile
+import warnings
 from pathlib import Path
 from typing import TYPE_CHECKING, Any, Dict, Iterator, List, Optional, Sequence, Tuple, Union
 
@@ -718,6 +719,8 @@ def _types(side: str, types: Types) -> str:
 def ended_by(number: int, _: Any) -> None:
     """Ends the script where a signal asks for it: what is half made is removed, and goes on being so where it asks again."""
     signal.signal(number, signal.SIG_IGN)
+    # (Dask's own timers may end before they began, of which Python would tell a line on standard error)
+    warnings.filterwarnings("ignore", "coroutine .* was never awaited", RuntimeWarning)
     sys.exit(128 + number)
 
 
