@@ -507,3 +507,71 @@ fn steps_come_in_order(rt: HostRuntime) -> Result<(), Fail> {
     assert_eq!(rt; steps_of(&rt, rt.alloc(), &unbound)?, [1, 2, 0, 0, 0]);
     Ok(())
 }
+
+// Rows that fill two segments of a table, of 65,536 rows each, and a part of a third one.
+const ROWS: u64 = 140_000;
+
+// The number of a row, which takes more than 4 bytes from a row in the second segment on.
+fn number_of(row: u64) -> u64 {
+    if row < 100_000 {
+        row
+    } else {
+        row.saturating_add(1 << 40)
+    }
+}
+
+// The left table. Each fifth row has no number.
+fn left_rows(alloc: Global) -> Result<Vec<u8>, AllocError> {
+    let mut text = Vec::new(alloc);
+    text.extend_from_slice(b"k,v\n")?;
+    for row in 0..ROWS {
+        let line = if row % 5 == 0 {
+            format!(in alloc; ",l{row}\n")?
+        } else {
+            format!(in alloc; "{},l{row}\n", number_of(row))?
+        };
+        text.extend_from_slice(line.as_bytes())?;
+    }
+    Ok(text)
+}
+
+fn right_rows(alloc: Global) -> Result<Vec<u8>, AllocError> {
+    let mut text = Vec::new(alloc);
+    text.extend_from_slice(b"k,w\n")?;
+    for row in 0..ROWS {
+        let line = format!(in alloc; "{},r{row}\n", number_of(row))?;
+        text.extend_from_slice(line.as_bytes())?;
+    }
+    Ok(text)
+}
+
+// The pairs of their LEFT JOIN, and then the left rows without a number.
+fn left_joined_rows(alloc: Global) -> Result<Vec<u8>, AllocError> {
+    let mut pairs = Vec::new(alloc);
+    let mut lone = Vec::new(alloc);
+    pairs.extend_from_slice(b"k,v,w\n")?;
+    for row in 0..ROWS {
+        if row % 5 == 0 {
+            let line = format!(in alloc; ",l{row},\n")?;
+            lone.extend_from_slice(line.as_bytes())?;
+        } else {
+            let line = format!(in alloc; "{},l{row},r{row}\n", number_of(row))?;
+            pairs.extend_from_slice(line.as_bytes())?;
+        }
+    }
+    pairs.append(&mut lone)?;
+    Ok(pairs)
+}
+
+#[test]
+fn tables_of_three_segments(rt: HostRuntime) -> Result<(), Fail> {
+    let alloc = rt.alloc();
+    let left = left_rows(alloc)?;
+    let right = right_rows(alloc)?;
+    let mut asked = ask("LEFT JOIN USING (k)");
+    asked.left = left.as_slice();
+    asked.right = right.as_slice();
+    let wanted = left_joined_rows(alloc)?;
+    assert!(rt; writes(&rt, alloc, asked, wanted.as_slice())?);
+    Ok(())
+}
