@@ -1,6 +1,6 @@
 -- How a place in a text moves on over a record.
-use Rattle.std.proofs.Common.{◌≡◌, ◌<◌, ◌≤◌, ◌+◌, ◌⊎◌, ℕ, zero, suc, List, [], ◌∷◌, ◌++◌, length, take, drop, get_or, slice_get, map, Bor, ◌-◌, true, false, Bool, Some, None, Option, refl, sym, ap, subst, arith, inl, inr, ◌∙◌, add-one, append_assoc}
-use Rattle.std.specs.Prelude.{if◌then◌else◌, ◌==◌, ◌||◌}
+use Rattle.std.proofs.Common.{◌≡◌, ◌<◌, ◌≤◌, ◌+◌, ℕ, zero, suc, List, [], ◌∷◌, ◌++◌, length, take, drop, get_or, slice_get, map, Bor, ◌-◌, true, false, Bool, Some, None, Option, refl, sym, ap, subst, arith, inl, inr, ◌∙◌, add-one}
+use Rattle.std.specs.Prelude.{if◌then◌else◌, ◌==◌}
 use Rattle.std.proofs.lemmas.Bool.{cases_Bool, eqb-true, false≢true}
 use Rattle.std.proofs.lemmas.List.{length-append, length-drop, take_all}
 use Rattle.std.proofs.Math.Seq.{drop-cons}
@@ -8,8 +8,8 @@ use Rattle.csv.specs.declared.parser.Terminator.TheVariants as term
 use Rattle.csv.specs.declared.parser.State.{State}
 use Rattle.csv.specs.declared.parser.State.TheVariants as st
 use Rattle.csv.specs.declared.parser.Action.{Action}
-use Rattle.csv.specs.Machine.{Read, next_record, step, in_field, start_field, start_record, ends_with, ends_at_end, after_end, is_end, fields_after, field_after}
-use Rattle.csv.specs.Reading.{AreRecords, Reached, records, records_from, records_next, default_config}
+use Rattle.csv.specs.Machine.{Read, next_record, step, in_field, start_field, start_record, ends_with, ends_at_end, is_end, fields_after, field_after}
+use Rattle.csv.specs.Reading.{Reached, records, records_from, records_next, default_config}
 use Rattle.rj_explain.specs.Places.{EndsFirst, HasNoRow, IsBetween, IsRow, StandsAt, at_column, first_byte, line_of}
 
 -- a reader behind a CR reads on as one before a record

@@ -2,11 +2,11 @@
 
 use crate::inputs::Inputs;
 use crate::shown::Shown;
-use rj_condition::{ParseRefused, parse};
+use rj_condition::{ParseRefused, parse, quoted};
 use std::alloc::{AllocError, Global};
 
 // What may stand in a clause, and what it is called.
-const WORDS: [(&str, &str); 25] = [
+const WORDS: [(&str, &str); 26] = [
     ("a", "a column"),
     ("1", "a literal"),
     ("=", "a comparison"),
@@ -31,6 +31,7 @@ const WORDS: [(&str, &str); 25] = [
     ("BETWEEN", "BETWEEN"),
     ("NULL", "NULL"),
     ("TRUE", "TRUE"),
+    ("FALSE", "FALSE"),
     ("UNKNOWN", "UNKNOWN"),
 ];
 
@@ -69,17 +70,46 @@ fn is_name_byte(byte: u8) -> bool {
     byte.is_ascii_alphanumeric() || byte == b'_'
 }
 
-// How many bytes the token takes that a text begins with.
-fn token_len(text: &str) -> usize {
-    let word = text
-        .as_bytes()
-        .iter()
-        .take_while(|b| is_name_byte(**b))
-        .count();
-    match text.chars().next() {
-        Some(first) if word == 0 => first.len_utf8(),
-        _ => word,
+// How many bytes of a word the text begins with.
+fn word_len(text: &[u8]) -> usize {
+    text.iter().take_while(|b| is_name_byte(**b)).count()
+}
+
+// How many bytes of a number without its sign the text begins with, letters that run into it among them.
+fn number_len(text: &[u8]) -> usize {
+    let whole = word_len(text);
+    match text.get(whole..) {
+        Some([b'.', rest @ ..]) if rest.first().is_some_and(u8::is_ascii_digit) => {
+            whole + 1 + word_len(rest)
+        }
+        _ => whole,
     }
+}
+
+// How many bytes of a text stand before its rest.
+fn before(text: &str, rest: &str) -> usize {
+    text.len().saturating_sub(rest.len())
+}
+
+// How many bytes the token takes that a text begins with, where it isn't one byte or a character that no token begins with.
+fn long_token_len(alloc: Global, text: &str) -> Result<usize, AllocError> {
+    Ok(match text.as_bytes() {
+        [b'<', b'>' | b'=', ..] | [b'>', b'=', ..] => 2,
+        [b'+' | b'-', rest @ ..] if rest.first().is_some_and(u8::is_ascii_digit) => {
+            1 + number_len(rest)
+        }
+        [b'0'..=b'9', ..] => number_len(text.as_bytes()),
+        [quote @ (b'"' | b'\''), ..] => {
+            quoted(alloc, *quote, &text[1..])?.map_or(0, |(_, rest)| before(text, rest))
+        }
+        _ => word_len(text.as_bytes()),
+    })
+}
+
+// How many bytes the token takes that a text begins with; of what is no token its first character.
+fn token_len(alloc: Global, text: &str) -> Result<usize, AllocError> {
+    let first = text.chars().next().map_or(0, char::len_utf8);
+    Ok(first.max(long_token_len(alloc, text)?))
 }
 
 // The part of a clause round a byte, and under it a mark at that byte.
@@ -119,7 +149,7 @@ pub(crate) fn syntax_lines(
     if behind.is_empty() {
         return format!(in alloc; "  found the end, wanted {wanted}\n{marked}");
     }
-    let Some((token, _)) = behind.split_at_checked(token_len(behind)) else {
+    let Some((token, _)) = behind.split_at_checked(token_len(alloc, behind)?) else {
         return Ok(marked);
     };
     let found = Shown {

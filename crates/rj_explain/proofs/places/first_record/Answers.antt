@@ -1,10 +1,10 @@
-use Rattle.std.proofs.Common.{◌≡◌, ◌<◌, ◌++◌, ◌∷◌, ◌+◌, [], List, ℕ, Some, inl, length, drop, get_or, refl, sym, ap, ◌∙◌, arith, subst}
+use Rattle.std.proofs.Common.{◌≡◌, ◌<◌, ◌++◌, ◌∷◌, ◌+◌, [], List, ℕ, Some, inl, length, drop, get_or, refl, sym, ap, ◌∙◌, arith}
 use Rattle.std.proofs.Math.Seq.{drop-length}
 use Rattle.csv.specs.Machine.{fields_after, field_after, next_record, step}
 use Rattle.csv.specs.Reading.{default_config}
 use Rattle.csv.specs.declared.parser.State.{State}
 use Rattle.csv.specs.declared.parser.State.TheVariants as st
-use Rattle.rj_explain.specs.Places.{EndsFirst, state_of}
+use Rattle.rj_explain.specs.Places.{state_of}
 use Rattle.rj_explain.proofs.PlaceFacts.{end-between, ends-last, ends-none, reads-end, reads-on}
 use Rattle.rj_explain.proofs.places.first_record.Goals as goal
 

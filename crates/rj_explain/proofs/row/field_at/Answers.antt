@@ -1,4 +1,4 @@
-use Rattle.std.proofs.Common.{arith, sym, ◌∙◌}
+use Rattle.std.proofs.Common.{arith}
 use Rattle.rj_explain.proofs.PlaceFacts.{at-column}
 use Rattle.rj_explain.proofs.row.field_at.Goals as goal
 

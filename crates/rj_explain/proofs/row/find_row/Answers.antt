@@ -1,4 +1,4 @@
-use Rattle.std.proofs.Common.{◌≡◌, List, ℕ, arith}
+use Rattle.std.proofs.Common.{arith}
 use Rattle.rj_explain.proofs.PlaceFacts.{no-row, records-none, rest-drop, row-is}
 use Rattle.rj_explain.proofs.row.find_row.Goals as goal
 
