@@ -47,7 +47,7 @@ fn written_null<'a>(nulls: &[&'a str]) -> &'a str
 }
 
 // A fault of a piece that has so many rows before it.
-fn behind(before: u64, fault: ReadRefused) -> DivideRefused
+fn fault_behind(before: u64, fault: ReadRefused) -> DivideRefused
     requires { before ≤ 2 ^ 61 }
     ensures fault { row_told fault < 2 ^ 63 → result ≡ fault_behind before fault }
     ensures reading { IsReadingFault result }
@@ -112,7 +112,7 @@ pub fn divide_piece<O: Output, R: Route>(
         .read_piece(alloc, text, is_first, division.types, division.nulls)
     {
         Ok(table) => table,
-        Err(e) => return Err(behind(before, e)),
+        Err(e) => return Err(fault_behind(before, e)),
     };
     let rows = table.rows();
     let first = division.first + before;

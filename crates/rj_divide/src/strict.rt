@@ -28,7 +28,7 @@ use rj_strict::{
 use std::alloc::{AllocError, Global};
 
 // A fault of a block that has so many rows before it.
-fn behind(before: u64, fault: StrictFault) -> StrictFault
+fn strict_behind(before: u64, fault: StrictFault) -> StrictFault
     requires { before + row_at fault < 2 ^ 64 }
     ensures { result ≡ strict_behind before fault }
 {
@@ -148,7 +148,7 @@ pub fn divide_block<W: Route, O: Output>(
         Err(fault) => {
             let above = above_fault(text, header, fault);
             match divide_derived(alloc, division, above, before, outputs) {
-                Ok(_) => Err(BlockRefused::Broken(behind(before, fault))),
+                Ok(_) => Err(BlockRefused::Broken(strict_behind(before, fault))),
                 Err(earlier) => Err(BlockRefused::Divided(earlier)),
             }
         }
