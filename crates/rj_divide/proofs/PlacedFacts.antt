@@ -1,6 +1,6 @@
 -- Rows with their places, cell by cell.
 use Rattle.std.proofs.Common.{◌≡◌, ℕ, zero, suc, ◌+◌, ◌<◌, ◌≤◌, List, [], ◌∷◌, ◌++◌, All, refl, ap, sym, ◌∙◌, arith, pos, length, length-append, map, take, drop, get_or}
-use Rattle.std.proofs.lemmas.List.{get_or-drop, get_or-map, get_or-append-add, length-drop, length-map, map_more}
+use Rattle.std.proofs.lemmas.List.{get_or-drop, get_or-map, length-drop, length-map, map_more}
 use Rattle.rj_columns.specs.Contents.{Content, nothing, whole}
 use Rattle.rj_columns.specs.Tables.{cell_in, part_of}
 use Rattle.rj_divide.specs.Placed.{placed_cell_of, rows_at, with_place}

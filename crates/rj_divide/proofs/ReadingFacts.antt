@@ -1,6 +1,6 @@
 -- What records read as, whatever number their rows have.
 use Rattle.std.proofs.Common.{◌≡◌, ◌≢◌, ◌<◌, ◌≤◌, ◌+◌, ◌-◌, ◌^◌, ◌⊎◌, inl, inr, ℕ, List, [], ◌∷◌, ◌++◌, length, suc, true, false, Bool, Option, Some, None, Result, Ok, Err, refl, sym, ap, ◌∙◌, subst, arith, append_assoc, lit<}
-use Rattle.std.specs.Prelude.{if◌then◌else◌, nat_lt, ◌==◌}
+use Rattle.std.specs.Prelude.{if◌then◌else◌, ◌==◌}
 use Rattle.std.proofs.lemmas.Bool.{cases_lt, le-leb, lt-leb}
 use Rattle.std.proofs.lemmas.List.{append-nil, length-append}
 use Rattle.rj_columns.specs.declared.cell.ColumnType.{ColumnType}
@@ -8,7 +8,7 @@ use Rattle.rj_columns.specs.declared.cell.ColumnType.TheVariants as kind
 use Rattle.rj_columns.specs.declared.refused.BuildRefused.{BuildRefused}
 use Rattle.rj_columns.specs.declared.refused.BuildRefused.TheVariants as build
 use Rattle.rj_columns.specs.Contents.{Content}
-use Rattle.rj_columns.specs.Names.{begun, name_fault}
+use Rattle.rj_columns.specs.Names.{begun}
 use Rattle.rj_columns.specs.Tables.{TableValue}
 use Rattle.rj_csv_io.specs.declared.refused.ReadRefused.{ReadRefused}
 use Rattle.rj_csv_io.specs.declared.refused.ReadRefused.TheVariants as read
@@ -20,6 +20,7 @@ use Rattle.rj_csv_io.proofs.RowsFacts.{rows-end, rows-fault, rows-step}
 use Rattle.rj_csv_io.proofs.TableFacts.{header_fault, rows_fault}
 use Rattle.rj_divide.specs.declared.refused.DivideRefused.{DivideRefused}
 use Rattle.rj_divide.specs.declared.refused.DivideRefused.TheVariants as refused
+use Rattle.rj_divide.specs.Divisions.{Dividing}
 use Rattle.rj_divide.specs.Readings.{IsFaultBehind, IsFirstFault, IsHeaderRefusal, IsInputFault, fault_behind, numbered_row, row_told}
 
 abbrev Row : Type 0
@@ -268,45 +269,6 @@ module _ (nulls : List (List ℕ)) where
         let Q : List (List Content) → Type 0 = AreRows nulls types xs in
         subst Q (sym got.all) got.read
 
-    -- the first fault of a piece, behind so many rows
-    fault-of : (before : ℕ) (xs : List (List (List ℕ))) (e : ReadRefused) (r : DivideRefused) (names : List (List ℕ)) (outputs : ℕ) → (row_told e < 2 ^ 63 → r ≡ fault_behind before e)
-        → Outcome [] xs (Err e) → IsFaultBehind nulls types before outputs xs r
-    fault-of before xs e r names outputs is h = elim h [
-      | inl many ↦ (
-          let small : row_told e < 2 ^ 63 = rw many.0 (lit< tt) in
-          let same : r ≡ refused.TooLong = is small ∙ ap (fault_behind before) many.0 in
-          let P : DivideRefused → Type 0 = IsFaultBehind nulls types before outputs xs in
-          subst P (sym same) (inl (omega (arith, many.1))))
-      | inr fault ↦ (
-          let x = fault.first in
-          let told = fault-tells (0 + length x.good + 1) x.bad e x.is in
-          let same : r ≡ refused.Read (later before e) = is (omega (arith, fault.low)) ∙ tells-behind before (0 + length x.good + 1) e told in
-          let n : before + (0 + length x.good + 1) ≡ before + length x.good + 1 = omega arith in
-          let P : DivideRefused → Type 0 = IsFaultBehind nulls types before outputs xs in
-          subst P (sym same) (record {
-            good = x.good;
-            rows = x.rows;
-            bad = x.bad;
-            rest = x.rest;
-            order = x.order;
-            read = x.read;
-            is = ap (λ k. numbered_row nulls types k x.bad) (sym n) ∙ fault-later before (0 + length x.good + 1) x.bad e x.is;
-          }))
-    ]
-
-    pub piece-fault : (before : ℕ) (xs : List (List (List ℕ))) (e : ReadRefused) (r : DivideRefused) (names : List (List ℕ)) (outputs : ℕ) → (row_told e < 2 ^ 63 → r ≡ fault_behind before e)
-        → (e ≢ read.Memory → read_records nulls types (names ∷ xs) ≡ Err e) → (t : TableValue) → begun names types ≡ Ok t → IsFaultBehind nulls types before outputs xs r
-    piece-fault before xs e r names outputs is reading t b = elim (memory-or e) [
-      | inl memory ↦ (
-          let small : row_told e < 2 ^ 63 = rw memory (lit< tt) in
-          let same : r ≡ refused.Memory = is small ∙ ap (fault_behind before) memory in
-          let P : DivideRefused → Type 0 = IsFaultBehind nulls types before outputs xs in
-          subst P (sym same) tt)
-      | inr other ↦ (
-          let P : Result (List (List Content)) ReadRefused → Type 0 = Outcome [] xs in
-          fault-of before xs e r names outputs is (subst P (rows_fault nulls types names xs t e b (reading other)) (outcome xs [])))
-    ]
-
     pub rows-append : (xs ys : List (List (List ℕ))) (rows more : List (List Content)) → AreRows nulls types xs rows → AreRows nulls types ys more → AreRows nulls types (xs ++ ys) (rows ++ more)
     rows-append [] ys [] more a b = b
     rows-append [] ys (r ∷ rows) more a b = absurd a
@@ -334,3 +296,43 @@ module _ (nulls : List (List ℕ)) where
           read = rows-append xs x.good rows x.rows a x.read;
           is = ap (λ j. numbered_row nulls types j x.bad) k ∙ x.is;
         }
+
+module _ (d : Dividing) where
+  -- the first fault of a piece, behind so many rows
+  fault-of : (before : ℕ) (xs : List (List (List ℕ))) (e : ReadRefused) (r : DivideRefused) (names : List (List ℕ)) (outputs : ℕ) → (row_told e < 2 ^ 63 → r ≡ fault_behind before e)
+      → Outcome d.nulls d.types [] xs (Err e) → IsFaultBehind d before outputs xs r
+  fault-of before xs e r names outputs is h = elim h [
+    | inl many ↦ (
+        let small : row_told e < 2 ^ 63 = rw many.0 (lit< tt) in
+        let same : r ≡ refused.TooLong = is small ∙ ap (fault_behind before) many.0 in
+        let P : DivideRefused → Type 0 = IsFaultBehind d before outputs xs in
+        subst P (sym same) (inl (omega (arith, many.1))))
+    | inr fault ↦ (
+        let x = fault.first in
+        let told = fault-tells d.nulls d.types (0 + length x.good + 1) x.bad e x.is in
+        let same : r ≡ refused.Read (later before e) = is (omega (arith, fault.low)) ∙ tells-behind before (0 + length x.good + 1) e told in
+        let n : before + (0 + length x.good + 1) ≡ before + length x.good + 1 = omega arith in
+        let P : DivideRefused → Type 0 = IsFaultBehind d before outputs xs in
+        subst P (sym same) (record {
+          good = x.good;
+          rows = x.rows;
+          bad = x.bad;
+          rest = x.rest;
+          order = x.order;
+          read = x.read;
+          is = ap (λ k. numbered_row d.nulls d.types k x.bad) (sym n) ∙ fault-later d.nulls d.types before (0 + length x.good + 1) x.bad e x.is;
+        }))
+  ]
+
+  pub piece-fault : (before : ℕ) (xs : List (List (List ℕ))) (e : ReadRefused) (r : DivideRefused) (names : List (List ℕ)) (outputs : ℕ) → (row_told e < 2 ^ 63 → r ≡ fault_behind before e)
+      → (e ≢ read.Memory → read_records d.nulls d.types (names ∷ xs) ≡ Err e) → (t : TableValue) → begun names d.types ≡ Ok t → IsFaultBehind d before outputs xs r
+  piece-fault before xs e r names outputs is reading t b = elim (memory-or e) [
+    | inl memory ↦ (
+        let small : row_told e < 2 ^ 63 = rw memory (lit< tt) in
+        let same : r ≡ refused.Memory = is small ∙ ap (fault_behind before) memory in
+        let P : DivideRefused → Type 0 = IsFaultBehind d before outputs xs in
+        subst P (sym same) tt)
+    | inr other ↦ (
+        let P : Result (List (List Content)) ReadRefused → Type 0 = Outcome d.nulls d.types [] xs in
+        fault-of before xs e r names outputs is (subst P (rows_fault d.nulls d.types names xs t e b (reading other)) (outcome d.nulls d.types xs [])))
+  ]

@@ -5,7 +5,7 @@ ghost use Rattle.csv.specs.Writing.{default_writer, row_text};
 ghost use Rattle.rj_columns.specs.Names.{begun};
 ghost use Rattle.rj_columns.specs.Tables.{TableValue};
 ghost use Rattle.rj_columns.specs.declared.refused.BuildRefused.{BuildRefused};
-ghost use Rattle.rj_csv_io.specs.Tables.{is_null_text, of_begun};
+ghost use Rattle.rj_csv_io.specs.Tables.{of_begun};
 ghost use Rattle.rj_divide.specs.Divisions.{counts_after};
 ghost use Rattle.rj_divide.specs.Headers.{HaveText, IsHeaderFault, header_text, names_with, types_with};
 

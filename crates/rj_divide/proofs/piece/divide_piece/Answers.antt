@@ -4,6 +4,7 @@ use Rattle.rj_divide.proofs.DivisionFacts.{reading-counts}
 use Rattle.rj_divide.proofs.PutFacts.{all-may-fail}
 use Rattle.rj_divide.proofs.ReadingFacts.{piece-fault, read-rows, refusal-of}
 use Rattle.rj_csv_io.specs.Typed.{null_texts}
+use Rattle.rj_divide.specs.Divisions.{dividing}
 use Rattle.rj_divide.proofs.piece.divide_piece.Goals as goal
 
 pub returns-then-before-gt-MOST_ROWS-clause-fault : goal.returns-then-before-gt-MOST_ROWS-clause-fault
@@ -15,7 +16,7 @@ returns-in-Err-clause-counts g c = reading-counts ℕ c.fault_behind.result (map
 pub returns-in-Err-clause-fault : goal.returns-in-Err-clause-fault
 returns-in-Err-clause-fault g c =
     let d = c.args.division.now in
-    piece-fault (null_texts d.nulls.now) d.types.now c.args.before (piece_records c.args.is_first c.args.text.now) c.in-Err.e c.fault_behind.result (names_in d.header.now) (length c.args.outputs.now)
+    piece-fault (dividing g.R.Route.part d) c.args.before (piece_records c.args.is_first c.args.text.now) c.in-Err.e c.fault_behind.result (names_in d.header.now) (length c.args.outputs.now)
     c.fault_behind.ensures.fault c.in-Err.ensures
 
 pub divide_table-requires-clause-places : goal.divide_table-requires-clause-places
