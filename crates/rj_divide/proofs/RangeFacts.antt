@@ -1,10 +1,11 @@
 -- Texts that are cut into ranges.
-use Rattle.std.proofs.Common.{inl, inr, subst, ◌≡◌, ◌≢◌, ◌<◌, ◌≤◌, ◌+◌, ◌-◌, ◌^◌, ◌⊎◌, ℕ, zero, suc, List, [], ◌∷◌, ◌++◌, Option, Some, Bool, true, false, All, refl, sym, ap, ◌∙◌, arith, length, take, drop, length-take-le}
+use Rattle.std.proofs.Common.{inl, inr, subst, ◌≡◌, ◌≢◌, ◌<◌, ◌≤◌, ◌+◌, ◌-◌, ◌^◌, ◌⊎◌, ℕ, suc, List, [], ◌∷◌, ◌++◌, Option, Some, Bool, true, false, All, refl, sym, ap, ◌∙◌, arith, length, take, drop, length-take-le}
 use Rattle.std.specs.Prelude.{slice_range}
 use Rattle.std.specs.Io.KnownBytes.{Consumes, IsAtEnd}
 use Rattle.std.proofs.lemmas.Bool.{cases_lt}
 use Rattle.std.proofs.lemmas.List.{append-nil, drop-drop, length-append, take-append-drop}
-use Rattle.std.proofs.Math.Seq.{take-append_seam}
+use Rattle.std.proofs.lemmas.List.Elements.{All-push}
+use Rattle.std.proofs.Math.Seq.{take-add, take-append_seam}
 use Rattle.csv.specs.Reading.{default_config, records}
 use Rattle.csv.specs.declared.parser.State.TheVariants as st
 use Rattle.rj_csv_io.specs.Cuts.{state_after}
@@ -20,11 +21,11 @@ use Rattle.rj_divide.proofs.UnderwayFacts.{records-none}
 
 -- ---- places that rise
 
-pub rise-none : (size : ℕ) → RiseTo size 0 [] 0
+rise-none : (size : ℕ) → RiseTo size 0 [] 0
 unfolding RiseTo
 rise-none size = refl
 
-pub rise-more : (size from : ℕ) (cuts : List ℕ) (last next : ℕ) → RiseTo size from cuts last → last + size ≤ next → RiseTo size from (cuts ++ next ∷ []) next
+rise-more : (size from : ℕ) (cuts : List ℕ) (last next : ℕ) → RiseTo size from cuts last → last + size ≤ next → RiseTo size from (cuts ++ next ∷ []) next
 unfolding RiseTo
 rise-more size from [] last next h far = (omega (arith, h, far), refl)
 rise-more size from (cut ∷ cuts) last next h far = (h.0, rise-more size cut cuts last next h.1 far)
@@ -70,28 +71,11 @@ header-ahead false piece law =
     let size = ap length (law ([] ∷ [])) in let a = length-append piece ([] ∷ []) in let b = ap length (append-nil piece) in
     absurd (omega (arith, size, a, b))
 
-all-more : (P : ℕ → Type 0) (xs : List ℕ) (x : ℕ) → All P xs → P x → All P (xs ++ x ∷ [])
-all-more P [] x all here zero d l = here
-all-more P [] x all here (suc k) d l = absurd (omega (arith, l))
-all-more P (y ∷ xs) x all here zero d l = all zero 0 (omega arith)
-all-more P (y ∷ xs) x all here (suc k) d l = all-more P xs x (λ j e m. all (suc j) e (omega (arith, m))) here k d (omega (arith, l))
-
-abbrev no_bytes : List ℕ
-no_bytes = []
-
-take-none : (n : ℕ) → no_bytes ≡ take n no_bytes
-take-none zero = refl
-take-none (suc n) = refl
-
 -- a range between two places
 between : (text : List ℕ) (from cut : ℕ) → from ≤ cut → take cut text ≡ take from text ++ slice_range text from cut
-between text zero cut h = let e : cut - 0 ≡ cut = omega arith in ap (λ n. take n text) (sym e)
-between [] (suc from) zero h = absurd (omega (arith, h))
-between [] (suc from) (suc cut) h = take-none (suc cut - suc from)
-between (c ∷ text) (suc from) zero h = absurd (omega (arith, h))
-between (c ∷ text) (suc from) (suc cut) h =
-    let e : cut - from ≡ suc cut - suc from = omega arith in
-    ap (λ l. c ∷ l) (between text from cut (omega (arith, h)) ∙ ap (λ n. take from text ++ take n (drop from text)) e)
+between text from cut h =
+    let e : cut ≡ from + (cut - from) = omega (arith, h) in
+    ap (λ n. take n text) e ∙ take-add from (cut - from) text
 
 behind : (text : List ℕ) (from cut : ℕ) → from ≤ cut → drop from text ≡ slice_range text from cut ++ drop cut text
 behind text from cut h =
@@ -270,6 +254,6 @@ module _ (size block : ℕ) (text : List ℕ) where
             → IsCutting size block text tells next (n + 1)
         put cuts last seen far read =
             looked (rw (cuts, last) (rise-more size 0 old.cuts.items old.last next.place u.rise (omega (arith, far, u.behind, place)))) (omega (arith, last))
-            (rw cuts (all-more (IsCutPlace text) old.cuts.items next.place u.cuts (place-on next.place place seen)))
+            (rw cuts (All-push (IsCutPlace text) old.cuts.items next.place u.cuts (place-on next.place place seen)))
             (rw cuts (short-more size block text 0 old.cuts.items old.last next.place u.rise u.short (short-now read end within (inr line) next.place place)))
             (λ at late here. omega (arith, late, last))

@@ -39,7 +39,7 @@ module _ (taken bytes left : List ℕ) (ends : state_after st.StartRecord taken 
   line-out k h e = record { behind = omega (arith, e.behind); feed = byte-is k e.behind h ∙ e.feed; ends = state-is k h ∙ e.ends }
 
 -- a line end among the first bytes
-pub line-front : (bytes next : List ℕ) (k : ℕ) → take (length bytes) next ≡ bytes → k ≤ length bytes → IsLineEnd next k → IsLineEnd bytes k
+line-front : (bytes next : List ℕ) (k : ℕ) → take (length bytes) next ≡ bytes → k ≤ length bytes → IsLineEnd next k → IsLineEnd bytes k
 line-front bytes next k front h e = record {
   behind = e.behind;
   feed = ap (λ l. get_or l (k - 1) 0) (sym front) ∙ (get_or-take (length bytes) next (k - 1) 0 (omega (arith, h, e.behind)) ∙ e.feed);

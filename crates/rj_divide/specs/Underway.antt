@@ -1,11 +1,12 @@
 -- A division that is underway. The program's own: no public contract speaks of it.
-use Rattle.std.specs.Prelude.{ℕ, ◌≡◌, Bool, true, false, List, ◌++◌, length, drop, Option}
+use Rattle.std.specs.Prelude.{ℕ, ◌≡◌, Bool, true, false, List, ◌++◌, length, drop, Option, None}
 use Rattle.rj_csv_io.specs.Pieces.{piece_records}
 use Rattle.rj_divide.specs.declared.strict.Rest as strict
 use Rattle.rj_divide.specs.declared.whole.Rest.{Rest}
+use Rattle.rj_divide.specs.Blocks.{records_in}
 use Rattle.rj_divide.specs.Divisions.{Dividing, IsDivided}
 use Rattle.rj_divide.specs.Taken.{IsTaken}
-use Rattle.rj_strict.specs.Grammar.{Derives, File, records_of}
+use Rattle.rj_strict.specs.Grammar.{Derives, Line}
 use Rattle.rj_strict.specs.declared.header.Header.TheVariants.{Above}
 
 -- the records of rows among these: all but the first one where that is the header
@@ -35,7 +36,7 @@ pub record IsUnderway (d : Dividing) (is_first : Bool) (begin : Beginning) (tell
 -- a range whose first rows are divided: those of the bytes that were taken away, which are lines below the header's names
 pub record IsReadTo (d : Dividing) (begin : Beginning) (tells : Option (List ℕ)) (rest : strict.Rest) (now : List (Option (List ℕ))) (blocks : ℕ) : Type 0 where
   pub front : IsTaken begin.text tells rest.bytes.items blocks
-  pub file : File
-  pub derived : Derives (Above (length d.types)) true front.taken file
-  pub divided : IsDivided d (records_of file) begin.told now rest.rows
+  pub lines : List Line
+  pub derived : Derives (Above (length d.types)) true front.taken (record { lines = lines; rest = None })
+  pub divided : IsDivided d (records_in lines) begin.told now rest.rows
   pub outputs : length now ≡ length begin.told

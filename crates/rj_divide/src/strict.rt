@@ -192,7 +192,6 @@ fn divide_next<I: Input, W: Route, O: Output>(
     ensures refusal { IfErr result (λ e. (b : BuildRefused) → table_begun division.now ≡ Err b → rest.old.rows ≡ 0 → IsBlockRefusal b e) }
     ensures untouched { (b : BuildRefused) → table_begun division.now ≡ Err b → outputs.new ≡ outputs.old }
 {
-    joined_texts();
     reads_records();
     let piece = match next_piece(input, &mut rest.bytes, block) {
         Ok(piece) => piece,

@@ -2,8 +2,9 @@ use Rattle.std.proofs.Common.{rules, ◌≡◌, ◌≤◌, ℕ, arith, inl, inr,
 use Rattle.std.proofs.lemmas.Bool.{cases_Bool}
 use Rattle.std.proofs.lemmas.List.{length-map}
 use Rattle.rj_divide.specs.Divisions.{dividing}
+use Rattle.rj_divide.specs.Readings.{IsHeaderRefusal}
 use Rattle.rj_divide.proofs.DivisionFacts.{piece-reads}
-use Rattle.rj_divide.proofs.ReadingFacts.{refusal-input}
+use Rattle.rj_divide.proofs.ReadingFacts.{input-fault}
 use Rattle.rj_divide.proofs.UnderwayFacts.{fault-in, finish, go-on}
 use Rattle.rj_divide.proofs.whole.divide_next.Goals as goal
 
@@ -40,4 +41,4 @@ returns-in-Err-divide_front-clause-fault g c = λ t is_first begin n b u.
     (c.in-Err-divide_front.ensures.fault t b)
 
 pub returns-in-Err-clause-refusal : goal.returns-in-Err-clause-refusal
-returns-in-Err-clause-refusal g c = λ b begins none. refusal-input b c.in-Err.e c.in-Err.ensures.fault
+returns-in-Err-clause-refusal g c = λ b begins none. input-fault (IsHeaderRefusal b) tt tt c.in-Err.e c.in-Err.ensures.fault
