@@ -43,11 +43,11 @@ pub above-derived : (names : ℕ) (text above : List ℕ) (row : ℕ) (lines : L
     → Derives (Above names) true above (record { lines = lines; rest = None })
 above-derived names text above row lines are is = record { spelled = is ∙ sym (append-nil (lines_text lines)); lines = are.are_lines; rest = refl }
 
+-- each line has a record
+pub lines-many : (lines : List Line) → length (records_in lines) ≡ length lines
+lines-many lines = ap length (append-nil (map (λ (l : Line). values_of l.fields) lines)) ∙ length-map lines (λ (l : Line). values_of l.fields)
+
 -- the row of a fault is the one below the rows above it
 pub row-below : (nulls : List (List ℕ)) (types : List ColumnType) (names : ℕ) (text : List ℕ) (row : ℕ) (lines : List Line) (rows : List (List Content)) (n : ℕ) → AreAbove (Above names) text row lines
     → AreRows nulls types (records_in lines) rows → n ≡ length rows → row ≡ 1 + n
-row-below nulls types names text row lines rows n are read many =
-    let a = rows-many nulls types (records_in lines) rows read in
-    let b = ap length (append-nil (map (λ (l : Line). values_of l.fields) lines)) in
-    let c = length-map lines (λ (l : Line). values_of l.fields) in
-    omega (arith, are.at_row, a, b, c, many)
+row-below nulls types names text row lines rows n are read many = omega (arith, are.at_row, rows-many nulls types (records_in lines) rows read, lines-many lines, many)

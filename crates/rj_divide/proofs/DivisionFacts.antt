@@ -8,13 +8,12 @@ use Rattle.std.proofs.lemmas.List.Concat.{flat_map-cons}
 use Rattle.std.proofs.lemmas.List.Elements.{filter-append}
 use Rattle.std.specs.List.{flat_map}
 use Rattle.csv.specs.Writing.{default_writer, row_text}
-use Rattle.rj_columns.specs.declared.cell.ColumnType.{ColumnType}
 use Rattle.rj_columns.specs.Contents.{Content}
 use Rattle.rj_csv_io.specs.Shown.{rows_text, shown}
-use Rattle.rj_divide.specs.Divisions.{IsDivided, IsPutFault, counts_after, part_text, written_null}
+use Rattle.rj_divide.specs.Divisions.{Dividing, IsDivided, after_rows, counts_after, part_text, written_null}
 use Rattle.rj_divide.specs.declared.refused.DivideRefused.{DivideRefused}
 use Rattle.rj_divide.specs.declared.refused.DivideRefused.TheVariants as refused
-use Rattle.rj_divide.specs.Readings.{IsAfterReading, IsInputFault, IsReadingFault, reads_after}
+use Rattle.rj_divide.specs.Readings.{IsAfterReading, IsReadingFault, reads_after}
 use Rattle.rj_divide.specs.Placed.{part_rows, placed, with_place}
 use Rattle.rj_divide.proofs.ReadingFacts.{rows-append}
 
@@ -57,30 +56,30 @@ module _ (part : List Content → ℕ) (p : ℕ) where
   unfolding rows_text
   part_text-none null first = ap (λ l. rows_text (map (map (shown null)) l)) (part_rows-none first)
 
-module _ (nulls : List (List ℕ)) (types : List ColumnType) (part : List Content → ℕ) (first : ℕ) where
+module _ (d : Dividing) where
   -- nothing is divided yet
-  pub divided-none : (told : List (Option (List ℕ))) → IsDivided nulls types part first [] told told 0
+  pub divided-none : (told : List (Option (List ℕ))) → IsDivided d [] told told 0
   divided-none told = record {
     rows = [];
     read = tt;
     many = refl;
-    parts = λ p low. rw (part_text-none part p (written_null nulls) first) (Appends-nil (get_or told p None));
+    parts = λ p low. rw (part_text-none d.part p (written_null d.nulls) d.first) (Appends-nil (get_or told p None));
   }
 
   -- records behind others that were divided
   pub divided-more : (xs ys : List (List (List ℕ))) (before between after : List (Option (List ℕ))) (m n : ℕ) → length between ≡ length before
-      → IsDivided nulls types part first xs before between m → IsDivided nulls types part (first + m) ys between after n → IsDivided nulls types part first (xs ++ ys) before after (m + n)
+      → IsDivided d xs before between m → IsDivided (after_rows m d) ys between after n → IsDivided d (xs ++ ys) before after (m + n)
   divided-more xs ys before between after m n same a b =
       let size = length-append a.rows b.rows in
       record {
         rows = a.rows ++ b.rows;
-        read = rows-append nulls types xs ys a.rows b.rows a.read b.read;
+        read = rows-append d.nulls d.types xs ys a.rows b.rows a.read b.read;
         many = omega (arith, size, a.many, b.many);
         parts = λ p low.
-            let k = ap (λ j. part_text (written_null nulls) part p (first + j) b.rows) a.many in
+            let k = ap (λ j. part_text (written_null d.nulls) d.part p (d.first + j) b.rows) a.many in
             let here : p < length between = omega (arith, low, same) in
             let both = Appends-trans (get_or before p None) (get_or between p None) (get_or after p None) _ _ (a.parts p low) (rw k at (b.parts p here)) in
-            rw (part_text-append part p (written_null nulls) first a.rows b.rows) both;
+            rw (part_text-append d.part p (written_null d.nulls) d.first a.rows b.rows) both;
       }
 
 -- no output failed where the text has a fault

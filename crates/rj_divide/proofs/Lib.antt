@@ -6,6 +6,7 @@ pub mod DivisionFacts
 pub mod UnderwayFacts
 pub mod HeaderFacts
 pub mod ShortFacts
+pub mod TakenFacts
 pub mod RangeFacts
 pub mod BlockFacts
 pub mod BrokenFacts

@@ -1,12 +1,12 @@
 -- Rows with their places, cell by cell.
 use Rattle.std.proofs.Common.{◌≡◌, ℕ, zero, suc, ◌+◌, ◌<◌, ◌≤◌, List, [], ◌∷◌, ◌++◌, All, refl, ap, sym, ◌∙◌, arith, pos, length, length-append, map, take, drop, get_or}
-use Rattle.std.proofs.lemmas.List.{get_or-drop, get_or-map, get_or-append-add, length-drop, length-map, map_more}
+use Rattle.std.proofs.lemmas.List.{get_or-drop, get_or-map, length-drop, length-map, map_more}
 use Rattle.rj_columns.specs.Contents.{Content, nothing, whole}
 use Rattle.rj_columns.specs.Tables.{cell_in, part_of}
 use Rattle.rj_divide.specs.Placed.{placed_cell_of, rows_at, with_place}
 
 -- the cell of a row among some
-pub cell-among : (rows : List (List Content)) (first : ℕ) (numbers : List ℕ) (k col : ℕ) → k < length numbers
+cell-among : (rows : List (List Content)) (first : ℕ) (numbers : List ℕ) (k col : ℕ) → k < length numbers
     → cell_in (rows_at rows first numbers) k col ≡ placed_cell_of rows first (get_or numbers k 0) col
 cell-among rows first numbers k col h =
     ap (λ r. get_or r col nothing) (get_or-map (λ i. with_place (first + i) (get_or rows i [])) numbers k 0 [] h)
@@ -33,6 +33,3 @@ rows-wide rows width first numbers wide low k d h =
     let at = get_or-map (λ i. with_place (first + i) (get_or rows i [])) numbers k 0 d inside in
     let size : length (get_or rows (get_or numbers k 0) []) ≡ width = wide (get_or numbers k 0) [] (low k 0 inside) in
     ap length at ∙ (length-append (get_or rows (get_or numbers k 0) []) (whole (pos (first + get_or numbers k 0)) ∷ []) ∙ ap (λ n. n + 1) size)
-
-pub rows-many : (rows : List (List Content)) (first : ℕ) (numbers : List ℕ) → length (rows_at rows first numbers) ≡ length numbers
-rows-many rows first numbers = length-map numbers (λ i. with_place (first + i) (get_or rows i []))

@@ -59,6 +59,3 @@ module _ {O : Type 0} (told : O → Option (List ℕ)) (text : ℕ → List ℕ)
 
   pub wait-more : (old now : List O) (p : ℕ) (y : O) → Wait old now p → Wait old (set now p y) (p + 1)
   wait-more old now p y wait = λ q l. other now p q y (λ e. absurd (omega (arith, l, e))) ∙ wait q (omega (arith, l))
-
-  pub have-none : (now : List O) → Have now now 0
-  have-none now = λ q l. absurd (omega (arith, l))

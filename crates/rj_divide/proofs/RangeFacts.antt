@@ -1,28 +1,31 @@
 -- Texts that are cut into ranges.
-use Rattle.std.proofs.Common.{inl, inr, subst, ◌*◌, ◌≡◌, ◌≢◌, ◌<◌, ◌≤◌, ◌+◌, ◌-◌, ◌^◌, ℕ, zero, suc, List, [], ◌∷◌, ◌++◌, Option, Some, Bool, true, false, All, refl, sym, ap, ◌∙◌, arith, append_assoc, length, take, drop, length-take-le}
+use Rattle.std.proofs.Common.{inl, inr, subst, ◌≡◌, ◌≢◌, ◌<◌, ◌≤◌, ◌+◌, ◌-◌, ◌^◌, ◌⊎◌, ℕ, suc, List, [], ◌∷◌, ◌++◌, Option, Some, Bool, true, false, All, refl, sym, ap, ◌∙◌, arith, length, take, drop, length-take-le}
 use Rattle.std.specs.Prelude.{slice_range}
 use Rattle.std.specs.Io.KnownBytes.{Consumes, IsAtEnd}
 use Rattle.std.proofs.lemmas.Bool.{cases_lt}
-use Rattle.std.proofs.lemmas.List.{append-nil, drop-drop, length-append, length-drop, take-append-drop}
-use Rattle.std.proofs.Math.Seq.{take-append_seam}
+use Rattle.std.proofs.lemmas.List.{append-nil, drop-drop, length-append, take-append-drop}
+use Rattle.std.proofs.lemmas.List.Elements.{All-push}
+use Rattle.std.proofs.Math.Seq.{take-add, take-append_seam}
 use Rattle.csv.specs.Reading.{default_config, records}
 use Rattle.csv.specs.declared.parser.State.TheVariants as st
 use Rattle.rj_csv_io.specs.Cuts.{state_after}
 use Rattle.rj_csv_io.specs.Pieces.{IsLineEnd, piece_records}
 use Rattle.rj_csv_io.proofs.CutFacts.{after-append, records-split}
-use Rattle.rj_divide.specs.Ranges.{AreCuts, AreShort, IsCutPlace, IsCutting, IsReadFor, IsShort, RiseBy, RiseTo, range_records}
-use Rattle.rj_divide.specs.Underway.{SplitsAs, behind_header}
+use Rattle.rj_divide.specs.Ranges.{AreCuts, AreShort, EndIn, IsCutPlace, IsCutting, IsReadFor, IsShort, RiseBy, RiseTo, range_records}
+use Rattle.rj_divide.specs.Taken.{IsTaken}
+use Rattle.rj_divide.specs.Underway.{SplitsAs}
 use Rattle.rj_divide.specs.declared.cuts.Cutting.{Cutting}
-use Rattle.rj_divide.proofs.ShortFacts.{line-out, line-rest, read-bound, short-more, short-none, short-to}
-use Rattle.rj_divide.proofs.UnderwayFacts.{Told, records-none, told-more}
+use Rattle.rj_divide.proofs.ShortFacts.{line-in, line-out, read-bound, short-more, short-none}
+use Rattle.rj_divide.proofs.TakenFacts.{none-more, order-now, taken-more, taken-none, told-now}
+use Rattle.rj_divide.proofs.UnderwayFacts.{records-none}
 
 -- ---- places that rise
 
-pub rise-none : (size : ℕ) → RiseTo size 0 [] 0
+rise-none : (size : ℕ) → RiseTo size 0 [] 0
 unfolding RiseTo
 rise-none size = refl
 
-pub rise-more : (size from : ℕ) (cuts : List ℕ) (last next : ℕ) → RiseTo size from cuts last → last + size ≤ next → RiseTo size from (cuts ++ next ∷ []) next
+rise-more : (size from : ℕ) (cuts : List ℕ) (last next : ℕ) → RiseTo size from cuts last → last + size ≤ next → RiseTo size from (cuts ++ next ∷ []) next
 unfolding RiseTo
 rise-more size from [] last next h far = (omega (arith, h, far), refl)
 rise-more size from (cut ∷ cuts) last next h far = (h.0, rise-more size cut cuts last next h.1 far)
@@ -53,12 +56,12 @@ piece-split true a b ends some = ap (λ (r : List (List (List ℕ))). drop 1 r) 
 piece-split false a b ends some = records-split a b ends
 
 -- the header was seen
-header-seen : (is_first ahead : Bool) (piece : List (List (List ℕ))) → ((more : List (List (List ℕ))) → behind_header is_first (piece ++ more) ≡ behind_header is_first piece ++ behind_header ahead more)
+header-seen : (is_first ahead : Bool) (piece : List (List (List ℕ))) → SplitsAs is_first piece ahead
     → ahead ≡ false → is_first ≡ true → piece ≢ []
 header-seen is_first ahead piece law a f = λ e. let h = rw (a, f, e) at (law ([] ∷ [])) in cc h
 
 -- the header is still to come
-header-ahead : (is_first : Bool) (piece : List (List (List ℕ))) → ((more : List (List (List ℕ))) → behind_header is_first (piece ++ more) ≡ behind_header is_first piece ++ behind_header true more)
+header-ahead : (is_first : Bool) (piece : List (List (List ℕ))) → SplitsAs is_first piece true
     → (is_first ≡ true) × (piece ≡ [])
 header-ahead true [] law = (refl, refl)
 header-ahead true (r ∷ piece) law =
@@ -68,28 +71,11 @@ header-ahead false piece law =
     let size = ap length (law ([] ∷ [])) in let a = length-append piece ([] ∷ []) in let b = ap length (append-nil piece) in
     absurd (omega (arith, size, a, b))
 
-all-more : (P : ℕ → Type 0) (xs : List ℕ) (x : ℕ) → All P xs → P x → All P (xs ++ x ∷ [])
-all-more P [] x all here zero d l = here
-all-more P [] x all here (suc k) d l = absurd (omega (arith, l))
-all-more P (y ∷ xs) x all here zero d l = all zero 0 (omega arith)
-all-more P (y ∷ xs) x all here (suc k) d l = all-more P xs x (λ j e m. all (suc j) e (omega (arith, m))) here k d (omega (arith, l))
-
-abbrev no_bytes : List ℕ
-no_bytes = []
-
-take-none : (n : ℕ) → no_bytes ≡ take n no_bytes
-take-none zero = refl
-take-none (suc n) = refl
-
 -- a range between two places
 between : (text : List ℕ) (from cut : ℕ) → from ≤ cut → take cut text ≡ take from text ++ slice_range text from cut
-between text zero cut h = let e : cut - 0 ≡ cut = omega arith in ap (λ n. take n text) (sym e)
-between [] (suc from) zero h = absurd (omega (arith, h))
-between [] (suc from) (suc cut) h = take-none (suc cut - suc from)
-between (c ∷ text) (suc from) zero h = absurd (omega (arith, h))
-between (c ∷ text) (suc from) (suc cut) h =
-    let e : cut - from ≡ suc cut - suc from = omega arith in
-    ap (λ l. c ∷ l) (between text from cut (omega (arith, h)) ∙ ap (λ n. take from text ++ take n (drop from text)) e)
+between text from cut h =
+    let e : cut ≡ from + (cut - from) = omega (arith, h) in
+    ap (λ n. take n text) e ∙ take-add from (cut - from) text
 
 behind : (text : List ℕ) (from cut : ℕ) → from ≤ cut → drop from text ≡ slice_range text from cut ++ drop cut text
 behind text from cut h =
@@ -138,100 +124,98 @@ module _ (size block : ℕ) (text : List ℕ) where
   -- nothing was looked at
   pub cutting-none : (tells : Option (List ℕ)) (now : Cutting) → tells ≡ Some text → now.bytes.items ≡ [] → now.place ≡ 0 → now.is_first ≡ true → now.cuts.items ≡ [] → now.last ≡ 0
       → IsCutting size block text tells now 0
-  cutting-none tells now told bytes place first cuts last =
-      let all : now.bytes.items ++ text ≡ text = ap (λ l. l ++ text) bytes in
-      record {
-        left = text;
-        told = told;
-        taken = [];
-        order = sym all;
-        place = place;
-        ends = none-taken [];
-        header = λ e. absurd (cc);
-        ahead = λ e. records-none;
-        rise = rw (cuts, last) (rise-none size);
-        behind = omega (arith, last);
-        cuts = rw cuts (λ k d l. absurd (omega (arith, l)));
-        short = rw cuts (short-none size block text);
-        passed = λ at far here. omega (arith, place);
-        none = λ at h e. let few = ap length bytes in absurd (omega (arith, few, h, e.behind));
-        shorter = let many = ap length all in omega (arith, many);
-      }
+  cutting-none tells now told bytes place first cuts last = record {
+    front = taken-none text now.bytes.items tells told bytes;
+    place = place;
+    ends = none-taken [];
+    header = λ e. absurd (cc);
+    ahead = λ e. records-none;
+    rise = rw (cuts, last) (rise-none size);
+    behind = omega (arith, last);
+    cuts = rw cuts (λ k d l. absurd (omega (arith, l)));
+    short = rw cuts (short-none size block text);
+    passed = λ at far here. omega (arith, place);
+  }
 
   module _ (old : Cutting) (bytes : List ℕ) (before tells : Option (List ℕ)) (n : ℕ) (u : IsCutting size block text before old n)
       (reads : (start : Option (List ℕ)) → Consumes start before old.bytes.items → Consumes start tells bytes) where
-    t : Told old.bytes.items u.left bytes tells
-    t = told-more old.bytes.items u.left bytes before tells u.told reads
+    -- what is told behind the bytes that were read
+    abbrev left : List ℕ
+    left = (told-now text old.bytes.items bytes before tells n u.front reads).more
 
-    order-now : text ≡ u.taken ++ (bytes ++ t.more)
-    order-now = u.order ∙ ap (λ l. u.taken ++ l) t.same
+    abbrev taken : List ℕ
+    taken = u.front.taken
+
+    order-all : text ≡ taken ++ (bytes ++ left)
+    order-all = order-now text old.bytes.items bytes before tells n u.front reads
 
     -- a range that ends among the bytes
-    short-now : (end plain : ℕ) → end ≤ length bytes → plain ≤ end → ((at : ℕ) → at ≤ plain → IsLineEnd bytes at → ⊥) → length bytes ≤ block + 2 * plain + 2 ^ 16
-        → IsShort size block text old.last (old.place + end)
-    short-now end plain within some none most =
-        short-to size block text u.taken bytes t.more old.last old.place end plain order-now u.place u.ends u.behind u.passed within some none most
+    short-now : IsReadFor block old.bytes.items bytes → (end : ℕ) → end ≤ length bytes → (end ≡ length bytes) ⊎ IsLineEnd bytes end → (next : ℕ) → next ≡ old.place + end → IsShort size block text old.last next
+    short-now r end within stops next is = λ at run far here each.
+        let found = read-bound block old.bytes.items bytes r u.front.none end stops in
+        let late = u.passed at far here in
+        let more : found.0 < run = elim (cases_lt found.0 run) [ inl less ↦ less | inr few ↦ absurd (stuck found.0 found.1 found.2 run few each) ] in
+        omega (arith, late, more, within, found.3, is)
+      where
+        stuck : (plain : ℕ) → plain ≤ end → ((at : ℕ) → at ≤ plain → IsLineEnd bytes at → ⊥) → (run : ℕ) → run ≤ plain → EndIn text old.last next run → ⊥
+        stuck plain some none run few each =
+            let found = each old.place u.behind (omega (arith, few, some, is)) in
+            let k = found.0 - old.place in
+            let at : found.0 ≡ length taken + k = omega (arith, found.1, u.place) in
+            let line : IsLineEnd (taken ++ (bytes ++ left)) (length taken + k) = subst (λ m. IsLineEnd (taken ++ (bytes ++ left)) m) at (subst (λ l. IsLineEnd l found.0) order-all found.3) in
+            none k (omega (arith, found.2, few)) (line-in taken bytes left u.ends k (omega (arith, found.2, few, some, within)) (omega (arith, found.1)) line)
 
     -- the text was read to its end
     pub finish-cuts : IsReadFor block old.bytes.items bytes → IsAtEnd tells → AreCuts size block text old.cuts.items
     finish-cuts r end =
-        let found = read-bound block old.bytes.items bytes r u.none in
-        let left : t.more ≡ [] = rw t.told at end in
-        let a = ap length order-now in let b = length-append u.taken (bytes ++ t.more) in let c = ap length (ap (λ l. bytes ++ l) left ∙ append-nil bytes) in
-        let all : old.place + length bytes ≡ length text = omega (arith, a, b, c, u.place) in
-        are-cuts old.cuts.items old.last u.rise u.cuts u.short
-        (subst (λ n. IsShort size block text old.last n) all (short-now (length bytes) found.0 (omega arith) found.1 found.2 found.3))
+        let none : left ≡ [] = none-more text old.bytes.items bytes before tells n u.front reads end in
+        let a = ap length order-all in let b = length-append taken (bytes ++ left) in let c = ap length (ap (λ l. bytes ++ l) none ∙ append-nil bytes) in
+        are-cuts old.cuts.items old.last u.rise u.cuts u.short (short-now r (length bytes) (omega arith) (inl refl) (length text) (omega (arith, a, b, c, u.place)))
 
     -- a place past all numbers of 64 bits
     pub too-long : (end : ℕ) → end ≤ length bytes → 2 ^ 64 ≤ old.place + end → 2 ^ 64 - 1 ≤ length text
     too-long end within high =
-        let a = ap length u.order in let b = length-append u.taken (old.bytes.items ++ u.left) in let c = ap length t.same in let d = length-append bytes t.more in
-        omega (arith, a, b, c, d, u.place, within, high)
+        let a = ap length order-all in let b = length-append taken (bytes ++ left) in let c = length-append bytes left in
+        omega (arith, a, b, c, u.place, within, high)
 
     module _ (end : ℕ) (within : end ≤ length bytes) (line : IsLineEnd bytes end) (rest : (at : ℕ) → end < at → at ≤ length bytes → IsLineEnd bytes at → ⊥) (ahead : Bool)
         (law : SplitsAs old.is_first (records default_config (take end bytes)) ahead) where
       abbrev piece : List ℕ
       piece = take end bytes
 
-      order-on : text ≡ (u.taken ++ piece) ++ (drop end bytes ++ t.more)
-      order-on =
-          order-now ∙ (ap (λ l. u.taken ++ l) (ap (λ l. l ++ t.more) (sym (take-append-drop end bytes)) ∙ append_assoc piece (drop end bytes) t.more)
-          ∙ sym (append_assoc u.taken piece (drop end bytes ++ t.more)))
+      abbrev front : (next : List ℕ) → next ≡ drop end bytes → IsTaken text tells next (n + 1)
+      front = taken-more text old.bytes.items bytes before tells n u.front reads end within line rest
 
-      size-on : length (u.taken ++ piece) ≡ old.place + end
-      size-on = let a = length-append u.taken piece in let b = length-take-le end bytes within in omega (arith, a, b, u.place)
+      size-on : length (taken ++ piece) ≡ old.place + end
+      size-on = let a = length-append taken piece in let b = length-take-le end bytes within in omega (arith, a, b, u.place)
 
-      ends-on : state_after st.StartRecord (u.taken ++ piece) ≡ st.StartRecord
-      ends-on = after-append st.StartRecord u.taken piece ∙ (ap (λ s. state_after s piece) u.ends ∙ line.ends)
+      ends-on : state_after st.StartRecord (taken ++ piece) ≡ st.StartRecord
+      ends-on = after-append st.StartRecord taken piece ∙ (ap (λ s. state_after s piece) u.ends ∙ line.ends)
 
-      header-on : ahead ≡ false → records default_config (u.taken ++ piece) ≢ []
+      header-on : ahead ≡ false → records default_config (taken ++ piece) ≢ []
       header-on e = go old.is_first refl
         where
-          go : (b : Bool) → old.is_first ≡ b → records default_config (u.taken ++ piece) ≢ []
-          go false is = rw (records-split u.taken piece u.ends) (some-both (records default_config u.taken) (records default_config piece) (u.header is))
-          go true is = rw (records-split u.taken piece u.ends) (some-last (records default_config u.taken) (records default_config piece) (header-seen old.is_first ahead (records default_config piece) law e is))
+          go : (b : Bool) → old.is_first ≡ b → records default_config (taken ++ piece) ≢ []
+          go false is = rw (records-split taken piece u.ends) (some-both (records default_config taken) (records default_config piece) (u.header is))
+          go true is = rw (records-split taken piece u.ends) (some-last (records default_config taken) (records default_config piece) (header-seen old.is_first ahead (records default_config piece) law e is))
 
-      ahead-on : ahead ≡ true → records default_config (u.taken ++ piece) ≡ []
+      ahead-on : ahead ≡ true → records default_config (taken ++ piece) ≡ []
       ahead-on e =
           let found = header-ahead old.is_first (records default_config piece) (subst (λ b. SplitsAs old.is_first (records default_config piece) b) e law) in
           let a = u.ahead found.0 in
-          records-split u.taken piece u.ends ∙ ((λ i. a i ++ found.1 i))
+          records-split taken piece u.ends ∙ ((λ i. a i ++ found.1 i))
 
-      front-on : (at : ℕ) → at ≡ old.place + end → take at text ≡ u.taken ++ piece
-      front-on at is = (λ i. take ((is ∙ sym size-on) i) (order-on i)) ∙ take-append_seam (u.taken ++ piece) (drop end bytes ++ t.more)
-
-      line-on : (at : ℕ) → at ≡ old.place + end → IsLineEnd text at
-      line-on at is =
-          let e : length u.taken + end ≡ at = omega (arith, is, u.place) in
-          subst (λ n. IsLineEnd text n) e (subst (λ l. IsLineEnd l (length u.taken + end)) (sym order-now) (line-out u.taken bytes t.more u.ends end within line))
+      front-on : (at : ℕ) → at ≡ old.place + end → take at text ≡ taken ++ piece
+      front-on at is = (λ i. take ((is ∙ sym size-on) i) ((front (drop end bytes) refl).order i)) ∙ take-append_seam (taken ++ piece) (drop end bytes ++ left)
 
       -- a place behind the header
       place-on : (at : ℕ) → at ≡ old.place + end → ahead ≡ false → IsCutPlace text at
       place-on at is e =
-          let a = ap length order-on in let b = length-append (u.taken ++ piece) (drop end bytes ++ t.more) in
+          let a = ap length order-all in let b = length-append taken (bytes ++ left) in let c = length-append bytes left in
+          let there : length taken + end ≡ at = omega (arith, is, u.place) in
           record {
-            within = omega (arith, a, b, is, size-on);
-            line = line-on at is;
+            within = omega (arith, a, b, c, is, u.place, within);
+            line = subst (λ m. IsLineEnd text m) there (subst (λ l. IsLineEnd l (length taken + end)) (sym order-all) (line-out taken bytes left u.ends end within line));
             header = rw (front-on at is) (header-on e);
           }
 
@@ -243,64 +227,33 @@ module _ (size block : ℕ) (text : List ℕ) where
           go false e early = let less = few e in omega (arith, less, early, far)
           go true e early = records-on text at next (omega (arith, early)) here.line.ends here.header (ap (records default_config) (front-on next is) ∙ ahead-on e)
 
-      -- the range up to the end of a piece
-      short-on : IsReadFor block old.bytes.items bytes → (next : ℕ) → next ≡ old.place + end → IsShort size block text old.last next
-      short-on r next is =
-          let found = read-bound block old.bytes.items bytes r u.none in
-          let few : found.0 ≤ end = elim (cases_lt end found.0) [ inl more ↦ absurd (found.2 end (omega (arith, more)) line) | inr h ↦ h ] in
-          subst (λ n. IsShort size block text old.last n) (sym is) (short-now end found.0 within few found.2 found.3)
+      module _ (next : Cutting) (cut-off : next.bytes.items ≡ drop end bytes) (place : next.place ≡ old.place + end) (first : next.is_first ≡ ahead) where
+        -- a piece was looked at
+        looked : RiseTo size 0 next.cuts.items next.last → next.last ≤ next.place → All (IsCutPlace text) next.cuts.items → AreShort size block text 0 next.cuts.items
+            → ((at : ℕ) → next.last + size ≤ at → IsCutPlace text at → next.place ≤ at) → IsCutting size block text tells next (n + 1)
+        looked rise behind cuts short passed = record {
+          front = front next.bytes.items cut-off;
+          place = place ∙ sym size-on;
+          ends = ends-on;
+          header = λ e. header-on (sym first ∙ e);
+          ahead = λ e. ahead-on (sym first ∙ e);
+          rise = rise;
+          behind = behind;
+          cuts = cuts;
+          short = short;
+          passed = passed;
+        }
 
-      none-on : (next : List ℕ) → next ≡ drop end bytes → (at : ℕ) → at ≤ length next → IsLineEnd next at → ⊥
-      none-on next left at h e =
-          let few = ap length left in
-          line-rest bytes end within line rest at (omega (arith, few, h)) (subst (λ l. IsLineEnd l at) left e)
+        -- a piece without a cut
+        pub pass : next.cuts.items ≡ old.cuts.items → next.last ≡ old.last → (ahead ≡ false → next.place < old.last + size) → IsCutting size block text tells next (n + 1)
+        pass cuts last few =
+            looked (rw (cuts, last) u.rise) (omega (arith, u.behind, place, last)) (rw cuts u.cuts) (rw cuts u.short) (λ at far here. passed-on next.place place few at (omega (arith, far, last)) here)
 
-      shorter-on : (next : List ℕ) → next ≡ drop end bytes → n + 1 + length (next ++ t.more) ≤ length text
-      shorter-on next left =
-          let a = ap length t.same in let b = length-append bytes t.more in let c = length-append (drop end bytes) t.more in let d = length-drop end bytes in
-          let e = ap (λ l. length (l ++ t.more)) left in
-          omega (arith, u.shorter, a, b, c, d, e, within, line.behind)
-
-      -- a piece without a cut
-      pub pass : (next : Cutting) → next.bytes.items ≡ drop end bytes → next.place ≡ old.place + end → next.is_first ≡ ahead → next.cuts.items ≡ old.cuts.items → next.last ≡ old.last
-          → (ahead ≡ false → next.place < old.last + size) → IsCutting size block text tells next (n + 1)
-      pass next left place first cuts last few = record {
-        left = t.more;
-        told = t.told;
-        taken = u.taken ++ piece;
-        order = order-on ∙ ap (λ l. (u.taken ++ piece) ++ (l ++ t.more)) (sym left);
-        place = place ∙ sym size-on;
-        ends = ends-on;
-        header = λ e. header-on (sym first ∙ e);
-        ahead = λ e. ahead-on (sym first ∙ e);
-        rise = rw (cuts, last) u.rise;
-        behind = omega (arith, u.behind, place, last);
-        cuts = rw cuts u.cuts;
-        short = rw cuts u.short;
-        passed = λ at far here. passed-on next.place place few at (omega (arith, far, last)) here;
-        none = none-on next.bytes.items left;
-        shorter = shorter-on next.bytes.items left;
-      }
-
-      -- a piece with a cut at its end
-      pub put : (next : Cutting) → next.bytes.items ≡ drop end bytes → next.place ≡ old.place + end → next.is_first ≡ ahead → next.cuts.items ≡ old.cuts.items ++ next.place ∷ [] → next.last ≡ next.place
-          → ahead ≡ false → size ≤ next.place - old.last → IsReadFor block old.bytes.items bytes → IsCutting size block text tells next (n + 1)
-      put next left place first cuts last seen far read =
-          let high : old.last + size ≤ next.place = omega (arith, far, u.behind, place) in
-          record {
-            left = t.more;
-            told = t.told;
-            taken = u.taken ++ piece;
-            order = order-on ∙ ap (λ l. (u.taken ++ piece) ++ (l ++ t.more)) (sym left);
-            place = place ∙ sym size-on;
-            ends = ends-on;
-            header = λ e. header-on (sym first ∙ e);
-            ahead = λ e. ahead-on (sym first ∙ e);
-            rise = rw (cuts, last) (rise-more size 0 old.cuts.items old.last next.place u.rise high);
-            behind = omega (arith, last);
-            cuts = rw cuts (all-more (IsCutPlace text) old.cuts.items next.place u.cuts (place-on next.place place seen));
-            short = rw cuts (short-more size block text 0 old.cuts.items old.last next.place u.rise u.short (short-on read next.place place));
-            passed = λ at late here. omega (arith, late, last);
-            none = none-on next.bytes.items left;
-            shorter = shorter-on next.bytes.items left;
-          }
+        -- a piece with a cut at its end
+        pub put : next.cuts.items ≡ old.cuts.items ++ next.place ∷ [] → next.last ≡ next.place → ahead ≡ false → size ≤ next.place - old.last → IsReadFor block old.bytes.items bytes
+            → IsCutting size block text tells next (n + 1)
+        put cuts last seen far read =
+            looked (rw (cuts, last) (rise-more size 0 old.cuts.items old.last next.place u.rise (omega (arith, far, u.behind, place)))) (omega (arith, last))
+            (rw cuts (All-push (IsCutPlace text) old.cuts.items next.place u.cuts (place-on next.place place seen)))
+            (rw cuts (short-more size block text 0 old.cuts.items old.last next.place u.rise u.short (short-now read end within (inr line) next.place place)))
+            (λ at late here. omega (arith, late, last))

@@ -1,5 +1,5 @@
 -- Line ends of bytes in a text, and ranges that end soon.
-use Rattle.std.proofs.Common.{◌≡◌, ◌<◌, ◌≤◌, ◌+◌, ◌-◌, ◌*◌, ◌^◌, ◌⊎◌, inl, inr, ℕ, List, [], ◌∷◌, ◌++◌, refl, sym, ap, subst, ◌∙◌, append_assoc, arith, length, take, drop, get_or}
+use Rattle.std.proofs.Common.{◌≡◌, ◌<◌, ◌≤◌, ◌+◌, ◌-◌, ◌*◌, ◌^◌, ◌⊎◌, inl, inr, ℕ, List, [], ◌∷◌, ◌++◌, refl, sym, ap, subst, ◌∙◌, arith, length, take, drop, get_or}
 use Rattle.std.proofs.lemmas.Bool.{cases_lt}
 use Rattle.std.proofs.lemmas.List.{append-nil, get_or-append-add, get_or-take, get_or_append_left, length-drop, length-take, length-take-le, take-append-drop, take-append-le, take-take, take_all}
 use Rattle.std.proofs.Math.Seq.{drop-append_seam, take-add, take-append_seam}
@@ -9,7 +9,7 @@ use Rattle.rj_csv_io.specs.Pieces.{IsLastEnd, IsLineEnd}
 use Rattle.rj_csv_io.proofs.CutFacts.{after-append}
 use Rattle.rj_csv_io.proofs.InputFacts.{front-on}
 use Rattle.rj_csv_io.proofs.PieceFacts.{no-end}
-use Rattle.rj_divide.specs.Ranges.{AreShort, EndIn, IsCutPlace, IsPiece, IsReadFor, IsShort, RiseTo}
+use Rattle.rj_divide.specs.Ranges.{AreShort, IsReadFor, IsShort, RiseTo}
 
 -- ---- line ends
 
@@ -39,14 +39,14 @@ module _ (taken bytes left : List ℕ) (ends : state_after st.StartRecord taken 
   line-out k h e = record { behind = omega (arith, e.behind); feed = byte-is k e.behind h ∙ e.feed; ends = state-is k h ∙ e.ends }
 
 -- a line end among the first bytes
-pub line-front : (bytes next : List ℕ) (k : ℕ) → take (length bytes) next ≡ bytes → k ≤ length bytes → IsLineEnd next k → IsLineEnd bytes k
+line-front : (bytes next : List ℕ) (k : ℕ) → take (length bytes) next ≡ bytes → k ≤ length bytes → IsLineEnd next k → IsLineEnd bytes k
 line-front bytes next k front h e = record {
   behind = e.behind;
   feed = ap (λ l. get_or l (k - 1) 0) (sym front) ∙ (get_or-take (length bytes) next (k - 1) 0 (omega (arith, h, e.behind)) ∙ e.feed);
   ends = ap (λ l. state_after st.StartRecord (take k l)) (sym front) ∙ (ap (state_after st.StartRecord) (take-take k (length bytes) next h) ∙ e.ends);
 }
 
-line-back : (bytes : List ℕ) (end k : ℕ) → k ≤ end → IsLineEnd (take end bytes) k → IsLineEnd bytes k
+pub line-back : (bytes : List ℕ) (end k : ℕ) → k ≤ end → IsLineEnd (take end bytes) k → IsLineEnd bytes k
 line-back bytes end k h e = record {
   behind = e.behind;
   feed = sym (get_or-take end bytes (k - 1) 0 (omega (arith, h, e.behind))) ∙ e.feed;
@@ -102,35 +102,25 @@ module _ (block : ℕ) (old : List ℕ) where
     pub read-plain : IsLastEnd next (length next) 0 → (all : IsReadFor block old next) × (all.plain ≡ length next)
     read-plain none = (record { front = front-on old bytes next r.front front; plain = length next; within = omega arith; none = none; most = λ h. omega arith }, refl)
 
--- so many of the bytes that were read for a piece are those of a block and of the first ones, in which no record ends, where none ended before
-pub read-bound : (block : ℕ) (old bytes : List ℕ) → IsReadFor block old bytes → ((at : ℕ) → at ≤ length old → IsLineEnd old at → ⊥)
-    → (plain : ℕ) × (plain ≤ length bytes) × ((at : ℕ) → at ≤ plain → IsLineEnd bytes at → ⊥) × (length bytes ≤ block + 2 * plain + 2 ^ 16)
-read-bound block old bytes r none = elim (cases_lt (length old) (length bytes)) [
-  | inl more ↦ (r.plain, r.within, (λ at h e. r.none.none at e.behind h e), r.most more)
+-- up to a line end, or to their end, so many of the bytes that were read for a piece are those of a block and of the first ones, in
+-- which no record ends, where none ended before
+pub read-bound : (block : ℕ) (old bytes : List ℕ) → IsReadFor block old bytes → ((at : ℕ) → at ≤ length old → IsLineEnd old at → ⊥) → (end : ℕ) → (end ≡ length bytes) ⊎ IsLineEnd bytes end
+    → (plain : ℕ) × (plain ≤ end) × ((at : ℕ) → at ≤ plain → IsLineEnd bytes at → ⊥) × (length bytes ≤ block + 2 * plain + 2 ^ 16)
+read-bound block old bytes r none end stops = elim (cases_lt (length old) (length bytes)) [
+  | inl more ↦ go r.plain r.within (λ at h e. r.none.none at e.behind h e) (r.most more)
   | inr same ↦ (
       let all : bytes ≡ old = sym (take_all (length old) bytes same) ∙ r.front in
-      (length bytes, omega arith, (λ at h e. none at (let size = ap length all in omega (arith, h, size)) (subst (λ l. IsLineEnd l at) all e)), omega arith))
+      go (length bytes) (omega arith) (λ at h e. none at (let size = ap length all in omega (arith, h, size)) (subst (λ l. IsLineEnd l at) all e)) (omega arith))
 ]
-
--- the bytes up to a line end, or all of them
-pub piece-read : (block : ℕ) (text taken old bytes left : List ℕ) (end : ℕ) → text ≡ taken ++ (bytes ++ left) → IsReadFor block old bytes
-    → ((at : ℕ) → at ≤ length old → IsLineEnd old at → ⊥) → end ≤ length bytes → (end ≡ length bytes) ⊎ IsLineEnd bytes end → IsPiece block text (take end bytes)
-piece-read block text taken old bytes left end order read none within stops =
-    let found = read-bound block old bytes read none in
-    let size = length-take-le end bytes within in
-    let few : found.0 ≤ end = elim stops [
-      | inl all ↦ omega (arith, all, found.1)
-      | inr line ↦ elim (cases_lt end found.0) [ inl more ↦ absurd (found.2 end (omega (arith, more)) line) | inr h ↦ h ]
-    ] in
-    record {
-      above = taken;
-      below = drop end bytes ++ left;
-      order = order ∙ ap (λ (l : List ℕ). taken ++ l) (ap (λ (l : List ℕ). l ++ left) (sym (take-append-drop end bytes)) ∙ append_assoc (take end bytes) (drop end bytes) left);
-      plain = found.0;
-      within = omega (arith, few, size);
-      none = λ at low line. found.2 at low (line-back bytes end at (omega (arith, low, few)) line);
-      most = omega (arith, size, within, found.3);
-    }
+  where
+    go : (plain : ℕ) → plain ≤ length bytes → ((at : ℕ) → at ≤ plain → IsLineEnd bytes at → ⊥) → length bytes ≤ block + 2 * plain + 2 ^ 16
+        → (plain : ℕ) × (plain ≤ end) × ((at : ℕ) → at ≤ plain → IsLineEnd bytes at → ⊥) × (length bytes ≤ block + 2 * plain + 2 ^ 16)
+    go plain within clean most =
+        let few : plain ≤ end = elim stops [
+          | inl all ↦ omega (arith, all, within)
+          | inr line ↦ elim (cases_lt end plain) [ inl less ↦ absurd (clean end (omega (arith, less)) line) | inr h ↦ h ]
+        ] in
+        (plain, few, clean, most)
 
 -- ---- ranges that end soon
 
@@ -144,20 +134,3 @@ short-more size block text from (cut ∷ cuts) last next rise short one = (short
 pub short-none : (size block : ℕ) (text : List ℕ) → AreShort size block text 0 []
 unfolding AreShort
 short-none size block text = tt
-
--- a range that ends in the bytes that were read for a piece, no place for a cut behind it
-pub short-to : (size block : ℕ) (text taken bytes left : List ℕ) (last place end plain : ℕ) → text ≡ taken ++ (bytes ++ left) → place ≡ length taken → state_after st.StartRecord taken ≡ st.StartRecord
-    → last ≤ place → ((at : ℕ) → last + size ≤ at → IsCutPlace text at → place ≤ at) → end ≤ length bytes → plain ≤ end → ((at : ℕ) → at ≤ plain → IsLineEnd bytes at → ⊥)
-    → length bytes ≤ block + 2 * plain + 2 ^ 16 → IsShort size block text last (place + end)
-short-to size block text taken bytes left last place end plain order is ends behind passed within some none most = λ at run far here each.
-    let late = passed at far here in
-    let more : plain < run = elim (cases_lt plain run) [ inl less ↦ less | inr few ↦ absurd (stuck run few each) ] in
-    omega (arith, late, more, within, most)
-  where
-    stuck : (run : ℕ) → run ≤ plain → EndIn text last (place + end) run → ⊥
-    stuck run few each =
-        let found = each place behind (omega (arith, few, some)) in
-        let k = found.0 - place in
-        let at : found.0 ≡ length taken + k = omega (arith, found.1, is) in
-        let line : IsLineEnd (taken ++ (bytes ++ left)) (length taken + k) = subst (λ n. IsLineEnd (taken ++ (bytes ++ left)) n) at (subst (λ l. IsLineEnd l found.0) order found.3) in
-        none k (omega (arith, found.2, few)) (line-in taken bytes left ends k (omega (arith, found.2, few, some, within)) (omega (arith, found.1)) line)

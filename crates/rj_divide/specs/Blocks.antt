@@ -1,10 +1,9 @@
 -- Blocks of a file whose text has to be of RFC 4180's grammar: each stands under the header and begins where a record does.
-use Rattle.std.specs.Prelude.{ℕ, ◌+◌, ◌-◌, ◌^◌, ◌≡◌, ◌≤◌, ◌<◌, ◌⊎◌, ◌++◌, Bool, true, List, Option, Some, None, Result, Ok, Err, length}
-use Rattle.rj_columns.specs.declared.cell.ColumnType.{ColumnType}
+use Rattle.std.specs.Prelude.{ℕ, ◌+◌, ◌-◌, ◌^◌, ◌≡◌, ◌≤◌, ◌<◌, ◌⊎◌, ◌++◌, Bool, List, Option, None, Result, Ok, Err, length}
 use Rattle.rj_columns.specs.declared.refused.BuildRefused.{BuildRefused}
 use Rattle.rj_columns.specs.Contents.{Content}
-use Rattle.rj_csv_io.specs.Pieces.{AreRows, IsLineEnd}
-use Rattle.rj_divide.specs.Divisions.{IsDivided, counts_after}
+use Rattle.rj_csv_io.specs.Pieces.{AreRows}
+use Rattle.rj_divide.specs.Divisions.{Dividing, IsDivided, counts_after}
 use Rattle.rj_divide.specs.Ranges.{IsPiece}
 use Rattle.rj_divide.specs.Readings.{IsAfterReading, IsFaultBehind, IsFirstFault, IsHeaderRefusal, reads_after}
 use Rattle.rj_strict.specs.Faults.{AreAbove, HasFault, row_at}
@@ -36,20 +35,20 @@ pub data StandIn (names : ℕ) (full : Bool) (text : List ℕ) : List (List (Lis
       → StandIn names full text (records_in lines)
 
 -- the place where a block stops being derived, below records that are all rows
-pub record IsBrokenAt (nulls : List (List ℕ)) (types : List ColumnType) (full : Bool) (text : List ℕ) (before : ℕ) (told : StrictFault) : Type 0 where
+pub record IsBrokenAt (d : Dividing) (full : Bool) (text : List ℕ) (before : ℕ) (told : StrictFault) : Type 0 where
   pub at : StrictFault
-  pub has : HasFault (Above (length types)) full text at
+  pub has : HasFault (Above (length d.types)) full text at
   pub lines : List Line
-  pub above : AreAbove (Above (length types)) text (row_at at) lines
+  pub above : AreAbove (Above (length d.types)) text (row_at at) lines
   pub rows : List (List Content)
-  pub read : AreRows nulls types (records_in lines) rows
+  pub read : AreRows d.nulls d.types (records_in lines) rows
   pub is : told ≡ strict_behind before at
 
 -- why a block behind so many rows is not divided among so many outputs
-abbrev pub IsBlockFault : List (List ℕ) → List ColumnType → Bool → List ℕ → ℕ → ℕ → BlockRefused → Type 0
-IsBlockFault nulls types full text before outputs (refused.Broken f) = IsBrokenAt nulls types full text before f
-IsBlockFault nulls types full text before outputs (refused.Divided e) =
-    (records : List (List (List ℕ))) × StandIn (length types) full text records × IsFaultBehind nulls types before outputs records e
+abbrev pub IsBlockFault : Dividing → Bool → List ℕ → ℕ → ℕ → BlockRefused → Type 0
+IsBlockFault d full text before outputs (refused.Broken f) = IsBrokenAt d full text before f
+IsBlockFault d full text before outputs (refused.Divided e) =
+    (records : List (List (List ℕ))) × StandIn (length d.types) full text records × IsFaultBehind d before outputs records e
 
 -- the counts of the outputs' failures: one more for the output that failed, if one did
 abbrev pub block_counts : {T : Type 0} → Result T BlockRefused → List ℕ → List ℕ
@@ -73,25 +72,10 @@ abbrev pub IsBlockRefusal : BuildRefused → BlockRefused → Type 0
 IsBlockRefusal b (refused.Broken f) = ⊥
 IsBlockRefusal b (refused.Divided e) = IsHeaderRefusal b e
 
--- a range of which so many rows are divided, in at least so many blocks: those of its first bytes, which are lines below the
--- header's names; the others are those of the bytes that were read, in which no record ends, and of what the device tells
-pub record IsReadTo (nulls : List (List ℕ)) (types : List ColumnType) (part : List Content → ℕ) (first : ℕ) (text : List ℕ)
-    (before : List (Option (List ℕ))) (tells : Option (List ℕ)) (bytes : List ℕ) (now : List (Option (List ℕ))) (rows blocks : ℕ) : Type 0 where
-  pub left : List ℕ
-  pub told : tells ≡ Some left
-  pub taken : List ℕ
-  pub order : text ≡ taken ++ (bytes ++ left)
-  pub none : (at : ℕ) → at ≤ length bytes → IsLineEnd bytes at → ⊥
-  pub file : File
-  pub derived : Derives (Above (length types)) true taken file
-  pub divided : IsDivided nulls types part first (records_of file) before now rows
-  pub outputs : length now ≡ length before
-  pub shorter : blocks + length (bytes ++ left) ≤ length text
-
 -- a range whose rows are divided, so many: the records of its one derivation below the header's names
-abbrev pub IsRangeDivided : List (List ℕ) → List ColumnType → (List Content → ℕ) → ℕ → Bool → List ℕ → List (Option (List ℕ)) → List (Option (List ℕ)) → ℕ → Type 0
-IsRangeDivided nulls types part first full text before after rows =
-    (file : File) × Derives (Above (length types)) full text file × IsDivided nulls types part first (records_of file) before after rows
+abbrev pub IsRangeDivided : Dividing → Bool → List ℕ → List (Option (List ℕ)) → List (Option (List ℕ)) → ℕ → Type 0
+IsRangeDivided d full text before after rows =
+    (file : File) × Derives (Above (length d.types)) full text file × IsDivided d (records_of file) before after rows
 
 -- the records of lines that a range begins with, or all its records, as the grammar derives them below so many names
 pub data BeginIn (names : ℕ) (full : Bool) (text : List ℕ) : List (List (List ℕ)) → Type 0 where
@@ -115,11 +99,11 @@ IsRangeTooLong names block full text =
 
 -- why a range that is read by such blocks is not divided among so many outputs: the place where its text stops being derived, below
 -- records that are all rows; the first fault of records that it begins with; a fault of a device or of memory; or its length
-abbrev pub IsRangeFault : List (List ℕ) → List ColumnType → ℕ → Bool → List ℕ → ℕ → BlockRefused → Type 0
-IsRangeFault nulls types block full text outputs (refused.Broken f) = IsBrokenAt nulls types full text 0 f
-IsRangeFault nulls types block full text outputs (refused.Divided (divide.Read f)) =
-    (records : List (List (List ℕ))) × BeginIn (length types) full text records × IsFirstFault nulls types 0 records f
-IsRangeFault nulls types block full text outputs (refused.Divided divide.TooLong) = IsRangeTooLong (length types) block full text
-IsRangeFault nulls types block full text outputs (refused.Divided divide.ReadDevice) = Unit {0}
-IsRangeFault nulls types block full text outputs (refused.Divided (divide.WriteDevice p)) = p < outputs
-IsRangeFault nulls types block full text outputs (refused.Divided divide.Memory) = Unit {0}
+abbrev pub IsRangeFault : Dividing → ℕ → Bool → List ℕ → ℕ → BlockRefused → Type 0
+IsRangeFault d block full text outputs (refused.Broken f) = IsBrokenAt d full text 0 f
+IsRangeFault d block full text outputs (refused.Divided (divide.Read f)) =
+    (records : List (List (List ℕ))) × BeginIn (length d.types) full text records × IsFirstFault d.nulls d.types 0 records f
+IsRangeFault d block full text outputs (refused.Divided divide.TooLong) = IsRangeTooLong (length d.types) block full text
+IsRangeFault d block full text outputs (refused.Divided divide.ReadDevice) = Unit {0}
+IsRangeFault d block full text outputs (refused.Divided (divide.WriteDevice p)) = p < outputs
+IsRangeFault d block full text outputs (refused.Divided divide.Memory) = Unit {0}

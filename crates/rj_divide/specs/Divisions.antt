@@ -2,10 +2,15 @@
 use Rattle.std.specs.Prelude.{ℕ, ◌+◌, ◌≡◌, ◌<◌, List, [], map, length, slice_index_or, slice_set, Option, None, Result, Ok, Err}
 use Rattle.std.specs.Io.KnownBytes.{Appends}
 use Rattle.rj_columns.specs.declared.cell.ColumnType.{ColumnType}
+use Rattle.rj_columns.specs.declared.refused.BuildRefused.{BuildRefused}
 use Rattle.rj_columns.specs.Contents.{Content}
-use Rattle.rj_csv_io.specs.Pieces.{AreRows}
+use Rattle.rj_columns.specs.Names.{begun}
+use Rattle.rj_columns.specs.Tables.{TableValue}
+use Rattle.rj_csv_io.specs.Pieces.{AreRows, names_in}
 use Rattle.rj_csv_io.specs.Shown.{rows_text, shown}
+use Rattle.rj_csv_io.specs.Typed.{null_texts}
 use Rattle.rj_divide.specs.Placed.{part_rows}
+use Rattle.rj_divide.specs.declared.piece.Division.{Division}
 use Rattle.rj_divide.specs.declared.refused.DivideRefused.{DivideRefused}
 use Rattle.rj_divide.specs.declared.refused.DivideRefused.TheVariants as refused
 
@@ -22,13 +27,31 @@ AreAppended null part first rows before after = (p : ℕ) → p < length before
 abbrev pub written_null : List (List ℕ) → List ℕ
 written_null nulls = slice_index_or nulls 0 []
 
+-- how rows are divided: the texts that stand for null, the types of the columns, the part of a row, and the place of the first one
+pub record Dividing : Type 0 where
+  pub nulls : List (List ℕ)
+  pub types : List ColumnType
+  pub part : List Content → ℕ
+  pub first : ℕ
+
+-- what a division asks for, whose route tells the parts so
+abbrev pub dividing : {R : Type 0} → (R → List Content → ℕ) → Division R → Dividing
+dividing part division = record { nulls = null_texts division.nulls.now; types = division.types.now; part = part division.route.now; first = division.first }
+
+-- the same behind so many rows
+abbrev pub after_rows : ℕ → Dividing → Dividing
+after_rows n d = record d { first = d.first + n }
+
+-- the table without rows that the header begins with the types, or why it begins none
+abbrev pub table_begun : {R : Type 0} → Division R → Result TableValue BuildRefused
+table_begun division = begun (names_in division.header.now) division.types.now
+
 -- these records are rows, so many of them, and each part's output got the text of its rows
-pub record IsDivided (nulls : List (List ℕ)) (types : List ColumnType) (part : List Content → ℕ) (first : ℕ) (records : List (List (List ℕ)))
-    (before after : List (Option (List ℕ))) (count : ℕ) : Type 0 where
+pub record IsDivided (d : Dividing) (records : List (List (List ℕ))) (before after : List (Option (List ℕ))) (count : ℕ) : Type 0 where
   pub rows : List (List Content)
-  pub read : AreRows nulls types records rows
+  pub read : AreRows d.nulls d.types records rows
   pub many : count ≡ length rows
-  pub parts : AreAppended (written_null nulls) part first rows before after
+  pub parts : AreAppended (written_null d.nulls) d.part d.first rows before after
 
 -- the counts of the outputs' failures: one more for the output that failed, if one did
 abbrev pub counts_after : {T : Type 0} → Result T DivideRefused → List ℕ → List ℕ

@@ -1,9 +1,10 @@
 -- Places that cut a text into ranges.
-use Rattle.std.specs.Prelude.{ℕ, ◌+◌, ◌-◌, ◌*◌, ◌^◌, ◌≡◌, ◌≢◌, ◌≤◌, ◌<◌, Bool, true, false, List, [], ◌∷◌, ◌++◌, length, take, drop, slice_range, All, Option, Some}
+use Rattle.std.specs.Prelude.{ℕ, ◌+◌, ◌-◌, ◌*◌, ◌^◌, ◌≡◌, ◌≢◌, ◌≤◌, ◌<◌, Bool, true, false, List, [], ◌∷◌, ◌++◌, length, take, drop, slice_range, All, Option}
 use Rattle.csv.specs.Reading.{default_config, records}
 use Rattle.csv.specs.declared.parser.State.TheVariants as st
 use Rattle.rj_csv_io.specs.Cuts.{state_after}
 use Rattle.rj_csv_io.specs.Pieces.{IsLastEnd, IsLineEnd, piece_records}
+use Rattle.rj_divide.specs.Taken.{IsTaken}
 use Rattle.rj_divide.specs.declared.cuts.Cutting.{Cutting}
 use Rattle.rj_divide.specs.declared.refused.DivideRefused.{DivideRefused}
 use Rattle.rj_divide.specs.declared.refused.DivideRefused.TheVariants as refused
@@ -71,24 +72,18 @@ unfoldable pub RiseTo : ℕ → ℕ → List ℕ → ℕ → Type 0
 RiseTo size from [] last = from ≡ last
 RiseTo size from (cut ∷ cuts) last = (from + size ≤ cut) × RiseTo size cut cuts last
 
--- a text whose first bytes, at least so many pieces, were looked at: in the bytes that were read and not looked at yet no record
--- ends, and no place for a cut was passed
+-- a text whose first bytes, which were looked at, are taken away: no place for a cut was passed
 pub record IsCutting (size block : ℕ) (text : List ℕ) (tells : Option (List ℕ)) (now : Cutting) (pieces : ℕ) : Type 0 where
-  pub left : List ℕ
-  pub told : tells ≡ Some left
-  pub taken : List ℕ
-  pub order : text ≡ taken ++ (now.bytes.items ++ left)
-  pub place : now.place ≡ length taken
-  pub ends : state_after st.StartRecord taken ≡ st.StartRecord
-  pub header : now.is_first ≡ false → records default_config taken ≢ []
-  pub ahead : now.is_first ≡ true → records default_config taken ≡ []
+  pub front : IsTaken text tells now.bytes.items pieces
+  pub place : now.place ≡ length front.taken
+  pub ends : state_after st.StartRecord front.taken ≡ st.StartRecord
+  pub header : now.is_first ≡ false → records default_config front.taken ≢ []
+  pub ahead : now.is_first ≡ true → records default_config front.taken ≡ []
   pub rise : RiseTo size 0 now.cuts.items now.last
   pub behind : now.last ≤ now.place
   pub cuts : All (IsCutPlace text) now.cuts.items
   pub short : AreShort size block text 0 now.cuts.items
   pub passed : (at : ℕ) → now.last + size ≤ at → IsCutPlace text at → now.place ≤ at
-  pub none : (at : ℕ) → at ≤ length now.bytes.items → IsLineEnd now.bytes.items at → ⊥
-  pub shorter : pieces + length (now.bytes.items ++ left) ≤ length text
 
 -- why a text is not cut: a fault of its device or of memory, or its length
 abbrev pub IsCutFault : List ℕ → DivideRefused → Type 0

@@ -10,6 +10,7 @@ use Rattle.rj_csv_io.specs.Tables.{of_begun}
 use Rattle.rj_csv_io.specs.Typed.{read_cells}
 use Rattle.rj_divide.specs.declared.refused.DivideRefused.{DivideRefused}
 use Rattle.rj_divide.specs.declared.refused.DivideRefused.TheVariants as refused
+use Rattle.rj_divide.specs.Divisions.{Dividing}
 use Rattle.rj_divide.specs.Ranges.{IsPiece}
 
 -- what a record reads as where it is the row of this number, counted from 1
@@ -29,12 +30,12 @@ pub record IsFirstFault (nulls : List (List ℕ)) (types : List ColumnType) (bef
 
 -- why the records of a piece behind so many rows are not divided among so many outputs, where it is no device that gives bytes: one is
 -- no row, there are 2^31 of them or more, or 2^61 with the rows before them
-abbrev pub IsFaultBehind : List (List ℕ) → List ColumnType → ℕ → ℕ → List (List (List ℕ)) → DivideRefused → Type 0
-IsFaultBehind nulls types before outputs records (refused.Read f) = IsFirstFault nulls types before records f
-IsFaultBehind nulls types before outputs records refused.TooLong = (2 ^ 31 ≤ length records) ⊎ (2 ^ 61 ≤ before + length records)
-IsFaultBehind nulls types before outputs records refused.ReadDevice = ⊥
-IsFaultBehind nulls types before outputs records (refused.WriteDevice p) = p < outputs
-IsFaultBehind nulls types before outputs records refused.Memory = Unit {0}
+abbrev pub IsFaultBehind : Dividing → ℕ → ℕ → List (List (List ℕ)) → DivideRefused → Type 0
+IsFaultBehind d before outputs records (refused.Read f) = IsFirstFault d.nulls d.types before records f
+IsFaultBehind d before outputs records refused.TooLong = (2 ^ 31 ≤ length records) ⊎ (2 ^ 61 ≤ before + length records)
+IsFaultBehind d before outputs records refused.ReadDevice = ⊥
+IsFaultBehind d before outputs records (refused.WriteDevice p) = p < outputs
+IsFaultBehind d before outputs records refused.Memory = Unit {0}
 
 -- the row that a fault tells
 abbrev pub row_told : ReadRefused → ℕ
@@ -108,12 +109,12 @@ IsTooLong block is_first text =
     ⊎ ((2 ^ 61 ≤ length (piece_records is_first text)) ⊎ (2 ^ 64 - 1 ≤ length text))
 
 -- why a text that is read by such blocks is not divided among so many outputs: a fault of a record or of a device, or its length
-abbrev pub IsDivisionFault : List (List ℕ) → List ColumnType → ℕ → Bool → List ℕ → ℕ → DivideRefused → Type 0
-IsDivisionFault nulls types block is_first text outputs (refused.Read f) = IsFirstFault nulls types 0 (piece_records is_first text) f
-IsDivisionFault nulls types block is_first text outputs refused.TooLong = IsTooLong block is_first text
-IsDivisionFault nulls types block is_first text outputs refused.ReadDevice = Unit {0}
-IsDivisionFault nulls types block is_first text outputs (refused.WriteDevice p) = p < outputs
-IsDivisionFault nulls types block is_first text outputs refused.Memory = Unit {0}
+abbrev pub IsDivisionFault : Dividing → ℕ → Bool → List ℕ → ℕ → DivideRefused → Type 0
+IsDivisionFault d block is_first text outputs (refused.Read f) = IsFirstFault d.nulls d.types 0 (piece_records is_first text) f
+IsDivisionFault d block is_first text outputs refused.TooLong = IsTooLong block is_first text
+IsDivisionFault d block is_first text outputs refused.ReadDevice = Unit {0}
+IsDivisionFault d block is_first text outputs (refused.WriteDevice p) = p < outputs
+IsDivisionFault d block is_first text outputs refused.Memory = Unit {0}
 
 -- why nothing is divided under a header that makes no table with the types: what it is refused for, where the device that gives
 -- bytes doesn't fail first and memory isn't refused

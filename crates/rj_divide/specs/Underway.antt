@@ -1,10 +1,13 @@
 -- A division that is underway. The program's own: no public contract speaks of it.
-use Rattle.std.specs.Prelude.{ℕ, ◌+◌, ◌≡◌, ◌≤◌, Bool, true, false, List, ◌++◌, length, drop, Option, Some}
-use Rattle.rj_columns.specs.declared.cell.ColumnType.{ColumnType}
-use Rattle.rj_columns.specs.Contents.{Content}
-use Rattle.rj_csv_io.specs.Pieces.{IsLineEnd, piece_records}
+use Rattle.std.specs.Prelude.{ℕ, ◌≡◌, Bool, true, false, List, ◌++◌, length, drop, Option, None}
+use Rattle.rj_csv_io.specs.Pieces.{piece_records}
+use Rattle.rj_divide.specs.declared.strict.Rest as strict
 use Rattle.rj_divide.specs.declared.whole.Rest.{Rest}
-use Rattle.rj_divide.specs.Divisions.{IsDivided}
+use Rattle.rj_divide.specs.Blocks.{records_in}
+use Rattle.rj_divide.specs.Divisions.{Dividing, IsDivided}
+use Rattle.rj_divide.specs.Taken.{IsTaken}
+use Rattle.rj_strict.specs.Grammar.{Derives, Line}
+use Rattle.rj_strict.specs.declared.header.Header.TheVariants.{Above}
 
 -- the records of rows among these: all but the first one where that is the header
 abbrev pub behind_header : Bool → List (List (List ℕ)) → List (List (List ℕ))
@@ -16,17 +19,24 @@ behind_header false records = records
 abbrev pub SplitsAs : Bool → List (List (List ℕ)) → Bool → Type 0
 SplitsAs is_first records ahead = (more : List (List (List ℕ))) → behind_header is_first (records ++ more) ≡ behind_header is_first records ++ behind_header ahead more
 
--- a text whose first records are divided, in at least so many pieces: the others are those of the bytes that were read, in which no
--- record ends, and of what the device tells
-pub record IsUnderway (nulls : List (List ℕ)) (types : List ColumnType) (part : List Content → ℕ) (first : ℕ) (is_first : Bool) (text : List ℕ)
-    (before : List (Option (List ℕ))) (tells : Option (List ℕ)) (rest : Rest) (now : List (Option (List ℕ))) (pieces : ℕ) : Type 0 where
-  pub left : List ℕ
-  pub told : tells ≡ Some left
-  pub taken : List ℕ
-  pub order : text ≡ taken ++ (rest.bytes.items ++ left)
-  pub none : (at : ℕ) → at ≤ length rest.bytes.items → IsLineEnd rest.bytes.items at → ⊥
+-- what a division begins with: the text that the device tells, and what each output told
+pub record Beginning : Type 0 where
+  pub text : List ℕ
+  pub told : List (Option (List ℕ))
+
+-- a text whose first records are divided: the others are those of the bytes behind the pieces that were taken away
+pub record IsUnderway (d : Dividing) (is_first : Bool) (begin : Beginning) (tells : Option (List ℕ)) (rest : Rest) (now : List (Option (List ℕ)))
+    (pieces : ℕ) : Type 0 where
+  pub front : IsTaken begin.text tells rest.bytes.items pieces
   pub done : List (List (List ℕ))
-  pub split : piece_records is_first text ≡ done ++ piece_records rest.is_first (rest.bytes.items ++ left)
-  pub divided : IsDivided nulls types part first done before now rest.rows
-  pub outputs : length now ≡ length before
-  pub shorter : pieces + length (rest.bytes.items ++ left) ≤ length text
+  pub split : piece_records is_first begin.text ≡ done ++ piece_records rest.is_first (rest.bytes.items ++ front.left)
+  pub divided : IsDivided d done begin.told now rest.rows
+  pub outputs : length now ≡ length begin.told
+
+-- a range whose first rows are divided: those of the bytes that were taken away, which are lines below the header's names
+pub record IsReadTo (d : Dividing) (begin : Beginning) (tells : Option (List ℕ)) (rest : strict.Rest) (now : List (Option (List ℕ))) (blocks : ℕ) : Type 0 where
+  pub front : IsTaken begin.text tells rest.bytes.items blocks
+  pub lines : List Line
+  pub derived : Derives (Above (length d.types)) true front.taken (record { lines = lines; rest = None })
+  pub divided : IsDivided d (records_in lines) begin.told now rest.rows
+  pub outputs : length now ≡ length begin.told

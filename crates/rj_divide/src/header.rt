@@ -5,7 +5,7 @@ ghost use Rattle.csv.specs.Writing.{default_writer, row_text};
 ghost use Rattle.rj_columns.specs.Names.{begun};
 ghost use Rattle.rj_columns.specs.Tables.{TableValue};
 ghost use Rattle.rj_columns.specs.declared.refused.BuildRefused.{BuildRefused};
-ghost use Rattle.rj_csv_io.specs.Tables.{is_null_text, of_begun};
+ghost use Rattle.rj_csv_io.specs.Tables.{of_begun};
 ghost use Rattle.rj_divide.specs.Divisions.{counts_after};
 ghost use Rattle.rj_divide.specs.Headers.{HaveText, IsHeaderFault, header_text, names_with, types_with};
 
@@ -53,7 +53,8 @@ fn bytes_of<'a>(alloc: Global, names: &[&'a str]) -> Result<Vec<&'a [u8]>, Alloc
     Ok(all)
 }
 
-fn refused_of(e: BuildRefused) -> DivideRefused
+// Why columns make no table.
+fn fault_of_columns(e: BuildRefused) -> DivideRefused
     ensures memory { e ≡ BuildRefused.Memory → result ≡ DivideRefused.Memory }
     ensures fault { e ≢ BuildRefused.Memory → result ≡ DivideRefused.Read (of_begun e) }
 {
@@ -82,7 +83,7 @@ fn widened(alloc: Global, table: &Table, names: &[&str]) -> Result<Table, Divide
     };
     match TableBuilder::new(alloc, bytes.as_slice(), types.as_slice()) {
         Ok(builder) => Ok(builder.finish()),
-        Err(e) => Err(refused_of(e)),
+        Err(e) => Err(fault_of_columns(e)),
     }
 }
 

@@ -19,29 +19,6 @@ pub struct Piece {
     pub is_last: bool,
 }
 
-// Adds the next bytes of a device to some, until there are so many: whether it is at its end.
-fn read_more<I: Input>(
-    input: &mut I,
-    bytes: &mut Vec<u8>,
-    size: usize,
-) -> Result<bool, DivideRefused>
-    requires { I.count input.old < 2 ^ 64 - 1 }
-    ensures bytes { OnOk result ((start : Option (List ℕ)) → Consumes start (I.tells input.old) bytes.old.items
-        → Consumes start (I.tells input.new) bytes.new.items) }
-    ensures front { OnOk result (take (length bytes.old.items) bytes.new.items ≡ bytes.old.items) }
-    ensures bound { OnOk result (vec_len bytes.old < vec_len bytes.new → vec_len bytes.new < size + 2 ^ 16) }
-    ensures end { result ≡ Ok true → IsAtEnd (I.tells input.new) }
-    ensures full { result ≡ Ok false → size ≤ vec_len bytes.new }
-    ensures count { I.count input.new ≡ reads_after result (I.count input.old) }
-    ensures fault { IfErr result IsInputFault }
-{
-    match read_up_to(input, bytes, size) {
-        Ok(at_end) => Ok(at_end),
-        Err(ReadRefused::ReadDevice) => Err(DivideRefused::ReadDevice),
-        Err(_) => Err(DivideRefused::Memory),
-    }
-}
-
 /// Adds the next bytes of a device to some, until there is a line feed that ends a record or the device is at its end: the piece
 /// up to the last such end, or all where the device is at its end. At least a block is read, and twice as many bytes as
 /// before where there is no such end in them; and less than 64 KiB more.
@@ -71,7 +48,7 @@ pub fn next_piece<I: Input>(
 {
     let mut size = block.max(1);
     'reading: loop {
-        match read_more(input, bytes, size) {
+        match read_up_to(input, bytes, size) {
             Ok(true) => {
                 return Ok(Piece {
                     end: bytes.len(),
@@ -79,7 +56,8 @@ pub fn next_piece<I: Input>(
                 });
             }
             Ok(false) => {}
-            Err(e) => return Err(e),
+            Err(ReadRefused::ReadDevice) => return Err(DivideRefused::ReadDevice),
+            Err(_) => return Err(DivideRefused::Memory),
         }
         let end = last_cut(bytes.as_slice());
         if end > 0 {

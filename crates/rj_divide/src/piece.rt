@@ -2,12 +2,11 @@
 
 ghost use Rattle.std.specs.Prelude.{◌≡◌, ◌<◌, ◌≤◌, ◌+◌, ◌-◌, ◌^◌, length, map, All, IsTrue, IfErr, IfOk, OnOk, Ok, Err};
 ghost use Rattle.rj_columns.specs.declared.refused.BuildRefused.{BuildRefused};
-ghost use Rattle.rj_columns.specs.Names.{begun};
 ghost use Rattle.rj_columns.specs.Tables.{TableValue};
-ghost use Rattle.rj_csv_io.specs.Pieces.{names_in, piece_records};
+ghost use Rattle.rj_csv_io.specs.Pieces.{piece_records};
 ghost use Rattle.rj_csv_io.specs.Tables.{is_null_text};
 ghost use Rattle.rj_csv_io.specs.Typed.{null_texts};
-ghost use Rattle.rj_divide.specs.Divisions.{IsDivided, counts_after, written_null};
+ghost use Rattle.rj_divide.specs.Divisions.{IsDivided, after_rows, counts_after, dividing, table_begun, written_null};
 ghost use Rattle.rj_divide.specs.Readings.{IsAfterReading, IsFaultBehind, IsHeaderRefusal, IsReadingFault, fault_behind, row_told};
 
 use crate::refused::DivideRefused;
@@ -47,7 +46,7 @@ fn written_null<'a>(nulls: &[&'a str]) -> &'a str
 }
 
 // A fault of a piece that has so many rows before it.
-fn behind(before: u64, fault: ReadRefused) -> DivideRefused
+fn fault_behind(before: u64, fault: ReadRefused) -> DivideRefused
     requires { before ≤ 2 ^ 61 }
     ensures fault { row_told fault < 2 ^ 63 → result ≡ fault_behind before fault }
     ensures reading { IsReadingFault result }
@@ -90,19 +89,17 @@ pub fn divide_piece<O: Output, R: Route>(
     requires first { division.now.first ≤ 2 ^ 62 }
     requires null { IsTrue (is_null_text (written_null (null_texts division.now.nulls.now))) }
     requires failures { All (λ o. O.count o < 2 ^ 64 - 1) outputs.old }
-    ensures divided { IfOk result (λ n. IsDivided (null_texts division.now.nulls.now) division.now.types.now
-        (R.part division.now.route.now) (division.now.first + before)
-        (piece_records is_first text.now) (map O.told outputs.old) (map O.told outputs.new) n) }
+    ensures divided { IfOk result (λ n. IsDivided (after_rows before (dividing R.part division.now)) (piece_records is_first text.now)
+        (map O.told outputs.old) (map O.told outputs.new) n) }
     ensures read { IfErr result IsAfterReading }
     ensures few { IfOk result (λ n. before + n < 2 ^ 62) }
     ensures counts { map O.count outputs.new ≡ counts_after result (map O.count outputs.old) }
     ensures writes { OnOk result (All (λ o. O.count o < 2 ^ 64 - 1) outputs.new) }
-    ensures fault { IfErr result (λ e. (t : TableValue) → begun (names_in division.now.header.now) division.now.types.now ≡ Ok t
-        → IsFaultBehind (null_texts division.now.nulls.now) division.now.types.now before (length outputs.old) (piece_records is_first text.now) e) }
-    ensures begins { OnOk result ((t : TableValue) × (begun (names_in division.now.header.now) division.now.types.now ≡ Ok t)) }
-    ensures refusal { IfErr result (λ e. (b : BuildRefused) → begun (names_in division.now.header.now) division.now.types.now ≡ Err b
-        → before ≡ 0 → IsHeaderRefusal b e) }
-    ensures untouched { (b : BuildRefused) → begun (names_in division.now.header.now) division.now.types.now ≡ Err b → outputs.new ≡ outputs.old }
+    ensures fault { IfErr result (λ e. (t : TableValue) → table_begun division.now ≡ Ok t
+        → IsFaultBehind (dividing R.part division.now) before (length outputs.old) (piece_records is_first text.now) e) }
+    ensures begins { OnOk result ((t : TableValue) × (table_begun division.now ≡ Ok t)) }
+    ensures refusal { IfErr result (λ e. (b : BuildRefused) → table_begun division.now ≡ Err b → before ≡ 0 → IsHeaderRefusal b e) }
+    ensures untouched { (b : BuildRefused) → table_begun division.now ≡ Err b → outputs.new ≡ outputs.old }
 {
     if before > MOST_ROWS {
         return Err(DivideRefused::TooLong);
@@ -112,7 +109,7 @@ pub fn divide_piece<O: Output, R: Route>(
         .read_piece(alloc, text, is_first, division.types, division.nulls)
     {
         Ok(table) => table,
-        Err(e) => return Err(behind(before, e)),
+        Err(e) => return Err(fault_behind(before, e)),
     };
     let rows = table.rows();
     let first = division.first + before;

@@ -1,8 +1,7 @@
 //! Some rows of a table, each with its place as a last cell.
 
-ghost use Rattle.std.specs.Prelude.{◌≡◌, ◌<◌, ◌+◌, ◌^◌, ◌++◌, map, length, slice_range, All, OnOk, IfOk};
+ghost use Rattle.std.specs.Prelude.{◌≡◌, ◌<◌, ◌+◌, ◌^◌, ◌++◌, map, length, All, OnOk};
 ghost use Rattle.rj_columns.specs.Contents.{content_of};
-ghost use Rattle.rj_columns.specs.Tables.{part_of};
 ghost use Rattle.rj_divide.specs.Placed.{rows_at, placed_cell_of};
 
 use rj_columns::{Cell, RowSource, Table};

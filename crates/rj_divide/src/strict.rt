@@ -1,17 +1,17 @@
 //! Dividing a range of a file whose text has to be of RFC 4180's grammar: each block is checked, and then divided.
 
 ghost use Rattle.std.specs.Io.KnownBytes.{IsAtEnd};
-ghost use Rattle.std.specs.Prelude.{◌≡◌, ◌<◌, ◌≤◌, ◌+◌, ◌-◌, ◌^◌, ℕ, Bool, true, false, List, Option, Ok, Err, All, IfErr, IfOk, IfSome, IsTrue, OnOk, drop, length, map};
+ghost use Rattle.std.specs.Prelude.{◌≡◌, ◌<◌, ◌≤◌, ◌+◌, ◌-◌, ◌^◌, ℕ, Bool, true, false, Ok, Err, All, IfErr, IfOk, IfSome, IsTrue, OnOk, length, map};
 ghost use Rattle.csv.specs.Reading.{strip_bom};
 ghost use Rattle.rj_columns.specs.declared.refused.BuildRefused.{BuildRefused};
-ghost use Rattle.rj_columns.specs.Names.{begun};
 ghost use Rattle.rj_columns.specs.Tables.{TableValue};
-ghost use Rattle.rj_csv_io.specs.Pieces.{names_in, piece_records};
+ghost use Rattle.rj_csv_io.specs.Pieces.{piece_records};
 ghost use Rattle.rj_csv_io.specs.Tables.{is_null_text};
 ghost use Rattle.rj_csv_io.specs.Typed.{null_texts};
-ghost use Rattle.rj_divide.specs.Blocks.{IsAfterBlock, IsBlockFault, IsBlockRefusal, IsRangeDivided, IsRangeFault, IsReadTo, block_counts, block_reads, strict_behind};
-ghost use Rattle.rj_divide.specs.Divisions.{IsDivided, counts_after, written_null};
+ghost use Rattle.rj_divide.specs.Blocks.{IsAfterBlock, IsBlockFault, IsBlockRefusal, IsRangeDivided, IsRangeFault, block_counts, block_reads, strict_behind};
+ghost use Rattle.rj_divide.specs.Divisions.{IsDivided, after_rows, counts_after, dividing, table_begun, written_null};
 ghost use Rattle.rj_divide.specs.Readings.{IsAfterReading, IsFaultBehind, IsHeaderRefusal};
+ghost use Rattle.rj_divide.specs.Underway.{Beginning, IsReadTo};
 ghost use Rattle.rj_strict.specs.Faults.{row_at};
 ghost use Rattle.rj_strict.specs.Grammar.{Derives, File, records_of};
 ghost use Rattle.rj_strict.specs.declared.header.Header.TheVariants.{Above};
@@ -28,7 +28,7 @@ use rj_strict::{
 use std::alloc::{AllocError, Global};
 
 // A fault of a block that has so many rows before it.
-fn behind(before: u64, fault: StrictFault) -> StrictFault
+fn strict_behind(before: u64, fault: StrictFault) -> StrictFault
     requires { before + row_at fault < 2 ^ 64 }
     ensures { result ≡ strict_behind before fault }
 {
@@ -71,19 +71,17 @@ fn divide_derived<W: Route, O: Output>(
     requires failures { All (λ o. O.count o < 2 ^ 64 - 1) outputs.old }
     requires derived { (full : Bool) × (file : File) × Derives (Above (length division.now.types.now)) full text.now file }
     ensures divided { IfOk result (λ n. (full : Bool) (file : File) → Derives (Above (length division.now.types.now)) full text.now file
-        → IsDivided (null_texts division.now.nulls.now) division.now.types.now (W.part division.now.route.now) (division.now.first + before) (records_of file)
-        (map O.told outputs.old) (map O.told outputs.new) n) }
-    ensures fault { IfErr result (λ e. (t : TableValue) (full : Bool) (file : File) → begun (names_in division.now.header.now) division.now.types.now ≡ Ok t
+        → IsDivided (after_rows before (dividing W.part division.now)) (records_of file) (map O.told outputs.old) (map O.told outputs.new) n) }
+    ensures fault { IfErr result (λ e. (t : TableValue) (full : Bool) (file : File) → table_begun division.now ≡ Ok t
         → Derives (Above (length division.now.types.now)) full text.now file
-        → IsFaultBehind (null_texts division.now.nulls.now) division.now.types.now before (length outputs.old) (records_of file) e) }
+        → IsFaultBehind (dividing W.part division.now) before (length outputs.old) (records_of file) e) }
     ensures few { IfOk result (λ n. before + n < 2 ^ 62) }
     ensures counts { map O.count outputs.new ≡ counts_after result (map O.count outputs.old) }
     ensures writes { OnOk result (All (λ o. O.count o < 2 ^ 64 - 1) outputs.new) }
     ensures read { IfErr result IsAfterReading }
-    ensures begins { OnOk result ((t : TableValue) × (begun (names_in division.now.header.now) division.now.types.now ≡ Ok t)) }
-    ensures refusal { IfErr result (λ e. (b : BuildRefused) → begun (names_in division.now.header.now) division.now.types.now ≡ Err b
-        → before ≡ 0 → IsHeaderRefusal b e) }
-    ensures untouched { (b : BuildRefused) → begun (names_in division.now.header.now) division.now.types.now ≡ Err b → outputs.new ≡ outputs.old }
+    ensures begins { OnOk result ((t : TableValue) × (table_begun division.now ≡ Ok t)) }
+    ensures refusal { IfErr result (λ e. (b : BuildRefused) → table_begun division.now ≡ Err b → before ≡ 0 → IsHeaderRefusal b e) }
+    ensures untouched { (b : BuildRefused) → table_begun division.now ≡ Err b → outputs.new ≡ outputs.old }
 {
     reads_all_records();
     if division.types.len() > 1 {
@@ -126,18 +124,16 @@ pub fn divide_block<W: Route, O: Output>(
     requires null { IsTrue (is_null_text (written_null (null_texts division.now.nulls.now))) }
     requires failures { All (λ o. O.count o < 2 ^ 64 - 1) outputs.old }
     ensures divided { IfOk result (λ n. (file : File) × Derives (Above (length division.now.types.now)) full text.now file
-        × IsDivided (null_texts division.now.nulls.now) division.now.types.now (W.part division.now.route.now) (division.now.first + before) (records_of file)
-        (map O.told outputs.old) (map O.told outputs.new) n) }
-    ensures fault { IfErr result (λ e. (t : TableValue) → begun (names_in division.now.header.now) division.now.types.now ≡ Ok t
-        → IsBlockFault (null_texts division.now.nulls.now) division.now.types.now full text.now before (length outputs.old) e) }
+        × IsDivided (after_rows before (dividing W.part division.now)) (records_of file) (map O.told outputs.old) (map O.told outputs.new) n) }
+    ensures fault { IfErr result (λ e. (t : TableValue) → table_begun division.now ≡ Ok t
+        → IsBlockFault (dividing W.part division.now) full text.now before (length outputs.old) e) }
     ensures few { IfOk result (λ n. before + n < 2 ^ 62) }
     ensures counts { map O.count outputs.new ≡ block_counts result (map O.count outputs.old) }
     ensures writes { OnOk result (All (λ o. O.count o < 2 ^ 64 - 1) outputs.new) }
     ensures read { IfErr result IsAfterBlock }
-    ensures begins { OnOk result ((t : TableValue) × (begun (names_in division.now.header.now) division.now.types.now ≡ Ok t)) }
-    ensures refusal { IfErr result (λ e. (b : BuildRefused) → begun (names_in division.now.header.now) division.now.types.now ≡ Err b
-        → before ≡ 0 → IsBlockRefusal b e) }
-    ensures untouched { (b : BuildRefused) → begun (names_in division.now.header.now) division.now.types.now ≡ Err b → outputs.new ≡ outputs.old }
+    ensures begins { OnOk result ((t : TableValue) × (table_begun division.now ≡ Ok t)) }
+    ensures refusal { IfErr result (λ e. (b : BuildRefused) → table_begun division.now ≡ Err b → before ≡ 0 → IsBlockRefusal b e) }
+    ensures untouched { (b : BuildRefused) → table_begun division.now ≡ Err b → outputs.new ≡ outputs.old }
 {
     let header = Header::Above(division.types.len() as u64);
     match check(text, header, full) {
@@ -148,7 +144,7 @@ pub fn divide_block<W: Route, O: Output>(
         Err(fault) => {
             let above = above_fault(text, header, fault);
             match divide_derived(alloc, division, above, before, outputs) {
-                Ok(_) => Err(BlockRefused::Broken(behind(before, fault))),
+                Ok(_) => Err(BlockRefused::Broken(strict_behind(before, fault))),
                 Err(earlier) => Err(BlockRefused::Divided(earlier)),
             }
         }
@@ -180,29 +176,22 @@ fn divide_next<I: Input, W: Route, O: Output>(
     requires null { IsTrue (is_null_text (written_null (null_texts division.now.nulls.now))) }
     requires reads { I.count input.old < 2 ^ 64 - 1 }
     requires writes { All (λ o. O.count o < 2 ^ 64 - 1) outputs.old }
-    ensures more { let read = IsReadTo (null_texts division.now.nulls.now) division.now.types.now (W.part division.now.route.now) division.now.first in
-        result ≡ Ok false → (text : List ℕ) (before : List (Option (List ℕ))) (blocks : ℕ)
-        → read text before (I.tells input.old) rest.old.bytes.items (map O.told outputs.old) rest.old.rows blocks
-        → read text before (I.tells input.new) rest.new.bytes.items (map O.told outputs.new) rest.new.rows (blocks + 1) }
-    ensures last { result ≡ Ok true → (text : List ℕ) (before : List (Option (List ℕ))) (blocks : ℕ)
-        → IsReadTo (null_texts division.now.nulls.now) division.now.types.now (W.part division.now.route.now) division.now.first text before
-        (I.tells input.old) rest.old.bytes.items (map O.told outputs.old) rest.old.rows blocks
-        → IsRangeDivided (null_texts division.now.nulls.now) division.now.types.now (W.part division.now.route.now) division.now.first full text before
-        (map O.told outputs.new) rest.new.rows }
+    ensures more { let read = IsReadTo (dividing W.part division.now) in result ≡ Ok false → (begin : Beginning) (blocks : ℕ)
+        → read begin (I.tells input.old) rest.old (map O.told outputs.old) blocks
+        → read begin (I.tells input.new) rest.new (map O.told outputs.new) (blocks + 1) }
+    ensures last { let d = dividing W.part division.now in result ≡ Ok true → (begin : Beginning) (blocks : ℕ)
+        → IsReadTo d begin (I.tells input.old) rest.old (map O.told outputs.old) blocks
+        → IsRangeDivided d full begin.text begin.told (map O.told outputs.new) rest.new.rows }
     ensures end { result ≡ Ok true → IsAtEnd (I.tells input.new) }
     ensures reads { I.count input.new ≡ block_reads result (I.count input.old) }
     ensures writes { map O.count outputs.new ≡ block_counts result (map O.count outputs.old) }
-    ensures fault { IfErr result (λ e. (t : TableValue) (text : List ℕ) (before : List (Option (List ℕ))) (blocks : ℕ)
-        → begun (names_in division.now.header.now) division.now.types.now ≡ Ok t
-        → IsReadTo (null_texts division.now.nulls.now) division.now.types.now (W.part division.now.route.now) division.now.first text before
-        (I.tells input.old) rest.old.bytes.items (map O.told outputs.old) rest.old.rows blocks
-        → IsRangeFault (null_texts division.now.nulls.now) division.now.types.now block full text (length outputs.old) e) }
-    ensures begins { OnOk result ((t : TableValue) × (begun (names_in division.now.header.now) division.now.types.now ≡ Ok t)) }
-    ensures refusal { IfErr result (λ e. (b : BuildRefused) → begun (names_in division.now.header.now) division.now.types.now ≡ Err b
-        → rest.old.rows ≡ 0 → IsBlockRefusal b e) }
-    ensures untouched { (b : BuildRefused) → begun (names_in division.now.header.now) division.now.types.now ≡ Err b → outputs.new ≡ outputs.old }
+    ensures fault { let d = dividing W.part division.now in IfErr result (λ e. (t : TableValue) (begin : Beginning) (blocks : ℕ)
+        → table_begun division.now ≡ Ok t → IsReadTo d begin (I.tells input.old) rest.old (map O.told outputs.old) blocks
+        → IsRangeFault d block full begin.text (length outputs.old) e) }
+    ensures begins { OnOk result ((t : TableValue) × (table_begun division.now ≡ Ok t)) }
+    ensures refusal { IfErr result (λ e. (b : BuildRefused) → table_begun division.now ≡ Err b → rest.old.rows ≡ 0 → IsBlockRefusal b e) }
+    ensures untouched { (b : BuildRefused) → table_begun division.now ≡ Err b → outputs.new ≡ outputs.old }
 {
-    joined_texts();
     reads_records();
     let piece = match next_piece(input, &mut rest.bytes, block) {
         Ok(piece) => piece,
@@ -244,22 +233,19 @@ pub fn divide_strictly<I: Input, W: Route, O: Output>(
     requires reads { I.count input.old < 2 ^ 64 - 1 }
     requires writes { All (λ o. O.count o < 2 ^ 64 - 1) outputs.old }
     ensures divided { IfOk result (λ n. IfSome (I.tells input.old) (λ text.
-        IsRangeDivided (null_texts division.now.nulls.now) division.now.types.now (W.part division.now.route.now) division.now.first full text
-        (map O.told outputs.old) (map O.told outputs.new) n)) }
+        IsRangeDivided (dividing W.part division.now) full text (map O.told outputs.old) (map O.told outputs.new) n)) }
     ensures end { OnOk result (IsAtEnd (I.tells input.new)) }
     ensures reads { I.count input.new ≡ block_reads result (I.count input.old) }
     ensures writes { map O.count outputs.new ≡ block_counts result (map O.count outputs.old) }
 
     // where the header and the types go together, as `Header::table` tells, an error comes for this alone
-    ensures fault { IfErr result (λ e. (t : TableValue) → begun (names_in division.now.header.now) division.now.types.now ≡ Ok t
-        → IfSome (I.tells input.old) (λ text.
-        IsRangeFault (null_texts division.now.nulls.now) division.now.types.now block full text (length outputs.old) e)) }
+    ensures fault { IfErr result (λ e. (t : TableValue) → table_begun division.now ≡ Ok t
+        → IfSome (I.tells input.old) (λ text. IsRangeFault (dividing W.part division.now) block full text (length outputs.old) e)) }
 
     // where they don't, nothing is divided, and it is told why they don't
-    ensures begins { OnOk result ((t : TableValue) × (begun (names_in division.now.header.now) division.now.types.now ≡ Ok t)) }
-    ensures refusal { IfErr result (λ e. (b : BuildRefused) → begun (names_in division.now.header.now) division.now.types.now ≡ Err b
-        → IsBlockRefusal b e) }
-    ensures untouched { (b : BuildRefused) → begun (names_in division.now.header.now) division.now.types.now ≡ Err b → outputs.new ≡ outputs.old }
+    ensures begins { OnOk result ((t : TableValue) × (table_begun division.now ≡ Ok t)) }
+    ensures refusal { IfErr result (λ e. (b : BuildRefused) → table_begun division.now ≡ Err b → IsBlockRefusal b e) }
+    ensures untouched { (b : BuildRefused) → table_begun division.now ≡ Err b → outputs.new ≡ outputs.old }
 {
     let mut rest = Rest {
         bytes: Vec::new(alloc),

@@ -1,17 +1,16 @@
 //! A text, divided among parts piece by piece.
 
-ghost use Rattle.std.specs.Prelude.{◌≡◌, ◌<◌, ◌≤◌, ◌+◌, ◌-◌, ◌^◌, ◌++◌, ℕ, List, [], Bool, true, Ok, Err, Option, Some, length, map, take, drop, if◌then◌else◌, All, IsTrue, IfErr, IfOk, IfSome, OnOk};
+ghost use Rattle.std.specs.Prelude.{◌≡◌, ◌<◌, ◌≤◌, ◌+◌, ◌-◌, ◌^◌, ℕ, Bool, false, true, Ok, Err, Some, length, map, take, drop, All, IsTrue, IfErr, IfOk, IfSome, OnOk};
 ghost use Rattle.std.specs.Io.KnownBytes.{IsAtEnd};
 ghost use Rattle.csv.specs.Reading.{default_config, records};
 ghost use Rattle.rj_columns.specs.declared.refused.BuildRefused.{BuildRefused};
-ghost use Rattle.rj_columns.specs.Names.{begun};
 ghost use Rattle.rj_columns.specs.Tables.{TableValue};
-ghost use Rattle.rj_csv_io.specs.Pieces.{names_in, piece_records};
+ghost use Rattle.rj_csv_io.specs.Pieces.{piece_records};
 ghost use Rattle.rj_csv_io.specs.Tables.{is_null_text};
 ghost use Rattle.rj_csv_io.specs.Typed.{null_texts};
-ghost use Rattle.rj_divide.specs.Divisions.{IsDivided, counts_after, written_null};
+ghost use Rattle.rj_divide.specs.Divisions.{IsDivided, after_rows, counts_after, dividing, table_begun, written_null};
 ghost use Rattle.rj_divide.specs.Readings.{IsAfterReading, IsDivisionFault, IsFaultBehind, IsHeaderRefusal, reads_after};
-ghost use Rattle.rj_divide.specs.Underway.{IsUnderway, SplitsAs};
+ghost use Rattle.rj_divide.specs.Underway.{Beginning, IsUnderway, SplitsAs};
 
 use crate::next::{drop_front, next_piece};
 use crate::piece::{Division, divide_piece};
@@ -63,19 +62,18 @@ fn divide_front<O: Output, R: Route>(
     requires failures { All (λ o. O.count o < 2 ^ 64 - 1) outputs.old }
     requires end { end ≤ length rest.old.bytes.items }
     ensures bytes { OnOk result (rest.new.bytes.items ≡ drop end rest.old.bytes.items) }
-    ensures rows { OnOk result ((n : ℕ) × (rest.new.rows ≡ rest.old.rows + n) × IsDivided (null_texts division.now.nulls.now) division.now.types.now
-        (R.part division.now.route.now) (division.now.first + rest.old.rows) (piece_records rest.old.is_first (take end rest.old.bytes.items))
+    ensures rows { OnOk result ((n : ℕ) × (rest.new.rows ≡ rest.old.rows + n)
+        × IsDivided (after_rows rest.old.rows (dividing R.part division.now)) (piece_records rest.old.is_first (take end rest.old.bytes.items))
         (map O.told outputs.old) (map O.told outputs.new) n) }
     ensures header { OnOk result (SplitsAs rest.old.is_first (records default_config (take end rest.old.bytes.items)) rest.new.is_first) }
     ensures counts { map O.count outputs.new ≡ counts_after result (map O.count outputs.old) }
     ensures read { IfErr result IsAfterReading }
-    ensures fault { IfErr result (λ e. (t : TableValue) → begun (names_in division.now.header.now) division.now.types.now ≡ Ok t
-        → IsFaultBehind (null_texts division.now.nulls.now) division.now.types.now rest.old.rows (length outputs.old)
+    ensures fault { IfErr result (λ e. (t : TableValue) → table_begun division.now ≡ Ok t
+        → IsFaultBehind (dividing R.part division.now) rest.old.rows (length outputs.old)
         (piece_records rest.old.is_first (take end rest.old.bytes.items)) e) }
-    ensures begins { OnOk result ((t : TableValue) × (begun (names_in division.now.header.now) division.now.types.now ≡ Ok t)) }
-    ensures refusal { IfErr result (λ e. (b : BuildRefused) → begun (names_in division.now.header.now) division.now.types.now ≡ Err b
-        → rest.old.rows ≡ 0 → IsHeaderRefusal b e) }
-    ensures untouched { (b : BuildRefused) → begun (names_in division.now.header.now) division.now.types.now ≡ Err b → outputs.new ≡ outputs.old }
+    ensures begins { OnOk result ((t : TableValue) × (table_begun division.now ≡ Ok t)) }
+    ensures refusal { IfErr result (λ e. (b : BuildRefused) → table_begun division.now ≡ Err b → rest.old.rows ≡ 0 → IsHeaderRefusal b e) }
+    ensures untouched { (b : BuildRefused) → table_begun division.now ≡ Err b → outputs.new ≡ outputs.old }
 {
     let text = &rest.bytes[..end];
     let Ok(is_first) = is_header_ahead(alloc, text, rest.is_first) else {
@@ -105,22 +103,21 @@ fn divide_next<I: Input, O: Output, R: Route>(
     requires null { IsTrue (is_null_text (written_null (null_texts division.now.nulls.now))) }
     requires reads { I.count input.old < 2 ^ 64 - 1 }
     requires writes { All (λ o. O.count o < 2 ^ 64 - 1) outputs.old }
-    ensures divided { let underway = IsUnderway (null_texts division.now.nulls.now) division.now.types.now (R.part division.now.route.now) division.now.first in
-        IfOk result (λ last. (is_first : Bool) (all : List ℕ) (before : List (Option (List ℕ))) (n : ℕ)
-        → underway is_first all before (I.tells input.old) rest.old (map O.told outputs.old) n
-        → underway is_first all before (I.tells input.new) rest.new (map O.told outputs.new) (if last then n else n + 1)) }
-    ensures end { result ≡ Ok true → (rest.new.bytes.items ≡ []) × IsAtEnd (I.tells input.new) }
+    ensures more { let underway = IsUnderway (dividing R.part division.now) in result ≡ Ok false → (is_first : Bool) (begin : Beginning) (n : ℕ)
+        → underway is_first begin (I.tells input.old) rest.old (map O.told outputs.old) n
+        → underway is_first begin (I.tells input.new) rest.new (map O.told outputs.new) (n + 1) }
+    ensures last { let d = dividing R.part division.now in result ≡ Ok true → (is_first : Bool) (begin : Beginning) (n : ℕ)
+        → IsUnderway d is_first begin (I.tells input.old) rest.old (map O.told outputs.old) n
+        → IsDivided d (piece_records is_first begin.text) begin.told (map O.told outputs.new) rest.new.rows }
+    ensures end { result ≡ Ok true → IsAtEnd (I.tells input.new) }
     ensures reads { I.count input.new ≡ reads_after result (I.count input.old) }
     ensures writes { map O.count outputs.new ≡ counts_after result (map O.count outputs.old) }
-    ensures fault { IfErr result (λ e. (t : TableValue) (is_first : Bool) (all : List ℕ) (before : List (Option (List ℕ))) (n : ℕ)
-        → begun (names_in division.now.header.now) division.now.types.now ≡ Ok t
-        → IsUnderway (null_texts division.now.nulls.now) division.now.types.now (R.part division.now.route.now) division.now.first is_first all before
-        (I.tells input.old) rest.old (map O.told outputs.old) n
-        → IsDivisionFault (null_texts division.now.nulls.now) division.now.types.now block is_first all (length outputs.old) e) }
-    ensures begins { OnOk result ((t : TableValue) × (begun (names_in division.now.header.now) division.now.types.now ≡ Ok t)) }
-    ensures refusal { IfErr result (λ e. (b : BuildRefused) → begun (names_in division.now.header.now) division.now.types.now ≡ Err b
-        → rest.old.rows ≡ 0 → IsHeaderRefusal b e) }
-    ensures untouched { (b : BuildRefused) → begun (names_in division.now.header.now) division.now.types.now ≡ Err b → outputs.new ≡ outputs.old }
+    ensures fault { let d = dividing R.part division.now in IfErr result (λ e. (t : TableValue) (is_first : Bool) (begin : Beginning) (n : ℕ)
+        → table_begun division.now ≡ Ok t → IsUnderway d is_first begin (I.tells input.old) rest.old (map O.told outputs.old) n
+        → IsDivisionFault d block is_first begin.text (length outputs.old) e) }
+    ensures begins { OnOk result ((t : TableValue) × (table_begun division.now ≡ Ok t)) }
+    ensures refusal { IfErr result (λ e. (b : BuildRefused) → table_begun division.now ≡ Err b → rest.old.rows ≡ 0 → IsHeaderRefusal b e) }
+    ensures untouched { (b : BuildRefused) → table_begun division.now ≡ Err b → outputs.new ≡ outputs.old }
 {
     let piece = match next_piece(input, &mut rest.bytes, block) {
         Ok(piece) => piece,
@@ -158,23 +155,20 @@ pub fn divide<I: Input, O: Output, R: Route>(
     requires null { IsTrue (is_null_text (written_null (null_texts division.now.nulls.now))) }
     requires reads { I.count input.old < 2 ^ 64 - 1 }
     requires writes { All (λ o. O.count o < 2 ^ 64 - 1) outputs.old }
-    ensures divided { IfOk result (λ n. IfSome (I.tells input.old) (λ all.
-        IsDivided (null_texts division.now.nulls.now) division.now.types.now (R.part division.now.route.now) division.now.first
-        (piece_records is_first all) (map O.told outputs.old) (map O.told outputs.new) n)) }
+    ensures divided { IfOk result (λ n. IfSome (I.tells input.old) (λ text.
+        IsDivided (dividing R.part division.now) (piece_records is_first text) (map O.told outputs.old) (map O.told outputs.new) n)) }
     ensures end { OnOk result (IsAtEnd (I.tells input.new)) }
     ensures reads { I.count input.new ≡ reads_after result (I.count input.old) }
     ensures writes { map O.count outputs.new ≡ counts_after result (map O.count outputs.old) }
 
     // where the header and the types go together, as `Header::table` tells, an error comes for this alone
-    ensures fault { IfErr result (λ e. (t : TableValue) → begun (names_in division.now.header.now) division.now.types.now ≡ Ok t
-        → IfSome (I.tells input.old) (λ all.
-        IsDivisionFault (null_texts division.now.nulls.now) division.now.types.now block is_first all (length outputs.old) e)) }
+    ensures fault { IfErr result (λ e. (t : TableValue) → table_begun division.now ≡ Ok t
+        → IfSome (I.tells input.old) (λ text. IsDivisionFault (dividing R.part division.now) block is_first text (length outputs.old) e)) }
 
     // where they don't, nothing is divided, and it is told why they don't
-    ensures begins { OnOk result ((t : TableValue) × (begun (names_in division.now.header.now) division.now.types.now ≡ Ok t)) }
-    ensures refusal { IfErr result (λ e. (b : BuildRefused) → begun (names_in division.now.header.now) division.now.types.now ≡ Err b
-        → IsHeaderRefusal b e) }
-    ensures untouched { (b : BuildRefused) → begun (names_in division.now.header.now) division.now.types.now ≡ Err b → outputs.new ≡ outputs.old }
+    ensures begins { OnOk result ((t : TableValue) × (table_begun division.now ≡ Ok t)) }
+    ensures refusal { IfErr result (λ e. (b : BuildRefused) → table_begun division.now ≡ Err b → IsHeaderRefusal b e) }
+    ensures untouched { (b : BuildRefused) → table_begun division.now ≡ Err b → outputs.new ≡ outputs.old }
 {
     let mut rest = Rest {
         bytes: Vec::new(alloc),

@@ -25,4 +25,4 @@ loop-turn-preserved g c = record {
 
 pub returns-clause-fault : goal.returns-clause-fault
 returns-clause-fault g c =
-    if-some (g.I.Input.tells c.args.input.now) _ (λ text e. omega (arith, (c.loop-turn.invariant.cutting text e).shorter, c.loop-turn-test.false))
+    if-some (g.I.Input.tells c.args.input.now) _ (λ text e. omega (arith, (c.loop-turn.invariant.cutting text e).front.shorter, c.loop-turn-test.false))

@@ -16,23 +16,23 @@ reading-init g c = record {
 
 pub returns-in-Ok-true-clause-records : goal.returns-in-Ok-true-clause-records
 returns-in-Ok-true-clause-records g c = λ more none.
-    let all : c.len.result ≡ length c.read_more.new.bytes.items = search rules in
-    last-records c.read_more.new.bytes.items more c.len.result all (none refl)
+    let all : c.len.result ≡ length c.read_up_to.new.bytes.items = search rules in
+    last-records c.read_up_to.new.bytes.items more c.len.result all (none refl)
 
 pub returns-in-Ok-true-clause-read : goal.returns-in-Ok-true-clause-read
 returns-in-Ok-true-clause-read g c =
     let r = c.reading.invariant.read in
     let old : vec_len c.reading.bytes ≡ length c.reading.bytes.items = search rules in
-    let now : vec_len c.read_more.new.bytes ≡ length c.read_more.new.bytes.items = search rules in
-    read-next c.args.block c.args.bytes.now.items c.reading.bytes.items c.read_more.new.bytes.items c.reading.size r.0 r.1 c.in-Ok-true.ensures.front
+    let now : vec_len c.read_up_to.new.bytes ≡ length c.read_up_to.new.bytes.items = search rules in
+    read-next c.args.block c.args.bytes.now.items c.reading.bytes.items c.read_up_to.new.bytes.items c.reading.size r.0 r.1 c.in-Ok-true.ensures.front
     (λ h. let few = c.in-Ok-true.ensures.bound (omega (arith, h, old, now)) in omega (arith, few, now))
 
 pub returns-then-end-gt0-clause-read : goal.returns-then-end-gt0-clause-read
 returns-then-end-gt0-clause-read g c =
     let r = c.reading.invariant.read in
     let old : vec_len c.reading.bytes ≡ length c.reading.bytes.items = search rules in
-    let now : vec_len c.read_more.new.bytes ≡ length c.read_more.new.bytes.items = search rules in
-    read-next c.args.block c.args.bytes.now.items c.reading.bytes.items c.read_more.new.bytes.items c.reading.size r.0 r.1 c.in-Ok-false.ensures.front
+    let now : vec_len c.read_up_to.new.bytes ≡ length c.read_up_to.new.bytes.items = search rules in
+    read-next c.args.block c.args.bytes.now.items c.reading.bytes.items c.read_up_to.new.bytes.items c.reading.size r.0 r.1 c.in-Ok-false.ensures.front
     (λ h. let few = c.in-Ok-false.ensures.bound (omega (arith, h, old, now)) in omega (arith, few, now))
 
 line-at : (text : List ℕ) (end last : ℕ) → 0 < last → IsLastEnd text end last → IsLineEnd text last
@@ -50,10 +50,10 @@ pub reading-preserved : goal.reading-preserved
 reading-preserved g c =
     let r = c.reading.invariant.read in
     let old : vec_len c.reading.bytes ≡ length c.reading.bytes.items = search rules in
-    let now : vec_len c.read_more.new.bytes ≡ length c.read_more.new.bytes.items = search rules in
-    let bytes = c.read_more.new.bytes.items in
+    let now : vec_len c.read_up_to.new.bytes ≡ length c.read_up_to.new.bytes.items = search rules in
+    let bytes = c.read_up_to.new.bytes.items in
     let last = rw c.as_slice.ensures.value at c.last_cut-end.ensures.last in
-    let full : c.reading.size ≤ vec_len c.read_more.new.bytes = search rules in
+    let full : c.reading.size ≤ vec_len c.read_up_to.new.bytes = search rules in
     let none : IsLastEnd bytes (length bytes) 0 = subst (λ n. IsLastEnd bytes (length bytes) n) (omega arith) last in
     let all = read-plain c.args.block c.args.bytes.now.items c.reading.bytes.items bytes c.reading.size r.0 r.1 c.in-Ok-false.ensures.front
     (λ h. let few = c.in-Ok-false.ensures.bound (omega (arith, h, old, now)) in omega (arith, few, now)) none in

@@ -12,8 +12,8 @@ divide_derived-requires-in-Err-clause-derived g c =
     let found = c.above_fault-above.ensures in let d = c.args.division.now in
     (true, record { lines = found.0; rest = None }, above-derived (length d.types.now) c.args.text.now c.above_fault-above.result.now (row_at c.in-Err.fault) found.0 found.1 found.2)
 
-pub behind-requires : goal.behind-requires
-behind-requires g c =
+pub strict_behind-requires : goal.strict_behind-requires
+strict_behind-requires g c =
     let found = c.above_fault-above.ensures in let d = c.args.division.now in
     let file : File = record { lines = found.0; rest = None } in
     let derived = above-derived (length d.types.now) c.args.text.now c.above_fault-above.result.now (row_at c.in-Err.fault) found.0 found.1 found.2 in
@@ -32,7 +32,7 @@ returns-in-Ok-divide_derived-2-clause-fault g c = λ t begins.
     let file : File = record { lines = found.0; rest = None } in
     let derived = above-derived (length d.types.now) c.args.text.now c.above_fault-above.result.now (row_at c.in-Err.fault) found.0 found.1 found.2 in
     let rows = c.in-Ok-divide_derived-2.ensures.divided true file derived in
-    record { at = c.in-Err.fault; has = c.in-Err.ensures.fault; lines = found.0; above = found.1; rows = rows.rows; read = rows.read; is = c.behind.ensures }
+    record { at = c.in-Err.fault; has = c.in-Err.ensures.fault; lines = found.0; above = found.1; rows = rows.rows; read = rows.read; is = c.strict_behind.ensures }
 
 pub returns-in-Err-divide_derived-2-clause-fault : goal.returns-in-Err-divide_derived-2-clause-fault
 returns-in-Err-divide_derived-2-clause-fault g c = λ t begins.

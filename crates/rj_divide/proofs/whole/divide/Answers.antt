@@ -1,47 +1,39 @@
 use Rattle.std.proofs.Common.{◌≡◌, ◌∙◌, Ok, ap, inr, refl, subst, arith, length, map}
+use Rattle.rj_divide.specs.Divisions.{dividing}
 use Rattle.rj_divide.specs.Readings.{IsDivisionFault}
 use Rattle.rj_divide.proofs.PutFacts.{all-may-fail}
-use Rattle.rj_divide.proofs.UnderwayFacts.{finish, if-some, start}
-use Rattle.rj_csv_io.specs.Typed.{null_texts}
+use Rattle.rj_divide.proofs.UnderwayFacts.{if-some, start}
 use Rattle.rj_divide.proofs.whole.divide.Goals as goal
 
 pub loop-turn-init : goal.loop-turn-init
-loop-turn-init g c =
-    let d = c.args.division.now in
-    record {
-      underway = λ all e.
-          start (null_texts d.nulls.now) d.types.now (g.R.Route.part d.route.now) d.first c.args.is_first all (map g.O.Output.told c.args.outputs.now)
-          (record { bytes = c.new.result; rows = 0; is_first = c.args.is_first }) (g.I.Input.tells c.args.input.now) e c.new.ensures.items refl refl;
-      reads = refl;
-      writes = refl;
-      untouched = λ b begins. (refl, refl, refl);
-    }
+loop-turn-init g c = record {
+  underway = λ text e.
+      start (dividing g.R.Route.part c.args.division.now) c.args.is_first (record { text = text; told = map g.O.Output.told c.args.outputs.now })
+      (record { bytes = c.new.result; rows = 0; is_first = c.args.is_first }) (g.I.Input.tells c.args.input.now) e c.new.ensures.items refl refl;
+  reads = refl;
+  writes = refl;
+  untouched = λ b begins. (refl, refl, refl);
+}
 
 pub divide_next-requires-clause-writes : goal.divide_next-requires-clause-writes
 divide_next-requires-clause-writes g c = all-may-fail g.O.Output.count c.args.outputs.now c.loop-turn.outputs c.loop-turn.invariant.writes c.requires.writes
 
 pub returns-in-Ok-true-clause-divided : goal.returns-in-Ok-true-clause-divided
 returns-in-Ok-true-clause-divided g c =
-    let d = c.args.division.now in
-    let end = c.in-Ok-true.ensures.end (ap Ok c.in-Ok-true.field-0-test) in
-    if-some (g.I.Input.tells c.args.input.now) _ (λ all e.
-    finish (null_texts d.nulls.now) d.types.now (g.R.Route.part d.route.now) d.first c.args.is_first all (map g.O.Output.told c.args.outputs.now)
-    c.divide_next.new.rest (g.I.Input.tells c.divide_next.new.input) (map g.O.Output.told c.divide_next.new.outputs) _
-    (c.in-Ok-true.ensures.divided c.args.is_first all (map g.O.Output.told c.args.outputs.now) c.loop-turn._turn (c.loop-turn.invariant.underway all e)) end.0 end.1)
+    if-some (g.I.Input.tells c.args.input.now) _ (λ text e.
+    c.in-Ok-true.ensures.last (ap Ok c.in-Ok-true.field-0-test) c.args.is_first (record { text = text; told = map g.O.Output.told c.args.outputs.now }) c.loop-turn._turn (c.loop-turn.invariant.underway text e))
 
 pub returns-in-Err-clause-fault : goal.returns-in-Err-clause-fault
 returns-in-Err-clause-fault g c = λ t b.
-    let d = c.args.division.now in
     let same : length c.loop-turn.outputs ≡ length c.args.outputs.now = omega (arith, c.loop-turn.auto.outputs) in
-    if-some (g.I.Input.tells c.args.input.now) _ (λ all e.
-    subst (λ k. IsDivisionFault (null_texts d.nulls.now) d.types.now c.args.block c.args.is_first all k c.in-Err.e) same
-    (c.in-Err.ensures.fault t c.args.is_first all (map g.O.Output.told c.args.outputs.now) c.loop-turn._turn b (c.loop-turn.invariant.underway all e)))
+    if-some (g.I.Input.tells c.args.input.now) _ (λ text e.
+    subst (λ k. IsDivisionFault (dividing g.R.Route.part c.args.division.now) c.args.block c.args.is_first text k c.in-Err.e) same
+    (c.in-Err.ensures.fault t c.args.is_first (record { text = text; told = map g.O.Output.told c.args.outputs.now }) c.loop-turn._turn b (c.loop-turn.invariant.underway text e)))
 
 pub loop-turn-preserved : goal.loop-turn-preserved
 loop-turn-preserved g c = record {
-  underway = λ all e.
-      rw c.in-Ok-false.field-0-test at
-      (c.in-Ok-false.ensures.divided c.args.is_first all (map g.O.Output.told c.args.outputs.now) c.loop-turn._turn (c.loop-turn.invariant.underway all e));
+  underway = λ text e.
+      c.in-Ok-false.ensures.more (ap Ok c.in-Ok-false.field-0-test) c.args.is_first (record { text = text; told = map g.O.Output.told c.args.outputs.now }) c.loop-turn._turn (c.loop-turn.invariant.underway text e);
   reads = c.in-Ok-false.ensures.reads ∙ c.loop-turn.invariant.reads;
   writes = c.in-Ok-false.ensures.writes ∙ c.loop-turn.invariant.writes;
   untouched = λ b begins. let made = c.in-Ok-false.ensures.begins.1 in absurd (cc);
@@ -49,7 +41,7 @@ loop-turn-preserved g c = record {
 
 pub returns-clause-fault : goal.returns-clause-fault
 returns-clause-fault g c = λ t b.
-    if-some (g.I.Input.tells c.args.input.now) _ (λ all e. inr (inr (omega (arith, (c.loop-turn.invariant.underway all e).shorter, c.loop-turn-test.false))))
+    if-some (g.I.Input.tells c.args.input.now) _ (λ text e. inr (inr (omega (arith, (c.loop-turn.invariant.underway text e).front.shorter, c.loop-turn-test.false))))
 
 pub returns-in-Ok-true-clause-untouched : goal.returns-in-Ok-true-clause-untouched
 returns-in-Ok-true-clause-untouched g c = λ b begins. let made = c.in-Ok-true.ensures.begins.1 in absurd (cc)
