@@ -17,7 +17,8 @@ behind_header false records = records
 -- whatever records follow these, the records of rows are those among these and those among what follows, which has the
 -- header where this flag says so
 abbrev pub SplitsAs : Bool → List (List (List ℕ)) → Bool → Type 0
-SplitsAs is_first records ahead = (more : List (List (List ℕ))) → behind_header is_first (records ++ more) ≡ behind_header is_first records ++ behind_header ahead more
+SplitsAs is_first records ahead = (more : List (List (List ℕ)))
+    → behind_header is_first (records ++ more) ≡ behind_header is_first records ++ behind_header ahead more
 
 -- what a division begins with: the text that the device tells, and what each output told
 pub record Beginning : Type 0 where
