@@ -1,5 +1,5 @@
 -- The merge of inputs whose rows stand in no other input.
-use Rattle.std.proofs.Common.{◌≡◌, ℕ, zero, suc, ◌<◌, ◌≤◌, Bool, true, false, List, [], ◌∷◌, ◌++◌, map, Option, None, Some, All, refl, sym, ap, subst, ◌∙◌, arith}
+use Rattle.std.proofs.Common.{◌≡◌, ◌≤◌, Bool, true, false, List, [], ◌∷◌, ◌++◌, map, Option, None, Some, All, refl, sym, ap, subst, ◌∙◌, arith}
 use mathlib.Core.Logic.{⊎_elim}
 use Rattle.std.specs.List.{Contains, IsDistinct, flat_map, remove}
 use Rattle.std.specs.List.Sorted.{IsPermutation}

@@ -1,5 +1,5 @@
 -- What a head that is put among heads, or taken from them, does to what they still have.
-use Rattle.std.proofs.Common.{◌≡◌, List, [], ◌∷◌, ◌++◌, Option, Some, refl, sym, ap, subst, ◌∙◌, append-nil, append_assoc, arith, IsPermutation, All}
+use Rattle.std.proofs.Common.{◌≡◌, List, [], ◌∷◌, ◌++◌, Option, None, Some, refl, sym, ap, subst, ◌∙◌, append-nil, append_assoc, arith, IsPermutation, All}
 use Rattle.std.specs.List.{Contains, flat_map}
 use Rattle.std.specs.Option.{option_to_list}
 use Rattle.std.proofs.lemmas.List.Sorted.{All-permutation, Contains-permutation, IsPermutation-append_right, IsPermutation-cons, IsPermutation-sym, IsPermutation-trans}
@@ -8,12 +8,15 @@ use Rattle.std.proofs.lemmas.List.Concat.{flat_map-append}
 use Rattle.std.proofs.lemmas.List.Folds.{flat_map-map}
 use Rattle.rj_merge.specs.declared.copies.Copies.{Copies}
 use Rattle.rj_merge.specs.declared.head.Head.{Head}
+use Rattle.rj_merge.specs.declared.place.Place.{Place}
 use Rattle.rj_merge.specs.declared.place.Placed.{Placed}
 use Rattle.rj_merge.specs.declared.refused.MergeRefused.{MergeRefused}
 use Rattle.rj_merge.specs.Copies.{Copied, copied, copied_rows, copy_of}
 use Rattle.rj_merge.specs.Merging.{faults_of_heads, lists_of_inputs, rows_of_heads, rows_of_inputs}
 use Rattle.rj_merge.specs.Sources.{Reading}
+use Rattle.rj_merge.specs.Steps.{IsStep, stage_of}
 use Rattle.rj_merge.proofs.Moved.{flat_moved}
+use Rattle.rj_merge.proofs.PassFacts.{pass_none}
 
 module _ {T S : Type 0} (P : Head T S → Type 0) (heads rest : List (Head T S)) (head : Head T S) where
   pub holds_put : IsPermutation (head ∷ rest) heads → P head → All P rest → All P heads
@@ -58,11 +61,11 @@ module _ {T S : Type 0} (copies : S → Copies) (reading : S → Reading T) (hea
       (flat_moved faults_of_one heads (head ∷ rest) p) q
 
   -- a head taken from the heap, with the others
-  pub rows_popped : IsPermutation heads (head ∷ rest) → IsPermutation (rows_of_heads copies reading heads) (rows_of_heads copies reading (head ∷ rest))
-  rows_popped p = flat_moved rows_of_one heads (head ∷ rest) p
-
-  pub faults_popped : IsPermutation heads (head ∷ rest) → IsPermutation (faults_of_heads reading heads) (faults_of_heads reading (head ∷ rest))
-  faults_popped p = flat_moved faults_of_one heads (head ∷ rest) p
+  pub step_popped : (passed : Option Place) → IsPermutation heads (head ∷ rest) → IsStep (stage_of copies reading passed heads) None (stage_of copies reading passed (head ∷ rest))
+  step_popped passed p = record {
+    rows = pass_none passed (rows_of_heads copies reading heads) (rows_of_heads copies reading (head ∷ rest)) (flat_moved rows_of_one heads (head ∷ rest) p);
+    faults = flat_moved faults_of_one heads (head ∷ rest) p;
+  }
 
   first_of : {X : Type 0} (x : X) (xs : List X) → Contains (x ∷ xs) x
   first_of x xs = (0, omega arith, refl)

@@ -5,6 +5,7 @@ pub mod CopyFacts
 pub mod PassFacts
 pub mod TakenFacts
 pub mod WholeFacts
+pub mod StepFacts
 pub mod CopyLaws
 pub mod TextFacts
 pub mod NumberFacts

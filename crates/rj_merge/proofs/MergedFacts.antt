@@ -1,7 +1,6 @@
 -- The merge of texts, by what the inputs give.
-use Rattle.std.proofs.Common.{◌≡◌, ◌⊎◌, ◌∙◌, ℕ, List, [], ◌∷◌, ◌++◌, map, Some, refl, sym, ap, subst, inl, inr}
-use mathlib.Core.Logic.{⊎_elim}
-use Rattle.std.specs.List.{Contains, zip}
+use Rattle.std.proofs.Common.{◌≡◌, ◌∙◌, ℕ, List, [], ◌∷◌, ◌++◌, map, Some, refl, sym, ap, subst}
+use Rattle.std.specs.List.{zip}
 use Rattle.std.specs.Option.{option_to_list}
 use mathlib.Core.List.{map-map}
 use Rattle.std.proofs.lemmas.List.Folds.{flat_map-map}
@@ -9,15 +8,13 @@ use Rattle.rj_csv_io.specs.Shown.{rows_text}
 use Rattle.rj_merge.specs.declared.columns.Columns.{Columns}
 use Rattle.rj_merge.specs.declared.copies.Copies.{Copies}
 use Rattle.rj_merge.specs.declared.options.MergeOptions.{MergeOptions}
-use Rattle.rj_merge.specs.declared.place.Place.{Place}
 use Rattle.rj_merge.specs.declared.place.Placed.{Placed}
 use Rattle.rj_merge.specs.declared.refused.MergeRefused.{MergeRefused}
-use Rattle.rj_merge.specs.declared.refused.MergeRefused.TheVariants as refused
-use Rattle.rj_merge.specs.Copies.{StandsTooOften, copied_rows}
+use Rattle.rj_merge.specs.Copies.{copied_rows}
 use Rattle.rj_merge.specs.Headers.{place_columns}
 use Rattle.rj_merge.specs.Inputs.{faults_of_readings, first_header, readings}
 use Rattle.rj_merge.specs.MergedTexts.{HaveNoFault, IsFaultOfTexts, IsMergedText, head_rows, lists_of_texts, records_text}
-use Rattle.rj_merge.specs.Merging.{faults_of_inputs, lists_of_inputs}
+use Rattle.rj_merge.specs.Merging.{IsFaultOf, faults_of_inputs, lists_of_inputs}
 use Rattle.rj_merge.specs.Sources.{Reading}
 use Rattle.rj_merge.specs.Texts.{others}
 use Rattle.rj_merge.specs.Wholes.{IsMergeOf}
@@ -53,10 +50,7 @@ module _ {S : Type 0} (has : S → Copies) (gives : S → Reading (List (List �
   pub faultless : faults_of_inputs gives sources ≡ [] → HaveNoFault how texts
   faultless none = faults_given ∙ none
 
-  pub fault_of_texts : (e : MergeRefused)
-      → Contains (faults_of_inputs gives sources) e
-      ⊎ ((place : Place) × (e ≡ refused.RepeatedPlace place) × StandsTooOften (copied_rows (lists_of_inputs has gives sources)) place) → IsFaultOfTexts how copies texts e
-  fault_of_texts e fault = ⊎_elim
-      (λ f. inl (subst (λ l. Contains l e) (sym faults_given) f))
-      (λ r. inr (r.0, r.1, subst (λ l. StandsTooOften (copied_rows l) r.0) (sym lists_given) r.2))
-      fault
+  pub fault_of_texts : (e : MergeRefused) → IsFaultOf (copied_rows (lists_of_inputs has gives sources)) (faults_of_inputs gives sources) e → IsFaultOfTexts how copies texts e
+  fault_of_texts e fault =
+      subst (λ l. IsFaultOf (copied_rows (lists_of_texts how copies texts)) l e) (sym faults_given)
+      (subst (λ l. IsFaultOf (copied_rows l) (faults_of_inputs gives sources) e) (sym lists_given) fault)

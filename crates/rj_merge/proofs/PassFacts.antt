@@ -1,20 +1,20 @@
 -- What a merge has passed: of rows up to a place, and then of those up to a later one.
-use Rattle.std.proofs.Common.{◌≡◌, Bool, true, false, List, [], ◌∷◌, ◌++◌, Option, None, Some, All, refl, sym, ap, subst, ◌∙◌, append_assoc, append-nil, arith}
+use Rattle.std.proofs.Common.{◌≡◌, Bool, true, false, List, [], ◌++◌, Option, None, Some, refl, sym, ap, subst, ◌∙◌, append_assoc, append-nil, arith}
 use Rattle.std.specs.Cmp.{tied_itself}
 use Rattle.std.specs.List.Sorted.{IsPermutation}
 use Rattle.std.specs.Ordering.{is_eq, is_lt, ordering_reverse}
 use Rattle.std.specs.declared.cmp.Ordering.{Ordering}
 use Rattle.std.specs.declared.cmp.Ordering.TheVariants.{Less, Equal, Greater}
 use Rattle.std.proofs.lemmas.Bool.{false≢true}
-use Rattle.std.proofs.lemmas.List.Elements.{All-append, All-cons, All-contains, All-nil, All-push, All-weaker, Contains-append_right}
+use Rattle.std.proofs.lemmas.List.Elements.{All-append, All-contains, All-nil, All-weaker, Contains-append_right}
 use Rattle.std.proofs.lemmas.List.Sorted.{IsPermutation-append_right, IsPermutation-sym, IsPermutation-trans}
 use Rattle.rj_merge.specs.declared.place.Place.{Place}
 use Rattle.rj_merge.specs.declared.place.Placed.{Placed}
 use Rattle.rj_merge.specs.Copies.{Copied, StandsTooOften}
 use Rattle.rj_merge.specs.Merging.{IsPassed, Passes}
 use Rattle.rj_merge.specs.Places.{IsAbove, place_order, place_total}
-use Rattle.rj_merge.specs.Wholes.{IsMergeOf, RisesFrom}
-use Rattle.rj_merge.proofs.CopyFacts.{All-of, merge_both, merge_moved, merge_none, often_moved, rises_both, times_append}
+use Rattle.rj_merge.specs.Wholes.{IsMergeOf}
+use Rattle.rj_merge.proofs.CopyFacts.{merge_both, merge_moved, merge_none, often_moved, times_append}
 use Rattle.rj_merge.proofs.PlaceFacts.{is_less, same_place}
 
 pub not_itself : (place : Place) → place_order place place ≡ Less → ⊥
@@ -31,9 +31,6 @@ passed_below (Some b) p q h up = by_order (place_order b p) refl
     by_order Less e = absurd (false≢true (sym h ∙ ap is_lt e))
     by_order Equal e = subst (λ r. place_order r q ≡ Less) (same_place b p (ap is_eq e)) up
     by_order Greater e = place_total.trans p b q (place_total.antisymm p b ∙ ap ordering_reverse e) up
-
-pub passed_if_below : (p q : Place) → place_order p q ≡ Less → IsPassed (Some q) p
-passed_if_below p q h = ap is_lt (place_total.antisymm q p ∙ ap ordering_reverse h)
 
 pub passed_if_same : (p q : Place) → p ≡ q → IsPassed (Some q) p
 passed_if_same p q e = subst (λ r. is_lt (place_order r p) ≡ false) e (ap is_lt (tied_itself place_total p))
@@ -53,29 +50,6 @@ above_on None place up q h = tt
 above_on (Some before) place up q h = place_total.trans before place q up h
 
 module _ {T : Type 0} where
-  -- ---- rows that rise
-
-  -- rows that rise, up to a place at most
-  pub record RisesUpTo (passed : Option Place) (rows : List (Placed T)) : Type 0 where
-    pub rises : RisesFrom None rows
-    pub within : All (λ row. IsPassed passed row.place) rows
-
-  pub rises_none : RisesUpTo None []
-  rises_none = record { rises = tt; within = All-nil (λ (row : Placed T). IsPassed None row.place) }
-
-  -- one more row behind
-  pub rises_more : (passed : Option Place) (rows : List (Placed T)) (row : Placed T) → RisesUpTo passed rows → IsAbove passed row.place → RisesUpTo (Some row.place) (rows ++ row ∷ [])
-  rises_more passed rows row h up = record {
-    rises = rises_both None rows (row ∷ []) h.rises (tt, tt) (All-of (λ (m : Placed T). IsAbove None m.place) (row ∷ []) (λ m there. tt))
-        (All-weaker (λ (r : Placed T). IsPassed passed r.place) (λ r. All (λ (m : Placed T). place_order r.place m.place ≡ Less) (row ∷ []))
-        (λ r low. All-cons (λ (m : Placed T). place_order r.place m.place ≡ Less) row [] (passed_below passed r.place row.place low up)
-        (All-nil (λ (m : Placed T). place_order r.place m.place ≡ Less))) rows h.within);
-    within = All-push (λ (r : Placed T). IsPassed (Some row.place) r.place) rows row
-        (All-weaker (λ (r : Placed T). IsPassed passed r.place) (λ (r : Placed T). IsPassed (Some row.place) r.place)
-        (λ r low. passed_if_below r.place row.place (passed_below passed r.place row.place low up)) rows h.within)
-        (passed_if_same row.place row.place refl);
-  }
-
   -- ---- what is passed
 
   -- nothing is passed
@@ -109,10 +83,6 @@ module _ {T : Type 0} where
         (All-contains (λ (x : Copied T). IsPassed b x.row.place) p.taken d p.passed low)
         (All-contains (λ (x : Copied T). IsAbove b x.row.place) q.taken e q.above high)) rows more p.merge q.merge;
   }
-
-  -- of the rows that are left, in another order, more is passed
-  pub pass_on : (a b c : Option Place) (old mid turned new : List (Copied T)) (more : List (Placed T)) → Passes a b old mid [] → IsPermutation mid turned → Passes b c turned new more → Passes a c old new more
-  pass_on a b c old mid turned new more p q r = pass_more a b c old mid new [] more p (pass_more b b c mid turned new [] more (pass_none b mid turned q) r)
 
   -- the end is passed without a row
   pub pass_end : (a b c : Option Place) (old mid new : List (Copied T)) (rows : List (Placed T)) → Passes a b old mid rows → Passes b c mid new [] → Passes a c old new rows

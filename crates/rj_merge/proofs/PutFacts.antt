@@ -1,10 +1,7 @@
 -- The rows of a merge that were put on an output so far.
-use Rattle.std.proofs.Common.{◌≡◌, ℕ, List, [], ◌∷◌, ◌++◌, Option, None, All, Vec, Box, Global, Result, Err, refl, sym, ap, subst, ◌∙◌, append-nil, inl, inr, ◌⊎◌, IsPermutation}
-use mathlib.Core.Logic.{⊎_elim}
+use Rattle.std.proofs.Common.{◌≡◌, ℕ, List, [], ◌∷◌, ◌++◌, Option, None, Some, All, Vec, Box, Global, Result, Err, refl, sym, ap, subst, ◌∙◌, append-nil, IsPermutation}
 use Rattle.std.specs.Prelude.{◌≢◌, false, IfErr}
 use Rattle.std.proofs.lemmas.Bool.{false≢true}
-use Rattle.std.specs.List.{Contains}
-use Rattle.std.proofs.lemmas.List.Sorted.{Contains-permutation, IsPermutation-sym, IsPermutation-trans}
 use Rattle.csv.specs.declared.writer.Writer.{Writer}
 use Rattle.csv.specs.Writing.{default_writer, row_text}
 use Rattle.rj_csv_io.specs.Written.{HasWritten}
@@ -17,14 +14,11 @@ use Rattle.rj_merge.specs.declared.refused.MergeRefused.{MergeRefused}
 use Rattle.rj_merge.specs.declared.refused.MergeRefused.TheVariants as refused
 use Rattle.rj_merge.specs.declared.refused.MergeTextsRefused.{MergeTextsRefused}
 use Rattle.rj_merge.specs.declared.refused.MergeTextsRefused.TheVariants as texts_refused
-use Rattle.rj_merge.specs.Copies.{Copied, StandsTooOften, copied_rows}
 use Rattle.rj_merge.specs.MergedTexts.{IsTold, records_text}
-use Rattle.rj_merge.specs.Merging.{AllTell, IsFaultOf, Passes, faults_of_heads, faults_of_inputs, lists_of_inputs, rows_of_heads, rows_of_inputs}
+use Rattle.rj_merge.specs.Merging.{AllTell, faults_of_heads, faults_of_inputs, rows_of_heads, rows_of_inputs}
 use Rattle.rj_merge.specs.Sources.{Reading, is_outside}
-use Rattle.rj_merge.specs.Wholes.{IsMergeOf}
-use Rattle.rj_merge.proofs.HeadFacts.{rows_listed}
-use Rattle.rj_merge.proofs.PassFacts.{pass_all, pass_end, pass_more, pass_often, pass_start}
-use Rattle.rj_merge.proofs.WholeFacts.{none_given}
+use Rattle.rj_merge.specs.Steps.{GaveAll, GaveSoFar, IsStep, stage_of}
+use Rattle.rj_merge.proofs.StepFacts.{gave_more}
 use Rattle.rj_merge.proofs.WrittenFacts.{no_records, records-more, told-none}
 
 -- beside a failed output memory alone is refused, which is no fault of a text
@@ -46,27 +40,19 @@ pub record HasPut {S : Type 0} (telling : S → Type 0) (own : S → Copies) (gi
     (start : Option (List ℕ)) (begun block : Writer (Vec ℕ Global)) (told : Option (List ℕ)) : Type 0 where
   pub rows : List (Placed (List (List ℕ)))
   pub tells : All telling sources → AllTell telling heads
-  pub all : All telling sources → Passes None passed (rows_of_inputs own gives sources) (rows_of_heads own gives heads) rows
-  pub faults : All telling sources → IsPermutation (faults_of_inputs gives sources) (faults_of_heads gives heads)
+  pub gave : All telling sources → GaveSoFar own gives sources rows (stage_of own gives passed heads)
   pub shown : (text : List ℕ) → HasWritten begun text [] → IsTold start (text ++ records_text rows) block told
 
 module _ {S : Type 0} (telling : S → Type 0) (own : S → Copies) (gives : S → Reading (List (List ℕ))) (sources : List S) (start : Option (List ℕ)) (begun : Writer (Vec ℕ Global)) where
-  abbrev whole : List (Copied (List (List ℕ)))
-  whole = rows_of_inputs own gives sources
-
-  abbrev left_of : List (Head (List (List ℕ)) S) → List (Copied (List (List ℕ)))
-  left_of heads = rows_of_heads own gives heads
-
   -- no row was put
   pub put-none : (passed : Option Place) (heads : List (Head (List (List ℕ)) S)) → passed ≡ None → (All telling sources → AllTell telling heads)
-      → (All telling sources → IsPermutation whole (left_of heads))
+      → (All telling sources → IsPermutation (rows_of_inputs own gives sources) (rows_of_heads own gives heads))
       → (All telling sources → IsPermutation (faults_of_inputs gives sources) (faults_of_heads gives heads))
       → HasPut telling own gives sources passed heads start begun begun start
   put-none passed heads none tells all faults = record {
     rows = [];
     tells = tells;
-    all = λ t. pass_start passed whole (left_of heads) [] none refl (all t);
-    faults = faults;
+    gave = λ t. record { opened = stage_of own gives passed heads; passed = none; all = all t; faults = faults t; steps = refl };
     shown = λ text h. told-none start (text ++ records_text []) begun (subst (λ t. HasWritten begun t []) (sym (ap (λ t. text ++ t) no_records ∙ append-nil text)) h);
   }
 
@@ -74,42 +60,18 @@ module _ {S : Type 0} (telling : S → Type 0) (own : S → Copies) (gives : S �
     -- a row more
     pub put-more : (next : Option Place) (row : Placed (List (List ℕ))) (left : List (Head (List (List ℕ)) S)) (new : Writer (Vec ℕ Global)) (tells : Option (List ℕ))
         → (AllTell telling heads → AllTell telling left)
-        → (AllTell telling heads → Passes passed next (left_of heads) (left_of left) (row ∷ []))
-        → (AllTell telling heads → IsPermutation (faults_of_heads gives heads) (faults_of_heads gives left))
+        → (AllTell telling heads → IsStep (stage_of own gives passed heads) (Some row) (stage_of own gives next left))
         → ((text : List ℕ) → IsTold start text block told → IsTold start (text ++ row_text default_writer row.row) new tells)
         → HasPut telling own gives sources next left start begun new tells
-    put-more next row left new tells keeps taken same write = record {
+    put-more next row left new tells keeps step write = record {
       rows = h.rows ++ row ∷ [];
       tells = λ all. keeps (h.tells all);
-      all = λ all. pass_more None passed next whole (left_of heads) (left_of left) h.rows (row ∷ []) (h.all all) (taken (h.tells all));
-      faults = λ all.
-          IsPermutation-trans (faults_of_inputs gives sources) (faults_of_heads gives heads) (faults_of_heads gives left) (h.faults all) (same (h.tells all));
+      gave = λ all. gave_more own gives sources h.rows (stage_of own gives passed heads) (stage_of own gives next left) row (h.gave all) (step (h.tells all));
       shown = λ text w. subst (λ t. IsTold start t new tells) (records-more text h.rows row) (write (text ++ records_text h.rows) (h.shown text w));
     }
 
     -- no row is left
-    pub put-all : (last : Option Place) (left : List (Head (List (List ℕ)) S)) → (AllTell telling heads → Passes passed last (left_of heads) (left_of left) []) → left_of left ≡ []
-        → All telling sources → IsMergeOf (copied_rows (lists_of_inputs own gives sources)) h.rows
-    put-all last left taken none all =
-        subst (λ l. IsMergeOf l h.rows) (sym (rows_listed own gives sources))
-        (pass_all None last whole (left_of left) h.rows (pass_end None passed last whole (left_of heads) (left_of left) h.rows (h.all all) (taken (h.tells all))) none)
-
-    pub put-faultless : (left : List (Head (List (List ℕ)) S))
-        → (AllTell telling heads → IsPermutation (faults_of_heads gives heads) (faults_of_heads gives left)) → faults_of_heads gives left ≡ []
-        → All telling sources → faults_of_inputs gives sources ≡ []
-    put-faultless left same none all =
-        let faults = faults_of_inputs gives sources in
-        let later = faults_of_heads gives left in
-        none_given faults later (IsPermutation-trans faults (faults_of_heads gives heads) later (h.faults all) (same (h.tells all))) none
-
-    -- a fault of what is left
-    pub put-fault : (e : MergeRefused) → IsFaultOf (left_of heads) (faults_of_heads gives heads) e → All telling sources
-        → Contains (faults_of_inputs gives sources) e
-        ⊎ ((place : Place) × (e ≡ refused.RepeatedPlace place) × StandsTooOften (copied_rows (lists_of_inputs own gives sources)) place)
-    put-fault e fault all =
-        let faults = faults_of_inputs gives sources in
-        let later = faults_of_heads gives heads in
-        ⊎_elim
-        (λ f. inl (Contains-permutation later faults e (IsPermutation-sym faults later (h.faults all)) f))
-        (λ r. inr (r.0, r.1, subst (λ l. StandsTooOften l r.0) (sym (rows_listed own gives sources)) (pass_often None passed whole (left_of heads) h.rows (h.all all) r.0 r.2)))
-        fault
+    pub put-all : (last : Option Place) (left : List (Head (List (List ℕ)) S)) → (AllTell telling heads → IsStep (stage_of own gives passed heads) None (stage_of own gives last left))
+        → rows_of_heads own gives left ≡ [] → faults_of_heads gives left ≡ [] → All telling sources → GaveAll own gives sources h.rows
+    put-all last left step no_rows no_faults all =
+        record { last = stage_of own gives passed heads; end = stage_of own gives last left; gave = h.gave all; none = step (h.tells all); no_rows = no_rows; no_faults = no_faults }

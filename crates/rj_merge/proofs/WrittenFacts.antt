@@ -1,16 +1,14 @@
 -- What a writer of records, and an output behind it, got by one more record.
-use Rattle.std.proofs.Common.{◌≡◌, ◌≢◌, ◌∙◌, ℕ, List, [], ◌∷◌, ◌++◌, map, Option, Some, None, Bool, true, false, Result, Ok, Err, refl, sym, ap, subst, append_assoc, Vec, Global}
-use Rattle.std.specs.Prelude.{OnOk, not, ◌&&◌}
+use Rattle.std.proofs.Common.{◌≡◌, ◌∙◌, ℕ, List, [], ◌∷◌, ◌++◌, map, Option, Some, None, true, false, Result, Ok, Err, refl, sym, ap, subst, append_assoc, Vec, Global}
+use Rattle.std.specs.Prelude.{OnOk}
 use Rattle.std.specs.Option.{is_some}
 use Rattle.std.specs.Result.{is_ok}
 use Rattle.std.specs.Io.KnownBytes.{Appends}
 use Rattle.std.proofs.KnownBytes.{Appends-nil}
 use Rattle.std.proofs.lemmas.Bool.{false≢true}
 use Rattle.std.proofs.lemmas.List.{append-nil, map-append}
-use Rattle.csv.specs.declared.writer.QuoteStyle.TheVariants as style
 use Rattle.csv.specs.declared.writer.Writer.{Writer}
-use Rattle.csv.specs.declared.writer.WriterBuilder.{WriterBuilder}
-use Rattle.csv.specs.Writing.{default_writer, row_text, is_blank, text_written, writer_setup, fields_written, has_written}
+use Rattle.csv.specs.Writing.{default_writer, row_text}
 use Rattle.rj_csv_io.specs.Shown.{rows_text}
 use Rattle.rj_csv_io.specs.Written.{HasWritten}
 use Rattle.rj_merge.specs.declared.place.Place.{Place}

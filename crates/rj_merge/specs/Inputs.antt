@@ -27,6 +27,10 @@ told_by known i = known i.reader
 abbrev pub TellTexts : {R : Type 0} → (R → Option (List ℕ)) → List (MergeInput R) → List (List ℕ) → Type 0
 TellTexts known inputs texts = map (told_by known) inputs ≡ map Some texts
 
+-- this holds of the texts that the readers of inputs tell
+abbrev pub ForTexts : {R : Type 0} → (R → Option (List ℕ)) → List (MergeInput R) → (List (List ℕ) → Type 0) → Type 0
+ForTexts known inputs holds = (texts : List (List ℕ)) → TellTexts known inputs texts → holds texts
+
 -- the copies of inputs, and of those whose headers were read
 abbrev pub copies_of : {R : Type 0} → List (MergeInput R) → List Copies
 copies_of inputs = map (λ i. i.copies) inputs

@@ -3,6 +3,7 @@ pub mod Sources
 pub mod Copies
 pub mod Wholes
 pub mod Merging
+pub mod Steps
 pub mod Ranges
 pub mod Texts
 pub mod Headers

@@ -1,5 +1,5 @@
 -- The merge of texts, as a text, and what stands in the way of it.
-use Rattle.std.specs.Prelude.{◌≡◌, ◌⊎◌, ℕ, List, [], ◌∷◌, ◌++◌, map, Option, None, Some, Contains}
+use Rattle.std.specs.Prelude.{◌≡◌, false, ℕ, List, [], ◌∷◌, ◌++◌, map, Option, None, Some, Result, Err}
 use Rattle.std.specs.List.{zip}
 use Rattle.std.specs.Io.KnownBytes.{Appends}
 use Rattle.std.specs.declared.alloc.Global.{Global}
@@ -13,11 +13,14 @@ use Rattle.rj_merge.specs.declared.options.MergeOptions.{MergeOptions}
 use Rattle.rj_merge.specs.declared.place.Place.{Place}
 use Rattle.rj_merge.specs.declared.place.Placed.{Placed}
 use Rattle.rj_merge.specs.declared.refused.MergeRefused.{MergeRefused}
-use Rattle.rj_merge.specs.declared.refused.MergeRefused.TheVariants as refused
-use Rattle.rj_merge.specs.Copies.{StandsTooOften, copied_rows}
+use Rattle.rj_merge.specs.declared.refused.MergeTextsRefused.{MergeTextsRefused}
+use Rattle.rj_merge.specs.declared.refused.MergeTextsRefused.TheVariants as texts_refused
+use Rattle.rj_merge.specs.Copies.{copied_rows}
 use Rattle.rj_merge.specs.Headers.{place_columns}
-use Rattle.rj_merge.specs.Inputs.{faults_of_readings, first_header, readings}
+use Rattle.rj_merge.specs.Inputs.{faults_of_readings, first_header, header_fault, readings}
+use Rattle.rj_merge.specs.Merging.{IsFaultOf}
 use Rattle.rj_merge.specs.Ranges.{between}
+use Rattle.rj_merge.specs.Sources.{is_outside}
 use Rattle.rj_merge.specs.Texts.{others}
 use Rattle.rj_merge.specs.Wholes.{IsMergeOf}
 
@@ -57,9 +60,23 @@ HaveNoFault how texts = faults_of_readings (readings how texts) ≡ []
 
 -- a fault of one of the texts, or that a place stands too often among their rows
 abbrev pub IsFaultOfTexts : MergeOptions → List Copies → List (List ℕ) → MergeRefused → Type 0
-IsFaultOfTexts how copies texts e =
-    Contains (faults_of_readings (readings how texts)) e
-    ⊎ ((place : Place) × (e ≡ refused.RepeatedPlace place) × StandsTooOften (copied_rows (lists_of_texts how copies texts)) place)
+IsFaultOfTexts how copies texts e = IsFaultOf (copied_rows (lists_of_texts how copies texts)) (faults_of_readings (readings how texts)) e
+
+-- an output got the merge of texts with these copies
+pub record GotMerge (how : MergeOptions) (copies : List Copies) (texts : List (List ℕ)) (old new : Option (List ℕ)) : Type 0 where
+  pub text : List ℕ
+  pub merge : IsMergedText how copies texts text
+  pub got : Appends old new text
+
+-- a call is refused by this fault, which isn't one of the machine
+pub record IsRefusedBy {T : Type 0} (result : Result T MergeTextsRefused) (e : MergeRefused) : Type 0 where
+  pub is : result ≡ Err (texts_refused.Merge e)
+  pub inside : is_outside e ≡ false
+
+-- where a header of texts has a fault, the first such fault refuses a call, or the machine does before
+abbrev pub HeedsHeaders : {T : Type 0} → Result T MergeTextsRefused → List (List ℕ) → Type 0
+HeedsHeaders result texts =
+    (f : MergeRefused) → header_fault texts ≡ Some f → (e : MergeRefused) × (result ≡ Err (texts_refused.Merge e)) × (is_outside e ≡ false → e ≡ f)
 
 -- an output got all of a text behind what it had, but for the records that still stand in a block
 pub record IsTold (start : Option (List ℕ)) (text : List ℕ) (block : Writer (Vec ℕ Global)) (told : Option (List ℕ)) : Type 0 where

@@ -16,7 +16,7 @@ const RIGHT_PLACE: &[u8] = b"right_place";
 
 /// The header that the inputs of a merge have, and where the places stand under it.
 #[derive(Drop)]
-pub(crate) struct Header {
+pub(crate) struct SharedHeader {
     pub(crate) names: ByteRecord,
     pub(crate) columns: Columns,
 }

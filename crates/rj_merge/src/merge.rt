@@ -9,6 +9,7 @@ ghost use Rattle.rj_merge.specs.Copies.{copied};
 ghost use Rattle.rj_merge.specs.Merging.{AllTell, AreAbove, AreHeads, AreNewest, AreNotBelow, IsFaultOf, Passes, faults_of_heads, faults_of_inputs, head_order, rows_of_heads, rows_of_inputs};
 ghost use Rattle.rj_merge.specs.Places.{IsAbove, IsNotBelow};
 ghost use Rattle.rj_merge.specs.Sources.{is_outside};
+ghost use Rattle.rj_merge.specs.Steps.{IsStep, stage_of};
 
 use crate::head::Head;
 use crate::place::{Place, Placed};
@@ -214,11 +215,9 @@ impl<S: Source> Merge<S> {
         ensures lawful { OnOk result (AreHeads S.last self.new.passed (heap_items self.new.heads)) }
         ensures rises { IfOk result (λ o. IfSome o (λ r. IsAbove self.old.passed r.place × (self.new.passed ≡ Some r.place))) }
         ensures tells { OnOk result (AllTell S.tells (heap_items self.old.heads) → AllTell S.tells (heap_items self.new.heads)) }
-        ensures rows { IfOk result (λ o. AllTell S.tells (heap_items self.old.heads)
-            → Passes self.old.passed self.new.passed (rows_of_heads S.copies S.reading (heap_items self.old.heads))
-            (rows_of_heads S.copies S.reading (heap_items self.new.heads)) (option_to_list o)) }
-        ensures faults { OnOk result (AllTell S.tells (heap_items self.old.heads)
-            → IsPermutation (faults_of_heads S.reading (heap_items self.old.heads)) (faults_of_heads S.reading (heap_items self.new.heads))) }
+        ensures step { IfOk result (λ o. AllTell S.tells (heap_items self.old.heads)
+            → IsStep (stage_of S.copies S.reading self.old.passed (heap_items self.old.heads)) o
+            (stage_of S.copies S.reading self.new.passed (heap_items self.new.heads))) }
         ensures end { result ≡ Ok None
             → (rows_of_heads S.copies S.reading (heap_items self.new.heads) ≡ []) × (faults_of_heads S.reading (heap_items self.new.heads) ≡ []) }
         ensures fault { IfErr result (λ e. is_outside e ≡ false → AllTell S.tells (heap_items self.old.heads)

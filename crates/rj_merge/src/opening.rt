@@ -5,11 +5,11 @@ ghost use Rattle.csv.specs.Records.{fields_of};
 ghost use Rattle.rj_csv_io.specs.Cuts.{records_in};
 ghost use Rattle.rj_csv_io.specs.Remaining.{IsBetween, records_remaining};
 ghost use Rattle.rj_merge.specs.Headers.{place_columns};
-ghost use Rattle.rj_merge.specs.Inputs.{TellTexts, copies_of, faults_of_readings, first_header, first_record, header_fault, header_fault_of, input_reading, input_tells, own_copies, reading_of, readings};
+ghost use Rattle.rj_merge.specs.Inputs.{ForTexts, copies_of, faults_of_readings, first_header, first_record, header_fault, header_fault_of, input_reading, input_tells, own_copies, reading_of, readings};
 ghost use Rattle.rj_merge.specs.Sources.{is_outside};
 
 use crate::copies::MergeInput;
-use crate::header::{Header, are_same, columns_of};
+use crate::header::{SharedHeader, are_same, columns_of};
 use crate::input::{TextSource, next_record};
 use crate::options::MergeOptions;
 use crate::refused::MergeRefused;
@@ -58,7 +58,7 @@ fn begin<R: Read + Drop>(alloc: Global, input: u32, source: R) -> Result<Begun<R
 // An input, and the header that each further one has to have.
 #[derive(Drop)]
 struct First<'n, R: Read + Drop> {
-    header: Header,
+    header: SharedHeader,
     source: TextSource<'n, R>,
 }
 
@@ -91,7 +91,7 @@ fn open_first<'n, R: Read + Drop>(
     let Some(columns) = columns_of(&header) else {
         return Err(MergeRefused::NoPlaces(1));
     };
-    let header = Header {
+    let header = SharedHeader {
         names: header,
         columns,
     };
@@ -104,7 +104,7 @@ fn open_next<'n, R: Read + Drop>(
     alloc: Global,
     input: u32,
     next: MergeInput<R>,
-    first: &Header,
+    first: &SharedHeader,
     how: MergeOptions<'n>,
 ) -> Result<TextSource<'n, R>, MergeRefused>
     requires { place_columns (fields_of first.now.names) ≡ Some first.now.columns }
@@ -135,7 +135,7 @@ fn open_next<'n, R: Read + Drop>(
 /// Inputs whose headers were read, and the header that all of them have.
 #[derive(Drop)]
 pub(crate) struct Opened<'n, R: Read + Drop> {
-    pub(crate) header: Header,
+    pub(crate) header: SharedHeader,
     pub(crate) sources: Vec<TextSource<'n, R>>,
 }
 
@@ -152,18 +152,14 @@ pub(crate) fn open_all<'n, R: Read + Drop>(
     requires some { 0 < vec_len inputs }
     requires count { vec_len inputs < 2 ^ 32 }
     ensures places { IfOk result (λ o. place_columns (fields_of o.header.names) ≡ Some o.header.columns) }
-    ensures header { IfOk result (λ o. (texts : List (List ℕ)) → TellTexts R.remaining inputs.items texts
-        → fields_of o.header.names ≡ first_header texts) }
+    ensures header { IfOk result (λ o. ForTexts R.remaining inputs.items (λ texts. fields_of o.header.names ≡ first_header texts)) }
     ensures copies { IfOk result (λ o. map own_copies o.sources.items ≡ copies_of inputs.items) }
-    ensures tells { IfOk result (λ o. (texts : List (List ℕ)) → TellTexts R.remaining inputs.items texts
-        → All (input_tells R.remaining) o.sources.items) }
-    ensures readings { IfOk result (λ o. (texts : List (List ℕ)) → TellTexts R.remaining inputs.items texts
-        → readings how.entry texts ≡ map (input_reading R.remaining) o.sources.items) }
-    ensures fault { IfErr result (λ e. is_outside e ≡ false → (texts : List (List ℕ)) → TellTexts R.remaining inputs.items texts
-        → Contains (faults_of_readings (readings how.entry texts)) e) }
-    ensures headers { IfOk result (λ _. (texts : List (List ℕ)) → TellTexts R.remaining inputs.items texts → header_fault texts ≡ None) }
-    ensures first { IfErr result (λ e. is_outside e ≡ false → (texts : List (List ℕ)) → TellTexts R.remaining inputs.items texts
-        → header_fault texts ≡ Some e) }
+    ensures tells { IfOk result (λ o. ForTexts R.remaining inputs.items (λ _. All (input_tells R.remaining) o.sources.items)) }
+    ensures readings { IfOk result (λ o. ForTexts R.remaining inputs.items (λ texts. readings how.entry texts ≡ map (input_reading R.remaining) o.sources.items)) }
+    ensures fault { IfErr result (λ e. is_outside e ≡ false
+        → ForTexts R.remaining inputs.items (λ texts. Contains (faults_of_readings (readings how.entry texts)) e)) }
+    ensures headers { IfOk result (λ _. ForTexts R.remaining inputs.items (λ texts. header_fault texts ≡ None)) }
+    ensures first { IfErr result (λ e. is_outside e ≡ false → ForTexts R.remaining inputs.items (λ texts. header_fault texts ≡ Some e)) }
 {
     let mut left = inputs.into_iter();
     let Some(first) = left.next() else {

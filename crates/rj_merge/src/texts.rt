@@ -1,26 +1,24 @@
 //! Texts of placed rows merged into one text.
 
-ghost use Rattle.std.specs.Prelude.{◌≡◌, ◌≢◌, ◌⊎◌, ◌<◌, ◌+◌, ◌-◌, ◌^◌, ◌++◌, [], false, List, ℕ, Some, Err, All, Contains, IfOk, OnOk, map, vec_len};
+ghost use Rattle.std.specs.Prelude.{◌≡◌, ◌≢◌, ◌<◌, ◌+◌, ◌-◌, ◌^◌, ◌++◌, [], List, ℕ, Err, All, IfOk, OnOk, map, vec_len};
 ghost use Rattle.std.specs.Box.{box_value};
 ghost use Rattle.std.specs.Io.KnownBytes.{Appends};
 ghost use Rattle.csv.specs.Records.{fields_of};
 ghost use Rattle.rj_csv_io.specs.Shown.{rows_text};
 ghost use Rattle.rj_csv_io.specs.Written.{HasWritten};
-ghost use Rattle.rj_merge.specs.declared.place.Place.{Place};
 ghost use Rattle.rj_merge.specs.declared.place.Placed.{Placed};
 ghost use Rattle.rj_merge.specs.declared.refused.MergeRefused.{MergeRefused};
-ghost use Rattle.rj_merge.specs.Copies.{StandsTooOften, copied_rows};
-ghost use Rattle.rj_merge.specs.Inputs.{TellTexts, boxed_copies, boxed_reading, boxed_tells, copies_of, header_fault};
-ghost use Rattle.rj_merge.specs.MergedTexts.{HaveNoFault, IsFaultOfTexts, IsMergedText, head_rows, records_text};
-ghost use Rattle.rj_merge.specs.Merging.{faults_of_inputs, lists_of_inputs};
-ghost use Rattle.rj_merge.specs.Sources.{is_outside};
+ghost use Rattle.rj_merge.specs.Copies.{copied_rows};
+ghost use Rattle.rj_merge.specs.Inputs.{ForTexts, boxed_copies, boxed_reading, boxed_tells, copies_of};
+ghost use Rattle.rj_merge.specs.MergedTexts.{GotMerge, HaveNoFault, HeedsHeaders, IsFaultOfTexts, IsRefusedBy, head_rows, records_text};
+ghost use Rattle.rj_merge.specs.Merging.{IsFaultOf, faults_of_inputs, lists_of_inputs};
 ghost use Rattle.rj_merge.specs.Texts.{others};
 ghost use Rattle.rj_merge.specs.Wholes.{IsMergeOf};
 
 use crate::block::{add_row, empty_block, put_block};
 use crate::copies::MergeInput;
 use crate::fields::{Fields, WholeRow};
-use crate::header::Header;
+use crate::header::SharedHeader;
 use crate::input::TextSource;
 use crate::merge::Merge;
 use crate::opening::{Opened, open_all};
@@ -64,9 +62,9 @@ fn put_rows<'n, R: Read + Drop, O: Output>(
         → (rows : List (Placed (List (List ℕ)))) × IsMergeOf (copied_rows (lists_of_inputs boxed_copies (boxed_reading R.remaining) sources.entry.items)) rows
         × Appends (O.told output.old) (O.told output.new) (text ++ records_text rows)) }
     ensures faults { OnOk result (All (boxed_tells R.remaining) sources.entry.items → faults_of_inputs (boxed_reading R.remaining) sources.entry.items ≡ []) }
-    ensures fault { (e : MergeRefused) → result ≡ Err (MergeTextsRefused.Merge e) → is_outside e ≡ false → All (boxed_tells R.remaining) sources.entry.items
-        → Contains (faults_of_inputs (boxed_reading R.remaining) sources.entry.items) e
-        ⊎ ((place : Place) × (e ≡ MergeRefused.RepeatedPlace place) × StandsTooOften (copied_rows (lists_of_inputs boxed_copies (boxed_reading R.remaining) sources.entry.items)) place) }
+    ensures fault { (e : MergeRefused) → IsRefusedBy result e → All (boxed_tells R.remaining) sources.entry.items
+        → IsFaultOf (copied_rows (lists_of_inputs boxed_copies (boxed_reading R.remaining) sources.entry.items))
+        (faults_of_inputs (boxed_reading R.remaining) sources.entry.items) e }
     ensures device { result ≡ Err MergeTextsRefused.WriteDevice → O.count output.new ≡ O.count output.old + 1 }
     ensures kept { result ≢ Err MergeTextsRefused.WriteDevice → O.count output.new ≡ O.count output.old }
 {
@@ -92,7 +90,7 @@ fn put_rows<'n, R: Read + Drop, O: Output>(
 // A block with the header that stands above rows from this place on, if one does.
 fn begin_block(
     alloc: Global,
-    header: Header,
+    header: SharedHeader,
     from: Option<Place>,
 ) -> Result<Writer<Vec<u8>>, AllocError>
     ensures { IfOk result (λ block. HasWritten block (rows_text (head_rows from (others header.columns (fields_of header.names)))) []) }
@@ -101,7 +99,7 @@ fn begin_block(
     if from.is_some() {
         return Ok(block);
     }
-    let Header { names, columns } = header;
+    let SharedHeader { names, columns } = header;
     let whole = WholeRow {
         fields: names,
         columns,
@@ -135,13 +133,12 @@ pub fn merge_texts<R: Read + Drop, O: Output>(
     requires some { 0 < vec_len inputs }
     requires count { vec_len inputs < 2 ^ 32 }
     requires failures { O.count output.old < 2 ^ 64 - 1 }
-    ensures merge { OnOk result ((texts : List (List ℕ)) → TellTexts R.remaining inputs.items texts
-        → (text : List ℕ) × IsMergedText how.entry (copies_of inputs.items) texts text × Appends (O.told output.old) (O.told output.new) text) }
-    ensures faults { OnOk result ((texts : List (List ℕ)) → TellTexts R.remaining inputs.items texts → HaveNoFault how.entry texts) }
-    ensures fault { (e : MergeRefused) → result ≡ Err (MergeTextsRefused.Merge e) → is_outside e ≡ false
-        → (texts : List (List ℕ)) → TellTexts R.remaining inputs.items texts → IsFaultOfTexts how.entry (copies_of inputs.items) texts e }
-    ensures first { (texts : List (List ℕ)) → TellTexts R.remaining inputs.items texts → (f : MergeRefused) → header_fault texts ≡ Some f
-        → (e : MergeRefused) × (result ≡ Err (MergeTextsRefused.Merge e)) × (is_outside e ≡ false → e ≡ f) }
+    ensures merge { OnOk result (ForTexts R.remaining inputs.items
+        (λ texts. GotMerge how.entry (copies_of inputs.items) texts (O.told output.old) (O.told output.new))) }
+    ensures faults { OnOk result (ForTexts R.remaining inputs.items (HaveNoFault how.entry)) }
+    ensures fault { (e : MergeRefused) → IsRefusedBy result e
+        → ForTexts R.remaining inputs.items (λ texts. IsFaultOfTexts how.entry (copies_of inputs.items) texts e) }
+    ensures first { ForTexts R.remaining inputs.items (HeedsHeaders result) }
     ensures device { result ≡ Err MergeTextsRefused.WriteDevice → O.count output.new ≡ O.count output.old + 1 }
     ensures kept { result ≢ Err MergeTextsRefused.WriteDevice → O.count output.new ≡ O.count output.old }
 {

@@ -6,7 +6,7 @@ use Rattle.std.specs.List.Sorted.{IsPermutation}
 use Rattle.std.specs.Ordering.{is_eq}
 use Rattle.std.proofs.lemmas.Bool.{eqb-true}
 use Rattle.std.proofs.lemmas.List.Concat.{flat_map_single}
-use Rattle.std.proofs.lemmas.List.Elements.{All-filter, All-head, All-map, All-nil, All-tail, All-weaker, filter_passes}
+use Rattle.std.proofs.lemmas.List.Elements.{All-filter, All-map, All-nil, All-weaker, filter_passes}
 use Rattle.std.proofs.lemmas.List.Folds.{flat_map-map}
 use Rattle.std.proofs.lemmas.List.Sorted.{IsPermutation-map}
 use Rattle.rj_columns.specs.Contents.{Content}
@@ -280,15 +280,6 @@ uncut_renumbered left right lists = ap (map (λ i. i.1)) (uncut_again left right
 
 pub uncut_renumbered_single : {T : Type 0} (left right : ℕ → ℕ) (lists : List (List (Placed T))) → AreSingle (inputs_renumbered left right (uncut lists))
 uncut_renumbered_single left right lists = subst AreSingle (sym (uncut_again left right lists)) (uncut_single (map (all_renumbered left right) lists))
-
--- what inputs give that all are single
-pub single_lists : {S T : Type 0} (each : S → Copies) (rows : S → List (Placed T)) (sources : List S) → AreSingle (map (λ s. (each s, rows s)) sources)
-    → uncut (map rows sources) ≡ map (λ s. (each s, rows s)) sources
-single_lists each rows [] are = refl
-single_lists each rows (s ∷ sources) are =
-    let first = sym (All-head (λ i. i.0 ≡ single) (each s, rows s) (map (λ s. (each s, rows s)) sources) are) in
-    let rest = single_lists each rows sources (All-tail (λ i. i.0 ≡ single) (each s, rows s) (map (λ s. (each s, rows s)) sources) are) in
-    λ t. (first t, rows s) ∷ rest t
 
 pub cut_of_shards : {T : Type 0} (order : RowOrder) (text : List Content → T) (join : BoundJoin) (l r : TableValue) (lists : List (List (Placed T)))
     → AreShards order text join l r lists → AreCutShards order text join l r (uncut lists)

@@ -5,7 +5,6 @@
 
 mod joins;
 mod laws;
-mod merging;
 mod route;
 mod shards;
 
@@ -15,6 +14,5 @@ pub use laws::{
     renumbered_cut_shards_merge_to_whole, renumbered_shards_merge_to_whole, rows_are_shown,
     shards_merge_to_whole, shards_rise, whole_shards_are_cut,
 };
-pub use merging::merge_shards;
 pub use route::ShardRoute;
 pub use shards::Shards;

@@ -1,11 +1,9 @@
-//! Routes of rows, joins that are not divided, and the merge of two shards.
+//! Routes of rows, and joins that are not divided.
 
-use crate::listed::make_listed;
 use rj_columns::{Cell, ColumnType, Table, TableBuilder};
 use rj_condition::{BoundJoin, Clause, bind, parse, split};
-use rj_merge::Place;
 use rj_radix::{KeyRef, Plain};
-use rj_shards::{Shards, merge_shards, shard_of_row};
+use rj_shards::{Shards, shard_of_row};
 use std::alloc::Global;
 use std::test::Fail;
 
@@ -89,18 +87,5 @@ fn routes_of_rows(rt: HostRuntime) -> Result<(), Fail> {
     assert_eq!(rt; none.len(), 0);
     let some = shards.rows(rt.alloc(), &table, columns.as_slice(), 2, &Plain)?;
     assert_eq!(rt; some.as_slice(), [0, 3].as_slice());
-    Ok(())
-}
-
-#[test]
-fn two_shards_merged(rt: HostRuntime) -> Result<(), Fail> {
-    let first = [(Place::Pair(1, 7), 1), (Place::LoneRight(0), 4)];
-    let second = [(Place::Pair(1, 8), 2), (Place::LoneLeft(0), 3)];
-    let mut inputs = Vec::new(rt.alloc());
-    inputs.push(make_listed(rt.alloc(), first.as_slice())?)?;
-    inputs.push(make_listed(rt.alloc(), second.as_slice())?)?;
-    let merged = merge_shards(rt.alloc(), inputs)?;
-    let rows: Vec<u32> = merged.iter().map(|placed| placed.row).collect(rt.alloc())?;
-    assert_eq!(rt; rows.as_slice(), [1, 2, 3, 4].as_slice());
     Ok(())
 }

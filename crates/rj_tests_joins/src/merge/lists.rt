@@ -5,7 +5,7 @@ ghost use Rattle.std.specs.BinaryHeap.{heap_items};
 ghost use Rattle.rj_merge.specs.Merging.{AreHeads};
 
 use crate::listed::{Listed, make_copied, make_listed};
-use rj_merge::{Copies, Merge, MergeRefused, Place, Source, merge_all};
+use rj_merge::{Copies, Merge, MergeRefused, Place, Source};
 use std::alloc::Global;
 use std::test::Fail;
 
@@ -29,6 +29,23 @@ fn merge_of(
     Merge::open(alloc, inputs)
 }
 
+// The rows that a merge gives.
+fn rows_of(alloc: Global, merge: Merge<Listed>) -> Result<Vec<u32>, MergeRefused>
+    requires { AreHeads ⟦<Listed as Source>⟧.last merge.passed (heap_items merge.heads) }
+{
+    let mut merge = merge;
+    let mut given = Vec::new(alloc);
+    'rows: for _turn in 0..u64::MAX {
+        let Some(placed) = merge.next()? else {
+            break;
+        };
+        if given.push(placed.row).is_err() {
+            return Err(MergeRefused::Memory);
+        }
+    }
+    Ok(given)
+}
+
 #[test]
 fn pairs_then_lone_left_then_lone_right(rt: HostRuntime) -> Result<(), Fail> {
     let first = [(Place::Pair(1, 7), 1), (Place::LoneLeft(0), 4)];
@@ -44,6 +61,16 @@ fn pairs_then_lone_left_then_lone_right(rt: HostRuntime) -> Result<(), Fail> {
     assert_eq!(rt; merge.next()?.map(|placed| placed.row), Some(4));
     assert_eq!(rt; merge.next()?.map(|placed| placed.row), Some(5));
     assert_eq!(rt; merge.next()?.map(|placed| placed.row), None);
+    Ok(())
+}
+
+#[test]
+fn two_shards_merged(rt: HostRuntime) -> Result<(), Fail> {
+    let first = [(Place::Pair(1, 7), 1), (Place::LoneRight(0), 4)];
+    let second = [(Place::Pair(1, 8), 2), (Place::LoneLeft(0), 3)];
+    let merge = merge_of(rt.alloc(), first.as_slice(), second.as_slice())?;
+    let rows = rows_of(rt.alloc(), merge)?;
+    assert_eq!(rt; rows.as_slice(), [1, 2, 3, 4].as_slice());
     Ok(())
 }
 
@@ -74,13 +101,7 @@ fn merged(
             return Err(MergeRefused::Memory);
         }
     }
-    let mut given = Vec::new(alloc);
-    for placed in merge_all(alloc, sources)? {
-        if given.push(placed.row).is_err() {
-            return Err(MergeRefused::Memory);
-        }
-    }
-    Ok(given)
+    rows_of(alloc, Merge::open(alloc, sources)?)
 }
 
 // One run of left rows and three of right rows: a lone left row stands in three inputs, a lone right row in one.

@@ -21,12 +21,12 @@ returns-clause-merge g c =
     let copies = copies_of c.args.inputs.items in
     let head = rows_text (head_rows c.args.how.from (others header.columns (fields_of header.names))) in
     ok-if c.put_rows.result (λ well. λ texts tell.
-    let put = ok-holds c.put_rows.result well c.put_rows.ensures.merge head c.in-Ok-begin_block.ensures (tells-boxed known boxed sources same (opened.tells texts tell)) in (
-      head ++ records_text put.0,
-      merged boxed_copies (boxed_reading known) c.args.how copies texts boxed (copies-boxed known boxed sources same copies opened.copies) (readings-boxed known boxed sources same _ (opened.readings texts tell))
-          header.columns (fields_of header.names) put.0 (opened.header texts tell) opened.places put.1,
-      put.2,
-    ))
+    let put = ok-holds c.put_rows.result well c.put_rows.ensures.merge head c.in-Ok-begin_block.ensures (tells-boxed known boxed sources same (opened.tells texts tell)) in record {
+      text = head ++ records_text put.0;
+      merge = merged boxed_copies (boxed_reading known) c.args.how copies texts boxed (copies-boxed known boxed sources same copies opened.copies) (readings-boxed known boxed sources same _ (opened.readings texts tell))
+          header.columns (fields_of header.names) put.0 (opened.header texts tell) opened.places put.1;
+      got = put.2;
+    })
 
 pub returns-clause-faults : goal.returns-clause-faults
 returns-clause-faults g c =
@@ -41,7 +41,7 @@ returns-clause-faults g c =
     (ok-holds c.put_rows.result well c.put_rows.ensures.faults (tells-boxed known boxed sources same (opened.tells texts tell))))
 
 pub returns-clause-fault : goal.returns-clause-fault
-returns-clause-fault g c = λ e is out texts tell.
+returns-clause-fault g c = λ e refused texts tell.
     let known = g.R.Read.remaining in
     let opened = c.in-Ok.ensures in
     let sources = c.in-Ok.opened.sources.items in
@@ -49,7 +49,7 @@ returns-clause-fault g c = λ e is out texts tell.
     let same = c.in-Ok-on_heap.ensures in
     let copies = copies_of c.args.inputs.items in
     fault_of_texts boxed_copies (boxed_reading known) c.args.how copies texts boxed (copies-boxed known boxed sources same copies opened.copies) (readings-boxed known boxed sources same _ (opened.readings texts tell)) e
-    (c.put_rows.ensures.fault e is out (tells-boxed known boxed sources same (opened.tells texts tell)))
+    (c.put_rows.ensures.fault e refused (tells-boxed known boxed sources same (opened.tells texts tell)))
 
 pub returns-in-Err-clause-first : goal.returns-in-Err-clause-first
 returns-in-Err-clause-first g c = λ texts tell f is. (

@@ -5,14 +5,17 @@ use Rattle.rj_csv_io.proofs.WriteFacts.{ok-holds}
 use Rattle.rj_merge.specs.Inputs.{boxed_copies, boxed_reading, boxed_tells}
 use Rattle.rj_merge.specs.MergedTexts.{records_text}
 use Rattle.rj_merge.specs.Merging.{IsFaultOf, faults_of_heads, faults_of_inputs, rows_of_heads}
-use Rattle.rj_merge.proofs.PutFacts.{not_memory, put-all, put-fault, put-faultless, put-more, put-none}
+use Rattle.rj_merge.specs.Steps.{stage_of}
+use Rattle.rj_merge.proofs.PutFacts.{not_memory, put-all, put-more, put-none}
+use Rattle.rj_merge.proofs.StepFacts.{gave_fault, gave_faultless, gave_merge}
 use Rattle.rj_merge.proofs.WrittenFacts.{ok-if}
 use Rattle.rj_merge.proofs.texts.put_rows.Goals as goal
 
 pub returns-in-Err-clause-fault : goal.returns-in-Err-clause-fault
-returns-in-Err-clause-fault g c = λ e same out all.
+returns-in-Err-clause-fault g c = λ e refused all.
+    let same = refused.is in
     let is : c.in-Err.e ≡ e = cc in
-    inl (subst (λ x. Contains (faults_of_inputs (boxed_reading g.R.Read.remaining) c.args.sources.items) x) is (c.in-Err.ensures.fault (rw is out) all))
+    inl (subst (λ x. Contains (faults_of_inputs (boxed_reading g.R.Read.remaining) c.args.sources.items) x) is (c.in-Err.ensures.fault (rw is refused.inside) all))
 
 pub rows-init : goal.rows-init
 rows-init g c = record {
@@ -25,18 +28,26 @@ rows-init g c = record {
 pub returns-in-Ok-None-clause-merge : goal.returns-in-Ok-None-clause-merge
 returns-in-Ok-None-clause-merge g c =
     let end = rw c.in-Ok-None.field-0-is at c.in-Ok-None.ensures.end in
+    let reading = boxed_reading g.R.Read.remaining in
     let h = c.rows.invariant.put in
     ok-if c.put_block.result (λ good. λ text w all.
     let put = ok-holds c.put_block.result good (c.put_block.ensures.told (g.O.Output.told c.args.output.now) (text ++ records_text h.rows) (h.shown text w)) in
-    (h.rows, put-all (boxed_tells g.R.Read.remaining) boxed_copies (boxed_reading g.R.Read.remaining) c.args.sources.items _ _ _ _ _ _ h c.next.new.self.passed (heap_items c.next.new.self.heads) (λ t. rw c.in-Ok-None.field-0-is at (c.in-Ok-None.ensures.rows t)) (end refl).0 all, put.0))
+    let gave = put-all (boxed_tells g.R.Read.remaining) boxed_copies reading c.args.sources.items _ _ _ _ _ _ h c.next.new.self.passed (heap_items c.next.new.self.heads)
+    (λ t. rw c.in-Ok-None.field-0-is at (c.in-Ok-None.ensures.step t)) (end refl).0 (end refl).1 all in
+    (h.rows, gave_merge boxed_copies reading c.args.sources.items h.rows gave, put.0))
 
 pub returns-in-Ok-None-clause-faults : goal.returns-in-Ok-None-clause-faults
 returns-in-Ok-None-clause-faults g c =
     let end = rw c.in-Ok-None.field-0-is at c.in-Ok-None.ensures.end in
-    ok-if c.put_block.result (λ good. λ all. put-faultless (boxed_tells g.R.Read.remaining) boxed_copies (boxed_reading g.R.Read.remaining) c.args.sources.items _ _ _ _ _ _ c.rows.invariant.put (heap_items c.next.new.self.heads) c.in-Ok-None.ensures.faults (end refl).1 all)
+    let reading = boxed_reading g.R.Read.remaining in
+    let h = c.rows.invariant.put in
+    ok-if c.put_block.result (λ good. λ all.
+    gave_faultless boxed_copies reading c.args.sources.items h.rows
+    (put-all (boxed_tells g.R.Read.remaining) boxed_copies reading c.args.sources.items _ _ _ _ _ _ h c.next.new.self.passed (heap_items c.next.new.self.heads)
+    (λ t. rw c.in-Ok-None.field-0-is at (c.in-Ok-None.ensures.step t)) (end refl).0 (end refl).1 all))
 
 pub returns-in-Ok-None-clause-fault : goal.returns-in-Ok-None-clause-fault
-returns-in-Ok-None-clause-fault g c = λ e is out all. absurd (not_memory c.put_block.result c.put_block.ensures.fault e is out)
+returns-in-Ok-None-clause-fault g c = λ e refused all. absurd (not_memory c.put_block.result c.put_block.ensures.fault e refused.is refused.inside)
 
 pub returns-in-Ok-None-clause-device : goal.returns-in-Ok-None-clause-device
 returns-in-Ok-None-clause-device g c = λ e. c.put_block.ensures.device e ∙ ap (λ n. n + 1) c.rows.invariant.count
@@ -45,16 +56,17 @@ pub returns-in-Ok-None-clause-kept : goal.returns-in-Ok-None-clause-kept
 returns-in-Ok-None-clause-kept g c = λ e. c.put_block.ensures.kept e ∙ c.rows.invariant.count
 
 pub returns-in-Err-next-clause-fault : goal.returns-in-Err-next-clause-fault
-returns-in-Err-next-clause-fault g c = λ e same out all.
+returns-in-Err-next-clause-fault g c = λ e refused all.
+    let same = refused.is in
     let is : c.in-Err-next.e ≡ e = cc in
     let h = c.rows.invariant.put in
     let heads = heap_items c.rows.merge.heads in
     let reading = boxed_reading g.R.Read.remaining in
-    put-fault (boxed_tells g.R.Read.remaining) boxed_copies (boxed_reading g.R.Read.remaining) c.args.sources.items _ _ _ _ _ _ h e
-    (subst (λ x. IsFaultOf (rows_of_heads boxed_copies reading heads) (faults_of_heads reading heads) x) is (c.in-Err-next.ensures.fault (rw is out) (h.tells all))) all
+    gave_fault boxed_copies reading c.args.sources.items h.rows (stage_of boxed_copies reading c.rows.merge.passed heads) e (h.gave all)
+    (subst (λ x. IsFaultOf (rows_of_heads boxed_copies reading heads) (faults_of_heads reading heads) x) is (c.in-Err-next.ensures.fault (rw is refused.inside) (h.tells all)))
 
 pub returns-in-Err-add_row-clause-fault : goal.returns-in-Err-add_row-clause-fault
-returns-in-Err-add_row-clause-fault g c = λ e is out all. absurd (not_memory c.add_row.result c.add_row.ensures.fault e (c.in-Err-add_row.is ∙ is) out)
+returns-in-Err-add_row-clause-fault g c = λ e refused all. absurd (not_memory c.add_row.result c.add_row.ensures.fault e (c.in-Err-add_row.is ∙ refused.is) refused.inside)
 
 pub returns-in-Err-add_row-clause-device : goal.returns-in-Err-add_row-clause-device
 returns-in-Err-add_row-clause-device g c = λ is. c.in-Err-add_row.ensures.device is ∙ ap (λ n. n + 1) c.rows.invariant.count
@@ -69,6 +81,6 @@ rows-preserved g c =
       lawful = rw c.reuse.ensures c.in-Ok-Some.ensures.lawful;
       put = rw c.reuse.ensures (put-more (boxed_tells g.R.Read.remaining) boxed_copies (boxed_reading g.R.Read.remaining) c.args.sources.items start c.args.block c.rows.merge.passed (heap_items c.rows.merge.heads) c.rows.block (g.O.Output.told c.rows.output) c.rows.invariant.put c.next.new.self.passed
           c.in-Ok-Some.placed (heap_items c.next.new.self.heads) c.add_row.new.block (g.O.Output.told c.add_row.new.output) c.in-Ok-Some.ensures.tells
-          (λ t. rw c.in-Ok-Some.field-0-is at (c.in-Ok-Some.ensures.rows t)) c.in-Ok-Some.ensures.faults (λ text t. c.in-Ok-add_row.ensures.told start text t));
+          (λ t. rw c.in-Ok-Some.field-0-is at (c.in-Ok-Some.ensures.step t)) (λ text t. c.in-Ok-add_row.ensures.told start text t));
       count = c.in-Ok-add_row.ensures.kept (λ q. cc q) ∙ c.rows.invariant.count;
     }

@@ -1,9 +1,9 @@
-use Rattle.std.proofs.Common.{[]}
-use Rattle.std.specs.List.Sorted.{IsPermutation}
+use Rattle.std.proofs.Common.{None}
 use Rattle.std.specs.BinaryHeap.{heap_items}
 use Rattle.rj_merge.specs.declared.place.Place.{Place}
-use Rattle.rj_merge.specs.Merging.{AllTell, AreHeads, Passes, faults_of_heads, rows_of_heads}
+use Rattle.rj_merge.specs.Merging.{AllTell, AreHeads}
 use Rattle.rj_merge.specs.Places.{IsAbove}
+use Rattle.rj_merge.specs.Steps.{IsStep, stage_of}
 use Rattle.rj_merge.proofs.merge.Merge.next.Given as goal
 
 abbrev pub invariant-places : goal.invariant-places
@@ -11,8 +11,7 @@ invariant-places g l = record {
   lawful : AreHeads g.S.Source.last l.self.passed (heap_items l.self.heads);
   onward : (place : Place) → IsAbove l.self.passed place → IsAbove l.fn.self.passed place;
   tells : AllTell g.S.Source.tells (heap_items l.fn.self.heads) → AllTell g.S.Source.tells (heap_items l.self.heads);
-  rows : AllTell g.S.Source.tells (heap_items l.fn.self.heads)
-      → Passes l.fn.self.passed l.self.passed (rows_of_heads g.S.Source.copies g.S.Source.reading (heap_items l.fn.self.heads)) (rows_of_heads g.S.Source.copies g.S.Source.reading (heap_items l.self.heads)) [];
-  faults : AllTell g.S.Source.tells (heap_items l.fn.self.heads)
-      → IsPermutation (faults_of_heads g.S.Source.reading (heap_items l.fn.self.heads)) (faults_of_heads g.S.Source.reading (heap_items l.self.heads));
+  step : AllTell g.S.Source.tells (heap_items l.fn.self.heads)
+      → IsStep (stage_of g.S.Source.copies g.S.Source.reading l.fn.self.passed (heap_items l.fn.self.heads)) None
+      (stage_of g.S.Source.copies g.S.Source.reading l.self.passed (heap_items l.self.heads));
 }

@@ -1,6 +1,6 @@
 use Rattle.rj_merge.specs.Copies.{copied_rows}
 use Rattle.rj_merge.proofs.WholeFacts.{only_merge, only_merge_of}
-use Rattle.rj_merge.proofs.whole.one_merge.Goals as goal
+use Rattle.rj_merge.proofs.laws.one_merge.Goals as goal
 
 pub returns : goal.returns
 returns g c = record {

@@ -1,0 +1,48 @@
+//! Laws: each of these functions does nothing, and its contract is a fact about all merges.
+
+ghost use Rattle.std.specs.Prelude.{◌≡◌, ◌∷◌, List, [], Option, Some, map};
+ghost use Rattle.std.specs.List.{flat_map};
+ghost use Rattle.rj_merge.specs.declared.copies.Copies.{Copies};
+ghost use Rattle.rj_merge.specs.declared.place.Place.{Place};
+ghost use Rattle.rj_merge.specs.declared.place.Placed.{Placed};
+ghost use Rattle.rj_merge.specs.declared.refused.MergeRefused.{MergeRefused};
+ghost use Rattle.rj_merge.specs.Copies.{AreAlike, AreSingle, StandsTooOften, copied_rows};
+ghost use Rattle.rj_merge.specs.Merging.{IsFaultOf, faults_of_inputs, lists_of_inputs};
+ghost use Rattle.rj_merge.specs.Places.{IsAbove};
+ghost use Rattle.rj_merge.specs.Steps.{GaveAll, GaveSoFar, Stage};
+ghost use Rattle.rj_merge.specs.Wholes.{HasTwice, IsMerge, IsMergeOf, RisesFrom};
+
+use crate::source::Source;
+
+/// The steps of a merge taken together give the whole: of a merge that was opened over inputs that tell, and whose steps are as
+/// `Merge::next` says, where `stage_of` tells how far it is, the rows that its steps gave until none was left are the merge of
+/// the inputs, none of which has a fault; a fault of a step is one of an input, or a place that stands too often among the rows
+/// of all; and the rows rise, whatever the inputs tell.
+pub fn steps_are_whole<S: Source>()
+    ensures merge { (inputs : List S) (rows : List (Placed S.Row)) → GaveAll S.copies S.reading inputs rows
+        → IsMergeOf (copied_rows (lists_of_inputs S.copies S.reading inputs)) rows }
+    ensures faults { (inputs : List S) (rows : List (Placed S.Row)) → GaveAll S.copies S.reading inputs rows → faults_of_inputs S.reading inputs ≡ [] }
+    ensures fault { (inputs : List S) (rows : List (Placed S.Row)) (now : Stage S.Row) (e : MergeRefused) → GaveSoFar S.copies S.reading inputs rows now
+        → IsFaultOf now.rows now.faults e → IsFaultOf (copied_rows (lists_of_inputs S.copies S.reading inputs)) (faults_of_inputs S.reading inputs) e }
+    ensures rises { (old new : Option Place) (row : Placed S.Row) (later : List (Placed S.Row)) → IsAbove old row.place × (new ≡ Some row.place)
+        → RisesFrom new later → RisesFrom old (row ∷ later) }
+{}
+
+/// Where rows of one place are alike, there is one merge at most: so the rows that steps gave are the merge. Of lists whose
+/// rows all are rows of the whole there is one, whatever their rows hold.
+pub fn one_merge<T>()
+    ensures copies { (inputs : List (Copies × List (Placed T))) (v w : List (Placed T)) → AreAlike (copied_rows inputs)
+        → IsMergeOf (copied_rows inputs) v → IsMergeOf (copied_rows inputs) w → v ≡ w }
+    ensures lists { (lists : List (List (Placed T))) (v w : List (Placed T)) → IsMerge lists v → IsMerge lists w → v ≡ w }
+{}
+
+/// Of inputs whose rows each stand in no other input, the merge is all of their rows, in order, and a place that stands too
+/// often is that of two of their rows.
+pub fn single_copies<T>()
+    ensures all { (inputs : List (Copies × List (Placed T))) (rows : List (Placed T)) → AreSingle inputs
+        → IsMergeOf (copied_rows inputs) rows → IsMerge (map (λ i. i.1) inputs) rows }
+    ensures merge { (inputs : List (Copies × List (Placed T))) (rows : List (Placed T)) → AreSingle inputs
+        → IsMerge (map (λ i. i.1) inputs) rows → IsMergeOf (copied_rows inputs) rows }
+    ensures twice { (inputs : List (Copies × List (Placed T))) (place : Place) → AreSingle inputs
+        → StandsTooOften (copied_rows inputs) place → HasTwice (flat_map (λ i. i.1) inputs) place }
+{}
