@@ -19,14 +19,14 @@ Interleaves sents xs = (k : ℕ) → of k xs ≡ slice_index_or sents k []
 abbrev pub Belongs : Where → Posted → Type 0
 Belongs p x = (x.parcel.partition ≡ p.partition) × (x.parcel.number % p.lanes ≡ p.lane) × (x.outbox < p.outboxes)
 
-abbrev pub nowhere : Where
-nowhere = record { partition = 0; lane = 0; lanes = 0; outboxes = 0 }
+abbrev pub no_place : Where
+no_place = record { partition = 0; lane = 0; lanes = 0; outboxes = 0 }
 
-abbrev pub nobody : Trace
-nobody = record { place = nowhere; placed = false; sends = false; outbox = 0; sent = []; takes = false; made = 0; taken = []; known = [] }
+abbrev pub no_trace : Trace
+no_trace = record { place = no_place; placed = false; sends = false; outbox = 0; sent = []; takes = false; made = 0; taken = []; known = [] }
 
-abbrev pub blank : Trace
-blank = record { place = nowhere; placed = false; sends = false; outbox = 0; sent = []; takes = true; made = 0; taken = []; known = [] }
+abbrev pub first_trace : Trace
+first_trace = record { place = no_place; placed = false; sends = false; outbox = 0; sent = []; takes = true; made = 0; taken = []; known = [] }
 
 abbrev pub taker : Where → ℕ → List Posted → List (List Parcel) → Trace
 taker p made taken known = record { place = p; placed = true; sends = false; outbox = 0; sent = []; takes = true; made = made; taken = taken; known = known }

@@ -1,17 +1,18 @@
 //! The opening of an exchange.
-ghost use Rattle.std.specs.Prelude.{◌≡◌, ◌<◌, ◌≤◌, ◌*◌, ◌+◌, ◌∷◌, ◌++◌, [], ℕ, length, IfOk, OnOk, All, slice_index_or};
+ghost use Rattle.std.specs.Prelude.{◌≡◌, ◌<◌, ◌≤◌, ◌+◌, ◌∷◌, ◌++◌, [], ℕ, length, IfOk, All, slice_index_or};
 ghost use Rattle.crossbeam_queue.specs.Passes.{view, IsPassOf, ruled_capacity};
 ghost use Rattle.rj_exchange.specs.Passing.{sender, taker};
 ghost use Rattle.rj_exchange.specs.declared.boxes.Stub.{Stub};
 ghost use Rattle.rj_exchange.specs.declared.boxes.Outbox.{Outbox};
-ghost use Rattle.rj_exchange.specs.Boxes.{Queue, sent_of, taken_of, IsStubOf, IsEndOf, IsTaker, IsOpened, place_of, AddsStub};
+ghost use Rattle.rj_exchange.specs.Boxes.{Queue, IsOpened, place_of, AddsStub};
+ghost use Rattle.rj_exchange.specs.Ends.{IsTaker};
 
 use crate::boxes::{Exchange, Inbox, Outbox, Stub};
-use crate::queue::{ParcelQueue, Place, deal, fix};
+use crate::queue::{ParcelQueue, QueuePlace, deal, fix};
 use std::alloc::{AllocError, Global};
 use std::marker::Brand;
 
-fn queue_at<B: Place>(
+fn queue_at<B: QueuePlace>(
     alloc: Global,
     capacity: usize,
     partition: u32,

@@ -1,18 +1,18 @@
 //! The moves on one queue.
-ghost use Rattle.std.specs.Prelude.{◌≡◌, ◌<◌, ◌∷◌, ◌++◌, [], length, vec_capacity, ◌+◌, ◌≤◌, All, IfOk, MatchOption, MatchResult};
+ghost use Rattle.std.specs.Prelude.{◌≡◌, ◌<◌, ◌∷◌, ◌++◌, [], length, vec_capacity, ◌+◌, ◌≤◌, All, MatchOption, MatchResult};
 ghost use Rattle.crossbeam_queue.specs.Passes.{view, IsPassOf, IsSamePass, ruled_capacity};
 ghost use Rattle.crossbeam_queue.specs.Fifo.{Held};
-ghost use Rattle.rj_exchange.specs.Passing.{blank, taker, sender, Belongs, HeldAt, Left, Took, Interleaves};
+ghost use Rattle.rj_exchange.specs.Passing.{first_trace, taker, sender, Belongs, HeldAt, Left, Took, Interleaves};
 
 use crate::posted::Posted;
-use crate::queue::{Deal, Fix, ParcelQueue, Place, Posts, Return, Takes, Trace};
+use crate::queue::{Deal, Fix, ParcelQueue, PostsParcel, QueuePlace, Return, TakesParcel, Trace};
 use crossbeam_queue::Pass;
 use rj_ledger::Parcel;
 use std::sync::Wait;
 
 // The queue is told its place.
-pub(crate) fn fix<B: Place>(queue: &ParcelQueue, pass: &mut Pass<Posted, Trace>)
-    requires { IsPassOf queue.now pass.old × (view pass.old ≡ blank) }
+pub(crate) fn fix<B: QueuePlace>(queue: &ParcelQueue, pass: &mut Pass<Posted, Trace>)
+    requires { IsPassOf queue.now pass.old × (view pass.old ≡ first_trace) }
     ensures { IsSamePass pass.old pass.new × (view pass.new ≡ taker B.place 0 [] []) }
 {
     queue.another::<Fix<B>>(pass);
@@ -41,7 +41,7 @@ pub(crate) fn put<R: Wait>(
         MatchResult result (λ _. view pass.new ≡ sender v.place v.outbox (v.sent ++ posted.parcel ∷ []))
         (λ x. (x ≡ posted) × (view pass.new ≡ v) × Held (ruled_capacity queue.now) (HeldAt v.place v.outbox v.sent)) }
 {
-    queue.push_as::<Posts, R>(rt, pass, posted)
+    queue.push_as::<PostsParcel, R>(rt, pass, posted)
 }
 
 pub(crate) fn take<R: Wait>(
@@ -54,7 +54,7 @@ pub(crate) fn take<R: Wait>(
     ensures pass { IsSamePass pass.old pass.new }
     ensures view { let v = view pass.old in MatchOption result ((view pass.new ≡ v) × Held 0 (Left v)) (λ x. Took v x (view pass.new)) }
 {
-    queue.pop_as::<Takes, R>(rt, pass)
+    queue.pop_as::<TakesParcel, R>(rt, pass)
 }
 
 // An outbox that has ended: the next one of which the taker does not know yet.
@@ -86,7 +86,7 @@ pub(crate) fn drain<R: Wait>(
     ensures all { let v = view pass.old in Interleaves v.known (v.taken ++ rest.new.items) }
     ensures placed { All (Belongs (view pass.old).place) rest.new.items }
 {
-    queue.len_as::<Takes, R>(rt, pass);
+    queue.len_as::<TakesParcel, R>(rt, pass);
     for _ in rt.forever() {
         let Some(posted) = take(rt, queue, pass) else {
             break;
