@@ -2,22 +2,14 @@
 use Rattle.std.proofs.Common.{◌≡◌, ℕ, ◌+◌, ◌*◌, ◌<◌, ◌≤◌, List, [], ◌∷◌, ◌++◌, map, length, get_or, sym, ap, ◌∙◌, subst, arith, length-append, lt_of_not-le, mul-le-mul_right}
 use mathlib.Core.Logic.{dite}
 use native.Mathlib.Decide.{ℕ_discrete, dec_le}
-use Rattle.crossbeam_queue.specs.Passes.{view, IsPassOf}
-use Rattle.rj_exchange.specs.declared.queue.Where.{Where}
 use Rattle.rj_exchange.specs.declared.boxes.Stub.{Stub}
 use Rattle.rj_exchange.specs.declared.queue.Trace.{Trace}
 use Rattle.rj_exchange.specs.declared.boxes.Outbox.{Outbox}
 use Rattle.rj_exchange.specs.declared.boxes.Inbox.{Inbox}
-use Rattle.rj_exchange.specs.Passing.{sender, taker}
-use Rattle.rj_exchange.specs.Boxes.{Queue, heard_of, place_of, AddsStub}
+use Rattle.rj_exchange.specs.Boxes.{Queue, heard_of}
+use Rattle.rj_exchange.specs.Opening.{place_of, IsFreshStub, IsFreshEnd, AddsStub}
 use Rattle.rj_exchange.proofs.Of.{past_end, before_end, at_end}
 use Rattle.rj_exchange.proofs.Stubs.{get_or-map, length-map', pick}
-
-abbrev pub IsFreshStub : Where → ℕ → Queue → Stub → Type 0
-IsFreshStub p i l s = IsPassOf l s.pass × (view s.pass ≡ sender p i [])
-
-abbrev pub IsFreshEnd : Where → ℕ → Queue → Stub → Type 0
-IsFreshEnd p m l s = IsPassOf l s.pass × (view s.pass ≡ taker p m [] [])
 
 pub record AreBoxes (lanes outboxes : ℕ) (queues : List Queue) (boxes : List Outbox) : Type 0 where
   pub many : length boxes ≡ outboxes
@@ -56,7 +48,7 @@ grows lanes outboxes queues queue old new p k h lt here many adds = record {
   stubs = λ i q m b l s below m_lt inside. let j : ℕ = q * lanes + m in let add = (adds i b b below).1 in let w = h.wide i b below in let y = length-append queues (queue ∷ []) in dite (ℕ_discrete j (length queues))
       (λ is. let r = same_row lanes q m p k m_lt lt (is ∙ here) in let c = same_column lanes q m p k m_lt lt (is ∙ here) in
       let a = at_end queues queue l j is in let t = ap (λ z. get_or z j s) add.1 ∙ at_end (get_or old i b).stubs.items add.0 s j (is ∙ sym w) in
-      subst (λ (z : ℕ × ℕ × Queue × Stub). IsFreshStub (place_of z.0 z.1 lanes outboxes) i z.2 z.3) (λ n. (sym r n, sym c n, sym a n, sym t n)) (add.2, add.3))
+      subst (λ (z : ℕ × ℕ × Queue × Stub). IsFreshStub (place_of z.0 z.1 lanes outboxes) i z.2 z.3) (λ n. (sym r n, sym c n, sym a n, sym t n)) add.2)
       (λ ne. let lt' : j < length queues = omega arith in let a = before_end queues (queue ∷ []) j l lt' in let t = ap (λ z. get_or z j s) add.1 ∙ before_end (get_or old i b).stubs.items (add.0 ∷ []) j s (omega arith) in
       subst (λ (z : Queue × Stub). IsFreshStub (place_of q m lanes outboxes) i z.0 z.1) (λ n. (sym a n, sym t n)) (h.stubs i q m b l s below m_lt lt'));
 }

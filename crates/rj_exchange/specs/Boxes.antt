@@ -1,7 +1,8 @@
 -- What the contracts of an exchange say.
-use Rattle.std.specs.Prelude.{◌≡◌, ℕ, ◌<◌, ◌+◌, ◌*◌, ◌%◌, List, [], ◌∷◌, ◌++◌, map, length, slice_index_or, All, Option, Vec}
+use Rattle.std.specs.Prelude.{◌≡◌, ℕ, ◌<◌, ◌+◌, ◌*◌, ◌%◌, List, [], ◌∷◌, ◌++◌, map, length, slice_index_or, slice_set, All, Option, Vec}
 use Rattle.std.proofs.Common.{Global}
 use Rattle.crossbeam_queue.specs.Passes.{view, IsPassOf}
+use Rattle.crossbeam_queue.specs.Fifo.{Held}
 use Rattle.crossbeam_queue.specs.declared.array_queue.Doing.{Doing}
 use Rattle.crossbeam_queue.specs.declared.array_queue.Slotted.{Slotted}
 use Rattle.crossbeam_queue.specs.declared.array_queue.Turns.{Turns}
@@ -14,7 +15,7 @@ use Rattle.rj_exchange.specs.declared.boxes.Stub.{Stub}
 use Rattle.rj_exchange.specs.declared.boxes.Exchange.{Exchange}
 use Rattle.rj_exchange.specs.declared.boxes.Outbox.{Outbox}
 use Rattle.rj_exchange.specs.declared.boxes.Inbox.{Inbox}
-use Rattle.rj_exchange.specs.Passing.{Belongs, sender, taker, of}
+use Rattle.rj_exchange.specs.Passing.{Belongs, HeldAt, Left, Next, sender, taker, of, posted_by}
 
 abbrev pub Queue : Type 0
 Queue = Slotted (Option Posted) (Doing Posted Trace) (Turns InOrder) Global
@@ -75,6 +76,31 @@ pub record HasHeard (e : Exchange) (n : ℕ) (i : Inbox) : Type 0 where
   pub takes : TakesFrom e i
   pub heard : (k : ℕ) → k < e.lanes → length (slice_index_or (heard_by_lane i) k []) ≡ n
 
+-- what the outbox has sent to the queue of the parcel
+abbrev pub sent_before : Exchange → Parcel → Outbox → List Parcel
+sent_before e x o = slice_index_or (sent_by_queue o) (queue_of e x) []
+
+-- the outbox has sent the parcel to its queue, behind the others, and nothing else
+abbrev pub SendsOneMore : Exchange → Parcel → Outbox → Outbox → Type 0
+SendsOneMore e x old new = sent_by_queue new ≡ slice_set (sent_by_queue old) (queue_of e x) (sent_before e x old ++ x ∷ [])
+
+-- at one moment the queue of the parcel held as many as its capacity, and those of this outbox among them were the last that it had sent there
+abbrev pub WasFull : Exchange → Parcel → Outbox → Type 0
+WasFull e x o = Held e.capacity (HeldAt (where_at e x.partition (x.number % e.lanes)) o.number (sent_before e x o))
+
+-- what the inbox knows of a lane
+abbrev pub known_at_lane : Exchange → Inbox → ℕ → Trace
+known_at_lane e i k = taker (where_at e i.partition k) e.outboxes (slice_index_or (taken_by_lane i) k []) (slice_index_or (heard_by_lane i) k [])
+
+-- at one moment the queue of the lane held nothing: all that the inbox has heard of was taken there
+abbrev pub WasEmpty : Exchange → Inbox → ℕ → Type 0
+WasEmpty e i k = Held 0 (Left (known_at_lane e i k))
+
+-- the inbox has taken the parcel at the lane, behind the others, and nothing else: it is some outbox's, belongs there, and was the first that was left
+abbrev pub TakesOneMore : Exchange → ℕ → Parcel → Inbox → Inbox → Type 0
+TakesOneMore e k x old new = (o : ℕ) × (taken_by_lane new ≡ slice_set (taken_by_lane old) k (slice_index_or (taken_by_lane old) k [] ++ posted_by o x ∷ []))
+    × Belongs (where_at e old.partition k) (posted_by o x) × Next (known_at_lane e old k) (posted_by o x)
+
 -- outbox number n, and the inbox of partition p
 abbrev pub IsOutboxAt : Exchange → ℕ → Outbox → Type 0
 IsOutboxAt e n o = IsOutboxOf e o × (o.number ≡ n)
@@ -130,18 +156,17 @@ abbrev pub HearsOf : Exchange → List Stub → Inbox → Inbox → Type 0
 HearsOf e ss old new = (k : ℕ) → k < e.lanes
     → slice_index_or (heard_by_lane new) k [] ≡ slice_index_or (heard_by_lane old) k [] ++ slice_index_or (map sent_of ss) k [] ∷ []
 
-abbrev pub place_of : ℕ → ℕ → ℕ → ℕ → Where
-place_of p k lanes outboxes = record { partition = p; lane = k; lanes = lanes; outboxes = outboxes }
+-- outboxes of the exchange, by number, that have posted nothing
+abbrev pub AreOpenedOutboxes : Exchange → ℕ → ℕ → List Outbox → Type 0
+AreOpenedOutboxes e n partitions os = (i : ℕ) (o : Outbox) → i < n → IsOutboxOf e (slice_index_or os i o) × ((slice_index_or os i o).number ≡ i)
+    × ((p k : ℕ) (s : Stub) → p < partitions → k < e.lanes → sent_of (slice_index_or (slice_index_or os i o).stubs.items (p * e.lanes + k) s) ≡ [])
 
--- an outbox gains a token of this queue
-abbrev pub AddsStub : Where → ℕ → Queue → Outbox → Outbox → Type 0
-AddsStub place i l old new = (new.number ≡ old.number)
-    × ((s : Stub) × (new.stubs.items ≡ old.stubs.items ++ s ∷ []) × IsPassOf l s.pass × (view s.pass ≡ sender place i []))
+-- inboxes of the exchange, by partition, that have taken nothing
+abbrev pub AreOpenedInboxes : Exchange → ℕ → List Inbox → Type 0
+AreOpenedInboxes e n is = (p : ℕ) (i : Inbox) → p < n → IsInboxOf e (slice_index_or is p i) × ((slice_index_or is p i).partition ≡ p)
+    × ((k : ℕ) (s : Stub) → k < e.lanes → taken_of (slice_index_or (slice_index_or is p i).ends.items k s) ≡ [])
 
--- each outbox and each inbox is of the exchange, and nothing was posted or taken
+-- an exchange of so many outboxes and partitions, with all its boxes, and nothing was posted or taken
 abbrev pub IsOpened : Exchange → List Outbox → List Inbox → ℕ → ℕ → Type 0
 IsOpened e os is outboxes partitions = (e.outboxes ≡ outboxes) × (e.partitions ≡ partitions) × (length os ≡ outboxes) × (length is ≡ partitions)
-    × ((i : ℕ) (o : Outbox) → i < outboxes → IsOutboxOf e (slice_index_or os i o) × ((slice_index_or os i o).number ≡ i)
-    × ((p k : ℕ) (s : Stub) → p < partitions → k < e.lanes → sent_of (slice_index_or (slice_index_or os i o).stubs.items (p * e.lanes + k) s) ≡ []))
-    × ((p : ℕ) (n : Inbox) → p < partitions → IsInboxOf e (slice_index_or is p n) × ((slice_index_or is p n).partition ≡ p)
-    × ((k : ℕ) (s : Stub) → k < e.lanes → taken_of (slice_index_or (slice_index_or is p n).ends.items k s) ≡ []))
+    × AreOpenedOutboxes e outboxes partitions os × AreOpenedInboxes e partitions is

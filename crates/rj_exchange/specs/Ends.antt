@@ -4,7 +4,7 @@ use Rattle.crossbeam_queue.specs.Passes.{view, IsPassOf}
 use Rattle.rj_ledger.specs.declared.parcel.Parcel.{Parcel}
 use Rattle.rj_exchange.specs.declared.boxes.Stub.{Stub}
 use Rattle.rj_exchange.specs.declared.boxes.Exchange.{Exchange}
-use Rattle.rj_exchange.specs.Passing.{taker, Belongs, Interleaves}
+use Rattle.rj_exchange.specs.Passing.{taker, IsTakerTrace, Belongs, Interleaves}
 use Rattle.rj_exchange.specs.Boxes.{Queue, PostedVec, sent_of, taken_of, IsStubOf}
 
 -- the queue of partition p and lane k, where there is one
@@ -17,9 +17,7 @@ IsLater n old new = (length new + n ≡ length old) × ((i : ℕ) (d : Stub) →
 
 -- an inbox's token, which knows n outboxes that have ended
 abbrev pub IsTaker : ℕ → Queue → Stub → Type 0
-IsTaker n l s = IsPassOf l s.pass
-    × (view s.pass ≡ taker (view s.pass).place (view s.pass).made (view s.pass).taken (view s.pass).known)
-    × (length (view s.pass).known ≡ n)
+IsTaker n l s = IsPassOf l s.pass × IsTakerTrace (view s.pass) × (length (view s.pass).known ≡ n)
 
 -- the tokens of an inbox of partition p, lane by lane, each of which knows the first n outboxes
 abbrev pub AreTakers : Exchange → ℕ → ℕ → List Stub → Type 0

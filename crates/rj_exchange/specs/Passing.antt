@@ -34,6 +34,13 @@ taker p made taken known = record { place = p; placed = true; sends = false; out
 abbrev pub sender : Where → ℕ → List Parcel → Trace
 sender p k sent = record { place = p; placed = true; sends = true; outbox = k; sent = sent; takes = false; made = 0; taken = []; known = [] }
 
+-- what the taker's token knows, and what a sender's does
+abbrev pub IsTakerTrace : Trace → Type 0
+IsTakerTrace v = v ≡ taker v.place v.made v.taken v.known
+
+abbrev pub IsSenderTrace : Trace → Type 0
+IsSenderTrace v = v ≡ sender v.place v.outbox v.sent
+
 -- a sender is its outbox's only one, and knows what the outbox sent
 pub record FitsSender (reader : ℕ) (owner : ℕ → ℕ) (place : Where) (posted : List Posted) (pass : ℕ) (v : Trace) : Type 0 where
   pub mine : owner v.outbox ≡ pass

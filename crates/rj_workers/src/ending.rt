@@ -1,5 +1,5 @@
 //! The end of an exchange: what is left in the queues goes to the ledgers, and what is not built yet is built.
-ghost use Rattle.std.specs.Prelude.{◌≡◌, ◌<◌, ◌≤◌, ◌+◌, ◌*◌, ◌++◌, ℕ, All, IfOk, map, length, take, drop, slice_index_or};
+ghost use Rattle.std.specs.Prelude.{◌≡◌, ◌<◌, ◌≤◌, ◌+◌, ◌++◌, ℕ, All, IfOk, map, length, take, drop, slice_index_or};
 ghost use Rattle.std.specs.Vec.Iter.{into_iter_items};
 ghost use Rattle.rj_ledger.specs.Ledgers.{after_all};
 ghost use Rattle.rj_exchange.specs.Boxes.{sent_of, AreStubsOf};

@@ -10,7 +10,7 @@ use std::marker::{Brand, PhantomData};
 use std::sync::{Mutex, Wait};
 
 /// Names the inboxes of an exchange as they were opened, and how its ledgers are opened. Each run picks its own.
-pub(crate) trait OpenedInboxes: Send + Sync {
+pub(crate) trait Fresh: Send + Sync {
     ghost use Rattle.std.specs.Prelude.{ℕ, List};
     ghost use Rattle.rj_exchange.specs.declared.boxes.Inbox.{Inbox};
 
@@ -21,7 +21,7 @@ pub(crate) trait OpenedInboxes: Send + Sync {
     ghost block: { ℕ };
 }
 
-impl OpenedInboxes for Brand {
+impl Fresh for Brand {
     ghost use Rattle.std.specs.Prelude.{[]};
 
     ghost inboxes = { [] };
@@ -33,7 +33,7 @@ impl OpenedInboxes for Brand {
 
 /// The inbox of a partition as it was opened, with nothing taken, and its ledger, to which nothing was offered.
 #[derive(Drop)]
-pub(crate) struct Untouched<B: OpenedInboxes> {
+pub(crate) struct Untouched<B: Fresh> {
     inbox: Inbox,
     ledger: Ledger,
     of: PhantomData<B>,
@@ -44,7 +44,7 @@ pub(crate) struct Untouched<B: OpenedInboxes> {
 /// What a place holds until it is taken.
 pub(crate) type PartitionPlace<B> = Mutex<Option<Untouched<B>>>;
 
-fn as_opened<B: OpenedInboxes>(inbox: Inbox, ledger: Ledger) -> Untouched<B>
+fn as_opened<B: Fresh>(inbox: Inbox, ledger: Ledger) -> Untouched<B>
     requires same { slice_get B.inboxes inbox.partition ≡ Some inbox }
     requires fresh { ledger ≡ opened inbox.partition B.senders B.block }
 {
@@ -56,7 +56,7 @@ fn as_opened<B: OpenedInboxes>(inbox: Inbox, ledger: Ledger) -> Untouched<B>
 }
 
 /// A place for each partition.
-pub(crate) fn open_places<B: OpenedInboxes>(
+pub(crate) fn open_places<B: Fresh>(
     alloc: Global,
     inboxes: Vec<Inbox>,
     senders: u32,
@@ -76,7 +76,7 @@ pub(crate) fn open_places<B: OpenedInboxes>(
 }
 
 /// Takes what the place of a partition holds. None where it is empty, or holds what is of another partition.
-pub(crate) fn take_place<B: OpenedInboxes, R: Wait>(
+pub(crate) fn take_place<B: Fresh, R: Wait>(
     rt: &R,
     places: &[PartitionPlace<B>],
     partition: usize,

@@ -5,14 +5,13 @@ ghost use Rattle.rj_workers.specs.Settings.{InLimits};
 ghost use Rattle.rj_workers.specs.Ends.{AreSettled};
 ghost use Rattle.rj_workers.specs.Scans.{AreNewOutboxes};
 ghost use Rattle.rj_workers.specs.Takes.{AreFreshInboxes, AreOpenedOf};
-ghost use Rattle.rj_exchange.specs.declared.boxes.Inbox.{Inbox};
 
 use crate::closing::{Delivered, build_rest, conclude};
 use crate::coordination::open_coordination;
 use crate::ending::{EndShared, EndedPartition};
 use crate::gate::Gate;
 use crate::job::Job;
-use crate::places::{OpenedInboxes, open_places};
+use crate::places::{Fresh, open_places};
 use crate::scope::work;
 use crate::settings::WorkerSettings;
 use crate::shared::Shared;
@@ -25,7 +24,7 @@ use std::thread::Threads;
 use std::time::Clock;
 
 // What all partitions have in the end. The inboxes are those that `B` names.
-fn run_opened<B: OpenedInboxes, R: Threads + Wait + Clock + Sync, J: Job + Sync, G: Gate + Sync>(
+fn run_opened<B: Fresh, R: Threads + Wait + Clock + Sync, J: Job + Sync, G: Gate + Sync>(
     rt: &R,
     alloc: Global,
     job: &J,

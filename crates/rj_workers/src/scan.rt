@@ -1,5 +1,5 @@
 //! A scanner: it draws stripes, and posts what their senders have for each partition.
-ghost use Rattle.std.specs.Prelude.{◌≡◌, ◌<◌, ◌≤◌, ◌+◌, ◌∷◌, ◌++◌, [], All, IfOk, IfSome, MatchOption, MatchResult};
+ghost use Rattle.std.specs.Prelude.{◌≡◌, ◌<◌, ◌≤◌, ◌+◌, ◌∷◌, ◌++◌, [], IfOk, IfSome, MatchOption, MatchResult};
 ghost use Rattle.std.specs.List.Sorted.{IsPermutation};
 ghost use Rattle.rj_ledger.specs.Cutting.{plan};
 ghost use Rattle.rj_exchange.specs.Boxes.{sent_by_queue};

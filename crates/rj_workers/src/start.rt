@@ -7,7 +7,7 @@ ghost use Rattle.rj_workers.specs.Takes.{AreOpened, AreOpenedOf, IsNewTaker, IsT
 
 use crate::gate::Gate;
 use crate::job::Job;
-use crate::places::{OpenedInboxes, PartitionPlace};
+use crate::places::{Fresh, PartitionPlace};
 use crate::scan::{Scanner, scan};
 use crate::shared::Shared;
 use crate::take::{Taker, take_all};
@@ -116,7 +116,7 @@ where
 }
 
 // Starts one taker. None where no thread can be made.
-fn start_taker<'s, E, B: OpenedInboxes, R: Wait + Clock + Sync, J: Job + Sync, G: Gate + Sync>(
+fn start_taker<'s, E, B: Fresh, R: Wait + Clock + Sync, J: Job + Sync, G: Gate + Sync>(
     scope: &Scope<'s, E>,
     rt: &'s R,
     alloc: Global,
@@ -150,14 +150,7 @@ where
 }
 
 /// Starts all takers. None where a thread or memory is refused.
-pub(crate) fn start_takers<
-    's,
-    E,
-    B: OpenedInboxes,
-    R: Wait + Clock + Sync,
-    J: Job + Sync,
-    G: Gate + Sync,
->(
+pub(crate) fn start_takers<'s, E, B: Fresh, R: Wait + Clock + Sync, J: Job + Sync, G: Gate + Sync>(
     scope: &Scope<'s, E>,
     rt: &'s R,
     alloc: Global,

@@ -1,5 +1,5 @@
 //! A taker: it draws partitions, offers what arrives to their ledgers, and builds each one that is complete.
-ghost use Rattle.std.specs.Prelude.{◌≡◌, ◌<◌, ◌+◌, All, IfOk, false, length};
+ghost use Rattle.std.specs.Prelude.{◌≡◌, ◌<◌, All, IfOk, false, length};
 ghost use Rattle.rj_ledger.specs.Ledgers.{after_offer};
 ghost use Rattle.rj_exchange.specs.Tickets.{limit_of};
 ghost use Rattle.rj_workers.specs.Takes.{IsTaker, IsOwned, IsTake, IsTried, AreOpened, is_settled};
@@ -7,8 +7,7 @@ ghost use Rattle.rj_workers.specs.Takes.{IsTaker, IsOwned, IsTake, IsTried, AreO
 use crate::gate::{Gate, Place};
 use crate::job::Job;
 use crate::pause::Pause;
-use crate::places;
-use crate::places::{OpenedInboxes, PartitionPlace, take_place};
+use crate::places::{Fresh, PartitionPlace, take_place};
 use crate::shared::Shared;
 use rj_exchange::{HaltSeat, Inbox, Seat};
 use rj_ledger::{Ledger, Parcel, complete_stays, shape_stays};
@@ -165,7 +164,7 @@ fn take_at<R: Wait, J: Job, G: Gate>(
 }
 
 // Draws a partition. It says whether one was left.
-fn draw<B: OpenedInboxes, R: Wait, J: Job, G: Gate>(
+fn draw<B: Fresh, R: Wait, J: Job, G: Gate>(
     rt: &R,
     shared: &Shared<'_, J, G>,
     places: &[PartitionPlace<B>],
@@ -202,7 +201,7 @@ fn is_waiting<T>(all: &[OwnedPartition<T>]) -> bool {
 }
 
 // Draws a further partition where the newest one is settled, unless none was left.
-fn draw_next<B: OpenedInboxes, R: Wait, J: Job, G: Gate>(
+fn draw_next<B: Fresh, R: Wait, J: Job, G: Gate>(
     rt: &R,
     shared: &Shared<'_, J, G>,
     places: &[PartitionPlace<B>],
@@ -244,7 +243,7 @@ fn take_newest<R: Wait, J: Job, G: Gate>(
 }
 
 // Draws a partition where none is open, and takes at the newest one, and at all others where nothing came there.
-fn step<B: OpenedInboxes, R: Wait, J: Job, G: Gate>(
+fn step<B: Fresh, R: Wait, J: Job, G: Gate>(
     rt: &R,
     alloc: Global,
     shared: &Shared<'_, J, G>,
@@ -269,7 +268,7 @@ fn step<B: OpenedInboxes, R: Wait, J: Job, G: Gate>(
 
 /// Takes until it sees the word halt, or has drawn all that it could and seen the word done, and then finds nothing. Where
 /// it is refused memory, or finds a place empty, it raises the word halt.
-pub(crate) fn take_all<B: OpenedInboxes, R: Wait + Clock, J: Job, G: Gate>(
+pub(crate) fn take_all<B: Fresh, R: Wait + Clock, J: Job, G: Gate>(
     rt: &R,
     alloc: Global,
     shared: &Shared<'_, J, G>,

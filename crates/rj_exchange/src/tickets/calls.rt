@@ -1,5 +1,5 @@
 //! The calls of tickets.
-ghost use Rattle.std.specs.Prelude.{◌≡◌, ◌≤◌, ◌<◌, ◌+◌, ◌++◌, ◌∷◌, [], ◌^◌, map, All, IfOk, IsNone, MatchOption};
+ghost use Rattle.std.specs.Prelude.{◌≡◌, ◌≤◌, ◌<◌, ◌++◌, ◌∷◌, [], ◌^◌, map, All, IfOk, IsNone, MatchOption};
 ghost use Rattle.rj_exchange.specs.Tickets.{drawn_by, IsSpent, IsUnspent, limit_of, seats_of, IsSeatOf, IsNew, AreAllSeats, EachOnce, AnySpent};
 
 use crate::tickets::{Claims, Cut, Plan, Seat, Tickets};
