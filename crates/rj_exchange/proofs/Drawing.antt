@@ -1,15 +1,15 @@
 -- Each step on the ticket word keeps its rule.
-use Rattle.std.proofs.Common.{◌≡◌, ℕ, zero, suc, ◌+◌, ◌%◌, ◌<◌, ◌≤◌, min, List, [], ◌∷◌, ◌++◌, length, get_or, set, sym, refl, ap, ◌∙◌, subst, ⊎_elim, arith, length-set, length-append, get_or-set_same, lt_of_not-le}
-use mathlib.Core.Option.{none, some, some-injective, some-ne-none}
+use Rattle.std.proofs.Common.{◌≡◌, ℕ, suc, ◌+◌, ◌%◌, ◌<◌, ◌≤◌, min, List, [], ◌∷◌, ◌++◌, length, get_or, set, sym, refl, ap, ◌∙◌, subst, ⊎_elim, arith, length-set, length-append, get_or-set_same, lt_of_not-le}
+use mathlib.Core.Option.{none, some}
 use mathlib.Core.Logic.{dite}
 use native.Mathlib.Decide.{dec_le}
 use lib.ListN.{get_elem?}
-use Rattle.atomic_table.specs.Table.{State, Me, step, keeps, stepped, Allows, Splits, Joins, opening}
+use Rattle.atomic_table.specs.Table.{State, Me, step, keeps, stepped, Allows, Splits, Joins}
 use Rattle.atomic_table.proofs.Lists.{at_set, at_snoc}
 use Rattle.rj_exchange.specs.declared.tickets.Draw.{Draw}
 use Rattle.rj_exchange.specs.declared.tickets.Plan.{Plan}
 use Rattle.rj_exchange.specs.Totals.{total, total_below}
-use Rattle.rj_exchange.specs.Drawing.{draw, Fits, Drawing, opening_view, drew, kept, cut_off, joined, nobody}
+use Rattle.rj_exchange.specs.Drawing.{draw, Fits, Drawing, drew, draw_after_cut, draw_cut_off, draws_joined, no_draw}
 use Rattle.rj_exchange.proofs.Totals.{total-append, total-snoc, total-set, total-plus, total-one, total-same, total_le, sole, below_ones}
 
 abbrev St : Type 0
@@ -63,8 +63,8 @@ draws k slots id me one fresh limit low few s r _ at small = let x : ℕ = get_o
       ((λ _. refl), (λ le. absurd (omega arith)), refl),
     ))
 
-pub cuts : (k : Plan) (id : ℕ) (v : Draw) → 1 < v.parts → v.nones ≡ 0 → Splits (Drawing k) id v (kept v) (cut_off v)
-cuts k id v some_parts fresh s r at = let l : Draw = kept v in let c : Draw = cut_off v in let vs : List Draw = set s.views id l in record {
+pub cuts : (k : Plan) (id : ℕ) (v : Draw) → 1 < v.parts → v.nones ≡ 0 → Splits (Drawing k) id v (draw_after_cut v) (draw_cut_off v)
+cuts k id v some_parts fresh s r at = let l : Draw = draw_after_cut v in let c : Draw = draw_cut_off v in let vs : List Draw = set s.views id l in record {
   one_word = r.one_word;
   parts = (let t = total-set (λ (u : Draw). u.parts) s.views id v l at in let a = total-snoc (λ (u : Draw). u.parts) vs c in let p = r.parts in omega arith);
   steps = (let t = total-set (λ (u : Draw). length u.drawn + u.nones) s.views id v l at in let a = total-snoc (λ (u : Draw). length u.drawn + u.nones) vs c in let p = r.steps in omega arith);
@@ -81,19 +81,19 @@ none_of_both a b e f = (λ i. e i ++ f i)
 past : (k : Plan) (word : ℕ) (v w : Draw) → Fits k word v → Fits k word w → 0 < v.nones + w.nones → k.limit ≤ word
 past k word v w fv fw some_none = dite (dec_le 1 v.nones) (λ a. fv.1 a) (λ b. fw.1 (omega arith))
 
-pub merges : (k : Plan) (id : ℕ) (v : Draw) (other : ℕ) (w : Draw) → Joins (Drawing k) id v other w (joined v w) nobody
-merges k id v other w s r at apart at' = let b : Draw = joined v w in let vs : List Draw = set s.views id b in let theirs : get_elem? s.views other ≡ some w = ⊎_elim (λ x. absurd (apart x.0)) (λ x. x.1) (at_set s.views id other b w at') in
+pub merges : (k : Plan) (id : ℕ) (v : Draw) (other : ℕ) (w : Draw) → Joins (Drawing k) id v other w (draws_joined v w) no_draw
+merges k id v other w s r at apart at' = let b : Draw = draws_joined v w in let vs : List Draw = set s.views id b in let theirs : get_elem? s.views other ≡ some w = ⊎_elim (λ x. absurd (apart x.0)) (λ x. x.1) (at_set s.views id other b w at') in
     let fv = r.fits id v at in let fw = r.fits other w theirs in record {
       one_word = r.one_word;
-      parts = (let t = total-set (λ (u : Draw). u.parts) s.views id v b at in let a = total-set (λ (u : Draw). u.parts) vs other w nobody at' in let p = r.parts in omega arith);
-      steps = (let t = total-set (λ (u : Draw). length u.drawn + u.nones) s.views id v b at in let a = total-set (λ (u : Draw). length u.drawn + u.nones) vs other w nobody at' in
+      parts = (let t = total-set (λ (u : Draw). u.parts) s.views id v b at in let a = total-set (λ (u : Draw). u.parts) vs other w no_draw at' in let p = r.parts in omega arith);
+      steps = (let t = total-set (λ (u : Draw). length u.drawn + u.nones) s.views id v b at in let a = total-set (λ (u : Draw). length u.drawn + u.nones) vs other w no_draw at' in
           let n = length-append v.drawn w.drawn in let p = r.steps in omega arith);
-      numbers = λ h. (let t = total-set (λ (u : Draw). total h u.drawn) s.views id v b at in let a = total-set (λ (u : Draw). total h u.drawn) vs other w nobody at' in
+      numbers = λ h. (let t = total-set (λ (u : Draw). total h u.drawn) s.views id v b at in let a = total-set (λ (u : Draw). total h u.drawn) vs other w no_draw at' in
           let n = total-append h v.drawn w.drawn in let p = r.numbers h in omega arith);
       fits = λ j u e. ⊎_elim (λ x. subst (Fits k (get_or s.words 0 0)) x.1 ((omega arith), (λ z. absurd (omega arith)), λ z. refl))
           (λ x. ⊎_elim (λ y. subst (Fits k (get_or s.words 0 0)) y.1 ((let p = fv.0 in let q = fw.0 in omega arith), (λ z. past k (get_or s.words 0 0) v w fv fw z), λ z. none_of_both _ _ (fv.2 (omega arith)) (fw.2 (omega arith))))
           (λ y. r.fits j u y.1) (at_set s.views id j b u x.1))
-          (at_set vs other j nobody u e);
+          (at_set vs other j no_draw u e);
     }
 
 -- a seat with every part knows all that was drawn

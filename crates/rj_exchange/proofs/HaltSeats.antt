@@ -5,7 +5,7 @@ use native.Mathlib.Decide.{dec_le}
 use Rattle.atomic_table.specs.Seated.{TableId}
 use Rattle.rj_exchange.specs.declared.halt.HaltSeat.{HaltSeat}
 use Rattle.rj_exchange.specs.Totals.{total}
-use Rattle.rj_exchange.specs.Halt.{AnyRaised, AnySeen, IsCalm}
+use Rattle.rj_exchange.specs.Halt.{AnyRaised, AnySeen, IsUnraised}
 use Rattle.rj_exchange.proofs.Totals.{one_le_total}
 
 abbrev pub IsHaltAt : TableId → HaltSeat → Type 0
@@ -39,10 +39,10 @@ pub zero_unless : (n word : ℕ) → (0 < n → 0 < word) → word ≡ 0 → n �
 zero_unless zero word f e = refl
 zero_unless (suc n) word f e = absurd (let p = f (omega arith) in omega arith)
 
-pub all_calm : (ss : List HaltSeat) → total raises_of ss ≡ 0 → total sees_of ss ≡ 0 → All IsCalm ss
-all_calm [] r e i d lt = absurd (omega arith)
-all_calm (s ∷ ss) r e zero d lt = (
+pub all_unraised : (ss : List HaltSeat) → total raises_of ss ≡ 0 → total sees_of ss ≡ 0 → All IsUnraised ss
+all_unraised [] r e i d lt = absurd (omega arith)
+all_unraised (s ∷ ss) r e zero d lt = (
   λ up. (let one : raises_of s ≡ 1 = s.tells.0 ∙ ap (λ b. cond b 1 0) up in omega arith),
   λ up. (let one : sees_of s ≡ 1 = s.tells.1 ∙ ap (λ b. cond b 1 0) up in omega arith),
 )
-all_calm (s ∷ ss) r e (suc i) d lt = all_calm ss (omega arith) (omega arith) i d (omega arith)
+all_unraised (s ∷ ss) r e (suc i) d lt = all_unraised ss (omega arith) (omega arith) i d (omega arith)

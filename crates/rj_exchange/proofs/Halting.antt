@@ -1,13 +1,13 @@
 -- Each step on the halt word keeps its rule.
-use Rattle.std.proofs.Common.{◌≡◌, ℕ, zero, suc, ◌+◌, ◌-◌, ◌<◌, ◌≤◌, ◌⊎◌, inl, inr, max, List, [], ◌∷◌, get_or, set, sym, refl, ap, ◌∙◌, subst, ⊎_elim, arith, length-set, get_or-set_same}
-use mathlib.Core.Option.{none, some, some-injective, some-ne-none}
+use Rattle.std.proofs.Common.{◌≡◌, ℕ, ◌+◌, ◌-◌, ◌<◌, ◌≤◌, ◌⊎◌, inl, inr, max, List, get_or, set, sym, refl, ap, ◌∙◌, subst, ⊎_elim, arith, length-set, get_or-set_same}
+use mathlib.Core.Option.{none, some}
 use mathlib.Core.Logic.{dite}
 use native.Mathlib.Decide.{dec_le}
 use lib.ListN.{get_elem?}
-use Rattle.atomic_table.specs.Table.{State, Me, step, keeps, stepped, Allows, Splits, Joins, opening, Final, Seen}
+use Rattle.atomic_table.specs.Table.{State, Me, step, keeps, stepped, Allows, Splits, Joins, Final, Seen}
 use Rattle.atomic_table.proofs.Lists.{at_set, at_snoc}
 use Rattle.rj_exchange.specs.declared.halt.HaltToken.{HaltToken}
-use Rattle.rj_exchange.specs.Halting.{look, Halting, raising, looking}
+use Rattle.rj_exchange.specs.Halting.{halt_token, Halting, raising, looking}
 use Rattle.rj_exchange.proofs.Totals.{total-snoc, total-set, one_le_total, sole, index_of}
 
 abbrev St : Type 0
@@ -29,17 +29,17 @@ moved k s r n id c v w at same mine more_raised more by_me why sees = let one = 
     }
 
 pub raises : (k slots id : ℕ) (me : M) → me.0.parts ≡ 1 → me.0.raises ≤ 1 → Allows (Halting k) slots id me 0 (λ x. max x 1) (raising (step slots 0 1 0 none) me)
-raises k slots id me one most s r _ at small = let x : ℕ = get_or s.words 0 0 in let v : HaltToken = me.0 in let w : HaltToken = look v.parts 1 v.sees in
+raises k slots id me one most s r _ at small = let x : ℕ = get_or s.words 0 0 in let v : HaltToken = me.0 in let w : HaltToken = halt_token v.parts 1 v.sees in
     (w, keeps, tt, moved k s r (max x 1) id me.1 v w at refl (omega arith) most (omega arith) (λ _. omega arith) (λ _. inr (omega arith)) (λ _. omega arith), refl)
 
 pub looks : (k slots id : ℕ) (me : M) → me.0.parts ≡ 1 → Allows (Halting k) slots id me 0 (λ x. x) (looking (step slots 0 0 0 none) me)
 looks k slots id me one s r _ at small = let x : ℕ = get_or s.words 0 0 in let v : HaltToken = me.0 in
     let mine = λ (up : 0 < v.raises). r.by_some (let le = one_le_total (λ (u : HaltToken). u.raises) s.views id v at in omega arith) in dite (dec_le 1 x)
-    (λ up. let w : HaltToken = look v.parts v.raises 1 in (w, keeps, tt, moved k s r x id me.1 v w at refl (omega arith) (omega arith) (omega arith) (λ _. up) (λ u. inl u) (λ _. up), ((λ _. refl), λ z. absurd (omega arith))))
+    (λ up. let w : HaltToken = halt_token v.parts v.raises 1 in (w, keeps, tt, moved k s r x id me.1 v w at refl (omega arith) (omega arith) (omega arith) (λ _. up) (λ u. inl u) (λ _. up), ((λ _. refl), λ z. absurd (omega arith))))
     (λ down. (v, keeps, tt, moved k s r x id me.1 v v at refl (omega arith) (omega arith) (omega arith) mine (λ u. inl u) (r.seen id v at), ((λ u. absurd (omega arith)), λ z. refl)))
 
-pub cuts : (k id : ℕ) (v : HaltToken) → 1 < v.parts → Splits (Halting k) id v (look (v.parts - 1) v.raises v.sees) (look 1 0 0)
-cuts k id v some_parts s r at = let l : HaltToken = look (v.parts - 1) v.raises v.sees in let c : HaltToken = look 1 0 0 in let vs : List HaltToken = set s.views id l in
+pub cuts : (k id : ℕ) (v : HaltToken) → 1 < v.parts → Splits (Halting k) id v (halt_token (v.parts - 1) v.raises v.sees) (halt_token 1 0 0)
+cuts k id v some_parts s r at = let l : HaltToken = halt_token (v.parts - 1) v.raises v.sees in let c : HaltToken = halt_token 1 0 0 in let vs : List HaltToken = set s.views id l in
     let t = total-set (λ (u : HaltToken). u.raises) s.views id v l at in let a = total-snoc (λ (u : HaltToken). u.raises) vs c in record {
       one_word = r.one_word;
       parts = (let t' = total-set (λ (u : HaltToken). u.parts) s.views id v l at in let a' = total-snoc (λ (u : HaltToken). u.parts) vs c in let p = r.parts in omega arith);
@@ -51,8 +51,8 @@ cuts k id v some_parts s r at = let l : HaltToken = look (v.parts - 1) v.raises 
           (λ is. ap (λ (y : HaltToken). y.raises) (sym is)) (at_snoc vs c u j e);
     }
 
-pub merges : (k id : ℕ) (v : HaltToken) (other : ℕ) (w : HaltToken) → Joins (Halting k) id v other w (look (v.parts + w.parts) (v.raises + w.raises) (v.sees + w.sees)) (look 0 0 0)
-merges k id v other w s r at apart at' = let b : HaltToken = look (v.parts + w.parts) (v.raises + w.raises) (v.sees + w.sees) in let z : HaltToken = look 0 0 0 in let vs : List HaltToken = set s.views id b in
+pub merges : (k id : ℕ) (v : HaltToken) (other : ℕ) (w : HaltToken) → Joins (Halting k) id v other w (halt_token (v.parts + w.parts) (v.raises + w.raises) (v.sees + w.sees)) (halt_token 0 0 0)
+merges k id v other w s r at apart at' = let b : HaltToken = halt_token (v.parts + w.parts) (v.raises + w.raises) (v.sees + w.sees) in let z : HaltToken = halt_token 0 0 0 in let vs : List HaltToken = set s.views id b in
     let theirs : get_elem? s.views other ≡ some w = ⊎_elim (λ x. absurd (apart x.0)) (λ x. x.1) (at_set s.views id other b w at') in
     let t = total-set (λ (u : HaltToken). u.raises) s.views id v b at in let a = total-set (λ (u : HaltToken). u.raises) vs other w z at' in record {
       one_word = r.one_word;

@@ -5,7 +5,8 @@ use Rattle.rj_exchange.specs.declared.boxes.Exchange.{Exchange}
 use Rattle.rj_exchange.specs.declared.boxes.Inbox.{Inbox}
 use Rattle.rj_exchange.specs.declared.queue.Trace.{Trace}
 use Rattle.rj_exchange.specs.Passing.{taker}
-use Rattle.rj_exchange.specs.Boxes.{Queue, sent_of, taken_of, heard_of, takens, heards, where_at, IsEndOf, IsTaker, IsGrown, IsInboxOf, HasHeard}
+use Rattle.rj_exchange.specs.Boxes.{Queue, sent_of, taken_of, heard_of, taken_by_lane, heard_by_lane, where_at, IsEndOf, IsInboxOf, HasHeard}
+use Rattle.rj_exchange.specs.Ends.{IsTaker, IsGrown}
 use Rattle.rj_exchange.proofs.Stubs.{get_or-map, pick, row_fits, taker_self}
 
 pub heard_of_none : (e : Exchange) (i : Inbox) → IsInboxOf e i → HasHeard e 0 i
@@ -31,14 +32,14 @@ pub counted : (e : Exchange) (i : Inbox) (n k : ℕ) (l : Queue) (s : Stub) → 
 counted e i n k l s h lt = let t = h.takes.tokens k l s lt in (t.0, taker_self _ _ _ _ _ t.1, ap length (sym (get_or-map heard_of i.ends.items k s [] (let m = h.takes.many in omega arith))) ∙ h.heard k lt)
 
 module _ (e : Exchange) (o n : Inbox) (outbox : ℕ) (ss : List Stub) (h : Grows e o n outbox ss) where
-  pub still_taken : takens n ≡ takens o
+  pub still_taken : taken_by_lane n ≡ taken_by_lane o
   still_taken =
       let a = h.many in let b = h.heard.takes.many in
       same_map taken_of n.ends.items o.ends.items (omega arith) (λ k u s lt.
       let l : Queue = pick e.queues.items 0 (let z = e.sized in let y = e.limits in let p = h.heard.takes.below in let m = row_fits o.partition e.partitions e.lanes 0 p y.0 in omega arith) in
       ap (λ (v : Trace). v.taken) (h.grown k l s s u (omega arith)).1)
 
-  pub heard_more : (k : ℕ) → k < e.lanes → get_or (heards n) k [] ≡ get_or (heards o) k [] ++ get_or (map sent_of ss) k [] ∷ []
+  pub heard_more : (k : ℕ) → k < e.lanes → get_or (heard_by_lane n) k [] ≡ get_or (heard_by_lane o) k [] ++ get_or (map sent_of ss) k [] ∷ []
   heard_more k lt =
       let a = h.many in let b = h.heard.takes.many in let c = h.given in
       let in_new : k < length n.ends.items = omega arith in let in_old : k < length o.ends.items = omega arith in let in_given : k < length ss = omega arith in
@@ -57,5 +58,5 @@ module _ (e : Exchange) (o n : Inbox) (outbox : ℕ) (ss : List Stub) (h : Grows
           let knows = g.1 ∙ (λ i. taker (v i).place (v i).made (sym g.1 i).taken (sym g.1 i).known) in
           subst (λ (m : ℕ). IsEndOf (where_at e m k) e.outboxes (get_or e.queues.items (m * e.lanes + k) l) (get_or n.ends.items k s)) (sym h.partition) (g.0, knows);
     };
-    heard = λ k lt. ap length (heard_more k lt) ∙ length-append (get_or (heards o) k []) _ ∙ (let was = h.heard.heard k lt in omega arith);
+    heard = λ k lt. ap length (heard_more k lt) ∙ length-append (get_or (heard_by_lane o) k []) _ ∙ (let was = h.heard.heard k lt in omega arith);
   }

@@ -10,41 +10,41 @@ use Rattle.rj_exchange.specs.declared.boxes.Outbox.{Outbox}
 use Rattle.rj_exchange.specs.declared.boxes.Exchange.{Exchange}
 use Rattle.rj_exchange.specs.declared.stripes.StripeSeat.{StripeSeat}
 use Rattle.rj_exchange.specs.Passing.{of, posted_by}
-use Rattle.rj_exchange.specs.Boxes.{where_at, sent_of, IsStubOf, IsAllSent, IsOutboxOf, AreAllOutboxes, AreLeftAt, IsPartOf, AreStubsOf, AreStubsFrom}
+use Rattle.rj_exchange.specs.Boxes.{where_at, sent_of, IsStubOf, IsAllSent, IsOutboxOf, AreAllOutboxes, AreStubsLeftAt, AreStubsLeftBy, AreStubsOf, AreStubsFrom}
 use Rattle.rj_exchange.specs.Tickets.{times, EachOnce}
 use Rattle.rj_exchange.specs.Totals.{total}
-use Rattle.rj_exchange.specs.Stripes.{held, Holds, HasHolder}
+use Rattle.rj_exchange.specs.Stripes.{held_by, Holds, HasHolder}
 use Rattle.rj_exchange.proofs.Of.{chosen, passed}
 use Rattle.rj_exchange.proofs.Stubs.{pick}
 
 -- a seat holds no more of x than all together
-held_le : (x : ℕ) (ss : List StripeSeat) (i : ℕ) (d : StripeSeat) → i < length ss → times x (held (get_or ss i d)) ≤ total (times x) (map held ss)
+held_le : (x : ℕ) (ss : List StripeSeat) (i : ℕ) (d : StripeSeat) → i < length ss → times x (held_by (get_or ss i d)) ≤ total (times x) (map held_by ss)
 held_le x [] i d lt = absurd (omega arith)
 held_le x (s ∷ ss) zero d lt = omega arith
 held_le x (s ∷ ss) (suc i) d lt = let r = held_le x ss i d (omega arith) in omega arith
 
-one_holder : (x : ℕ) (ss : List StripeSeat) → total (times x) (map held ss) ≡ 1 → HasHolder x ss
+one_holder : (x : ℕ) (ss : List StripeSeat) → total (times x) (map held_by ss) ≡ 1 → HasHolder x ss
 one_holder x [] one = absurd (omega arith)
-one_holder x (s ∷ ss) one = dite (dec_le 1 (times x (held s)))
-    (λ le. record { place = 0; within = omega arith; holds = (λ d. (let l : 0 < times x (held s) = omega arith in l)); alone = first le })
+one_holder x (s ∷ ss) one = dite (dec_le 1 (times x (held_by s)))
+    (λ le. record { place = 0; within = omega arith; holds = (λ d. (let l : 0 < times x (held_by s) = omega arith in l)); alone = first le })
     (λ ne.
-    let few : times x (held s) < 1 = lt_of_not-le ne in
+    let few : times x (held_by s) < 1 = lt_of_not-le ne in
     let r = one_holder x ss (omega arith) in
     let w = r.within in
     record { place = suc r.place; within = omega arith; holds = r.holds; alone = later few r.place r.alone })
   where
-    first : 1 ≤ times x (held s) → (i : ℕ) (d : StripeSeat) → i < length (s ∷ ss) → Holds (get_or (s ∷ ss) i d) x → i ≡ 0
+    first : 1 ≤ times x (held_by s) → (i : ℕ) (d : StripeSeat) → i < length (s ∷ ss) → Holds (get_or (s ∷ ss) i d) x → i ≡ 0
     first le zero d lt h = refl
     first le (suc i) d lt h = absurd (let m = held_le x ss i d (omega arith) in omega arith)
 
-    later : times x (held s) < 1 → (place : ℕ) → ((i : ℕ) (d : StripeSeat) → i < length ss → Holds (get_or ss i d) x → i ≡ place) → (i : ℕ) (d : StripeSeat) → i < length (s ∷ ss) → Holds (get_or (s ∷ ss) i d) x → i ≡ suc place
+    later : times x (held_by s) < 1 → (place : ℕ) → ((i : ℕ) (d : StripeSeat) → i < length ss → Holds (get_or ss i d) x → i ≡ place) → (i : ℕ) (d : StripeSeat) → i < length (s ∷ ss) → Holds (get_or (s ∷ ss) i d) x → i ≡ suc place
     later few place alone zero d lt h = absurd (omega arith)
     later few place alone (suc i) d lt h = ap suc (alone i d (omega arith) h)
 
-pub holder : (n x : ℕ) (ss : List StripeSeat) → EachOnce n (map held ss) → x < n → HasHolder x ss
+pub holder : (n x : ℕ) (ss : List StripeSeat) → EachOnce n (map held_by ss) → x < n → HasHolder x ss
 holder n x ss once lt = one_holder x ss ((once x).0 lt)
 
-pub stubs_by_partition : (e : Exchange) (p : ℕ) (os : List Outbox) (ss : List Stub) → AreAllOutboxes e os → p < e.partitions → AreLeftAt e p os ss → AreStubsOf e p ss
+pub stubs_by_partition : (e : Exchange) (p : ℕ) (os : List Outbox) (ss : List Stub) → AreAllOutboxes e os → p < e.partitions → AreStubsLeftAt e p os ss → AreStubsOf e p ss
 stubs_by_partition e p os ss all pl left = record {
   many = left.many;
   stubs = λ o k l s ol kl.
@@ -54,7 +54,7 @@ stubs_by_partition e p os ss all pl left = record {
       subst (λ (z : ℕ × Stub). IsStubOf (where_at e p k) z.0 (get_or e.queues.items (p * e.lanes + k) l) z.1) (λ i. (b.1 i, sym is i)) (b.0.tokens p k l s pl kl);
 }
 
-pub stubs_of_one : (e : Exchange) (p : ℕ) (o : Outbox) (ss : List Stub) → IsOutboxOf e o → p < e.partitions → IsPartOf e p o ss → AreStubsFrom e p o.number ss
+pub stubs_of_one : (e : Exchange) (p : ℕ) (o : Outbox) (ss : List Stub) → IsOutboxOf e o → p < e.partitions → AreStubsLeftBy e p o ss → AreStubsFrom e p o.number ss
 stubs_of_one e p o ss h pl part = record {
   many = part.many;
   stubs = λ k l s kl. subst (IsStubOf (where_at e p k) o.number (get_or e.queues.items (p * e.lanes + k) l)) (sym (part.each k s kl)) (h.tokens p k l s pl kl);

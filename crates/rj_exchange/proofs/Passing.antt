@@ -10,7 +10,7 @@ use Rattle.crossbeam_queue.proofs.Lists.{at_set}
 use Rattle.rj_exchange.specs.declared.posted.Posted.{Posted}
 use Rattle.rj_exchange.specs.declared.queue.Where.{Where}
 use Rattle.rj_exchange.specs.declared.queue.Trace.{Trace}
-use Rattle.rj_exchange.specs.Passing.{of, Interleaves, Belongs, nowhere, nobody, blank, taker, sender, FitsSender, FitsTaker, Passing, HeldAt, HasAllHeard, Left, Took}
+use Rattle.rj_exchange.specs.Passing.{of, Interleaves, Belongs, no_place, no_trace, first_trace, taker, sender, FitsSender, FitsTaker, Passing, HeldAt, HasAllHeard, Left, Took}
 use Rattle.rj_exchange.proofs.Of.{chosen, passed, snoc_cases, within, past_end, before_end, at_end, of-append, of_hit, of_miss}
 
 -- where the taker knows of every outbox, it knows the whole
@@ -100,25 +100,25 @@ learns_left pass v may placed items views h at = let f = h.takers pass v at may 
 pub learns_held : (pass : ℕ) (v : Trace) → v.sends ≡ true → Learns Passing pass v (HeldAt v.place v.outbox v.sent)
 learns_held pass v may items views h at = let f = h.senders pass v at may in (subst (λ p. All (Belongs p) items) (sym f.there) h.belong, (of v.outbox h.got, f.sent ∙ of-append v.outbox h.got items))
 
-pub opens : Passing [] (blank ∷ [])
+pub opens : Passing [] (first_trace ∷ [])
 opens = record {
   reader = 0;
   owner = λ _. 0;
-  place = nowhere;
+  place = no_place;
   got = [];
-  belong = All-nil (Belongs nowhere);
+  belong = All-nil (Belongs no_place);
   senders = λ j u e s. absurd (not_both u.sends s (ap (λ (z : Trace). z.sends) (sym (only j u e).1)));
-  takers = λ j u e t. subst (λ (z : ℕ × Trace). FitsTaker 0 (λ _. 0) nowhere [] [] z.0 z.1) {x = (0, blank)} {y = (j, u)} (λ i. (sym (only j u e).0 i, (only j u e).1 i)) first;
+  takers = λ j u e t. subst (λ (z : ℕ × Trace). FitsTaker 0 (λ _. 0) no_place [] [] z.0 z.1) {x = (0, first_trace)} {y = (j, u)} (λ i. (sym (only j u e).0 i, (only j u e).1 i)) first;
 }
   where
-    only : (j : ℕ) (u : Trace) → get_elem? (blank ∷ []) j ≡ some u → (j ≡ 0) × (blank ≡ u)
-    only zero u e = (refl, some-injective blank u e)
+    only : (j : ℕ) (u : Trace) → get_elem? (first_trace ∷ []) j ≡ some u → (j ≡ 0) × (first_trace ≡ u)
+    only zero u e = (refl, some-injective first_trace u e)
     only (suc j) u e = absurd (some-ne-none u (sym e))
 
-    first : FitsTaker 0 (λ _. 0) nowhere [] [] 0 blank
+    first : FitsTaker 0 (λ _. 0) no_place [] [] 0 first_trace
     first = record { only = refl; taken = refl; later = λ k le. (refl, refl); ended = λ k lt. absurd (omega arith); known = omega arith; there = λ p. absurd (true≢false (sym p)); unplaced = λ _. (refl, refl) }
 
-pub fixes : (pass : ℕ) (v : Trace) (p : Where) → v ≡ blank → Forks Passing pass v (taker p 0 [] []) nobody
+pub fixes : (pass : ℕ) (v : Trace) (p : Where) → v ≡ first_trace → Forks Passing pass v (taker p 0 [] []) no_trace
 fixes pass v p is items views h at = let l : Trace = taker p 0 [] [] in let mine = h.takers pass v at (ap (λ u. u.takes) is) in let none = mine.unplaced (ap (λ u. u.placed) is) in let vs : List Trace = set views pass l in
     let made = ap (λ (u : Trace). u.made) is in
     let nosender = λ (j : ℕ) (u : Trace) (at_u : get_elem? views j ≡ some u) (s : u.sends ≡ true). (let f = h.senders j u at_u s in f.other (sym f.mine ∙ (mine.later u.outbox (omega arith)).0)) in
@@ -139,12 +139,12 @@ fixes pass v p is items views h at = let l : Trace = taker p 0 [] [] in let mine
       senders = λ j u e s. absurd (⊎_elim
           (λ old. ⊎_elim (λ y. not_both u.sends s (ap (λ (z : Trace). z.sends) (sym y.1))) (λ y. nosender j u y.1 s) (at_set views pass j l u old))
           (λ new. not_both u.sends s (ap (λ (z : Trace). z.sends) (sym new.1)))
-          (snoc_cases vs nobody u j e));
+          (snoc_cases vs no_trace u j e));
       takers = λ j u e t. ⊎_elim
           (λ old. ⊎_elim (λ y. subst (λ (z : ℕ × Trace). FitsTaker h.reader h.owner p h.got items z.0 z.1) {x = (pass, l)} {y = (j, u)} (λ i. (sym y.0 i, y.1 i)) now)
           (λ y. absurd (y.0 ((h.takers j u y.1 t).only ∙ sym mine.only))) (at_set views pass j l u old))
           (λ new. absurd (not_both u.takes t (ap (λ (z : Trace). z.takes) (sym new.1))))
-          (snoc_cases vs nobody u j e);
+          (snoc_cases vs no_trace u j e);
     }
 
 pub deals : (pass : ℕ) (v : Trace) → v.takes ≡ true → v.placed ≡ true → Forks Passing pass v (taker v.place (v.made + 1) v.taken v.known) (sender v.place v.made [])
@@ -179,7 +179,7 @@ deals pass v may placed items views h at = let l : Trace = taker v.place (v.made
     }
 
 pub returns : (pass : ℕ) (v : Trace) (other : ℕ) (w : Trace) → v.takes ≡ true → v.placed ≡ true → w.sends ≡ true → w.outbox ≡ length v.known
-    → Merges Passing pass v other w (taker v.place v.made v.taken (v.known ++ w.sent ∷ [])) nobody
+    → Merges Passing pass v other w (taker v.place v.made v.taken (v.known ++ w.sent ∷ [])) no_trace
 returns pass v other w may placed theirs from items views h at apart at' = let b : Trace = taker v.place v.made v.taken (v.known ++ w.sent ∷ []) in let mine = h.takers pass v at may in let vs : List Trace = set views pass b in
     let was : get_elem? views other ≡ some w = ⊎_elim (λ x. absurd (apart x.0)) (λ x. x.1) (at_set views pass other b w at') in let its = h.senders other w was theirs in
     let posted : List Posted = h.got ++ items in let owner : ℕ → ℕ = λ k. cond (eqb k w.outbox) h.reader (h.owner k) in
@@ -207,9 +207,9 @@ returns pass v other w may placed theirs from items views h at apart at' = let b
           (λ x. ⊎_elim (λ y. absurd (not_both u.sends s (ap (λ (z : Trace). z.sends) (sym y.1))))
           (λ y. let f = h.senders j u y.1 s in record { mine = passed u.outbox w.outbox h.reader (h.owner u.outbox) (λ is. x.0 (sym f.mine ∙ ap h.owner is ∙ its.mine)) ∙ f.mine; other = f.other; sent = f.sent; there = f.there })
           (at_set views pass j b u x.1))
-          (at_set vs other j nobody u e);
+          (at_set vs other j no_trace u e);
       takers = λ j u e t. ⊎_elim (λ x. absurd (not_both u.takes t (ap (λ (z : Trace). z.takes) (sym x.1))))
           (λ x. ⊎_elim (λ y. subst (λ (z : ℕ × Trace). FitsTaker h.reader owner h.place h.got items z.0 z.1) {x = (pass, b)} {y = (j, u)} (λ i. (sym y.0 i, y.1 i)) now)
           (λ y. absurd (y.0 ((h.takers j u y.1 t).only ∙ sym mine.only))) (at_set views pass j b u x.1))
-          (at_set vs other j nobody u e);
+          (at_set vs other j no_trace u e);
     }

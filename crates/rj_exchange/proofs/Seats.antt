@@ -1,5 +1,5 @@
 -- Lists of seats.
-use Rattle.std.proofs.Common.{◌≡◌, ℕ, ◌+◌, ◌<◌, ◌≤◌, min, List, [], ◌∷◌, ◌++◌, map, length, get_or, sym, refl, ap, ◌∙◌, cond, arith}
+use Rattle.std.proofs.Common.{◌≡◌, ℕ, ◌+◌, ◌<◌, ◌≤◌, min, List, [], ◌∷◌, ◌++◌, map, length, get_or, refl, ap, ◌∙◌, cond, arith}
 use mathlib.Core.Option.{some}
 use lib.ListN.{get_elem?}
 use Rattle.atomic_table.specs.Seated.{TableId}
@@ -9,7 +9,7 @@ use Rattle.rj_exchange.specs.declared.tickets.Plan.{Plan}
 use Rattle.rj_exchange.specs.declared.tickets.Draw.{Draw}
 use Rattle.rj_exchange.specs.Totals.{total, total_below}
 use Rattle.rj_exchange.specs.Drawing.{Drawing}
-use Rattle.rj_exchange.specs.Tickets.{drawn, EachOnce, AnySpent, times}
+use Rattle.rj_exchange.specs.Tickets.{drawn_by, EachOnce, AnySpent, times}
 use Rattle.rj_exchange.proofs.Totals.{total-snoc, one_le_total, below_over, below_under, here, index_of}
 use Rattle.rj_exchange.proofs.Drawing.{knows}
 
@@ -29,8 +29,8 @@ pub total-map : {A B : Type 0} (f : B → ℕ) (g : A → B) (xs : List A) → t
 total-map f g [] = refl
 total-map f g (x ∷ xs) = ap (λ n. f (g x) + n) (total-map f g xs)
 
-pub each_once : (m : ℕ) (v : List ℕ) (ss : List Seat) → ((h : ℕ → ℕ) → total h v ≡ total_below h m) → ((h : ℕ → ℕ) → total h v + 0 ≡ total (λ s. total h (drawn s)) ss) → EachOnce m (map drawn ss)
-each_once m v ss below all x = let f : ℕ → ℕ = here x in let a = below f in let b = all f in let e = total-map (times x) drawn ss in
+pub each_once : (m : ℕ) (v : List ℕ) (ss : List Seat) → ((h : ℕ → ℕ) → total h v ≡ total_below h m) → ((h : ℕ → ℕ) → total h v + 0 ≡ total (λ s. total h (drawn_by s)) ss) → EachOnce m (map drawn_by ss)
+each_once m v ss below all x = let f : ℕ → ℕ = here x in let a = below f in let b = all f in let e = total-map (times x) drawn_by ss in
     ((λ lt. let u = below_under x m lt in omega arith), (λ le. let u = below_over x m le in omega arith))
 
 pub closes : (k : Plan) (ws : List ℕ) (xs : List (Unit {0})) (id : ℕ) (v : Draw) (word : ℕ) → Final (Seen (Drawing k) id v) ws xs → v.parts ≡ k.seats → get_elem? ws 0 ≡ some word

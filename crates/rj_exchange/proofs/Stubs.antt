@@ -11,7 +11,8 @@ use Rattle.rj_exchange.specs.declared.queue.Where.{Where}
 use Rattle.rj_ledger.specs.declared.parcel.Parcel.{Parcel}
 use Rattle.rj_exchange.specs.declared.posted.Posted.{Posted}
 use Rattle.rj_exchange.specs.Passing.{taker, sender, Interleaves}
-use Rattle.rj_exchange.specs.Boxes.{Queue, sent_of, IsStubOf, IsTaker, IsGrown, Knows, known_of, IsAllSent}
+use Rattle.rj_exchange.specs.Boxes.{Queue, sent_of, IsStubOf, IsAllSent}
+use Rattle.rj_exchange.specs.Ends.{IsTaker, IsGrown, Knows, known_of}
 use Rattle.rj_exchange.proofs.Of.{past_end, before_end, at_end}
 
 module _ {A : Type 0} where

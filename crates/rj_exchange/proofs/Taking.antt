@@ -7,7 +7,7 @@ use Rattle.rj_exchange.specs.declared.boxes.Exchange.{Exchange}
 use Rattle.rj_exchange.specs.declared.boxes.Inbox.{Inbox}
 use Rattle.rj_exchange.specs.declared.queue.Where.{Where}
 use Rattle.rj_exchange.specs.Passing.{taker}
-use Rattle.rj_exchange.specs.Boxes.{Queue, taken_of, heard_of, takens, heards, where_at, IsEndOf, TakesFrom, IsInboxOf, HasHeard}
+use Rattle.rj_exchange.specs.Boxes.{Queue, taken_of, heard_of, taken_by_lane, heard_by_lane, where_at, IsEndOf, TakesFrom, IsInboxOf, HasHeard}
 use Rattle.rj_exchange.proofs.Stubs.{kept, was}
 
 -- the token of a lane, and its queue
@@ -20,7 +20,7 @@ pub record IsAt (x : Exchange) (o : Inbox) (lane : ℕ) (at : ℕ) (queue : Queu
   pub token : old ≡ get_or o.ends.items lane old
 
 pub knows : (x : Exchange) (o : Inbox) (lane at : ℕ) (queue : Queue) (old : Stub) → IsAt x o lane at queue old
-    → view old.pass ≡ taker (where_at x o.partition lane) x.outboxes (get_or (takens o) lane []) (get_or (heards o) lane [])
+    → view old.pass ≡ taker (where_at x o.partition lane) x.outboxes (get_or (taken_by_lane o) lane []) (get_or (heard_by_lane o) lane [])
 knows x o lane at queue old h =
     let lt : lane < length o.ends.items = (let z = h.takes.many in let y = h.within in omega arith) in
     let t = sym (was taken_of o.ends.items lane old [] lt h.token) in let k = sym (was heard_of o.ends.items lane old [] lt h.token) in
@@ -29,7 +29,7 @@ knows x o lane at queue old h =
     e ∙ (λ i. taker (where_at x o.partition lane) x.outboxes (t i) (k i))
 
 pub still : (x : Exchange) (o n : Inbox) (lane at : ℕ) (queue : Queue) (old new : Stub) → IsAt x o lane at queue old → n.partition ≡ o.partition → n.ends.items ≡ set o.ends.items lane new
-    → IsEndOf (view old.pass).place (view old.pass).made queue new × (heard_of new ≡ heard_of old) → TakesFrom x n × (heards n ≡ heards o)
+    → IsEndOf (view old.pass).place (view old.pass).made queue new × (heard_of new ≡ heard_of old) → TakesFrom x n × (heard_by_lane n ≡ heard_by_lane o)
 still x o n lane at queue old new h p s e =
     let lt : lane < length o.ends.items = (let z = h.takes.many in let y = h.within in omega arith) in let v = knows x o lane at queue old h in
     let end : IsEndOf (where_at x o.partition lane) x.outboxes queue new = subst (λ (w : Where × ℕ). IsEndOf w.0 w.1 queue new) (λ i. ((v i).place, (v i).made)) e.0 in (
@@ -45,8 +45,8 @@ still x o n lane at queue old new h p s e =
       ap (map heard_of) s ∙ map-set_same heard_of o.ends.items lane new old (e.1 ∙ ap heard_of h.token),
     )
 
-pub untold : (x : Exchange) (o n : Inbox) → IsInboxOf x o → TakesFrom x n × (heards n ≡ heards o) → IsInboxOf x n
+pub untold : (x : Exchange) (o n : Inbox) → IsInboxOf x o → TakesFrom x n × (heard_by_lane n ≡ heard_by_lane o) → IsInboxOf x n
 untold x o n h s = record { takes = s.0; untold = λ k. ap (λ l. get_or l k []) s.1 ∙ h.untold k }
 
-pub as_told : (x : Exchange) (o n : Inbox) → TakesFrom x n × (heards n ≡ heards o) → (m : ℕ) → HasHeard x m o → HasHeard x m n
+pub as_told : (x : Exchange) (o n : Inbox) → TakesFrom x n × (heard_by_lane n ≡ heard_by_lane o) → (m : ℕ) → HasHeard x m o → HasHeard x m n
 as_told x o n s m h = record { takes = s.0; heard = λ k lt. ap (λ l. length (get_or l k [])) s.1 ∙ h.heard k lt }

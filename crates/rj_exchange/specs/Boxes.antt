@@ -1,7 +1,8 @@
 -- What the contracts of an exchange say.
-use Rattle.std.specs.Prelude.{◌≡◌, ℕ, zero, suc, ◌<◌, ◌≤◌, ◌+◌, ◌*◌, ◌%◌, List, [], ◌∷◌, ◌++◌, map, length, slice_index_or, Option, Vec, vec_capacity}
+use Rattle.std.specs.Prelude.{◌≡◌, ℕ, ◌<◌, ◌+◌, ◌*◌, ◌%◌, List, [], ◌∷◌, ◌++◌, map, length, slice_index_or, slice_set, All, Option, Vec}
 use Rattle.std.proofs.Common.{Global}
 use Rattle.crossbeam_queue.specs.Passes.{view, IsPassOf}
+use Rattle.crossbeam_queue.specs.Fifo.{Held}
 use Rattle.crossbeam_queue.specs.declared.array_queue.Doing.{Doing}
 use Rattle.crossbeam_queue.specs.declared.array_queue.Slotted.{Slotted}
 use Rattle.crossbeam_queue.specs.declared.array_queue.Turns.{Turns}
@@ -14,7 +15,7 @@ use Rattle.rj_exchange.specs.declared.boxes.Stub.{Stub}
 use Rattle.rj_exchange.specs.declared.boxes.Exchange.{Exchange}
 use Rattle.rj_exchange.specs.declared.boxes.Outbox.{Outbox}
 use Rattle.rj_exchange.specs.declared.boxes.Inbox.{Inbox}
-use Rattle.rj_exchange.specs.Passing.{sender, taker, of}
+use Rattle.rj_exchange.specs.Passing.{Belongs, HeldAt, Left, Next, sender, taker, of, posted_by}
 
 abbrev pub Queue : Type 0
 Queue = Slotted (Option Posted) (Doing Posted Trace) (Turns InOrder) Global
@@ -36,14 +37,14 @@ taken_of s = (view s.pass).taken
 abbrev pub heard_of : Stub → List (List Parcel)
 heard_of s = (view s.pass).known
 
-abbrev pub sents : Outbox → List (List Parcel)
-sents o = map sent_of o.stubs.items
+abbrev pub sent_by_queue : Outbox → List (List Parcel)
+sent_by_queue o = map sent_of o.stubs.items
 
-abbrev pub takens : Inbox → List (List Posted)
-takens i = map taken_of i.ends.items
+abbrev pub taken_by_lane : Inbox → List (List Posted)
+taken_by_lane i = map taken_of i.ends.items
 
-abbrev pub heards : Inbox → List (List (List Parcel))
-heards i = map heard_of i.ends.items
+abbrev pub heard_by_lane : Inbox → List (List (List Parcel))
+heard_by_lane i = map heard_of i.ends.items
 
 -- a token of outbox k at this queue
 abbrev pub IsStubOf : Where → ℕ → Queue → Stub → Type 0
@@ -68,12 +69,37 @@ pub record TakesFrom (e : Exchange) (i : Inbox) : Type 0 where
 -- an inbox that has heard of no outbox's end
 pub record IsInboxOf (e : Exchange) (i : Inbox) : Type 0 where
   pub takes : TakesFrom e i
-  pub untold : (k : ℕ) → slice_index_or (heards i) k [] ≡ []
+  pub untold : (k : ℕ) → slice_index_or (heard_by_lane i) k [] ≡ []
 
 -- an inbox that has heard of the ends of the first n outboxes
 pub record HasHeard (e : Exchange) (n : ℕ) (i : Inbox) : Type 0 where
   pub takes : TakesFrom e i
-  pub heard : (k : ℕ) → k < e.lanes → length (slice_index_or (heards i) k []) ≡ n
+  pub heard : (k : ℕ) → k < e.lanes → length (slice_index_or (heard_by_lane i) k []) ≡ n
+
+-- what the outbox has sent to the queue of the parcel
+abbrev pub sent_before : Exchange → Parcel → Outbox → List Parcel
+sent_before e x o = slice_index_or (sent_by_queue o) (queue_of e x) []
+
+-- the outbox has sent the parcel to its queue, behind the others, and nothing else
+abbrev pub SendsOneMore : Exchange → Parcel → Outbox → Outbox → Type 0
+SendsOneMore e x old new = sent_by_queue new ≡ slice_set (sent_by_queue old) (queue_of e x) (sent_before e x old ++ x ∷ [])
+
+-- at one moment the queue of the parcel held as many as its capacity, and those of this outbox among them were the last that it had sent there
+abbrev pub WasFull : Exchange → Parcel → Outbox → Type 0
+WasFull e x o = Held e.capacity (HeldAt (where_at e x.partition (x.number % e.lanes)) o.number (sent_before e x o))
+
+-- what the inbox knows of a lane
+abbrev pub known_at_lane : Exchange → Inbox → ℕ → Trace
+known_at_lane e i k = taker (where_at e i.partition k) e.outboxes (slice_index_or (taken_by_lane i) k []) (slice_index_or (heard_by_lane i) k [])
+
+-- at one moment the queue of the lane held nothing: all that the inbox has heard of was taken there
+abbrev pub WasEmpty : Exchange → Inbox → ℕ → Type 0
+WasEmpty e i k = Held 0 (Left (known_at_lane e i k))
+
+-- the inbox has taken the parcel at the lane, behind the others, and nothing else: it is some outbox's, belongs there, and was the first that was left
+abbrev pub TakesOneMore : Exchange → ℕ → Parcel → Inbox → Inbox → Type 0
+TakesOneMore e k x old new = (o : ℕ) × (taken_by_lane new ≡ slice_set (taken_by_lane old) k (slice_index_or (taken_by_lane old) k [] ++ posted_by o x ∷ []))
+    × Belongs (where_at e old.partition k) (posted_by o x) × Next (known_at_lane e old k) (posted_by o x)
 
 -- outbox number n, and the inbox of partition p
 abbrev pub IsOutboxAt : Exchange → ℕ → Outbox → Type 0
@@ -87,30 +113,15 @@ abbrev pub AreAllOutboxes : Exchange → List Outbox → Type 0
 AreAllOutboxes e os = (length os ≡ e.outboxes) × ((o : ℕ) (d : Outbox) → o < e.outboxes → IsOutboxAt e o (slice_index_or os o d))
 
 -- of what outboxes leave, the stubs for partition p, by outbox, then lane
-pub record AreLeftAt (e : Exchange) (p : ℕ) (os : List Outbox) (ss : List Stub) : Type 0 where
+pub record AreStubsLeftAt (e : Exchange) (p : ℕ) (os : List Outbox) (ss : List Stub) : Type 0 where
   pub many : length ss ≡ e.outboxes * e.lanes
   pub each : (o k : ℕ) (d : Outbox) (s : Stub) → o < e.outboxes → k < e.lanes
       → slice_index_or ss (o * e.lanes + k) s ≡ slice_index_or (slice_index_or os o d).stubs.items (p * e.lanes + k) s
 
 -- of what one outbox leaves, the stubs for partition p, lane by lane
-pub record IsPartOf (e : Exchange) (p : ℕ) (o : Outbox) (ss : List Stub) : Type 0 where
+pub record AreStubsLeftBy (e : Exchange) (p : ℕ) (o : Outbox) (ss : List Stub) : Type 0 where
   pub many : length ss ≡ e.lanes
   pub each : (k : ℕ) (s : Stub) → k < e.lanes → slice_index_or ss k s ≡ slice_index_or o.stubs.items (p * e.lanes + k) s
-
--- what is left of a list after its first n
-abbrev pub IsLater : ℕ → List Stub → List Stub → Type 0
-IsLater n old new = (length new + n ≡ length old) × ((i : ℕ) (d : Stub) → slice_index_or new i d ≡ slice_index_or old (n + i) d)
-
--- an inbox's token, which knows n outboxes that have ended
-abbrev pub IsTaker : ℕ → Queue → Stub → Type 0
-IsTaker n l s = IsPassOf l s.pass
-    × (view s.pass ≡ taker (view s.pass).place (view s.pass).made (view s.pass).taken (view s.pass).known)
-    × (length (view s.pass).known ≡ n)
-
--- it knows of one outbox more
-abbrev pub IsGrown : Queue → Stub → Stub → Stub → Type 0
-IsGrown l old stub new = IsPassOf l new.pass
-    × (view new.pass ≡ taker (view old.pass).place (view old.pass).made (view old.pass).taken ((view old.pass).known ++ sent_of stub ∷ []))
 
 -- the tokens of a partition's queues from all outboxes, by outbox, then lane
 pub record AreStubsOf (e : Exchange) (p : ℕ) (ss : List Stub) : Type 0 where
@@ -124,11 +135,6 @@ pub record AreStubsFrom (e : Exchange) (p o : ℕ) (ss : List Stub) : Type 0 whe
   pub stubs : (k : ℕ) (l : Queue) (s : Stub) → k < e.lanes
       → IsStubOf (where_at e p k) o (slice_index_or e.queues.items (p * e.lanes + k) l) (slice_index_or ss k s)
 
--- what the first o outboxes sent to lane k
-abbrev pub known_of : ℕ → List Stub → ℕ → ℕ → List (List Parcel)
-known_of lanes ss k zero = []
-known_of lanes ss k (suc o) = known_of lanes ss k o ++ slice_index_or (map sent_of ss) (o * lanes + k) [] ∷ []
-
 -- for each outbox, the parcels of the list are those that it sent to lane k; there are no others
 abbrev pub IsAllSent : ℕ → List Stub → ℕ → List Posted → Type 0
 IsAllSent lanes ss k xs = (o : ℕ) → of o xs ≡ slice_index_or (map sent_of ss) (o * lanes + k) []
@@ -136,25 +142,31 @@ IsAllSent lanes ss k xs = (o : ℕ) → of o xs ≡ slice_index_or (map sent_of 
 abbrev pub PostedVec : Type 0
 PostedVec = Vec Posted Global
 
-abbrev pub IsRoom : ℕ → PostedVec → Type 0
-IsRoom cap v = (v.items ≡ []) × (cap ≤ vec_capacity v)
+-- a list for each lane: what the inbox took there, followed by it, is all that the outboxes, which left these stubs, sent there
+abbrev pub AreRestsOf : Exchange → Inbox → List Stub → List PostedVec → Type 0
+AreRestsOf e i ss rests = (length rests ≡ e.lanes)
+    × ((k : ℕ) (v : PostedVec) → k < e.lanes → IsAllSent e.lanes ss k (slice_index_or (taken_by_lane i) k [] ++ (slice_index_or rests k v).items))
 
--- an inbox's token, which knows what some outboxes sent
-abbrev pub Knows : Queue → Stub → List (List Parcel) → Stub → Type 0
-Knows l old known new = IsPassOf l new.pass × (view new.pass ≡ taker (view old.pass).place (view old.pass).made (view old.pass).taken known)
+-- each parcel of the k-th list belongs to lane k of partition p
+abbrev pub BelongToLanes : Exchange → ℕ → List PostedVec → Type 0
+BelongToLanes e p rests = (k : ℕ) (v : PostedVec) → k < e.lanes → All (Belongs (where_at e p k)) (slice_index_or rests k v).items
 
-abbrev pub place_of : ℕ → ℕ → ℕ → ℕ → Where
-place_of p k lanes outboxes = record { partition = p; lane = k; lanes = lanes; outboxes = outboxes }
+-- of each lane the inbox has heard of one list more: what the next outbox, which left these stubs, sent there
+abbrev pub HearsOf : Exchange → List Stub → Inbox → Inbox → Type 0
+HearsOf e ss old new = (k : ℕ) → k < e.lanes
+    → slice_index_or (heard_by_lane new) k [] ≡ slice_index_or (heard_by_lane old) k [] ++ slice_index_or (map sent_of ss) k [] ∷ []
 
--- an outbox gains a token of this queue
-abbrev pub AddsStub : Where → ℕ → Queue → Outbox → Outbox → Type 0
-AddsStub place i l old new = (new.number ≡ old.number)
-    × ((s : Stub) × (new.stubs.items ≡ old.stubs.items ++ s ∷ []) × IsPassOf l s.pass × (view s.pass ≡ sender place i []))
+-- outboxes of the exchange, by number, that have posted nothing
+abbrev pub AreOpenedOutboxes : Exchange → ℕ → ℕ → List Outbox → Type 0
+AreOpenedOutboxes e n partitions os = (i : ℕ) (o : Outbox) → i < n → IsOutboxOf e (slice_index_or os i o) × ((slice_index_or os i o).number ≡ i)
+    × ((p k : ℕ) (s : Stub) → p < partitions → k < e.lanes → sent_of (slice_index_or (slice_index_or os i o).stubs.items (p * e.lanes + k) s) ≡ [])
 
--- each outbox and each inbox is of the exchange, and nothing was posted or taken
+-- inboxes of the exchange, by partition, that have taken nothing
+abbrev pub AreOpenedInboxes : Exchange → ℕ → List Inbox → Type 0
+AreOpenedInboxes e n is = (p : ℕ) (i : Inbox) → p < n → IsInboxOf e (slice_index_or is p i) × ((slice_index_or is p i).partition ≡ p)
+    × ((k : ℕ) (s : Stub) → k < e.lanes → taken_of (slice_index_or (slice_index_or is p i).ends.items k s) ≡ [])
+
+-- an exchange of so many outboxes and partitions, with all its boxes, and nothing was posted or taken
 abbrev pub IsOpened : Exchange → List Outbox → List Inbox → ℕ → ℕ → Type 0
 IsOpened e os is outboxes partitions = (e.outboxes ≡ outboxes) × (e.partitions ≡ partitions) × (length os ≡ outboxes) × (length is ≡ partitions)
-    × ((i : ℕ) (o : Outbox) → i < outboxes → IsOutboxOf e (slice_index_or os i o) × ((slice_index_or os i o).number ≡ i)
-    × ((p k : ℕ) (s : Stub) → p < partitions → k < e.lanes → sent_of (slice_index_or (slice_index_or os i o).stubs.items (p * e.lanes + k) s) ≡ []))
-    × ((p : ℕ) (n : Inbox) → p < partitions → IsInboxOf e (slice_index_or is p n) × ((slice_index_or is p n).partition ≡ p)
-    × ((k : ℕ) (s : Stub) → k < e.lanes → taken_of (slice_index_or (slice_index_or is p n).ends.items k s) ≡ []))
+    × AreOpenedOutboxes e outboxes partitions os × AreOpenedInboxes e partitions is

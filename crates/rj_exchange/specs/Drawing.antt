@@ -32,14 +32,14 @@ drew st m r m' =
     × (m.0.limit ≤ r → m'.0 ≡ draw m.0.limit m.0.parts m.0.drawn (m.0.nones + 1))
     × (m'.1 ≡ m.1)
 
-abbrev pub kept : Draw → Draw
-kept v = draw v.limit (v.parts - 1) v.drawn v.nones
+abbrev pub draw_after_cut : Draw → Draw
+draw_after_cut v = draw v.limit (v.parts - 1) v.drawn v.nones
 
-abbrev pub cut_off : Draw → Draw
-cut_off v = draw v.limit 1 [] 0
+abbrev pub draw_cut_off : Draw → Draw
+draw_cut_off v = draw v.limit 1 [] 0
 
-abbrev pub joined : Draw → Draw → Draw
-joined v w = draw v.limit (v.parts + w.parts) (v.drawn ++ w.drawn) (v.nones + w.nones)
+abbrev pub draws_joined : Draw → Draw → Draw
+draws_joined v w = draw v.limit (v.parts + w.parts) (v.drawn ++ w.drawn) (v.nones + w.nones)
 
-abbrev pub nobody : Draw
-nobody = draw 0 0 [] 0
+abbrev pub no_draw : Draw
+no_draw = draw 0 0 [] 0

@@ -12,8 +12,8 @@ abbrev pub HasSeen : HaltSeat → Type 0
 HasSeen s = s.seen ≡ true
 
 -- it has neither raised the word nor seen it raised
-abbrev pub IsCalm : HaltSeat → Type 0
-IsCalm s = (HasRaised s → ⊥) × (HasSeen s → ⊥)
+abbrev pub IsUnraised : HaltSeat → Type 0
+IsUnraised s = (HasRaised s → ⊥) × (HasSeen s → ⊥)
 
 abbrev pub halt_seats_of : Halt → ℕ
 halt_seats_of h = h.table.shared.key

@@ -6,8 +6,8 @@ use Rattle.atomic_table.specs.Table.{State, Me, Step}
 use Rattle.rj_exchange.specs.declared.halt.HaltToken.{HaltToken}
 use Rattle.rj_exchange.specs.Totals.{total}
 
-abbrev pub look : ℕ → ℕ → ℕ → HaltToken
-look parts raises sees = record { parts = parts; raises = raises; sees = sees }
+abbrev pub halt_token : ℕ → ℕ → ℕ → HaltToken
+halt_token parts raises sees = record { parts = parts; raises = raises; sees = sees }
 
 -- the word is raised exactly where some seat raised it; where a seat has seen it raised, it is raised
 pub record Halting (seats : ℕ) (s : State (Unit {0}) HaltToken) : Type 0 where
@@ -19,7 +19,7 @@ pub record Halting (seats : ℕ) (s : State (Unit {0}) HaltToken) : Type 0 where
   pub idle : (id : ℕ) (v : HaltToken) → get_elem? s.views id ≡ some v → v.parts ≡ 0 → v.raises ≡ 0
 
 abbrev pub raising : Step (Unit {0}) → Me (Unit {0}) HaltToken → ℕ → Me (Unit {0}) HaltToken → Type 0
-raising st m r m' = m' ≡ (look m.0.parts 1 m.0.sees, m.1)
+raising st m r m' = m' ≡ (halt_token m.0.parts 1 m.0.sees, m.1)
 
 abbrev pub looking : Step (Unit {0}) → Me (Unit {0}) HaltToken → ℕ → Me (Unit {0}) HaltToken → Type 0
-looking st m r m' = (0 < r → m' ≡ (look m.0.parts m.0.raises 1, m.1)) × (r ≡ 0 → m' ≡ m)
+looking st m r m' = (0 < r → m' ≡ (halt_token m.0.parts m.0.raises 1, m.1)) × (r ≡ 0 → m' ≡ m)

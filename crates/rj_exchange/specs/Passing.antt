@@ -19,20 +19,27 @@ Interleaves sents xs = (k : ℕ) → of k xs ≡ slice_index_or sents k []
 abbrev pub Belongs : Where → Posted → Type 0
 Belongs p x = (x.parcel.partition ≡ p.partition) × (x.parcel.number % p.lanes ≡ p.lane) × (x.outbox < p.outboxes)
 
-abbrev pub nowhere : Where
-nowhere = record { partition = 0; lane = 0; lanes = 0; outboxes = 0 }
+abbrev pub no_place : Where
+no_place = record { partition = 0; lane = 0; lanes = 0; outboxes = 0 }
 
-abbrev pub nobody : Trace
-nobody = record { place = nowhere; placed = false; sends = false; outbox = 0; sent = []; takes = false; made = 0; taken = []; known = [] }
+abbrev pub no_trace : Trace
+no_trace = record { place = no_place; placed = false; sends = false; outbox = 0; sent = []; takes = false; made = 0; taken = []; known = [] }
 
-abbrev pub blank : Trace
-blank = record { place = nowhere; placed = false; sends = false; outbox = 0; sent = []; takes = true; made = 0; taken = []; known = [] }
+abbrev pub first_trace : Trace
+first_trace = record { place = no_place; placed = false; sends = false; outbox = 0; sent = []; takes = true; made = 0; taken = []; known = [] }
 
 abbrev pub taker : Where → ℕ → List Posted → List (List Parcel) → Trace
 taker p made taken known = record { place = p; placed = true; sends = false; outbox = 0; sent = []; takes = true; made = made; taken = taken; known = known }
 
 abbrev pub sender : Where → ℕ → List Parcel → Trace
 sender p k sent = record { place = p; placed = true; sends = true; outbox = k; sent = sent; takes = false; made = 0; taken = []; known = [] }
+
+-- what the taker's token knows, and what a sender's does
+abbrev pub IsTakerTrace : Trace → Type 0
+IsTakerTrace v = v ≡ taker v.place v.made v.taken v.known
+
+abbrev pub IsSenderTrace : Trace → Type 0
+IsSenderTrace v = v ≡ sender v.place v.outbox v.sent
 
 -- a sender is its outbox's only one, and knows what the outbox sent
 pub record FitsSender (reader : ℕ) (owner : ℕ → ℕ) (place : Where) (posted : List Posted) (pass : ℕ) (v : Trace) : Type 0 where

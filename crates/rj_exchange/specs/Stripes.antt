@@ -4,7 +4,7 @@ use Rattle.std.proofs.Common.{Global}
 use Rattle.crossbeam_queue.specs.declared.array_queue.Doing.{Doing}
 use Rattle.crossbeam_queue.specs.declared.array_queue.Slotted.{Slotted}
 use Rattle.crossbeam_queue.specs.declared.array_queue.Turns.{Turns}
-use Rattle.rj_exchange.specs.declared.stripes.Share.{Share}
+use Rattle.rj_exchange.specs.declared.stripes.StripeShare.{StripeShare}
 use Rattle.rj_exchange.specs.declared.stripes.EachStripeOnce.{EachStripeOnce}
 use Rattle.crossbeam_queue.specs.Passes.{view, IsPassOf}
 use Rattle.rj_exchange.specs.declared.stripes.Stripe.{Stripe}
@@ -15,24 +15,24 @@ use Rattle.rj_exchange.specs.Tickets.{times}
 use Rattle.rj_exchange.specs.Striping.{share, Accounts}
 
 abbrev pub StripeQueue : Type 0
-StripeQueue = Slotted (Option Stripe) (Doing Stripe Share) (Turns EachStripeOnce) Global
+StripeQueue = Slotted (Option Stripe) (Doing Stripe StripeShare) (Turns EachStripeOnce) Global
 
-abbrev pub held : StripeSeat → List ℕ
-held s = (view s.pass).held
+abbrev pub held_by : StripeSeat → List ℕ
+held_by s = (view s.pass).held
 
 -- what it drew, each number with its count, and what it put back, in order
-abbrev pub draws : StripeSeat → List Stripe
-draws s = (view s.pass).drawn
+abbrev pub stripes_drawn_by : StripeSeat → List Stripe
+stripes_drawn_by s = (view s.pass).drawn
 
-abbrev pub puts : StripeSeat → List Stripe
-puts s = (view s.pass).put
+abbrev pub stripes_put_by : StripeSeat → List Stripe
+stripes_put_by s = (view s.pass).put
 
 -- h of each stripe that the seats drew, or put back, added up
 abbrev pub drew_in_all : (Stripe → ℕ) → List StripeSeat → ℕ
-drew_in_all h ss = total (λ s. total h (draws s)) ss
+drew_in_all h ss = total (λ s. total h (stripes_drawn_by s)) ss
 
 abbrev pub put_in_all : (Stripe → ℕ) → List StripeSeat → ℕ
-put_in_all h ss = total (λ s. total h (puts s)) ss
+put_in_all h ss = total (λ s. total h (stripes_put_by s)) ss
 
 abbrev pub stripes_of : Stripes → ℕ
 stripes_of t = t.limit
@@ -45,13 +45,13 @@ abbrev pub IsStripeSeatOf : Stripes → StripeSeat → Type 0
 IsStripeSeatOf t s = IsPassOf t.queue s.pass × (view s.pass ≡ share t.limit t.seats 1 (view s.pass).held (view s.pass).drawn (view s.pass).put)
 
 abbrev pub IsNewStripeSeat : StripeSeat → Type 0
-IsNewStripeSeat s = (held s ≡ []) × (draws s ≡ []) × (puts s ≡ [])
+IsNewStripeSeat s = (held_by s ≡ []) × (stripes_drawn_by s ≡ []) × (stripes_put_by s ≡ [])
 
 abbrev pub AreAllStripeSeats : Stripes → List StripeSeat → Type 0
 AreAllStripeSeats t ss = (length ss ≡ stripe_seats_of t) × All (IsStripeSeatOf t) ss
 
 abbrev pub Holds : StripeSeat → ℕ → Type 0
-Holds s x = 0 < times x (held s)
+Holds s x = 0 < times x (held_by s)
 
 -- one of the seats holds x, and no other does
 pub record HasHolder (x : ℕ) (ss : List StripeSeat) : Type 0 where

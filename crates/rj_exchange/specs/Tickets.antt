@@ -6,8 +6,8 @@ use Rattle.rj_exchange.specs.declared.tickets.Seat.{Seat}
 use Rattle.rj_exchange.specs.declared.tickets.Tickets.{Tickets}
 use Rattle.rj_exchange.specs.Totals.{total}
 
-abbrev pub drawn : Seat → List ℕ
-drawn s = s.seat.me.0.drawn
+abbrev pub drawn_by : Seat → List ℕ
+drawn_by s = s.seat.me.0.drawn
 
 abbrev pub IsSpent : Seat → Type 0
 IsSpent s = s.spent ≡ true
@@ -26,7 +26,7 @@ abbrev pub IsSeatOf : Tickets → Seat → Type 0
 IsSeatOf t s = (s.seat.table_id ≡ t.table.shared.table_id) × (s.seat.me.0.limit ≡ t.limit)
 
 abbrev pub IsNew : Seat → Type 0
-IsNew s = (drawn s ≡ []) × IsUnspent s
+IsNew s = (drawn_by s ≡ []) × IsUnspent s
 
 abbrev pub AreAllSeats : Tickets → List Seat → Type 0
 AreAllSeats t ss = (length ss ≡ seats_of t) × All (IsSeatOf t) ss

@@ -17,11 +17,11 @@ pub struct HaltToken {
 pub struct RaisedBySome;
 
 impl TableRule<(), HaltToken, u32> for RaisedBySome {
-    ghost use Rattle.rj_exchange.specs.Halting.{Halting, look};
+    ghost use Rattle.rj_exchange.specs.Halting.{Halting, halt_token};
 
     ghost holds = { Halting };
 
-    ghost first = { λ n. look n 0 0 };
+    ghost first = { λ n. halt_token n 0 0 };
 }
 
 struct Raises;
@@ -40,24 +40,24 @@ impl Play<(), HaltToken> for Looks {
     ghost then = { looking };
 }
 
-struct CutLook;
+struct CutToken;
 
-impl Split<HaltToken> for CutLook {
-    ghost use Rattle.rj_exchange.specs.Halting.{look};
+impl Split<HaltToken> for CutToken {
+    ghost use Rattle.rj_exchange.specs.Halting.{halt_token};
     ghost use Rattle.std.specs.Prelude.{◌-◌};
 
-    ghost left = { λ v. look (v.parts - 1) v.raises v.sees };
+    ghost left = { λ v. halt_token (v.parts - 1) v.raises v.sees };
 
-    ghost right = { λ v. look 1 0 0 };
+    ghost right = { λ v. halt_token 1 0 0 };
 }
 
-impl Join<HaltToken> for CutLook {
-    ghost use Rattle.rj_exchange.specs.Halting.{look};
+impl Join<HaltToken> for CutToken {
+    ghost use Rattle.rj_exchange.specs.Halting.{halt_token};
     ghost use Rattle.std.specs.Prelude.{◌+◌};
 
-    ghost both = { λ v w. look (v.parts + w.parts) (v.raises + w.raises) (v.sees + w.sees) };
+    ghost both = { λ v w. halt_token (v.parts + w.parts) (v.raises + w.raises) (v.sees + w.sees) };
 
-    ghost spent = { look 0 0 0 };
+    ghost spent = { halt_token 0 0 0 };
 }
 
 /// A word that is raised or not, and once raised stays so.

@@ -10,15 +10,15 @@ ghost use Rattle.rj_exchange.specs.declared.boxes.Inbox.{Inbox};
 ghost use Rattle.rj_exchange.specs.declared.stripes.StripeSeat.{StripeSeat};
 ghost use Rattle.rj_exchange.specs.declared.queue.Where.{Where};
 ghost use Rattle.rj_exchange.specs.Passing.{posted_by, HeldAt};
-ghost use Rattle.rj_exchange.specs.Boxes.{sent_of, AreAllOutboxes, IsOutboxOf, AreLeftAt, IsPartOf, AreStubsOf, AreStubsFrom, IsAllSent};
+ghost use Rattle.rj_exchange.specs.Boxes.{sent_of, AreAllOutboxes, IsOutboxOf, AreStubsLeftAt, AreStubsLeftBy, AreStubsOf, AreStubsFrom, IsAllSent};
 ghost use Rattle.rj_exchange.specs.Boxes.{IsInboxOf, HasHeard};
 ghost use Rattle.rj_exchange.specs.Tickets.{times, EachOnce};
 ghost use Rattle.rj_exchange.specs.Striping.{without};
-ghost use Rattle.rj_exchange.specs.Stripes.{held, HasHolder};
+ghost use Rattle.rj_exchange.specs.Stripes.{held_by, HasHolder};
 
 /// Where seats together hold the numbers below n, each once, each of these is held by exactly one of them.
 pub fn holder()
-    ensures { (n x : ℕ) (ss : List StripeSeat) → EachOnce n (map held ss) → x < n → HasHolder x ss }
+    ensures { (n x : ℕ) (ss : List StripeSeat) → EachOnce n (map held_by ss) → x < n → HasHolder x ss }
 {}
 
 /// A number that is drawn and then put back leaves each number held as often as before.
@@ -28,12 +28,12 @@ pub fn put_back_undoes()
 
 /// Of what all outboxes leave, the stubs for a partition, by outbox and then lane, are those that its inbox asks for.
 pub fn stubs_by_partition()
-    ensures { (e : Exchange) (p : ℕ) (os : List Outbox) (ss : List Stub) → AreAllOutboxes e os → p < e.partitions → AreLeftAt e p os ss → AreStubsOf e p ss }
+    ensures { (e : Exchange) (p : ℕ) (os : List Outbox) (ss : List Stub) → AreAllOutboxes e os → p < e.partitions → AreStubsLeftAt e p os ss → AreStubsOf e p ss }
 {}
 
 /// Of what one outbox leaves, the stubs for a partition, lane by lane, are those that its inbox asks for as it hears of this outbox's end.
 pub fn stubs_of_one()
-    ensures { (e : Exchange) (p : ℕ) (o : Outbox) (ss : List Stub) → IsOutboxOf e o → p < e.partitions → IsPartOf e p o ss → AreStubsFrom e p o.number ss }
+    ensures { (e : Exchange) (p : ℕ) (o : Outbox) (ss : List Stub) → IsOutboxOf e o → p < e.partitions → AreStubsLeftBy e p o ss → AreStubsFrom e p o.number ss }
 {}
 
 /// An inbox that has heard of no outbox's end has heard of the first 0.

@@ -34,39 +34,39 @@ pub struct Trace {
 }
 
 /// Names the place that a queue is given as it is made.
-pub trait Place {
+pub trait QueuePlace {
     ghost use Rattle.rj_exchange.specs.declared.queue.Where.{Where};
 
     ghost place: { Where };
 }
 
-impl Place for Brand {
-    ghost use Rattle.rj_exchange.specs.Passing.{nowhere};
+impl QueuePlace for Brand {
+    ghost use Rattle.rj_exchange.specs.Passing.{no_place};
 
-    ghost place = { nowhere };
+    ghost place = { no_place };
 }
 
 pub struct InOrder;
 
 impl Protocol<Posted, Trace> for InOrder {
-    ghost use Rattle.rj_exchange.specs.Passing.{Passing, blank};
+    ghost use Rattle.rj_exchange.specs.Passing.{Passing, first_trace};
 
     ghost holds = { Passing };
 
-    ghost first = { blank };
+    ghost first = { first_trace };
 }
 
 struct Fix<B> {
     marker: PhantomData<B>,
 }
 
-impl<B: Place> Split<Trace> for Fix<B> {
-    ghost use Rattle.rj_exchange.specs.Passing.{taker, nobody};
+impl<B: QueuePlace> Split<Trace> for Fix<B> {
+    ghost use Rattle.rj_exchange.specs.Passing.{taker, no_trace};
     ghost use Rattle.std.specs.Prelude.{[]};
 
     ghost left = { λ v. taker B.place 0 [] [] };
 
-    ghost right = { λ v. nobody };
+    ghost right = { λ v. no_trace };
 }
 
 struct Deal;
@@ -83,38 +83,38 @@ impl Split<Trace> for Deal {
 struct Return;
 
 impl Join<Trace> for Return {
-    ghost use Rattle.rj_exchange.specs.Passing.{taker, nobody};
+    ghost use Rattle.rj_exchange.specs.Passing.{taker, no_trace};
     ghost use Rattle.std.specs.Prelude.{[], ◌∷◌, ◌++◌};
 
     ghost both = { λ v w. taker v.place v.made v.taken (v.known ++ w.sent ∷ []) };
 
-    ghost spent = { nobody };
+    ghost spent = { no_trace };
 }
 
-struct Posts;
+struct PostsParcel;
 
-impl Outcome<Posted, Trace> for Posts {
+impl Outcome<Posted, Trace> for PostsParcel {
     ghost use Rattle.rj_exchange.specs.Passing.{sender};
     ghost use Rattle.std.specs.Prelude.{[], ◌∷◌, ◌++◌, ◌≡◌};
 
     ghost then = { λ v x w. w ≡ sender v.place v.outbox (v.sent ++ x.parcel ∷ []) };
 }
 
-impl Lesson<Posted, Trace> for Posts {
+impl Lesson<Posted, Trace> for PostsParcel {
     ghost use Rattle.rj_exchange.specs.Passing.{HeldAt};
 
     ghost fact = { λ v items. HeldAt v.place v.outbox v.sent items };
 }
 
-struct Takes;
+struct TakesParcel;
 
-impl Outcome<Posted, Trace> for Takes {
+impl Outcome<Posted, Trace> for TakesParcel {
     ghost use Rattle.rj_exchange.specs.Passing.{Took};
 
     ghost then = { Took };
 }
 
-impl Lesson<Posted, Trace> for Takes {
+impl Lesson<Posted, Trace> for TakesParcel {
     ghost use Rattle.rj_exchange.specs.Passing.{Left};
 
     ghost fact = { Left };

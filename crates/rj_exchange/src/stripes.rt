@@ -18,7 +18,7 @@ pub struct Stripe {
 
 /// What a seat knows: the limit, how many seats there are, its part of the right to know the whole, the numbers that it
 /// holds, and what it drew and put back so far. No value of it is made.
-pub struct Share {
+pub struct StripeShare {
     pub limit: u32,
     pub seats: u32,
     pub parts: u32,
@@ -44,64 +44,64 @@ impl Lot for Brand {
 
 pub struct EachStripeOnce;
 
-impl Protocol<Stripe, Share> for EachStripeOnce {
-    ghost use Rattle.rj_exchange.specs.Striping.{Striping, blank};
+impl Protocol<Stripe, StripeShare> for EachStripeOnce {
+    ghost use Rattle.rj_exchange.specs.Striping.{Striping, first_share};
 
     ghost holds = { Striping };
 
-    ghost first = { blank };
+    ghost first = { first_share };
 }
 
 struct DealOut<B> {
     marker: PhantomData<B>,
 }
 
-impl<B: Lot> Split<Share> for DealOut<B> {
-    ghost use Rattle.rj_exchange.specs.Striping.{share, below, opening, nobody};
+impl<B: Lot> Split<StripeShare> for DealOut<B> {
+    ghost use Rattle.rj_exchange.specs.Striping.{share, below, opening, no_share};
     ghost use Rattle.std.specs.Prelude.{[]};
 
     ghost left = { λ v. share B.limit B.seats B.seats (below B.limit) (opening B.limit) [] };
 
-    ghost right = { λ v. nobody };
+    ghost right = { λ v. no_share };
 }
 
 struct Settle;
 
-impl Split<Share> for Settle {
-    ghost use Rattle.rj_exchange.specs.Striping.{settled, nobody};
+impl Split<StripeShare> for Settle {
+    ghost use Rattle.rj_exchange.specs.Striping.{share_settled, no_share};
 
-    ghost left = { settled };
+    ghost left = { share_settled };
 
-    ghost right = { λ v. nobody };
+    ghost right = { λ v. no_share };
 }
 
 struct CutShare;
 
-impl Split<Share> for CutShare {
-    ghost use Rattle.rj_exchange.specs.Striping.{kept, cut_off};
+impl Split<StripeShare> for CutShare {
+    ghost use Rattle.rj_exchange.specs.Striping.{share_after_cut, share_cut_off};
 
-    ghost left = { kept };
+    ghost left = { share_after_cut };
 
-    ghost right = { cut_off };
+    ghost right = { share_cut_off };
 }
 
-impl Join<Share> for CutShare {
-    ghost use Rattle.rj_exchange.specs.Striping.{joined, nobody};
+impl Join<StripeShare> for CutShare {
+    ghost use Rattle.rj_exchange.specs.Striping.{shares_joined, no_share};
 
-    ghost both = { joined };
+    ghost both = { shares_joined };
 
-    ghost spent = { nobody };
+    ghost spent = { no_share };
 }
 
 struct Gives;
 
-impl Outcome<Stripe, Share> for Gives {
+impl Outcome<Stripe, StripeShare> for Gives {
     ghost use Rattle.rj_exchange.specs.Striping.{Gave};
 
     ghost then = { Gave };
 }
 
-impl Lesson<Stripe, Share> for Gives {
+impl Lesson<Stripe, StripeShare> for Gives {
     ghost use Rattle.rj_exchange.specs.Striping.{Accounts};
 
     ghost fact = { Accounts };
@@ -109,19 +109,19 @@ impl Lesson<Stripe, Share> for Gives {
 
 struct Draws;
 
-impl Outcome<Stripe, Share> for Draws {
+impl Outcome<Stripe, StripeShare> for Draws {
     ghost use Rattle.rj_exchange.specs.Striping.{Drew};
 
     ghost then = { Drew };
 }
 
-impl Lesson<Stripe, Share> for Draws {
+impl Lesson<Stripe, StripeShare> for Draws {
     ghost use Rattle.rj_exchange.specs.Striping.{Accounts};
 
     ghost fact = { Accounts };
 }
 
-pub type StripeQueue = RuledArrayQueue<Stripe, Share, EachStripeOnce>;
+pub type StripeQueue = RuledArrayQueue<Stripe, StripeShare, EachStripeOnce>;
 
 /// The numbers below a limit, each in the queue or with a seat. All calls may wait.
 #[derive(Drop)]
@@ -136,5 +136,5 @@ pub struct Stripes {
 /// A right to draw and to put back, of the [`Stripes`] that it was opened with.
 #[derive(Drop)]
 pub struct StripeSeat {
-    pass: Pass<Stripe, Share>,
+    pass: Pass<Stripe, StripeShare>,
 }

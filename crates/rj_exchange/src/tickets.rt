@@ -33,9 +33,9 @@ impl TableRule<(), Draw, Plan> for EachNumberOnce {
     ghost first = { opening_view };
 }
 
-struct Draws;
+struct Claims;
 
-impl Play<(), Draw> for Draws {
+impl Play<(), Draw> for Claims {
     ghost use Rattle.rj_exchange.specs.Drawing.{drew};
 
     ghost then = { drew };
@@ -44,19 +44,19 @@ impl Play<(), Draw> for Draws {
 struct Cut;
 
 impl Split<Draw> for Cut {
-    ghost use Rattle.rj_exchange.specs.Drawing.{kept, cut_off};
+    ghost use Rattle.rj_exchange.specs.Drawing.{draw_after_cut, draw_cut_off};
 
-    ghost left = { kept };
+    ghost left = { draw_after_cut };
 
-    ghost right = { cut_off };
+    ghost right = { draw_cut_off };
 }
 
 impl Join<Draw> for Cut {
-    ghost use Rattle.rj_exchange.specs.Drawing.{joined, nobody};
+    ghost use Rattle.rj_exchange.specs.Drawing.{draws_joined, no_draw};
 
-    ghost both = { joined };
+    ghost both = { draws_joined };
 
-    ghost spent = { nobody };
+    ghost spent = { no_draw };
 }
 
 /// The numbers below a limit, 0 first, each to be drawn once.

@@ -1,6 +1,6 @@
 pub mod Lists
 pub mod Posts
-pub mod Held
+pub mod HeldStripes
 pub mod Sends
 pub mod Takes
 pub mod Ledgers

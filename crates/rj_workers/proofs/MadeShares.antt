@@ -10,15 +10,15 @@ use Rattle.std.proofs.lemmas.List.Concat.{flat_map-append, flat_map-cons}
 use Rattle.std.proofs.lemmas.List.FromFn.{length-range_with_len, get_or-range_with_len}
 use Rattle.std.proofs.lemmas.List.Sorted.{All-permutation, IsPermutation-append_left}
 use Rattle.rj_exchange.specs.declared.tickets.Seat.{Seat}
-use Rattle.rj_exchange.specs.Tickets.{drawn}
+use Rattle.rj_exchange.specs.Tickets.{drawn_by}
 use Rattle.rj_workers.specs.Sharing.{AreMade, AreMadeBy, IsMadeBehind, IsMadeOfEach}
 
 range_more : (a n k : ℕ) → a + n ≡ k → range_with_len a (suc n) ≡ range_with_len a n ++ k ∷ []
 range_more a zero k e = let z : a ≡ k = omega arith in ap (λ m. m ∷ []) z
 range_more a (suc n) k e = ap (λ l. a ∷ l) (range_more (a + 1) n k (omega arith))
 
-drawn_more : (ds : List Seat) (d : Seat) → flat_map drawn (ds ++ d ∷ []) ≡ flat_map drawn ds ++ drawn d
-drawn_more ds d = flat_map-append drawn ds (d ∷ []) ∙ ap (λ l. flat_map drawn ds ++ l) (flat_map-cons drawn d [] ∙ append-nil (drawn d))
+drawn_more : (ds : List Seat) (d : Seat) → flat_map drawn_by (ds ++ d ∷ []) ≡ flat_map drawn_by ds ++ drawn_by d
+drawn_more ds d = flat_map-append drawn_by ds (d ∷ []) ∙ ap (λ l. flat_map drawn_by ds ++ l) (flat_map-cons drawn_by d [] ∙ append-nil (drawn_by d))
 
 module _ {T : Type 0} (makes : ℕ → T → Type 0) where
   by_one : (n : ℕ) (x : T) → makes n x → AreMadeBy makes (n ∷ []) (x ∷ [])
@@ -51,11 +51,11 @@ module _ {T : Type 0} (makes : ℕ → T → Type 0) where
 
   -- what one worker more hands back
   pub by_worker : (ds es : List Seat) (d : Seat) (old new made : List T) → es ≡ ds ++ d ∷ [] → new ≡ old ++ made
-      → AreMadeBy makes (flat_map drawn ds) old → AreMadeBy makes (drawn d) made → AreMadeBy makes (flat_map drawn es) new
+      → AreMadeBy makes (flat_map drawn_by ds) old → AreMadeBy makes (drawn_by d) made → AreMadeBy makes (flat_map drawn_by es) new
   by_worker ds es d old new made is more a b =
-      let numbers : flat_map drawn es ≡ flat_map drawn ds ++ drawn d = ap (flat_map drawn) is ∙ drawn_more ds d in
+      let numbers : flat_map drawn_by es ≡ flat_map drawn_by ds ++ drawn_by d = ap (flat_map drawn_by) is ∙ drawn_more ds d in
       subst (λ l. AreMadeBy makes l new) (sym numbers)
-      (subst (AreMadeBy makes (flat_map drawn ds ++ drawn d)) (sym more) (by_both (flat_map drawn ds) (drawn d) old made a b))
+      (subst (AreMadeBy makes (flat_map drawn_by ds ++ drawn_by d)) (sym more) (by_both (flat_map drawn_by ds) (drawn_by d) old made a b))
 
   pub each_more : (n : ℕ) (old new : List T) → IsMadeOfEach makes n old → IsMadeBehind makes n old new → IsMadeOfEach makes (n + 1) new
   each_more n old new made behind = record {

@@ -1,6 +1,6 @@
 -- The stubs of one partition, from those of all outboxes.
 use Rattle.std.proofs.Common.{◌≡◌, ℕ, zero, suc, ◌<◌, ◌≤◌, ◌+◌, ◌*◌, List, [], ◌∷◌, ◌++◌, length, map, get_or, drop, sym, refl, ap, ◌∙◌, subst, arith, mul-le-mul_right, length-drop, length-append}
-use Rattle.std.specs.Prelude.{Contains, All}
+use Rattle.std.specs.Prelude.{All}
 use Rattle.std.proofs.lemmas.List.Elements.{All-push}
 use Rattle.std.proofs.lemmas.List.{get_or-drop}
 use Rattle.rj_ledger.specs.declared.parcel.Parcel.{Parcel}

@@ -1,9 +1,9 @@
 -- What lists that are posted bit by bit have left.
 use Rattle.std.proofs.Common.{◌≡◌, ℕ, ◌+◌, ◌<◌, ◌≤◌, ◌⊎◌, inl, inr, List, [], ◌∷◌, ◌++◌, length, get_or, set, length-set, sym, refl, ap, ◌∙◌, subst, arith, get_or-set_same, get_or-set_other}
-use Rattle.std.proofs.Common.{length-append, lt_of_not-le, Option, None, Some, slice_get, Bool, true, false, zero, suc}
+use Rattle.std.proofs.Common.{length-append, lt_of_not-le, Option, None, Some, slice_get, true, zero, suc}
 use Rattle.std.proofs.lemmas.List.{get_or_at, get_or_append_left, nil_from_length}
 use Rattle.std.proofs.lemmas.List.Elements.{All-contains, Contains-append_left, Contains-push, Contains-push_cases}
-use Rattle.std.specs.Prelude.{Contains, option_to_list, is_some, not, vec_len, ◌&&◌, ◌==◌}
+use Rattle.std.specs.Prelude.{Contains, option_to_list, is_some, not, vec_len, ◌==◌}
 use Rattle.std.specs.List.{list_all}
 use Rattle.std.specs.List.Sorted.{IsPermutation}
 use Rattle.std.proofs.lemmas.List.Sorted.{Contains-permutation, IsPermutation-sym}
@@ -17,12 +17,12 @@ use Rattle.rj_exchange.specs.declared.boxes.Exchange.{Exchange}
 use Rattle.rj_exchange.specs.Boxes.{queue_of}
 use Rattle.rj_workers.proofs.Lists.{any_default, along}
 use Rattle.rj_workers.specs.declared.post.Sending.{Sending}
-use Rattle.rj_workers.specs.Posts.{Due, Posts, posts_at, Sent, IsLeft, IsPosted, HasCut, HasPosted, AreInRange, is_sent, to_post}
+use Rattle.rj_workers.specs.Posts.{Due, Posts, posts_at, PostsOrKeeps, IsLeft, IsPosted, HasCut, HasPosted, AreInRange, is_sent, to_post}
 use Rattle.rj_workers.proofs.Ends.{none_in, cons_cases}
 use Rattle.rj_workers.proofs.Posts.{step_keeps, step_adds, step_has, found_at, cut_placed, all_at}
 
 -- nothing is posted
-pub sent_none : (e : Exchange) (was is : Parcel → Type 0) (a b : Posts) → ((x : Parcel) → was x → is x) → ((x : Parcel) → is x → was x) → b ≡ a → Sent e was is a b
+pub sent_none : (e : Exchange) (was is : Parcel → Type 0) (a b : Posts) → ((x : Parcel) → was x → is x) → ((x : Parcel) → is x → was x) → b ≡ a → PostsOrKeeps e was is a b
 sent_none e was is a b to from same = record {
   kept = λ q x h. along _ _ x (ap (λ (l : Posts). posts_at l q) (sym same)) h;
   added = λ q x h. inl (along _ _ x (ap (λ (l : Posts). posts_at l q) same) h);
@@ -31,7 +31,7 @@ sent_none e was is a b to from same = record {
 }
 
 -- more is posted
-pub sent_more : (e : Exchange) (P Q R : Parcel → Type 0) (a b c : Posts) → Sent e P Q a b → Sent e Q R b c → Sent e P R a c
+pub sent_more : (e : Exchange) (P Q R : Parcel → Type 0) (a b c : Posts) → PostsOrKeeps e P Q a b → PostsOrKeeps e Q R b c → PostsOrKeeps e P R a c
 sent_more e P Q R a b c f g = record {
   kept = λ q x h. g.kept q x (f.kept q x h);
   added = λ q x h. elim (g.added q x h) [ inl l ↦ f.added q x l | inr r ↦ inr (f.within x r) ];
@@ -41,7 +41,7 @@ sent_more e P Q R a b c f g = record {
 
 -- the last parcel of a list is posted
 pub sent_one : (e : Exchange) (x : Parcel) (xs ys : List Parcel) (old new : Posts) → queue_of e x < length old → new ≡ set old (queue_of e x) (posts_at old (queue_of e x) ++ x ∷ [])
-    → xs ≡ ys ++ x ∷ [] → Sent e (Contains xs) (Contains ys) old new
+    → xs ≡ ys ++ x ∷ [] → PostsOrKeeps e (Contains xs) (Contains ys) old new
 sent_one e x xs ys old new lt is all = record {
   kept = step_keeps e x old new lt is;
   added = λ q y h. elim (step_adds e x old new lt is q y h) [
@@ -63,7 +63,7 @@ pub left_at : (ss : List Sending) (at : ℕ) (x : Sending) → at < length ss �
 left_at ss at x lt is y h = (at, lt, λ d. along _ _ y (ap to_post (sym (any_default ss at d x lt ∙ sym is))) h)
 
 -- one of the lists is posted further
-module _ (e : Exchange) (ss : List Sending) (at : ℕ) (x s : Sending) (old new : Posts) (lt : at < length ss) (is : x ≡ get_or ss at x) (one : Sent e (Contains (to_post x)) (Contains (to_post s)) old new) where
+module _ (e : Exchange) (ss : List Sending) (at : ℕ) (x s : Sending) (old new : Posts) (lt : at < length ss) (is : x ≡ get_or ss at x) (one : PostsOrKeeps e (Contains (to_post x)) (Contains (to_post s)) old new) where
   at_x : (d : Sending) → get_or ss at d ≡ x
   at_x d = any_default ss at d x lt ∙ sym is
 
@@ -76,7 +76,7 @@ module _ (e : Exchange) (ss : List Sending) (at : ℕ) (x s : Sending) (old new 
   now : (y : Parcel) → Contains (to_post s) y → IsLeft (set ss at s) y
   now y h = (at, (let n = length-set ss at s in omega arith), λ d. along _ _ y (ap to_post (sym (at_s d))) h)
 
-  pub sent_at : Sent e (IsLeft ss) (IsLeft (set ss at s)) old new
+  pub sent_at : PostsOrKeeps e (IsLeft ss) (IsLeft (set ss at s)) old new
   sent_at = record {
     kept = one.kept;
     added = λ q y h. elim (one.added q y h) [ inl l ↦ inl l | inr r ↦ inr (here y r) ];

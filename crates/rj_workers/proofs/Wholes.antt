@@ -11,7 +11,7 @@ use Rattle.rj_ledger.specs.declared.parcel.Parcel.{Parcel}
 use Rattle.rj_ledger.specs.Cutting.{plan}
 use Rattle.rj_ledger.specs.Standing.{Standing, nothing_yet}
 use Rattle.std.specs.List.{range_with_len}
-use Rattle.rj_ledger.specs.Ledgers.{LedgerValue, IsSameShape, opened, standing, after_all}
+use Rattle.rj_ledger.specs.Ledgers.{LedgerValue, IsSameShape, opened, after_all}
 use Rattle.rj_ledger.specs.Lawful.{IsPlanned}
 use Rattle.rj_ledger.specs.Delivery.{DeliversAll}
 use Rattle.rj_exchange.specs.declared.boxes.Outbox.{Outbox}
@@ -19,25 +19,25 @@ use Rattle.rj_exchange.specs.declared.boxes.Exchange.{Exchange}
 use Rattle.rj_exchange.specs.declared.halt.Halt.{Halt}
 use Rattle.rj_exchange.specs.declared.halt.HaltSeat.{HaltSeat}
 use Rattle.rj_exchange.specs.declared.stripes.Stripes.{Stripes}
-use Rattle.rj_exchange.specs.Boxes.{sent_of, sents, IsOutboxOf}
+use Rattle.rj_exchange.specs.Boxes.{sent_of, sent_by_queue, IsOutboxOf}
 use Rattle.rj_exchange.specs.Halt.{IsHaltSeatOf, AnyRaised, AnySeen}
-use Rattle.rj_exchange.specs.Stripes.{held, Holds}
+use Rattle.rj_exchange.specs.Stripes.{held_by, Holds}
 use Rattle.rj_exchange.specs.Tickets.{times, EachOnce}
 use Rattle.rj_exchange.specs.Totals.{total}
 use Rattle.rj_workers.proofs.Lists.{pick, any_default, get_or-map, along}
 use Rattle.rj_workers.specs.declared.scan.Scanner.{Scanner}
 use Rattle.rj_workers.specs.declared.take.Taker.{Taker}
-use Rattle.rj_workers.specs.declared.ending.Ended.{Ended}
+use Rattle.rj_workers.specs.declared.ending.EndedPartition.{EndedPartition}
 use Rattle.rj_workers.specs.Posts.{Due, Posts, posts_at, AreAllAt}
 use Rattle.rj_workers.specs.Arrivals.{IsPartition, IsDelivered, AreOutboxes, stub_lists, rows_by_sender, due_lists}
-use Rattle.rj_workers.specs.Scans.{Stopped, AreScans, HasPostedStripe}
-use Rattle.rj_workers.specs.Takes.{Builds, IsHeldOf, AreTakes}
+use Rattle.rj_workers.specs.Scans.{KnowsHalt, AreScans, HasPostedStripe}
+use Rattle.rj_workers.specs.Takes.{Builds, IsOwnedOf, AreTakes}
 use Rattle.rj_workers.specs.Ends.{IsEnded, IsSettled}
 use Rattle.rj_workers.proofs.Parts.{lists_at}
 
 -- seats that have neither raised nor seen the word
-abbrev pub IsCalm : HaltSeat → Type 0
-IsCalm s = Stopped s → ⊥
+abbrev pub KnowsNoHalt : HaltSeat → Type 0
+KnowsNoHalt s = KnowsHalt s → ⊥
 
 module _ {A : Type 0} where
   pub at_place : (xs : List A) (i : ℕ) (d : A) → i < length xs → get_elem? xs i ≡ some (get_or xs i d)
@@ -55,8 +55,8 @@ module _ {A : Type 0} where
   All_of_map xs f P h i d lt = let n = length-map xs f in subst P (get_or-map f xs i d (f d) lt) (h i (f d) (omega arith))
 
 -- where the word was not raised, all seats are calm
-pub all_unraised : (ss : List HaltSeat) → (AnyRaised ss → ⊥) → (AnySeen ss → ⊥) → All IsCalm ss
-all_unraised ss raised seen = λ i d lt stopped. elim stopped [
+pub all_know_no_halt : (ss : List HaltSeat) → (AnyRaised ss → ⊥) → (AnySeen ss → ⊥) → All KnowsNoHalt ss
+all_know_no_halt ss raised seen = λ i d lt stopped. elim stopped [
   | inl r ↦ raised (i, get_or ss i d, at_place ss i d lt, r)
   | inr s ↦ seen (i, get_or ss i d, at_place ss i d lt, s)
 ]
@@ -80,23 +80,23 @@ module _ {T : Type 0} (due : Due) (builds : Builds T) (stripes block : ℕ) (e :
       let a = ap length is in let b = length-append (map (λ (r : Scanner). r.seat) rs ++ map (λ (t : Taker T). t.seat) ts) (own ∷ []) in let c = length-append (map (λ (r : Scanner). r.seat) rs) (map (λ (t : Taker T). t.seat) ts) in
       let m = length-map rs (λ (r : Scanner). r.seat) in let n = length-map ts (λ (t : Taker T). t.seat) in let p = scans.0 in let q = takes.0 in omega arith
 
-  pub scans_calm : (ss : List HaltSeat) → ss ≡ seats_of_all rs ts own → All IsCalm ss → (o : ℕ) (d : Scanner) → o < e.outboxes → IsCalm (get_or rs o d).seat
-  scans_calm ss is calm o d lt = All_of_map rs (λ (r : Scanner). r.seat) IsCalm
-      (All_left IsCalm (map (λ (r : Scanner). r.seat) rs) (map (λ (t : Taker T). t.seat) ts)
-      (All_left IsCalm (map (λ (r : Scanner). r.seat) rs ++ map (λ (t : Taker T). t.seat) ts) (own ∷ []) (subst (All IsCalm) is calm))) o d (let n = scans.0 in omega arith)
+  pub scans_know_no_halt : (ss : List HaltSeat) → ss ≡ seats_of_all rs ts own → All KnowsNoHalt ss → (o : ℕ) (d : Scanner) → o < e.outboxes → KnowsNoHalt (get_or rs o d).seat
+  scans_know_no_halt ss is calm o d lt = All_of_map rs (λ (r : Scanner). r.seat) KnowsNoHalt
+      (All_left KnowsNoHalt (map (λ (r : Scanner). r.seat) rs) (map (λ (t : Taker T). t.seat) ts)
+      (All_left KnowsNoHalt (map (λ (r : Scanner). r.seat) rs ++ map (λ (t : Taker T). t.seat) ts) (own ∷ []) (subst (All KnowsNoHalt) is calm))) o d (let n = scans.0 in omega arith)
 
-  pub takes_held : (ss : List HaltSeat) → ss ≡ seats_of_all rs ts own → All IsCalm ss → All (λ (t : Taker T). All (IsHeldOf builds e stripes block) t.all.items) ts
+  pub takes_held : (ss : List HaltSeat) → ss ≡ seats_of_all rs ts own → All KnowsNoHalt ss → All (λ (t : Taker T). All (IsOwnedOf builds e stripes block) t.all.items) ts
   takes_held ss is calm i d lt =
-      let quiet = All_of_map ts (λ (t : Taker T). t.seat) IsCalm
-      (All_right IsCalm (map (λ (r : Scanner). r.seat) rs) (map (λ (t : Taker T). t.seat) ts) (All_left IsCalm (map (λ (r : Scanner). r.seat) rs ++ map (λ (t : Taker T). t.seat) ts) (own ∷ []) (subst (All IsCalm) is calm))) i d lt in
+      let quiet = All_of_map ts (λ (t : Taker T). t.seat) KnowsNoHalt
+      (All_right KnowsNoHalt (map (λ (r : Scanner). r.seat) rs) (map (λ (t : Taker T). t.seat) ts) (All_left KnowsNoHalt (map (λ (r : Scanner). r.seat) rs ++ map (λ (t : Taker T). t.seat) ts) (own ∷ []) (subst (All KnowsNoHalt) is calm))) i d lt in
       elim (takes.1 i d lt).held [ inl s ↦ absurd (quiet s) | inr a ↦ a ]
 
 -- a stripe that is held is some scanner's
-holder_of : (rs : List Scanner) (x : ℕ) → 0 < total (times x) (map held (map (λ (r : Scanner). r.draws) rs)) → (o : ℕ) × (o < length rs) × ((d : Scanner) → Holds (get_or rs o d).draws x)
+holder_of : (rs : List Scanner) (x : ℕ) → 0 < total (times x) (map held_by (map (λ (r : Scanner). r.draws) rs)) → (o : ℕ) × (o < length rs) × ((d : Scanner) → Holds (get_or rs o d).draws x)
 holder_of [] x lt = absurd (omega arith)
-holder_of (r ∷ rs) x lt = dite (dec_le 1 (times x (held r.draws)))
-    (λ le. (0, omega arith, λ d. (let l : 0 < times x (held r.draws) = omega arith in l)))
-    (λ ne. let z : times x (held r.draws) < 1 = lt_of_not-le ne in let more : 0 < total (times x) (map held (map (λ (q : Scanner). q.draws) rs)) = omega arith in let s = holder_of rs x more in (suc s.0, (let l = s.1 in omega arith), s.2))
+holder_of (r ∷ rs) x lt = dite (dec_le 1 (times x (held_by r.draws)))
+    (λ le. (0, omega arith, λ d. (let l : 0 < times x (held_by r.draws) = omega arith in l)))
+    (λ ne. let z : times x (held_by r.draws) < 1 = lt_of_not-le ne in let more : 0 < total (times x) (map held_by (map (λ (q : Scanner). q.draws) rs)) = omega arith in let s = holder_of rs x more in (suc s.0, (let l = s.1 in omega arith), s.2))
 
 -- the outboxes of all scanners
 module _ (due : Due) (stripes block : ℕ) (e : Exchange) (h : Halt) (st : Stripes) (rs : List Scanner) (scans : AreScans due block stripes e h st rs) where
@@ -111,17 +111,17 @@ module _ (due : Due) (stripes block : ℕ) (e : Exchange) (h : Halt) (st : Strip
         subst (λ (z : Outbox). IsOutboxOf e z × (z.number ≡ o)) (sym (outbox_at o r d lt)) (s.scanner.outbox, s.number),
   )
 
-  list_at : (o : ℕ) (r : Scanner) → o < e.outboxes → map sent_of (get_or (stub_lists (map (λ (z : Scanner). z.outbox) rs)) o []) ≡ sents (get_or rs o r).outbox
+  list_at : (o : ℕ) (r : Scanner) → o < e.outboxes → map sent_of (get_or (stub_lists (map (λ (z : Scanner). z.outbox) rs)) o []) ≡ sent_by_queue (get_or rs o r).outbox
   list_at o r lt = ap (map sent_of) (lists_at e (map (λ (z : Scanner). z.outbox) rs) scans_outboxes o r.outbox lt ∙ ap (λ (z : Outbox). z.stubs.items) (outbox_at o r r.outbox lt))
 
 -- what scanners that are calm have posted is planned, and is all of the stripes, which they hold each once
 module _ (due : Due) (stripes block : ℕ) (e : Exchange) (h : Halt) (st : Stripes) (rs : List Scanner) (scans : AreScans due block stripes e h st rs)
-    (calm : (o : ℕ) (d : Scanner) → o < e.outboxes → IsCalm (get_or rs o d).seat) (once : EachOnce stripes (map held (map (λ (r : Scanner). r.draws) rs)))
+    (calm : (o : ℕ) (d : Scanner) → o < e.outboxes → KnowsNoHalt (get_or rs o d).seat) (once : EachOnce stripes (map held_by (map (λ (r : Scanner). r.draws) rs)))
     (suffice : (q : ℕ) (xs : List Parcel) → All (IsPlanned due block) xs → ((s : ℕ) → s < stripes + stripes → All (Contains xs) (plan block (due s q) s q))
     → DeliversAll due q (stripes + stripes) (after_all (opened q (stripes + stripes) block) xs))
     (stays : (v : LedgerValue) (xs : List Parcel) → IsSameShape v (after_all v xs)) where
   -- each stripe was posted by the scanner that holds it
-  posted_by_some : (x : ℕ) → x < stripes → (o : ℕ) × (o < e.outboxes) × ((d : Scanner) → HasPostedStripe due block stripes e x (sents (get_or rs o d).outbox))
+  posted_by_some : (x : ℕ) → x < stripes → (o : ℕ) × (o < e.outboxes) × ((d : Scanner) → HasPostedStripe due block stripes e x (sent_by_queue (get_or rs o d).outbox))
   posted_by_some x lt =
       let one = (once x).0 lt in let s = holder_of rs x (omega arith) in let ol : s.0 < e.outboxes = (let a = s.1 in let n = scans.0 in omega arith) in
       (s.0, ol, λ d. elim (scans.1 s.0 d ol).posted [ inl stopped ↦ absurd (calm s.0 d ol stopped) | inr done ↦ done x (s.2 d) ])
@@ -135,7 +135,7 @@ module _ (due : Due) (stripes block : ℕ) (e : Exchange) (h : Halt) (st : Strip
     all_planned : All (IsPlanned due block) xs
     all_planned i d lt = planned (get_or xs i d) (i, lt, any_default xs i (get_or xs i d) d lt)
 
-    arrived_of : (o s : ℕ) (r : Scanner) → o < e.outboxes → AreAllAt e (sents (get_or rs o r).outbox) p (plan block (due s p) s p) → All (Contains xs) (plan block (due s p) s p)
+    arrived_of : (o s : ℕ) (r : Scanner) → o < e.outboxes → AreAllAt e (sent_by_queue (get_or rs o r).outbox) p (plan block (due s p) s p) → All (Contains xs) (plan block (due s p) s p)
     arrived_of o s r ol all i d lt =
         let x : Parcel = get_or (plan block (due s p) s p) i d in let a = all i d lt in
         part.1 o a.0 x ol a.1 (along _ _ x (ap (λ (z : Posts). posts_at z (p * e.lanes + a.0)) (sym (list_at due stripes block e h st rs scans o r ol))) a.2)
@@ -161,7 +161,7 @@ module _ (due : Due) (stripes block : ℕ) (e : Exchange) (h : Halt) (st : Strip
           rows = d.rows;
         })
 
-  pub settled_of : {T : Type 0} (builds : Builds T) (p : ℕ) (d : Ended T) → p < e.partitions → IsEnded builds (stripes + stripes) block e (stub_lists (map (λ (z : Scanner). z.outbox) rs)) p d → IsSettled builds due (stripes + stripes) p d
+  pub settled_of : {T : Type 0} (builds : Builds T) (p : ℕ) (d : EndedPartition T) → p < e.partitions → IsEnded builds (stripes + stripes) block e (stub_lists (map (λ (z : Scanner). z.outbox) rs)) p d → IsSettled builds due (stripes + stripes) p d
   settled_of builds p d pl is = let f = is.filled in record { delivered = delivered_of p f.0 pl f.1 d.ledger f.2; number = is.number; built = is.built }
 
 -- the delivered rows of all senders

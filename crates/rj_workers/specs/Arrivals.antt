@@ -13,7 +13,7 @@ use Rattle.rj_exchange.specs.declared.boxes.Inbox.{Inbox}
 use Rattle.rj_exchange.specs.declared.boxes.Outbox.{Outbox}
 use Rattle.rj_exchange.specs.declared.boxes.Stub.{Stub}
 use Rattle.rj_exchange.specs.Passing.{posted_by}
-use Rattle.rj_exchange.specs.Boxes.{PostedVec, takens, sent_of, IsOutboxOf, IsInboxOf}
+use Rattle.rj_exchange.specs.Boxes.{PostedVec, taken_by_lane, sent_of, IsOutboxOf, IsInboxOf}
 use Rattle.rj_workers.specs.Posts.{Due, Posts, posts_at}
 
 -- what was taken at each lane
@@ -30,7 +30,7 @@ IsArrived ts xs = ((x : Parcel) → Contains xs x → (k : ℕ) × (o : ℕ) × 
 
 -- an inbox, with the ledger to which all that it took was offered
 abbrev pub IsTaking : Exchange → ℕ → ℕ → Inbox → LedgerValue → Type 0
-IsTaking e senders block i v = IsInboxOf e i × ((xs : List Parcel) × IsArrived (takens i) xs × (v ≡ after_all (opened i.partition senders block) xs))
+IsTaking e senders block i v = IsInboxOf e i × ((xs : List Parcel) × IsArrived (taken_by_lane i) xs × (v ≡ after_all (opened i.partition senders block) xs))
 
 -- the delivered rows of each sender
 abbrev pub rows_by_sender : LedgerValue → List (List ℕ)

@@ -46,7 +46,7 @@ abbrev pub AddsLeft : (Parcel → Type 0) → Posts → Posts → Type 0
 AddsLeft was old new = (q : ℕ) (x : Parcel) → Contains (posts_at new q) x → Contains (posts_at old q) x ⊎ was x
 
 -- of the parcels that were to be posted each one was posted or still is to be
-pub record Sent (e : Exchange) (was is : Parcel → Type 0) (old new : Posts) : Type 0 where
+pub record PostsOrKeeps (e : Exchange) (was is : Parcel → Type 0) (old new : Posts) : Type 0 where
   pub kept : KeepsPosts old new
   pub added : AddsLeft was old new
   pub within : (x : Parcel) → is x → was x

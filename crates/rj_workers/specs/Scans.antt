@@ -6,21 +6,21 @@ use Rattle.rj_exchange.specs.declared.stripes.StripeSeat.{StripeSeat}
 use Rattle.rj_exchange.specs.declared.halt.Halt.{Halt}
 use Rattle.rj_exchange.specs.declared.halt.HaltSeat.{HaltSeat}
 use Rattle.rj_exchange.specs.declared.stripes.Stripes.{Stripes}
-use Rattle.rj_exchange.specs.Boxes.{sents, IsOutboxOf}
+use Rattle.rj_exchange.specs.Boxes.{sent_by_queue, IsOutboxOf}
 use Rattle.rj_exchange.specs.Halt.{HasRaised, HasSeen, IsHaltSeatOf}
-use Rattle.rj_exchange.specs.Stripes.{IsStripeSeatOf, Holds, held}
-use Rattle.rj_workers.specs.declared.scan.Stop.{Stop}
-use Rattle.rj_workers.specs.declared.scan.Stop.TheVariants.{Halted, Refused}
+use Rattle.rj_exchange.specs.Stripes.{IsStripeSeatOf, Holds, held_by}
+use Rattle.rj_workers.specs.declared.scan.ScanStop.{ScanStop}
+use Rattle.rj_workers.specs.declared.scan.ScanStop.TheVariants.{Halted, Refused}
 use Rattle.rj_workers.specs.declared.scan.Scanner.{Scanner}
 use Rattle.rj_workers.specs.declared.shared.Shared.{Shared}
 use Rattle.rj_workers.specs.Posts.{Due, Posts, OnlyPlanned, HasPosted, NothingPosted}
 
-abbrev pub Stopped : HaltSeat → Type 0
-Stopped s = HasRaised s ⊎ HasSeen s
+abbrev pub KnowsHalt : HaltSeat → Type 0
+KnowsHalt s = HasRaised s ⊎ HasSeen s
 
 -- who stops at the word halt has raised it or seen it raised
-abbrev pub StopsAt : HaltSeat → Stop → Type 0
-StopsAt s Halted = Stopped s
+abbrev pub StopsAt : HaltSeat → ScanStop → Type 0
+StopsAt s Halted = KnowsHalt s
 StopsAt s Refused = Unit {0}
 
 -- a scanner's tokens are of this exchange, word and stripes
@@ -30,15 +30,15 @@ pub record IsScannerOf (e : Exchange) (h : Halt) (st : Stripes) (me : Scanner) :
   pub draws : IsStripeSeatOf st me.draws
 
 -- a stripe seat that holds nothing
-abbrev pub IsFreshDraws : Stripes → StripeSeat → Type 0
-IsFreshDraws st s = IsStripeSeatOf st s × (held s ≡ [])
+abbrev pub IsFreshStripeSeat : Stripes → StripeSeat → Type 0
+IsFreshStripeSeat st s = IsStripeSeatOf st s × (held_by s ≡ [])
 
 -- scanner n as it starts
 pub record IsNewScanner (e : Exchange) (h : Halt) (st : Stripes) (n : ℕ) (me : Scanner) : Type 0 where
   pub scanner : IsScannerOf e h st me
   pub number : me.outbox.number ≡ n
-  pub posted : NothingPosted (sents me.outbox)
-  pub held : held me.draws ≡ []
+  pub posted : NothingPosted (sent_by_queue me.outbox)
+  pub held : held_by me.draws ≡ []
 
 abbrev pub AreNewScanners : Exchange → Halt → Stripes → ℕ → List Scanner → Type 0
 AreNewScanners e h st n rs = (length rs ≡ n) × ((s : ℕ) (d : Scanner) → s < n → IsNewScanner e h st s (slice_index_or rs s d))
@@ -47,7 +47,7 @@ AreNewScanners e h st n rs = (length rs ≡ n) × ((s : ℕ) (d : Scanner) → s
 abbrev pub AreNewOutboxes : Exchange → ℕ → List Outbox → Type 0
 AreNewOutboxes e n os = (length os ≡ n)
     × ((s : ℕ) (d : Outbox) → s < n → IsOutboxOf e (slice_index_or os s d) × ((slice_index_or os s d).number ≡ s)
-    × NothingPosted (sents (slice_index_or os s d)))
+    × NothingPosted (sent_by_queue (slice_index_or os s d)))
 
 abbrev pub IsScanner : {J G : Type 0} → Shared J G → Scanner → Type 0
 IsScanner shared me = IsScannerOf shared.exchange.now shared.halt.now shared.stripes.now me
@@ -62,14 +62,14 @@ HasPostedStripe due block stripes e x ps = HasPosted due block e x e.partitions 
 
 -- all that the senders of its stripes have was posted
 abbrev pub HasPostedHeld : Due → ℕ → ℕ → Exchange → Scanner → Type 0
-HasPostedHeld due block stripes e me = (x : ℕ) → Holds me.draws x → HasPostedStripe due block stripes e x (sents me.outbox)
+HasPostedHeld due block stripes e me = (x : ℕ) → Holds me.draws x → HasPostedStripe due block stripes e x (sent_by_queue me.outbox)
 
 -- what scanner n hands back: it posted planned parcels alone, and all of its stripes unless it has raised or seen the word halt
 pub record IsScanOf (due : Due) (block stripes : ℕ) (e : Exchange) (h : Halt) (st : Stripes) (n : ℕ) (me : Scanner) : Type 0 where
   pub scanner : IsScannerOf e h st me
   pub number : me.outbox.number ≡ n
-  pub planned : OnlyPlanned due block (sents me.outbox)
-  pub posted : Stopped me.seat ⊎ HasPostedHeld due block stripes e me
+  pub planned : OnlyPlanned due block (sent_by_queue me.outbox)
+  pub posted : KnowsHalt me.seat ⊎ HasPostedHeld due block stripes e me
 
 abbrev pub IsScan : {J G : Type 0} → Due → Shared J G → ℕ → Scanner → Type 0
 IsScan due shared n me = IsScanOf due shared.settings.block shared.settings.workers shared.exchange.now shared.halt.now shared.stripes.now n me

@@ -4,10 +4,10 @@ use Rattle.std.specs.List.{flat_map, range_with_len}
 use Rattle.std.specs.List.Sorted.{IsPermutation}
 use Rattle.rj_exchange.specs.declared.halt.Halt.{Halt}
 use Rattle.rj_exchange.specs.declared.tickets.Tickets.{Tickets}
-use Rattle.rj_exchange.specs.Halt.{AreAllHaltSeats, IsCalm, IsHaltSeatOf}
-use Rattle.rj_exchange.specs.Tickets.{AreAllSeats, IsSeatOf, drawn}
+use Rattle.rj_exchange.specs.Halt.{AreAllHaltSeats, IsUnraised, IsHaltSeatOf}
+use Rattle.rj_exchange.specs.Tickets.{AreAllSeats, IsSeatOf, drawn_by}
 use Rattle.rj_workers.specs.declared.sharing.Drawer.{Drawer}
-use Rattle.rj_workers.specs.declared.sharing.Drawn.{Drawn}
+use Rattle.rj_workers.specs.declared.sharing.DrawerOutput.{DrawerOutput}
 use Rattle.rj_workers.specs.declared.sharing.Gathered.{Gathered}
 
 -- it is what one of the shares below n makes
@@ -39,15 +39,15 @@ pub record IsDrawer (t : Tickets) (h : Halt) (me : Drawer) : Type 0 where
 
 -- a worker as it starts
 abbrev pub IsNewDrawer : Tickets → Halt → Drawer → Type 0
-IsNewDrawer t h me = IsDrawer t h me × (drawn me.draws ≡ [])
+IsNewDrawer t h me = IsDrawer t h me × (drawn_by me.draws ≡ [])
 
 -- unless it has raised or seen the word, a worker did each share that it drew
-pub record IsDrawnOf {T : Type 0} (makes : ℕ → T → Type 0) (t : Tickets) (h : Halt) (d : Drawn T) : Type 0 where
+pub record IsDrawerOutput {T : Type 0} (makes : ℕ → T → Type 0) (t : Tickets) (h : Halt) (d : DrawerOutput T) : Type 0 where
   pub drawer : IsDrawer t h d.drawer
-  pub made : IsCalm d.drawer.seat → AreMadeBy makes (drawn d.drawer.draws) d.made.items
+  pub made : IsUnraised d.drawer.seat → AreMadeBy makes (drawn_by d.drawer.draws) d.made.items
 
 -- all seats, and what was made of the shares that they drew
 pub record IsGathered {T : Type 0} (makes : ℕ → T → Type 0) (t : Tickets) (h : Halt) (g : Gathered T) : Type 0 where
   pub draws : AreAllSeats t g.draws.items
   pub seats : AreAllHaltSeats h g.seats.items
-  pub made : All IsCalm g.seats.items → AreMadeBy makes (flat_map drawn g.draws.items) g.made.items
+  pub made : All IsUnraised g.seats.items → AreMadeBy makes (flat_map drawn_by g.draws.items) g.made.items

@@ -5,17 +5,17 @@ use Rattle.rj_exchange.specs.declared.boxes.Exchange.{Exchange}
 use Rattle.rj_exchange.specs.declared.halt.Halt.{Halt}
 use Rattle.rj_exchange.specs.declared.tickets.Tickets.{Tickets}
 use Rattle.rj_exchange.specs.declared.boxes.Inbox.{Inbox}
-use Rattle.rj_exchange.specs.Boxes.{IsInboxOf, takens}
+use Rattle.rj_exchange.specs.Boxes.{IsInboxOf, taken_by_lane}
 use Rattle.rj_exchange.specs.Halt.{IsHaltSeatOf}
 use Rattle.rj_exchange.specs.Tickets.{IsSeatOf}
-use Rattle.rj_workers.specs.declared.take.Held.{Held}
+use Rattle.rj_workers.specs.declared.take.OwnedPartition.{OwnedPartition}
 use Rattle.rj_workers.specs.declared.take.Building.{Building}
 use Rattle.rj_workers.specs.declared.take.Building.TheVariants.{Waiting, Left, Done}
 use Rattle.rj_workers.specs.declared.take.Taker.{Taker}
 use Rattle.rj_workers.specs.declared.settings.WorkerSettings.{WorkerSettings}
 use Rattle.rj_workers.specs.declared.shared.Shared.{Shared}
 use Rattle.rj_workers.specs.Arrivals.{IsArrived, IsTaking, rows_by_sender}
-use Rattle.rj_workers.specs.Scans.{Stopped}
+use Rattle.rj_workers.specs.Scans.{KnowsHalt}
 
 -- what a partition of a number and of rows by sender is built into
 abbrev pub Builds : Type 0 → Type 1
@@ -40,17 +40,17 @@ IsTried joinable v Left = ¬ joinable (rows_by_sender v)
 IsTried joinable v (Done built) = Unit {0}
 
 -- a partition that a taker owns
-pub record IsHeldOf {T : Type 0} (builds : Builds T) (e : Exchange) (stripes block : ℕ) (h : Held T) : Type 0 where
+pub record IsOwnedOf {T : Type 0} (builds : Builds T) (e : Exchange) (stripes block : ℕ) (h : OwnedPartition T) : Type 0 where
   pub taking : IsTaking e (stripes + stripes) block h.inbox h.ledger
   pub built : IsBuilding builds h.inbox.partition h.ledger h.building
 
-abbrev pub IsHeld : {J G T : Type 0} → Builds T → Shared J G → Held T → Type 0
-IsHeld builds shared h = IsHeldOf builds shared.exchange.now shared.settings.workers shared.settings.block h
+abbrev pub IsOwned : {J G T : Type 0} → Builds T → Shared J G → OwnedPartition T → Type 0
+IsOwned builds shared h = IsOwnedOf builds shared.exchange.now shared.settings.workers shared.settings.block h
 
 -- a taker's tokens are of these words and tickets
 pub record IsTakerOf {T : Type 0} (h o : Halt) (t : Tickets) (me : Taker T) : Type 0 where
   pub seat : IsHaltSeatOf h me.seat
-  pub look : IsHaltSeatOf o me.look
+  pub done_seat : IsHaltSeatOf o me.done_seat
   pub draws : IsSeatOf t me.draws
 
 abbrev pub IsTaker : {J G T : Type 0} → Shared J G → Taker T → Type 0
@@ -63,18 +63,18 @@ IsNewTaker h o t me = IsTakerOf h o t me × (me.all.items ≡ [])
 -- what a taker hands back: partitions with all that it took there, unless it has raised or seen the word halt
 pub record IsTakeOf {T : Type 0} (builds : Builds T) (e : Exchange) (h : Halt) (stripes block : ℕ) (me : Taker T) : Type 0 where
   pub seat : IsHaltSeatOf h me.seat
-  pub held : Stopped me.seat ⊎ All (IsHeldOf builds e stripes block) me.all.items
+  pub held : KnowsHalt me.seat ⊎ All (IsOwnedOf builds e stripes block) me.all.items
 
 abbrev pub IsTake : {J G T : Type 0} → Builds T → Shared J G → Taker T → Type 0
 IsTake builds shared me = IsTakeOf builds shared.exchange.now shared.halt.now shared.settings.workers shared.settings.block me
 
 -- inboxes as they were opened
-abbrev pub AreFresh : Exchange → List Inbox → Type 0
-AreFresh e is = (p : ℕ) (i : Inbox) → slice_get is p ≡ Some i → IsInboxOf e i × (i.partition ≡ p) × IsArrived (takens i) []
+abbrev pub AreFreshInboxes : Exchange → List Inbox → Type 0
+AreFreshInboxes e is = (p : ℕ) (i : Inbox) → slice_get is p ≡ Some i → IsInboxOf e i × (i.partition ≡ p) × IsArrived (taken_by_lane i) []
 
 -- inboxes as they were opened, and ledgers for the senders and the block of these settings
 pub record AreOpenedOf (e : Exchange) (settings : WorkerSettings) (inboxes : List Inbox) (senders block : ℕ) : Type 0 where
-  pub fresh : AreFresh e inboxes
+  pub fresh : AreFreshInboxes e inboxes
   pub both : senders ≡ settings.workers + settings.workers
   pub rows : block ≡ settings.block
 
@@ -82,8 +82,8 @@ abbrev pub AreOpened : {J G : Type 0} → Shared J G → List Inbox → ℕ → 
 AreOpened f inboxes senders block = AreOpenedOf f.exchange.now f.settings inboxes senders block
 
 -- the place of partition p is empty, or has what a taker owned there
-abbrev pub IsSlot : {T : Type 0} → Builds T → Exchange → ℕ → ℕ → ℕ → Option (Held T) → Type 0
-IsSlot builds e stripes block p o = IfSome o (λ h. (h.inbox.partition ≡ p) × IsHeldOf builds e stripes block h)
+abbrev pub IsSlot : {T : Type 0} → Builds T → Exchange → ℕ → ℕ → ℕ → Option (OwnedPartition T) → Type 0
+IsSlot builds e stripes block p o = IfSome o (λ h. (h.inbox.partition ≡ p) × IsOwnedOf builds e stripes block h)
 
 abbrev pub AreTakes : {T : Type 0} → Builds T → Exchange → Halt → ℕ → ℕ → ℕ → List (Taker T) → Type 0
 AreTakes builds e h stripes block n ts = (length ts ≡ n) × All (IsTakeOf builds e h stripes block) ts

@@ -14,7 +14,7 @@ use Rattle.rj_workers.specs.declared.shared.Shared.{Shared}
 use Rattle.rj_workers.specs.declared.coordination.Coordination.{Coordination}
 use Rattle.rj_workers.specs.declared.coordination.Seats.{Seats}
 use Rattle.rj_workers.specs.Posts.{Due}
-use Rattle.rj_workers.specs.Scans.{AreNewScanners, AreScans, IsFreshDraws}
+use Rattle.rj_workers.specs.Scans.{AreNewScanners, AreScans, IsFreshStripeSeat}
 use Rattle.rj_workers.specs.Takes.{Builds, AreTakes, IsNewTaker}
 
 -- words, stripes and tickets by these settings: a seat at the word halt for each scanner, each taker and the starting thread
@@ -28,7 +28,7 @@ pub record IsCoordination (settings : WorkerSettings) (w : Coordination) : Type 
 pub record AreSeats (w : Coordination) (n : ℕ) (s : Seats) : Type 0 where
   pub at_halt : All (IsHaltSeatOf w.halt) s.halt.items
   pub at_done : All (IsHaltSeatOf w.done) s.done.items
-  pub at_stripes : All (IsFreshDraws w.stripes) s.stripes.items
+  pub at_stripes : All (IsFreshStripeSeat w.stripes) s.stripes.items
   pub at_tickets : All (IsSeatOf w.tickets) s.tickets.items
   pub takers : length s.tickets.items ≡ n
 

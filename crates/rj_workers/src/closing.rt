@@ -1,19 +1,18 @@
 //! What becomes of all that the workers hand back.
 ghost use Rattle.std.specs.Prelude.{◌≡◌, ◌<◌, ◌+◌, ◌++◌, ◌∷◌, ℕ, [], All, IfOk, IsTrue, map, length, slice_index_or};
-ghost use Rattle.rj_ledger.specs.Ledgers.{standing};
 ghost use Rattle.rj_exchange.specs.Halt.{AnyRaised, AnySeen, AreAllHaltSeats, IsHaltSeatOf};
-ghost use Rattle.rj_exchange.specs.Stripes.{AreAllStripeSeats, held, stripes_of};
+ghost use Rattle.rj_exchange.specs.Stripes.{AreAllStripeSeats, held_by, stripes_of};
 ghost use Rattle.rj_exchange.specs.Tickets.{EachOnce};
 ghost use Rattle.rj_workers.specs.Arrivals.{IsDelivered, due_lists, rows_by_sender};
 ghost use Rattle.rj_workers.specs.Workers.{IsCoordination, AreEndedWorkersOf};
-ghost use Rattle.rj_workers.specs.Takes.{IsHeldOf, IsBuilding};
+ghost use Rattle.rj_workers.specs.Takes.{IsOwnedOf, IsBuilding};
 ghost use Rattle.rj_workers.specs.Ends.{AreSettled, AreSlots};
 
 use crate::coordination::Coordination;
-use crate::ending::{EndShared, Ended, finish_all};
+use crate::ending::{EndShared, EndedPartition, finish_all};
 use crate::job::Job;
 use crate::scan::Scanner;
-use crate::take::{Building, Held, Taker};
+use crate::take::{Building, OwnedPartition, Taker};
 use crate::workers::EndedWorkers;
 use rj_exchange::{Halt, HaltSeat, Outbox, StripeSeat, Stripes};
 use rj_ledger::{Ledger, contained_suffice, shape_stays};
@@ -67,7 +66,7 @@ fn hand_taken<T: Drop>(
     alloc: Global,
     taken: Vec<Taker<T>>,
     seats: &mut Vec<HaltSeat>,
-) -> Result<Vec<Vec<Held<T>>>, AllocError>
+) -> Result<Vec<Vec<OwnedPartition<T>>>, AllocError>
     ensures groups { IfOk result (λ v. v.items ≡ map (λ t. t.all) taken.items) }
     ensures seats { IfOk result (λ _. seats.new.items ≡ seats.old.items ++ map (λ t. t.seat) taken.items) }
 {
@@ -76,7 +75,7 @@ fn hand_taken<T: Drop>(
         let Taker {
             all,
             seat,
-            look: _,
+            done_seat: _,
             draws: _,
         } = one;
         groups.push(all)?;
@@ -86,7 +85,10 @@ fn hand_taken<T: Drop>(
 }
 
 // So many empty places.
-fn no_slots<T: Drop>(alloc: Global, partitions: u32) -> Result<Vec<Option<Held<T>>>, AllocError>
+fn no_slots<T: Drop>(
+    alloc: Global,
+    partitions: u32,
+) -> Result<Vec<Option<OwnedPartition<T>>>, AllocError>
     ensures { IfOk result (λ v. (length v.items ≡ partitions) × All (λ s. s ≡ None) v.items) }
 {
     let mut slots = Vec::new(alloc);
@@ -96,7 +98,7 @@ fn no_slots<T: Drop>(alloc: Global, partitions: u32) -> Result<Vec<Option<Held<T
     Ok(slots)
 }
 
-fn place<T: Drop>(slot: &mut Option<Held<T>>, held: Held<T>)
+fn place<T: Drop>(slot: &mut Option<OwnedPartition<T>>, held: OwnedPartition<T>)
     ensures { slot.new ≡ Some held }
 {
     *slot = Some(held);
@@ -105,11 +107,11 @@ fn place<T: Drop>(slot: &mut Option<Held<T>>, held: Held<T>)
 // Puts the partitions of one taker into their places.
 fn place_group<J: Job>(
     shared: &EndShared<'_, J>,
-    slots: &mut Vec<Option<Held<J::Built>>>,
-    group: Vec<Held<J::Built>>,
+    slots: &mut Vec<Option<OwnedPartition<J::Built>>>,
+    group: Vec<OwnedPartition<J::Built>>,
 )
     requires slots { AreSlots (J.builds shared.now.job.now) shared.now slots.old.items }
-    requires group { All (IsHeldOf (J.builds shared.now.job.now) shared.now.exchange.now shared.now.settings.workers shared.now.settings.block) group.items }
+    requires group { All (IsOwnedOf (J.builds shared.now.job.now) shared.now.exchange.now shared.now.settings.workers shared.now.settings.block) group.items }
     ensures { AreSlots (J.builds shared.now.job.now) shared.now slots.new.items }
 {
     let _shared = shared;
@@ -123,10 +125,10 @@ fn place_group<J: Job>(
 fn place_all<J: Job>(
     alloc: Global,
     shared: &EndShared<'_, J>,
-    groups: Vec<Vec<Held<J::Built>>>,
-) -> Result<Vec<Option<Held<J::Built>>>, AllocError>
+    groups: Vec<Vec<OwnedPartition<J::Built>>>,
+) -> Result<Vec<Option<OwnedPartition<J::Built>>>, AllocError>
     requires { All
-        (λ g. All (IsHeldOf (J.builds shared.now.job.now) shared.now.exchange.now shared.now.settings.workers shared.now.settings.block) g.items) groups.items }
+        (λ g. All (IsOwnedOf (J.builds shared.now.job.now) shared.now.exchange.now shared.now.settings.workers shared.now.settings.block) g.items) groups.items }
     ensures { IfOk result (λ v. AreSlots (J.builds shared.now.job.now) shared.now v.items) }
 {
     let mut slots = no_slots(alloc, shared.exchange.partitions())?;
@@ -148,7 +150,7 @@ fn is_unraised(halt: Halt, seats: Vec<HaltSeat>) -> bool
 // Whether the scanners together hold each stripe once.
 fn are_scanned<R: Wait>(rt: &R, stripes: Stripes, draws: Vec<StripeSeat>) -> bool
     requires { AreAllStripeSeats stripes draws.items }
-    ensures { IsTrue result → EachOnce (stripes_of stripes) (map held draws.items) }
+    ensures { IsTrue result → EachOnce (stripes_of stripes) (map held_by draws.items) }
 {
     stripes.finish(rt, draws)
 }
@@ -162,7 +164,7 @@ pub(crate) fn conclude<R: Wait, J: Job>(
     words: Coordination,
     back: EndedWorkers<J::Built>,
     own: HaltSeat,
-) -> Result<Vec<Ended<J::Built>>, AllocError>
+) -> Result<Vec<EndedPartition<J::Built>>, AllocError>
     requires block { 0 < shared.now.settings.block }
     requires words { IsCoordination shared.now.settings words × (shared.now.exchange.now.outboxes ≡ shared.now.settings.workers) }
     requires back { AreEndedWorkersOf (J.due shared.now.job.now) (J.builds shared.now.job.now) shared.now.exchange.now words.halt words.stripes shared.now.settings back }
@@ -193,7 +195,7 @@ pub(crate) fn conclude<R: Wait, J: Job>(
 fn build_one<J: Job>(
     alloc: Global,
     job: &J,
-    ended: Ended<J::Built>,
+    ended: EndedPartition<J::Built>,
 ) -> Result<(Ledger, J::Built), AllocError>
     requires senders { length ended.ledger.senders ≡ J.stripes job.now + J.stripes job.now }
     requires rows { J.joinable job.now (rows_by_sender ended.ledger) }
@@ -201,7 +203,7 @@ fn build_one<J: Job>(
     ensures ledger { IfOk result (λ r. r.0 ≡ ended.ledger) }
     ensures built { IfOk result (λ r. J.builds job.now ended.partition (rows_by_sender ended.ledger) r.1) }
 {
-    let Ended {
+    let EndedPartition {
         partition,
         ledger,
         building,
@@ -218,7 +220,7 @@ fn build_one<J: Job>(
 pub(crate) fn build_rest<J: Job>(
     alloc: Global,
     job: &J,
-    all: Vec<Ended<J::Built>>,
+    all: Vec<EndedPartition<J::Built>>,
 ) -> Result<Delivered<J::Built>, AllocError>
     requires due { (p : ℕ) → p < J.partitions job.now → J.joinable job.now (due_lists (J.due job.now) (J.stripes job.now + J.stripes job.now) p) }
     requires len { length all.items ≡ J.partitions job.now }

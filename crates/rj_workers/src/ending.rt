@@ -1,15 +1,15 @@
 //! The end of an exchange: what is left in the queues goes to the ledgers, and what is not built yet is built.
-ghost use Rattle.std.specs.Prelude.{◌≡◌, ◌<◌, ◌≤◌, ◌+◌, ◌*◌, ◌++◌, ℕ, [], All, IfOk, map, length, take, drop, slice_index_or};
+ghost use Rattle.std.specs.Prelude.{◌≡◌, ◌<◌, ◌≤◌, ◌+◌, ◌++◌, ℕ, All, IfOk, map, length, take, drop, slice_index_or};
 ghost use Rattle.std.specs.Vec.Iter.{into_iter_items};
-ghost use Rattle.rj_ledger.specs.Ledgers.{after_all, standing};
+ghost use Rattle.rj_ledger.specs.Ledgers.{after_all};
 ghost use Rattle.rj_exchange.specs.Boxes.{sent_of, AreStubsOf};
-ghost use Rattle.rj_workers.specs.Arrivals.{AreFirstOf, AreOutboxes, HasArrived, due_lists, parcel_of, parcels_of, rows_by_sender, stub_lists};
-ghost use Rattle.rj_workers.specs.Takes.{IsHeldOf, IsBuilding};
+ghost use Rattle.rj_workers.specs.Arrivals.{AreFirstOf, AreOutboxes, HasArrived, parcel_of, parcels_of, stub_lists};
+ghost use Rattle.rj_workers.specs.Takes.{IsOwnedOf, IsBuilding};
 ghost use Rattle.rj_workers.specs.Ends.{AreSlots, IsEnded};
 
 use crate::job::Job;
 use crate::settings::WorkerSettings;
-use crate::take::{Building, Held, offer};
+use crate::take::{Building, OwnedPartition, offer};
 use rj_exchange::{Exchange, Outbox, Posted, Stub};
 use rj_ledger::{Ledger, complete_stays};
 use std::alloc::{AllocError, Global};
@@ -33,7 +33,7 @@ impl<J> Copy for EndShared<'_, J> {}
 
 /// A partition with all that was posted for it.
 #[derive(Drop)]
-pub(crate) struct Ended<T> {
+pub(crate) struct EndedPartition<T> {
     pub(crate) partition: u32,
     pub(crate) ledger: Ledger,
     pub(crate) building: Building<T>,
@@ -65,10 +65,10 @@ fn finish_one<R: Wait, J: Job>(
     rt: &R,
     alloc: Global,
     shared: &EndShared<'_, J>,
-    held: Held<J::Built>,
+    held: OwnedPartition<J::Built>,
     stubs: Vec<Stub>,
-) -> Result<Ended<J::Built>, AllocError>
-    requires held { IsHeldOf (J.builds shared.now.job.now) shared.now.exchange.now shared.now.settings.workers shared.now.settings.block held }
+) -> Result<EndedPartition<J::Built>, AllocError>
+    requires held { IsOwnedOf (J.builds shared.now.job.now) shared.now.exchange.now shared.now.settings.workers shared.now.settings.block held }
     requires stubs { AreStubsOf shared.now.exchange.now held.inbox.partition stubs.items }
     ensures arrived { let senders = shared.now.settings.workers + shared.now.settings.workers in IfOk result (λ d. HasArrived senders shared.now.settings.block
         shared.now.exchange.now.outboxes shared.now.exchange.now.lanes (map sent_of stubs.items) held.inbox.partition d.ledger) }
@@ -76,7 +76,7 @@ fn finish_one<R: Wait, J: Job>(
     ensures built { IfOk result (λ d. IsBuilding (J.builds shared.now.job.now) held.inbox.partition d.ledger d.building) }
 {
     complete_stays();
-    let Held {
+    let OwnedPartition {
         inbox,
         ledger,
         building,
@@ -87,7 +87,7 @@ fn finish_one<R: Wait, J: Job>(
     };
     let mut ledger = ledger;
     offer_rests(&mut ledger, finished.rest)?;
-    Ok(Ended {
+    Ok(EndedPartition {
         partition,
         ledger,
         building,
@@ -148,9 +148,9 @@ pub(crate) fn finish_all<R: Wait, J: Job>(
     rt: &R,
     alloc: Global,
     shared: &EndShared<'_, J>,
-    slots: Vec<Option<Held<J::Built>>>,
+    slots: Vec<Option<OwnedPartition<J::Built>>>,
     outboxes: Vec<Outbox>,
-) -> Result<Vec<Ended<J::Built>>, AllocError>
+) -> Result<Vec<EndedPartition<J::Built>>, AllocError>
     requires slots { AreSlots (J.builds shared.now.job.now) shared.now slots.items }
     requires outboxes { AreOutboxes shared.now.exchange.now outboxes.items }
     ensures len { IfOk result (λ v. length v.items ≡ shared.now.exchange.now.partitions) }

@@ -10,7 +10,7 @@ use std::marker::{Brand, PhantomData};
 use std::sync::{Mutex, Wait};
 
 /// Names the inboxes of an exchange as they were opened, and how its ledgers are opened. Each run picks its own.
-pub(crate) trait Opened: Send + Sync {
+pub(crate) trait Fresh: Send + Sync {
     ghost use Rattle.std.specs.Prelude.{ℕ, List};
     ghost use Rattle.rj_exchange.specs.declared.boxes.Inbox.{Inbox};
 
@@ -21,7 +21,7 @@ pub(crate) trait Opened: Send + Sync {
     ghost block: { ℕ };
 }
 
-impl Opened for Brand {
+impl Fresh for Brand {
     ghost use Rattle.std.specs.Prelude.{[]};
 
     ghost inboxes = { [] };
@@ -33,7 +33,7 @@ impl Opened for Brand {
 
 /// The inbox of a partition as it was opened, with nothing taken, and its ledger, to which nothing was offered.
 #[derive(Drop)]
-pub(crate) struct Untouched<B: Opened> {
+pub(crate) struct Untouched<B: Fresh> {
     inbox: Inbox,
     ledger: Ledger,
     of: PhantomData<B>,
@@ -42,9 +42,9 @@ pub(crate) struct Untouched<B: Opened> {
 }
 
 /// What a place holds until it is taken.
-pub(crate) type Place<B> = Mutex<Option<Untouched<B>>>;
+pub(crate) type PartitionPlace<B> = Mutex<Option<Untouched<B>>>;
 
-fn as_opened<B: Opened>(inbox: Inbox, ledger: Ledger) -> Untouched<B>
+fn as_opened<B: Fresh>(inbox: Inbox, ledger: Ledger) -> Untouched<B>
     requires same { slice_get B.inboxes inbox.partition ≡ Some inbox }
     requires fresh { ledger ≡ opened inbox.partition B.senders B.block }
 {
@@ -56,12 +56,12 @@ fn as_opened<B: Opened>(inbox: Inbox, ledger: Ledger) -> Untouched<B>
 }
 
 /// A place for each partition.
-pub(crate) fn open_places<B: Opened>(
+pub(crate) fn open_places<B: Fresh>(
     alloc: Global,
     inboxes: Vec<Inbox>,
     senders: u32,
     block: u32,
-) -> Result<Vec<Place<B>>, AllocError>
+) -> Result<Vec<PartitionPlace<B>>, AllocError>
     requires inboxes { inboxes.items ≡ B.inboxes }
     requires partitions { (p : ℕ) (i : Inbox) → slice_get inboxes.items p ≡ Some i → i.partition ≡ p }
     requires ledgers { (senders ≡ B.senders) × (block ≡ B.block) }
@@ -76,9 +76,9 @@ pub(crate) fn open_places<B: Opened>(
 }
 
 /// Takes what the place of a partition holds. None where it is empty, or holds what is of another partition.
-pub(crate) fn take_place<B: Opened, R: Wait>(
+pub(crate) fn take_place<B: Fresh, R: Wait>(
     rt: &R,
-    places: &[Place<B>],
+    places: &[PartitionPlace<B>],
     partition: usize,
 ) -> Option<(Inbox, Ledger)>
     requires { partition < length places.now }

@@ -3,9 +3,9 @@ ghost use Rattle.std.specs.Prelude.{◌≡◌, Contains, MatchOption};
 ghost use Rattle.std.specs.List.{list_all};
 ghost use Rattle.std.specs.List.Sorted.{IsPermutation};
 ghost use Rattle.rj_ledger.specs.declared.parcel.Parcel.{Parcel};
-ghost use Rattle.rj_exchange.specs.Boxes.{sents, queue_of};
-ghost use Rattle.rj_workers.specs.Posts.{KeepsPosts, AddsLeft, AreInRange, Sent, IsLeft, IsPosted, is_sent, to_post};
-ghost use Rattle.rj_workers.specs.Scans.{Stopped, IsScanner, SameScanner};
+ghost use Rattle.rj_exchange.specs.Boxes.{sent_by_queue};
+ghost use Rattle.rj_workers.specs.Posts.{KeepsPosts, AddsLeft, AreInRange, PostsOrKeeps, IsLeft, IsPosted, is_sent, to_post};
+ghost use Rattle.rj_workers.specs.Scans.{KnowsHalt, IsScanner, SameScanner};
 
 use crate::gate::{Gate, Place};
 use crate::pause::Pause;
@@ -62,7 +62,7 @@ fn post_next<R: Wait, J, G: Gate>(
     requires me { IsScanner shared.now me.old }
     requires parcels { AreInRange shared.now.exchange.now (Contains (to_post list.old)) }
     ensures me { IsScanner shared.now me.new × SameScanner me.old me.new }
-    ensures sent { Sent shared.now.exchange.now (Contains (to_post list.old)) (Contains (to_post list.new)) (sents me.old.outbox) (sents me.new.outbox) }
+    ensures sent { PostsOrKeeps shared.now.exchange.now (Contains (to_post list.old)) (Contains (to_post list.new)) (sent_by_queue me.old.outbox) (sent_by_queue me.new.outbox) }
 {
     let Some(parcel) = list.next.take() else {
         return false;
@@ -87,7 +87,7 @@ fn post_some<R: Wait, J, G: Gate>(
     requires me { IsScanner shared.now me.old }
     requires parcels { AreInRange shared.now.exchange.now (Contains (to_post list.old)) }
     ensures me { IsScanner shared.now me.new × SameScanner me.old me.new }
-    ensures sent { Sent shared.now.exchange.now (Contains (to_post list.old)) (Contains (to_post list.new)) (sents me.old.outbox) (sents me.new.outbox) }
+    ensures sent { PostsOrKeeps shared.now.exchange.now (Contains (to_post list.old)) (Contains (to_post list.new)) (sent_by_queue me.old.outbox) (sent_by_queue me.new.outbox) }
 {
     let mut posted = false;
     for _ in rt.forever() {
@@ -109,7 +109,7 @@ fn post_round<R: Wait, J, G: Gate>(
     requires me { IsScanner shared.now me.old }
     requires parcels { AreInRange shared.now.exchange.now (IsLeft lists.old.items) }
     ensures me { IsScanner shared.now me.new × SameScanner me.old me.new }
-    ensures sent { Sent shared.now.exchange.now (IsLeft lists.old.items) (IsLeft lists.new.items) (sents me.old.outbox) (sents me.new.outbox) }
+    ensures sent { PostsOrKeeps shared.now.exchange.now (IsLeft lists.old.items) (IsLeft lists.new.items) (sent_by_queue me.old.outbox) (sent_by_queue me.new.outbox) }
 {
     let mut posted = false;
     for at in 0..lists.len() {
@@ -130,10 +130,10 @@ pub(crate) fn post_all<R: Wait + Clock, J, G: Gate>(
     requires me { IsScanner shared.now me.old }
     requires parcels { AreInRange shared.now.exchange.now (IsLeft lists.items) }
     ensures me { IsScanner shared.now me.new × SameScanner me.old me.new }
-    ensures kept { KeepsPosts (sents me.old.outbox) (sents me.new.outbox) }
-    ensures added { AddsLeft (IsLeft lists.items) (sents me.old.outbox) (sents me.new.outbox) }
-    ensures all { MatchOption result (Stopped me.new.seat)
-        (λ _. (x : Parcel) → IsLeft lists.items x → IsPosted shared.now.exchange.now (sents me.new.outbox) x) }
+    ensures kept { KeepsPosts (sent_by_queue me.old.outbox) (sent_by_queue me.new.outbox) }
+    ensures added { AddsLeft (IsLeft lists.items) (sent_by_queue me.old.outbox) (sent_by_queue me.new.outbox) }
+    ensures all { MatchOption result (KnowsHalt me.new.seat)
+        (λ _. (x : Parcel) → IsLeft lists.items x → IsPosted shared.now.exchange.now (sent_by_queue me.new.outbox) x) }
 {
     let mut lists = lists;
     let mut pause = Pause::new();

@@ -1,18 +1,17 @@
 //! A whole run: the exchange is opened, the workers run, and what they hand back is ended and built.
-ghost use Rattle.std.specs.Prelude.{◌≡◌, ◌<◌, ◌≤◌, ◌+◌, ℕ, IfOk, length, slice_index_or};
+ghost use Rattle.std.specs.Prelude.{◌≡◌, ◌<◌, ◌+◌, ℕ, IfOk, length, slice_index_or};
 ghost use Rattle.rj_workers.specs.Arrivals.{IsDelivered, due_lists};
 ghost use Rattle.rj_workers.specs.Settings.{InLimits};
 ghost use Rattle.rj_workers.specs.Ends.{AreSettled};
 ghost use Rattle.rj_workers.specs.Scans.{AreNewOutboxes};
-ghost use Rattle.rj_workers.specs.Takes.{AreFresh, AreOpenedOf};
-ghost use Rattle.rj_exchange.specs.declared.boxes.Inbox.{Inbox};
+ghost use Rattle.rj_workers.specs.Takes.{AreFreshInboxes, AreOpenedOf};
 
 use crate::closing::{Delivered, build_rest, conclude};
 use crate::coordination::open_coordination;
-use crate::ending::{EndShared, Ended};
+use crate::ending::{EndShared, EndedPartition};
 use crate::gate::Gate;
 use crate::job::Job;
-use crate::places::{Opened, open_places};
+use crate::places::{Fresh, open_places};
 use crate::scope::work;
 use crate::settings::WorkerSettings;
 use crate::shared::Shared;
@@ -25,7 +24,7 @@ use std::thread::Threads;
 use std::time::Clock;
 
 // What all partitions have in the end. The inboxes are those that `B` names.
-fn run_opened<B: Opened, R: Threads + Wait + Clock + Sync, J: Job + Sync, G: Gate + Sync>(
+fn run_opened<B: Fresh, R: Threads + Wait + Clock + Sync, J: Job + Sync, G: Gate + Sync>(
     rt: &R,
     alloc: Global,
     job: &J,
@@ -34,7 +33,7 @@ fn run_opened<B: Opened, R: Threads + Wait + Clock + Sync, J: Job + Sync, G: Gat
     exchange: &Exchange,
     outboxes: Vec<Outbox>,
     inboxes: Vec<Inbox>,
-) -> Result<Vec<Ended<J::Built>>, AllocError>
+) -> Result<Vec<EndedPartition<J::Built>>, AllocError>
 where
     J::Built: Send,
     requires limits { InLimits settings.workers settings.partitions settings.block settings.lanes settings.capacity }
@@ -42,7 +41,7 @@ where
     requires exchange { (exchange.now.outboxes ≡ settings.workers) × (exchange.now.partitions ≡ settings.partitions) }
     requires outboxes { AreNewOutboxes exchange.now settings.workers outboxes.items }
     requires inboxes { (length inboxes.items ≡ settings.partitions) × (inboxes.items ≡ B.inboxes) }
-    requires fresh { AreFresh exchange.now inboxes.items }
+    requires fresh { AreFreshInboxes exchange.now inboxes.items }
     requires opened { AreOpenedOf exchange.now settings B.inboxes B.senders B.block }
     ensures len { IfOk result (λ v. length v.items ≡ settings.partitions) }
     ensures each { IfOk result (λ v. AreSettled (J.builds job.now) (J.due job.now) (settings.workers + settings.workers) settings.partitions v.items) }

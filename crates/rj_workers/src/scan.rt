@@ -1,14 +1,14 @@
 //! A scanner: it draws stripes, and posts what their senders have for each partition.
-ghost use Rattle.std.specs.Prelude.{◌≡◌, ◌<◌, ◌≤◌, ◌+◌, ◌∷◌, ◌++◌, [], All, IfOk, IfSome, MatchOption, MatchResult};
+ghost use Rattle.std.specs.Prelude.{◌≡◌, ◌<◌, ◌≤◌, ◌+◌, ◌∷◌, ◌++◌, [], IfOk, IfSome, MatchOption, MatchResult};
 ghost use Rattle.std.specs.List.Sorted.{IsPermutation};
 ghost use Rattle.rj_ledger.specs.Cutting.{plan};
-ghost use Rattle.rj_exchange.specs.Boxes.{sents};
-ghost use Rattle.rj_exchange.specs.Stripes.{held, Holds, puts};
+ghost use Rattle.rj_exchange.specs.Boxes.{sent_by_queue};
+ghost use Rattle.rj_exchange.specs.Stripes.{held_by, Holds, stripes_put_by};
 ghost use Rattle.rj_exchange.specs.Striping.{stripe as counted, without};
 ghost use Rattle.rj_workers.specs.Settings.{IsReady};
 ghost use Rattle.rj_workers.specs.declared.post.Sending.{Sending};
 ghost use Rattle.rj_workers.specs.Posts.{KeepsPosts, OnlyPlanned, NothingPosted, AreDue, IsCutStripe, to_post};
-ghost use Rattle.rj_workers.specs.Scans.{Stopped, StopsAt, IsScanner, SameScanner, HasPostedStripe, IsScan};
+ghost use Rattle.rj_workers.specs.Scans.{KnowsHalt, StopsAt, IsScanner, SameScanner, HasPostedStripe, IsScan};
 
 use crate::gate::{Gate, Place};
 use crate::job::Job;
@@ -31,7 +31,7 @@ pub(crate) struct Scanner {
 
 /// Why a scanner does not go on with a stripe.
 #[derive(Clone, Copy, Debug, Drop, PartialEq, Eq)]
-pub(crate) enum Stop {
+pub(crate) enum ScanStop {
     /// It has seen the word halt.
     Halted,
     /// It was refused memory.
@@ -105,25 +105,25 @@ fn scan_stripe<R: Wait + Clock, J: Job, G: Gate>(
     shared: &Shared<'_, J, G>,
     me: &mut Scanner,
     stripe: u32,
-) -> Result<(), Stop>
+) -> Result<(), ScanStop>
     requires ready { IsReady (J.stripes shared.now.job.now) (J.partitions shared.now.job.now) shared.now }
     requires stripe { stripe < shared.now.settings.workers }
     requires me { IsScanner shared.now me.old }
     ensures me { IsScanner shared.now me.new × SameScanner me.old me.new }
-    ensures kept { KeepsPosts (sents me.old.outbox) (sents me.new.outbox) }
+    ensures kept { KeepsPosts (sent_by_queue me.old.outbox) (sent_by_queue me.new.outbox) }
     ensures added { let due = J.due shared.now.job.now in
-        OnlyPlanned due shared.now.settings.block (sents me.old.outbox) → OnlyPlanned due shared.now.settings.block (sents me.new.outbox) }
+        OnlyPlanned due shared.now.settings.block (sent_by_queue me.old.outbox) → OnlyPlanned due shared.now.settings.block (sent_by_queue me.new.outbox) }
     ensures all { MatchResult result
-        (λ _. HasPostedStripe (J.due shared.now.job.now) shared.now.settings.block shared.now.settings.workers shared.now.exchange.now stripe (sents me.new.outbox))
+        (λ _. HasPostedStripe (J.due shared.now.job.now) shared.now.settings.block shared.now.settings.workers shared.now.exchange.now stripe (sent_by_queue me.new.outbox))
         (StopsAt me.new.seat) }
 {
     shared.gate.pass(Place::Stripe(stripe));
     let Ok(lists) = prepare(alloc, shared, stripe) else {
-        return Err(Stop::Refused);
+        return Err(ScanStop::Refused);
     };
     match post_all(rt, shared, me, lists) {
         Some(()) => Ok(()),
-        None => Err(Stop::Halted),
+        None => Err(ScanStop::Halted),
     }
 }
 
@@ -138,8 +138,8 @@ fn give_up<R: Wait, J, G>(
     requires me { IsScanner shared.now me.old }
     requires stripe { Holds me.old.draws stripe }
     ensures me { IsScanner shared.now me.new × (me.new.outbox ≡ me.old.outbox) }
-    ensures back { MatchOption result (Stopped me.new.seat) (λ _. held me.new.draws ≡ without stripe (held me.old.draws)) }
-    ensures count { IfSome result (λ _. (count < shared.now.settings.retries) × (puts me.new.draws ≡ puts me.old.draws ++ counted stripe (count + 1) ∷ [])) }
+    ensures back { MatchOption result (KnowsHalt me.new.seat) (λ _. held_by me.new.draws ≡ without stripe (held_by me.old.draws)) }
+    ensures count { IfSome result (λ _. (count < shared.now.settings.retries) × (stripes_put_by me.new.draws ≡ stripes_put_by me.old.draws ++ counted stripe (count + 1) ∷ [])) }
 {
     if count < shared.settings.retries {
         shared
@@ -160,7 +160,7 @@ pub(crate) fn scan<R: Wait + Clock, J: Job, G: Gate>(
 ) -> Scanner
     requires ready { IsReady (J.stripes shared.now.job.now) (J.partitions shared.now.job.now) shared.now }
     requires me { IsScanner shared.now me }
-    requires new { NothingPosted (sents me.outbox) × (held me.draws ≡ []) }
+    requires new { NothingPosted (sent_by_queue me.outbox) × (held_by me.draws ≡ []) }
     ensures { IsScan (J.due shared.now.job.now) shared.now me.outbox.number result }
 {
     put_back_undoes();
@@ -170,8 +170,8 @@ pub(crate) fn scan<R: Wait + Clock, J: Job, G: Gate>(
         };
         match scan_stripe(rt, alloc, shared, &mut me, stripe) {
             Ok(()) => {}
-            Err(Stop::Halted) => return me,
-            Err(Stop::Refused) => {
+            Err(ScanStop::Halted) => return me,
+            Err(ScanStop::Refused) => {
                 let Some(()) = give_up(rt, shared, &mut me, stripe, count) else {
                     return me;
                 };

@@ -1,5 +1,5 @@
 //! Scanners and takers at the same time.
-ghost use Rattle.std.specs.Prelude.{◌≡◌, ◌<◌, ℕ, IfOk, IfSome, length};
+ghost use Rattle.std.specs.Prelude.{◌≡◌, IfOk, IfSome, length};
 ghost use Rattle.std.specs.PromisedHandle.{KeepsEach};
 ghost use Rattle.rj_exchange.specs.Halt.{IsHaltSeatOf};
 ghost use Rattle.rj_exchange.specs.Tickets.{limit_of};
@@ -9,7 +9,7 @@ ghost use Rattle.rj_workers.specs.Takes.{AreOpened, AreOpenedOf};
 
 use crate::gate::Gate;
 use crate::job::Job;
-use crate::places::{Opened, Place};
+use crate::places::{Fresh, PartitionPlace};
 use crate::shared::Shared;
 use crate::start::{start_scanners, start_takers};
 use crate::workers::{EndedWorkers, NewWorkers};
@@ -35,12 +35,12 @@ fn joined<R: Threads, T: Drop, P: Promise<T>>(
 }
 
 // What the workers of one scope hand back. None where a thread or memory is refused.
-fn run_in<'s, E, B: Opened, R: Threads + Wait + Clock + Sync, J: Job + Sync, G: Gate + Sync>(
+fn run_in<'s, E, B: Fresh, R: Threads + Wait + Clock + Sync, J: Job + Sync, G: Gate + Sync>(
     scope: &Scope<'s, E>,
     rt: &'s R,
     alloc: Global,
     shared: &Shared<'s, J, G>,
-    places: &'s [Place<B>],
+    places: &'s [PartitionPlace<B>],
     workers: NewWorkers<J::Built>,
 ) -> Option<EndedWorkers<J::Built>>
 where
@@ -69,12 +69,12 @@ where
 
 // What the workers of one scope hand back, with the starting thread's seat. Where they hand back nothing it raises the word
 // halt, so that those that were started end.
-fn run_or_halt<'s, E, B: Opened, R: Threads + Wait + Clock + Sync, J: Job + Sync, G: Gate + Sync>(
+fn run_or_halt<'s, E, B: Fresh, R: Threads + Wait + Clock + Sync, J: Job + Sync, G: Gate + Sync>(
     scope: &Scope<'s, E>,
     rt: &'s R,
     alloc: Global,
     shared: &Shared<'s, J, G>,
-    places: &'s [Place<B>],
+    places: &'s [PartitionPlace<B>],
     workers: NewWorkers<J::Built>,
     own: HaltSeat,
 ) -> Result<(EndedWorkers<J::Built>, HaltSeat), AllocError>
@@ -100,11 +100,11 @@ where
 
 /// What all workers hand back, with the starting thread's seat. Where a thread or memory is refused the word halt is raised,
 /// and nothing comes back.
-pub(crate) fn work<B: Opened, R: Threads + Wait + Clock + Sync, J: Job + Sync, G: Gate + Sync>(
+pub(crate) fn work<B: Fresh, R: Threads + Wait + Clock + Sync, J: Job + Sync, G: Gate + Sync>(
     rt: &R,
     alloc: Global,
     shared: &Shared<'_, J, G>,
-    places: &[Place<B>],
+    places: &[PartitionPlace<B>],
     workers: NewWorkers<J::Built>,
     own: HaltSeat,
 ) -> Result<(EndedWorkers<J::Built>, HaltSeat), AllocError>

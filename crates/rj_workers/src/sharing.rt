@@ -1,9 +1,8 @@
 //! Workers that draw shares by ticket.
 ghost use Rattle.std.specs.Prelude.{◌≡◌, ◌<◌, ◌≤◌, All, IfOk, length};
-ghost use Rattle.std.specs.Vec.Iter.{into_iter_items};
 ghost use Rattle.rj_exchange.specs.Halt.{AreAllHaltSeats, halt_seats_of};
 ghost use Rattle.rj_exchange.specs.Tickets.{AreAllSeats, IsNew, limit_of, seats_of};
-ghost use Rattle.rj_workers.specs.Sharing.{AreMade, IsDrawnOf, IsGathered, IsMadeBehind, IsMadeOfEach, IsNewDrawer};
+ghost use Rattle.rj_workers.specs.Sharing.{AreMade, IsDrawerOutput, IsGathered, IsMadeBehind, IsMadeOfEach, IsNewDrawer};
 
 use crate::gate::Gate;
 use crate::shares::Shares;
@@ -24,7 +23,7 @@ pub(crate) struct Drawer {
 
 /// What a worker hands back.
 #[derive(Drop)]
-pub(crate) struct Drawn<T> {
+pub(crate) struct DrawerOutput<T> {
     drawer: Drawer,
     // What the shares made that it drew, in the order in which it drew them.
     made: Vec<T>,
@@ -90,27 +89,27 @@ fn draw_shares<S: Shares, G: Gate>(
     tickets: &Tickets,
     halt: &Halt,
     drawer: Drawer,
-) -> Result<Drawn<S::Done>, AllocError>
+) -> Result<DrawerOutput<S::Done>, AllocError>
     requires tickets { limit_of tickets.now ≤ S.shares shares.now }
     requires drawer { IsNewDrawer tickets.now halt.now drawer }
-    ensures { IfOk result (IsDrawnOf (S.makes shares.now) tickets.now halt.now) }
+    ensures { IfOk result (IsDrawerOutput (S.makes shares.now) tickets.now halt.now) }
 {
     let mut drawer = drawer;
     let mut made = Vec::new(alloc);
     // (it draws no more than all)
     for _ in 0..shares.count() {
         let Some(number) = tickets.claim(&mut drawer.draws) else {
-            return Ok(Drawn { drawer, made });
+            return Ok(DrawerOutput { drawer, made });
         };
         if halt.raised(&mut drawer.seat) {
-            return Ok(Drawn { drawer, made });
+            return Ok(DrawerOutput { drawer, made });
         }
         let Ok(()) = add_share(alloc, shares, gate, number, &mut made) else {
             halt.raise(&mut drawer.seat);
             return Err(AllocError);
         };
     }
-    Ok(Drawn { drawer, made })
+    Ok(DrawerOutput { drawer, made })
 }
 
 // What all workers hand back, put together, unless one of them was refused memory.
@@ -119,10 +118,10 @@ fn gather<S: Shares>(
     shares: &S,
     tickets: &Tickets,
     halt: &Halt,
-    results: Vec<Result<Drawn<S::Done>, AllocError>>,
+    results: Vec<Result<DrawerOutput<S::Done>, AllocError>>,
 ) -> Result<Gathered<S::Done>, AllocError>
     requires len { (length results.items ≡ seats_of tickets.now) × (halt_seats_of halt.now ≡ seats_of tickets.now) }
-    requires each { All (λ r. IfOk r (IsDrawnOf (S.makes shares.now) tickets.now halt.now)) results.items }
+    requires each { All (λ r. IfOk r (IsDrawerOutput (S.makes shares.now) tickets.now halt.now)) results.items }
     ensures { IfOk result (IsGathered (S.makes shares.now) tickets.now halt.now) }
 {
     let _shares = shares;
@@ -132,7 +131,7 @@ fn gather<S: Shares>(
     let mut seats = Vec::new(alloc);
     let mut all = Vec::new(alloc);
     for result in results {
-        let Drawn { drawer, mut made } = result?;
+        let DrawerOutput { drawer, mut made } = result?;
         draws.push(drawer.draws)?;
         seats.push(drawer.seat)?;
         all.append(&mut made)?;
@@ -217,9 +216,9 @@ where
     let results = thread::map_vec(
         rt,
         drawers,
-        &|drawer: Drawer| -> Result<Drawn<S::Done>, AllocError>
+        &|drawer: Drawer| -> Result<DrawerOutput<S::Done>, AllocError>
             requires { (limit_of at_tickets.now ≤ S.shares shares.now) × IsNewDrawer at_tickets.now at_halt.now drawer }
-            ensures { IfOk result (IsDrawnOf (S.makes shares.entry.now) at_tickets.entry.now at_halt.entry.now) }
+            ensures { IfOk result (IsDrawerOutput (S.makes shares.entry.now) at_tickets.entry.now at_halt.entry.now) }
         { draw_shares(alloc, shares, gate, at_tickets, at_halt, drawer) },
     )?;
     let gathered = gather(alloc, shares, &tickets, &halt, results)?;

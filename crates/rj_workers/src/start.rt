@@ -7,7 +7,7 @@ ghost use Rattle.rj_workers.specs.Takes.{AreOpened, AreOpenedOf, IsNewTaker, IsT
 
 use crate::gate::Gate;
 use crate::job::Job;
-use crate::places::{Opened, Place};
+use crate::places::{Fresh, PartitionPlace};
 use crate::scan::{Scanner, scan};
 use crate::shared::Shared;
 use crate::take::{Taker, take_all};
@@ -116,12 +116,12 @@ where
 }
 
 // Starts one taker. None where no thread can be made.
-fn start_taker<'s, E, B: Opened, R: Wait + Clock + Sync, J: Job + Sync, G: Gate + Sync>(
+fn start_taker<'s, E, B: Fresh, R: Wait + Clock + Sync, J: Job + Sync, G: Gate + Sync>(
     scope: &Scope<'s, E>,
     rt: &'s R,
     alloc: Global,
     shared: &Shared<'s, J, G>,
-    places: &'s [Place<B>],
+    places: &'s [PartitionPlace<B>],
     me: Taker<J::Built>,
 ) -> Option<TakeHandle<'s, J, G>>
 where
@@ -150,12 +150,12 @@ where
 }
 
 /// Starts all takers. None where a thread or memory is refused.
-pub(crate) fn start_takers<'s, E, B: Opened, R: Wait + Clock + Sync, J: Job + Sync, G: Gate + Sync>(
+pub(crate) fn start_takers<'s, E, B: Fresh, R: Wait + Clock + Sync, J: Job + Sync, G: Gate + Sync>(
     scope: &Scope<'s, E>,
     rt: &'s R,
     alloc: Global,
     shared: &Shared<'s, J, G>,
-    places: &'s [Place<B>],
+    places: &'s [PartitionPlace<B>],
     takers: Vec<Taker<J::Built>>,
 ) -> Option<Vec<TakeHandle<'s, J, G>>>
 where

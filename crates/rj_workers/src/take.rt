@@ -1,14 +1,13 @@
 //! A taker: it draws partitions, offers what arrives to their ledgers, and builds each one that is complete.
-ghost use Rattle.std.specs.Prelude.{◌≡◌, ◌<◌, ◌+◌, All, IfOk, false, length};
+ghost use Rattle.std.specs.Prelude.{◌≡◌, ◌<◌, All, IfOk, false, length};
 ghost use Rattle.rj_ledger.specs.Ledgers.{after_offer};
 ghost use Rattle.rj_exchange.specs.Tickets.{limit_of};
-ghost use Rattle.rj_workers.specs.Takes.{IsTaker, IsHeld, IsTake, IsTried, AreOpened, is_settled};
+ghost use Rattle.rj_workers.specs.Takes.{IsTaker, IsOwned, IsTake, IsTried, AreOpened, is_settled};
 
 use crate::gate::{Gate, Place};
 use crate::job::Job;
 use crate::pause::Pause;
-use crate::places;
-use crate::places::{Opened, take_place};
+use crate::places::{Fresh, PartitionPlace, take_place};
 use crate::shared::Shared;
 use rj_exchange::{HaltSeat, Inbox, Seat};
 use rj_ledger::{Ledger, Parcel, complete_stays, shape_stays};
@@ -29,7 +28,7 @@ pub(crate) enum Building<T> {
 
 /// A partition that a taker owns.
 #[derive(Drop)]
-pub(crate) struct Held<T> {
+pub(crate) struct OwnedPartition<T> {
     pub(crate) inbox: Inbox,
     pub(crate) ledger: Ledger,
     pub(crate) building: Building<T>,
@@ -38,9 +37,9 @@ pub(crate) struct Held<T> {
 /// What one taker has of its own, and hands back.
 #[derive(Drop)]
 pub(crate) struct Taker<T> {
-    pub(crate) all: Vec<Held<T>>,
+    pub(crate) all: Vec<OwnedPartition<T>>,
     pub(crate) seat: HaltSeat,
-    pub(crate) look: HaltSeat,
+    pub(crate) done_seat: HaltSeat,
     pub(crate) draws: Seat,
 }
 
@@ -58,12 +57,12 @@ pub(crate) fn offer(ledger: &mut Ledger, parcel: Parcel) -> Result<(), AllocErro
 fn take_once<R: Wait, J: Job, G>(
     rt: &R,
     shared: &Shared<'_, J, G>,
-    held: &mut Held<J::Built>,
+    held: &mut OwnedPartition<J::Built>,
     lane: u32,
 ) -> Result<bool, AllocError>
     requires lane { lane < shared.now.exchange.now.lanes }
-    requires held { IsHeld (J.builds shared.now.job.now) shared.now held.old }
-    ensures { IfOk result (λ _. IsHeld (J.builds shared.now.job.now) shared.now held.new) }
+    requires held { IsOwned (J.builds shared.now.job.now) shared.now held.old }
+    ensures { IfOk result (λ _. IsOwned (J.builds shared.now.job.now) shared.now held.new) }
 {
     complete_stays();
     let Some(parcel) = held.inbox.take(rt, shared.exchange, lane) else {
@@ -77,10 +76,10 @@ fn take_once<R: Wait, J: Job, G>(
 fn take_lanes<R: Wait, J: Job, G>(
     rt: &R,
     shared: &Shared<'_, J, G>,
-    held: &mut Held<J::Built>,
+    held: &mut OwnedPartition<J::Built>,
 ) -> Result<bool, AllocError>
-    requires { IsHeld (J.builds shared.now.job.now) shared.now held.old }
-    ensures { IfOk result (λ _. IsHeld (J.builds shared.now.job.now) shared.now held.new) }
+    requires { IsOwned (J.builds shared.now.job.now) shared.now held.old }
+    ensures { IfOk result (λ _. IsOwned (J.builds shared.now.job.now) shared.now held.new) }
 {
     let mut found = false;
     for lane in 0..shared.exchange.lanes() {
@@ -95,11 +94,11 @@ fn take_lanes<R: Wait, J: Job, G>(
 fn build_complete<J: Job, G: Gate>(
     alloc: Global,
     shared: &Shared<'_, J, G>,
-    held: &mut Held<J::Built>,
+    held: &mut OwnedPartition<J::Built>,
 ) -> Result<(), AllocError>
     requires job { J.stripes shared.now.job.now ≡ shared.now.settings.workers }
-    requires held { IsHeld (J.builds shared.now.job.now) shared.now held.old }
-    ensures held { IfOk result (λ _. IsHeld (J.builds shared.now.job.now) shared.now held.new) }
+    requires held { IsOwned (J.builds shared.now.job.now) shared.now held.old }
+    ensures held { IfOk result (λ _. IsOwned (J.builds shared.now.job.now) shared.now held.new) }
     ensures tried { IfOk result (λ _. is_settled held.old.building ≡ false → IsTried (J.joinable shared.now.job.now) held.new.ledger held.new.building) }
 {
     shape_stays();
@@ -116,7 +115,7 @@ fn build_complete<J: Job, G: Gate>(
 }
 
 // Whether a partition is built or left to the starting thread.
-fn is_settled<T>(held: &Held<T>) -> bool
+fn is_settled<T>(held: &OwnedPartition<T>) -> bool
     ensures { result ≡ is_settled held.now.building }
 {
     match held.building {
@@ -131,11 +130,11 @@ fn take_round<R: Wait, J: Job, G: Gate>(
     rt: &R,
     alloc: Global,
     shared: &Shared<'_, J, G>,
-    all: &mut Vec<Held<J::Built>>,
+    all: &mut Vec<OwnedPartition<J::Built>>,
 ) -> Result<bool, AllocError>
     requires job { J.stripes shared.now.job.now ≡ shared.now.settings.workers }
-    requires all { All (IsHeld (J.builds shared.now.job.now) shared.now) all.old.items }
-    ensures { IfOk result (λ _. All (IsHeld (J.builds shared.now.job.now) shared.now) all.new.items) }
+    requires all { All (IsOwned (J.builds shared.now.job.now) shared.now) all.old.items }
+    ensures { IfOk result (λ _. All (IsOwned (J.builds shared.now.job.now) shared.now) all.new.items) }
 {
     let mut found = false;
     for at in 0..all.len() {
@@ -151,11 +150,11 @@ fn take_at<R: Wait, J: Job, G: Gate>(
     rt: &R,
     alloc: Global,
     shared: &Shared<'_, J, G>,
-    held: &mut Held<J::Built>,
+    held: &mut OwnedPartition<J::Built>,
 ) -> Result<bool, AllocError>
     requires job { J.stripes shared.now.job.now ≡ shared.now.settings.workers }
-    requires held { IsHeld (J.builds shared.now.job.now) shared.now held.old }
-    ensures { IfOk result (λ _. IsHeld (J.builds shared.now.job.now) shared.now held.new) }
+    requires held { IsOwned (J.builds shared.now.job.now) shared.now held.old }
+    ensures { IfOk result (λ _. IsOwned (J.builds shared.now.job.now) shared.now held.new) }
 {
     if !take_lanes(rt, shared, held)? {
         return Ok(false);
@@ -165,18 +164,18 @@ fn take_at<R: Wait, J: Job, G: Gate>(
 }
 
 // Draws a partition. It says whether one was left.
-fn draw<B: Opened, R: Wait, J: Job, G: Gate>(
+fn draw<B: Fresh, R: Wait, J: Job, G: Gate>(
     rt: &R,
     shared: &Shared<'_, J, G>,
-    places: &[places::Place<B>],
+    places: &[PartitionPlace<B>],
     me: &mut Taker<J::Built>,
 ) -> Result<bool, AllocError>
     requires places { limit_of shared.now.tickets.now ≡ length places.now }
     requires opened { AreOpened shared.now B.inboxes B.senders B.block }
     requires me { IsTaker shared.now me.old }
-    requires all { All (IsHeld (J.builds shared.now.job.now) shared.now) me.old.all.items }
+    requires all { All (IsOwned (J.builds shared.now.job.now) shared.now) me.old.all.items }
     ensures me { IsTaker shared.now me.new }
-    ensures all { IfOk result (λ _. All (IsHeld (J.builds shared.now.job.now) shared.now) me.new.all.items) }
+    ensures all { IfOk result (λ _. All (IsOwned (J.builds shared.now.job.now) shared.now) me.new.all.items) }
 {
     let Some(partition) = shared.tickets.claim(&mut me.draws) else {
         return Ok(false);
@@ -185,7 +184,7 @@ fn draw<B: Opened, R: Wait, J: Job, G: Gate>(
         return Err(AllocError);
     };
     shared.gate.pass(Place::Take(inbox.partition()));
-    me.all.push(Held {
+    me.all.push(OwnedPartition {
         inbox,
         ledger,
         building: Building::Waiting,
@@ -194,7 +193,7 @@ fn draw<B: Opened, R: Wait, J: Job, G: Gate>(
 }
 
 // Whether the newest partition is not settled yet. All others are.
-fn is_waiting<T>(all: &[Held<T>]) -> bool {
+fn is_waiting<T>(all: &[OwnedPartition<T>]) -> bool {
     match all.last() {
         Some(held) => !is_settled(held),
         None => false,
@@ -202,19 +201,19 @@ fn is_waiting<T>(all: &[Held<T>]) -> bool {
 }
 
 // Draws a further partition where the newest one is settled, unless none was left.
-fn draw_next<B: Opened, R: Wait, J: Job, G: Gate>(
+fn draw_next<B: Fresh, R: Wait, J: Job, G: Gate>(
     rt: &R,
     shared: &Shared<'_, J, G>,
-    places: &[places::Place<B>],
+    places: &[PartitionPlace<B>],
     me: &mut Taker<J::Built>,
     spent: &mut bool,
 ) -> Result<(), AllocError>
     requires places { limit_of shared.now.tickets.now ≡ length places.now }
     requires opened { AreOpened shared.now B.inboxes B.senders B.block }
     requires me { IsTaker shared.now me.old }
-    requires all { All (IsHeld (J.builds shared.now.job.now) shared.now) me.old.all.items }
+    requires all { All (IsOwned (J.builds shared.now.job.now) shared.now) me.old.all.items }
     ensures me { IsTaker shared.now me.new }
-    ensures all { IfOk result (λ _. All (IsHeld (J.builds shared.now.job.now) shared.now) me.new.all.items) }
+    ensures all { IfOk result (λ _. All (IsOwned (J.builds shared.now.job.now) shared.now) me.new.all.items) }
 {
     if *spent || is_waiting(&me.all) {
         return Ok(());
@@ -229,11 +228,11 @@ fn take_newest<R: Wait, J: Job, G: Gate>(
     rt: &R,
     alloc: Global,
     shared: &Shared<'_, J, G>,
-    all: &mut Vec<Held<J::Built>>,
+    all: &mut Vec<OwnedPartition<J::Built>>,
 ) -> Result<bool, AllocError>
     requires job { J.stripes shared.now.job.now ≡ shared.now.settings.workers }
-    requires all { All (IsHeld (J.builds shared.now.job.now) shared.now) all.old.items }
-    ensures { IfOk result (λ _. All (IsHeld (J.builds shared.now.job.now) shared.now) all.new.items) }
+    requires all { All (IsOwned (J.builds shared.now.job.now) shared.now) all.old.items }
+    ensures { IfOk result (λ _. All (IsOwned (J.builds shared.now.job.now) shared.now) all.new.items) }
 {
     let count = all.len();
     if count == 0 {
@@ -244,11 +243,11 @@ fn take_newest<R: Wait, J: Job, G: Gate>(
 }
 
 // Draws a partition where none is open, and takes at the newest one, and at all others where nothing came there.
-fn step<B: Opened, R: Wait, J: Job, G: Gate>(
+fn step<B: Fresh, R: Wait, J: Job, G: Gate>(
     rt: &R,
     alloc: Global,
     shared: &Shared<'_, J, G>,
-    places: &[places::Place<B>],
+    places: &[PartitionPlace<B>],
     me: &mut Taker<J::Built>,
     spent: &mut bool,
 ) -> Result<bool, AllocError>
@@ -256,9 +255,9 @@ fn step<B: Opened, R: Wait, J: Job, G: Gate>(
     requires places { limit_of shared.now.tickets.now ≡ length places.now }
     requires opened { AreOpened shared.now B.inboxes B.senders B.block }
     requires me { IsTaker shared.now me.old }
-    requires all { All (IsHeld (J.builds shared.now.job.now) shared.now) me.old.all.items }
+    requires all { All (IsOwned (J.builds shared.now.job.now) shared.now) me.old.all.items }
     ensures me { IsTaker shared.now me.new }
-    ensures all { IfOk result (λ _. All (IsHeld (J.builds shared.now.job.now) shared.now) me.new.all.items) }
+    ensures all { IfOk result (λ _. All (IsOwned (J.builds shared.now.job.now) shared.now) me.new.all.items) }
 {
     draw_next(rt, shared, places, me, spent)?;
     if take_newest(rt, alloc, shared, &mut me.all)? {
@@ -269,18 +268,18 @@ fn step<B: Opened, R: Wait, J: Job, G: Gate>(
 
 /// Takes until it sees the word halt, or has drawn all that it could and seen the word done, and then finds nothing. Where
 /// it is refused memory, or finds a place empty, it raises the word halt.
-pub(crate) fn take_all<B: Opened, R: Wait + Clock, J: Job, G: Gate>(
+pub(crate) fn take_all<B: Fresh, R: Wait + Clock, J: Job, G: Gate>(
     rt: &R,
     alloc: Global,
     shared: &Shared<'_, J, G>,
-    places: &[places::Place<B>],
+    places: &[PartitionPlace<B>],
     mut me: Taker<J::Built>,
 ) -> Taker<J::Built>
     requires job { J.stripes shared.now.job.now ≡ shared.now.settings.workers }
     requires places { limit_of shared.now.tickets.now ≡ length places.now }
     requires opened { AreOpened shared.now B.inboxes B.senders B.block }
     requires me { IsTaker shared.now me }
-    requires all { All (IsHeld (J.builds shared.now.job.now) shared.now) me.all.items }
+    requires all { All (IsOwned (J.builds shared.now.job.now) shared.now) me.all.items }
     ensures { IsTake (J.builds shared.now.job.now) shared.now result }
 {
     let mut spent = false;
@@ -297,7 +296,7 @@ pub(crate) fn take_all<B: Opened, R: Wait + Clock, J: Job, G: Gate>(
         if shared.halt.raised(&mut me.seat) {
             return me;
         }
-        over = shared.done.raised(&mut me.look);
+        over = shared.done.raised(&mut me.done_seat);
         pause.after(rt, found || over);
     }
     unreachable!()

@@ -4,7 +4,7 @@ ghost use Rattle.std.specs.Vec.Iter.{into_iter_items};
 ghost use Rattle.rj_exchange.specs.Halt.{IsHaltSeatOf};
 ghost use Rattle.rj_exchange.specs.Tickets.{IsSeatOf};
 ghost use Rattle.rj_workers.specs.Workers.{AreNewWorkersOf, AreSeats};
-ghost use Rattle.rj_workers.specs.Scans.{AreNewOutboxes, AreNewScanners, IsFreshDraws};
+ghost use Rattle.rj_workers.specs.Scans.{AreNewOutboxes, AreNewScanners, IsFreshStripeSeat};
 ghost use Rattle.rj_workers.specs.Takes.{IsNewTaker};
 
 use crate::coordination::{Coordination, Seats};
@@ -57,9 +57,9 @@ fn take_seat(halt: &Halt, seats: &mut IntoIter<HaltSeat, Global>) -> Result<Halt
 
 // The next of the stripe seats.
 fn next_draws(stripes: &Stripes, seats: &mut IntoIter<StripeSeat, Global>) -> Option<StripeSeat>
-    requires { All (IsFreshDraws stripes.now) (into_iter_items seats.old) }
-    ensures seats { All (IsFreshDraws stripes.now) (into_iter_items seats.new) }
-    ensures seat { IfSome result (IsFreshDraws stripes.now) }
+    requires { All (IsFreshStripeSeat stripes.now) (into_iter_items seats.old) }
+    ensures seats { All (IsFreshStripeSeat stripes.now) (into_iter_items seats.new) }
+    ensures seat { IfSome result (IsFreshStripeSeat stripes.now) }
 {
     let _shared = stripes;
     match seats.next() {
@@ -79,7 +79,7 @@ fn make_scanners(
 ) -> Result<Vec<Scanner>, AllocError>
     requires outboxes { AreNewOutboxes exchange.now (length outboxes.items) outboxes.items }
     requires seats { All (IsHaltSeatOf words.now.halt) (into_iter_items seats.old) }
-    requires draws { All (IsFreshDraws words.now.stripes) draws.items }
+    requires draws { All (IsFreshStripeSeat words.now.stripes) draws.items }
     ensures seats { IfOk result (λ _. All (IsHaltSeatOf words.now.halt) (into_iter_items seats.new)) }
     ensures scanners { IfOk result (λ v. AreNewScanners exchange.now words.now.halt words.now.stripes (length outboxes.items) v.items) }
 {
@@ -107,11 +107,11 @@ fn make_takers<T: Drop>(
     alloc: Global,
     words: &Coordination,
     seats: &mut IntoIter<HaltSeat, Global>,
-    looks: &mut IntoIter<HaltSeat, Global>,
+    done_seats: &mut IntoIter<HaltSeat, Global>,
     draws: Vec<Seat>,
 ) -> Result<Vec<Taker<T>>, AllocError>
     requires seats { All (IsHaltSeatOf words.now.halt) (into_iter_items seats.old) }
-    requires looks { All (IsHaltSeatOf words.now.done) (into_iter_items looks.old) }
+    requires done_seats { All (IsHaltSeatOf words.now.done) (into_iter_items done_seats.old) }
     requires draws { All (IsSeatOf words.now.tickets) draws.items }
     ensures len { IfOk result (λ v. length v.items ≡ length draws.items) }
     ensures takers { IfOk result (λ v. All (IsNewTaker words.now.halt words.now.done words.now.tickets) v.items) }
@@ -121,13 +121,13 @@ fn make_takers<T: Drop>(
         let Some(seat) = next_seat(&words.halt, seats) else {
             return Err(AllocError);
         };
-        let Some(look) = next_seat(&words.done, looks) else {
+        let Some(done_seat) = next_seat(&words.done, done_seats) else {
             return Err(AllocError);
         };
         takers.push(Taker {
             all: Vec::new(alloc),
             seat,
-            look,
+            done_seat,
             draws,
         })?;
     }

@@ -1,9 +1,10 @@
 //! The calls of an exchange.
-ghost use Rattle.std.specs.Prelude.{◌≡◌, ◌<◌, ◌*◌, ◌+◌, ◌%◌, ◌∷◌, ◌++◌, [], ℕ, length, All, slice_set, slice_index_or, MatchOption, MatchResult};
+ghost use Rattle.std.specs.Prelude.{◌≡◌, ◌<◌, ◌*◌, ◌+◌, ◌∷◌, ◌++◌, [], ℕ, length, MatchOption, MatchResult};
 ghost use Rattle.crossbeam_queue.specs.Passes.{view, ruled_capacity};
 ghost use Rattle.crossbeam_queue.specs.Fifo.{Held};
-ghost use Rattle.rj_exchange.specs.Passing.{Belongs, HeldAt, Left, Next, sender, taker, posted_by};
-ghost use Rattle.rj_exchange.specs.Boxes.{sent_of, taken_of, heard_of, sents, takens, heards, where_at, queue_of, IsStubOf, IsEndOf, IsOutboxOf};
+ghost use Rattle.rj_exchange.specs.Passing.{Belongs, HeldAt, Left, Next};
+ghost use Rattle.rj_exchange.specs.Boxes.{sent_of, taken_of, heard_of, sent_by_queue, taken_by_lane, heard_by_lane, IsStubOf, IsEndOf, IsOutboxOf};
+ghost use Rattle.rj_exchange.specs.Boxes.{SendsOneMore, WasFull, WasEmpty, TakesOneMore};
 ghost use Rattle.rj_exchange.specs.Boxes.{TakesFrom, IsInboxOf, HasHeard};
 
 use crate::boxes::{Exchange, Full, Inbox, Outbox, Stub};
@@ -70,10 +71,8 @@ impl Outbox {
     pub fn post<R: Wait>(&mut self, rt: &R, exchange: &Exchange, parcel: Parcel) -> Result<(), Full>
         requires { IsOutboxOf exchange.now self.old × (parcel.partition < exchange.now.partitions) }
         ensures same { IsOutboxOf exchange.now self.new × (self.new.number ≡ self.old.number) }
-        ensures sent { let q = queue_of exchange.now parcel in let was = slice_index_or (sents self.old) q [] in
-            MatchResult result (λ _. sents self.new ≡ slice_set (sents self.old) q (was ++ parcel ∷ []))
-            (λ f. (f.0 ≡ parcel) × (sents self.new ≡ sents self.old)
-            × Held exchange.now.capacity (HeldAt (where_at exchange.now parcel.partition (parcel.number % exchange.now.lanes)) self.old.number was)) }
+        ensures sent { MatchResult result (λ _. SendsOneMore exchange.now parcel self.old self.new)
+            (λ f. (f.0 ≡ parcel) × (sent_by_queue self.new ≡ sent_by_queue self.old) × WasFull exchange.now parcel self.old) }
     {
         let lane = (parcel.number % u64::from(exchange.lanes)) as u32;
         let at = exchange.index(parcel.partition, lane);
@@ -111,14 +110,11 @@ impl Inbox {
     /// inbox has then taken all that was posted there by each outbox of whose end it has heard. Takes no memory.
     pub fn take<R: Wait>(&mut self, rt: &R, exchange: &Exchange, lane: u32) -> Option<Parcel>
         requires { TakesFrom exchange.now self.old × (lane < exchange.now.lanes) }
-        ensures same { TakesFrom exchange.now self.new × (self.new.partition ≡ self.old.partition) × (heards self.new ≡ heards self.old) }
+        ensures same { TakesFrom exchange.now self.new × (self.new.partition ≡ self.old.partition) × (heard_by_lane self.new ≡ heard_by_lane self.old) }
         ensures inbox { IsInboxOf exchange.now self.old → IsInboxOf exchange.now self.new }
         ensures heard { (n : ℕ) → HasHeard exchange.now n self.old → HasHeard exchange.now n self.new }
-        ensures taken { let was = slice_index_or (takens self.old) lane [] in let place = where_at exchange.now self.old.partition lane in
-            let v = taker place exchange.now.outboxes was (slice_index_or (heards self.old) lane []) in
-            MatchOption result ((takens self.new ≡ takens self.old) × Held 0 (Left v))
-            (λ x. (o : ℕ) × (takens self.new ≡ slice_set (takens self.old) lane (was ++ posted_by o x ∷ [])) × Belongs place (posted_by o x)
-            × Next v (posted_by o x)) }
+        ensures taken { MatchOption result ((taken_by_lane self.new ≡ taken_by_lane self.old) × WasEmpty exchange.now self.old lane)
+            (λ x. TakesOneMore exchange.now lane x self.old self.new) }
     {
         let at = exchange.index(self.partition, lane);
         let posted = take_at(rt, &exchange.queues[at], &mut self.ends[lane as usize])?;

@@ -1,12 +1,11 @@
 //! The end of an inbox, which is handed what each outbox sent.
-ghost use Rattle.std.specs.Prelude.{◌≡◌, ◌<◌, ◌≤◌, ◌*◌, ◌+◌, ◌∷◌, ◌++◌, [], ℕ, length, map, All, IfOk, MatchResult, slice_index_or};
+ghost use Rattle.std.specs.Prelude.{◌≡◌, ◌<◌, ◌+◌, length, All, IfOk, MatchResult};
 ghost use Rattle.std.specs.Vec.Iter.{into_iter_items};
-ghost use Rattle.crossbeam_queue.specs.Passes.{view, IsPassOf, ruled_capacity};
-ghost use Rattle.rj_exchange.specs.Passing.{Belongs, Interleaves, sender, taker};
-ghost use Rattle.rj_exchange.specs.declared.boxes.Stub.{Stub};
-ghost use Rattle.rj_exchange.specs.declared.posted.Posted.{Posted};
-ghost use Rattle.rj_exchange.specs.Boxes.{Queue, sent_of, taken_of, takens, where_at, IsStubOf, IsInboxOf, IsLater, IsTaker, IsGrown, AreStubsOf};
-ghost use Rattle.rj_exchange.specs.Boxes.{known_of, Knows, IsAllSent, IsRoom, PostedVec, heards, HasHeard, AreStubsFrom};
+ghost use Rattle.crossbeam_queue.specs.Passes.{view, ruled_capacity};
+ghost use Rattle.rj_exchange.specs.Passing.{Belongs};
+ghost use Rattle.rj_exchange.specs.Boxes.{taken_by_lane, IsInboxOf, HasHeard, HearsOf, AreStubsOf, AreStubsFrom, AreRestsOf, BelongToLanes};
+ghost use Rattle.rj_exchange.specs.Ends.{IsLater, IsTaker, AreTakers, HaveHeardAll, IsSender, BeginWithSenders, IsGrown, AreGrown, AllKnow};
+ghost use Rattle.rj_exchange.specs.Ends.{IsRoom, AreRooms, IsRestOf, AreRests, BelongToQueues};
 
 use crate::boxes::{Exchange, Finished, Inbox, Stub};
 use crate::posted::Posted;
@@ -16,7 +15,7 @@ use std::sync::Wait;
 use std::vec::IntoIter;
 
 fn rooms(alloc: Global, lanes: u32, capacity: usize) -> Result<Vec<Vec<Posted>>, AllocError>
-    ensures { IfOk result (λ v. (length v.items ≡ lanes) × All (IsRoom capacity) v.items) }
+    ensures { IfOk result (λ v. AreRooms lanes capacity v.items) }
 {
     let mut rooms = Vec::new(alloc);
     for _ in 0..lanes {
@@ -28,7 +27,7 @@ fn rooms(alloc: Global, lanes: u32, capacity: usize) -> Result<Vec<Vec<Posted>>,
 
 fn give_back_at(queue: &ParcelQueue, end: &mut Stub, stub: Stub)
     requires end { IsTaker (length (view end.old.pass).known) queue.now end.old }
-    requires stub { IsStubOf (view stub.pass).place (length (view end.old.pass).known) queue.now stub }
+    requires stub { IsSender (length (view end.old.pass).known) queue.now stub }
     ensures { IsGrown queue.now end.old stub end.new }
 {
     let Stub { pass } = stub;
@@ -44,17 +43,9 @@ fn round(
     stubs: &mut IntoIter<Stub, Global>,
 )
     requires place { partition < exchange.now.partitions }
-    requires ends { (length ends.old.items ≡ exchange.now.lanes)
-        × ((k : ℕ) (l : Queue) (s : Stub) → k < exchange.now.lanes
-        → IsTaker outbox (slice_index_or exchange.now.queues.items (partition * exchange.now.lanes + k) l) (slice_index_or ends.old.items k s)) }
-    requires stubs { (exchange.now.lanes ≤ length (into_iter_items stubs.old))
-        × ((k : ℕ) (l : Queue) (s : Stub) → k < exchange.now.lanes
-        → IsStubOf (view (slice_index_or (into_iter_items stubs.old) k s).pass).place outbox
-        (slice_index_or exchange.now.queues.items (partition * exchange.now.lanes + k) l) (slice_index_or (into_iter_items stubs.old) k s)) }
-    ensures ends { (length ends.new.items ≡ exchange.now.lanes)
-        × ((k : ℕ) (l : Queue) (s t u : Stub) → k < exchange.now.lanes
-        → IsGrown (slice_index_or exchange.now.queues.items (partition * exchange.now.lanes + k) l) (slice_index_or ends.old.items k s)
-        (slice_index_or (into_iter_items stubs.old) k t) (slice_index_or ends.new.items k u)) }
+    requires ends { AreTakers exchange.now partition outbox ends.old.items }
+    requires stubs { BeginWithSenders exchange.now partition outbox (into_iter_items stubs.old) }
+    ensures ends { AreGrown exchange.now partition ends.old.items (into_iter_items stubs.old) ends.new.items }
     ensures stubs { IsLater exchange.now.lanes (into_iter_items stubs.old) (into_iter_items stubs.new) }
 {
     for lane in 0..exchange.lanes {
@@ -69,14 +60,9 @@ fn round(
 // The tokens of all outboxes.
 fn give_back_all(exchange: &Exchange, partition: u32, ends: &mut Vec<Stub>, stubs: Vec<Stub>)
     requires place { partition < exchange.now.partitions }
-    requires ends { (length ends.old.items ≡ exchange.now.lanes)
-        × ((k : ℕ) (l : Queue) (s : Stub) → k < exchange.now.lanes
-        → IsTaker 0 (slice_index_or exchange.now.queues.items (partition * exchange.now.lanes + k) l) (slice_index_or ends.old.items k s)) }
+    requires ends { AreTakers exchange.now partition 0 ends.old.items }
     requires stubs { AreStubsOf exchange.now partition stubs.items }
-    ensures { (length ends.new.items ≡ exchange.now.lanes)
-        × ((k : ℕ) (l : Queue) (s u : Stub) → k < exchange.now.lanes
-        → Knows (slice_index_or exchange.now.queues.items (partition * exchange.now.lanes + k) l) (slice_index_or ends.old.items k s)
-        (known_of exchange.now.lanes stubs.items k exchange.now.outboxes) (slice_index_or ends.new.items k u)) }
+    ensures { AllKnow exchange.now partition ends.old.items stubs.items ends.new.items }
 {
     let mut left = stubs.into_iter();
     for outbox in 0..exchange.outboxes {
@@ -87,7 +73,7 @@ fn give_back_all(exchange: &Exchange, partition: u32, ends: &mut Vec<Stub>, stub
 fn drain_at<R: Wait>(rt: &R, queue: &ParcelQueue, end: &mut Stub, room: &mut Vec<Posted>)
     requires end { IsTaker (view end.old.pass).made queue.now end.old }
     requires room { IsRoom (ruled_capacity queue.now) room.old }
-    ensures all { Interleaves (view end.old.pass).known ((view end.old.pass).taken ++ room.new.items) }
+    ensures all { IsRestOf end.old room.new }
     ensures placed { All (Belongs (view end.old.pass).place) room.new.items }
 {
     drain(rt, queue, &mut end.pass, room);
@@ -101,17 +87,10 @@ fn drain_all<R: Wait>(
     rest: &mut Vec<Vec<Posted>>,
 )
     requires place { partition < exchange.now.partitions }
-    requires ends { (length ends.old.items ≡ exchange.now.lanes)
-        × ((k : ℕ) (l : Queue) (s : Stub) → k < exchange.now.lanes
-        → IsTaker (view (slice_index_or ends.old.items k s).pass).made (slice_index_or exchange.now.queues.items (partition * exchange.now.lanes + k) l)
-        (slice_index_or ends.old.items k s)) }
-    requires rooms { (length rest.old.items ≡ exchange.now.lanes) × All (IsRoom exchange.now.capacity) rest.old.items }
-    ensures all { (length rest.new.items ≡ exchange.now.lanes)
-        × ((k : ℕ) (s : Stub) (v : PostedVec) → k < exchange.now.lanes
-        → Interleaves (view (slice_index_or ends.old.items k s).pass).known (taken_of (slice_index_or ends.old.items k s)
-        ++ (slice_index_or rest.new.items k v).items)) }
-    ensures placed { (k : ℕ) (s : Stub) (v : PostedVec) → k < exchange.now.lanes
-        → All (Belongs (view (slice_index_or ends.old.items k s).pass).place) (slice_index_or rest.new.items k v).items }
+    requires ends { HaveHeardAll exchange.now partition ends.old.items }
+    requires rooms { AreRooms exchange.now.lanes exchange.now.capacity rest.old.items }
+    ensures all { AreRests exchange.now.lanes ends.old.items rest.new.items }
+    ensures placed { BelongToQueues exchange.now.lanes ends.old.items rest.new.items }
 {
     for lane in 0..exchange.lanes {
         let at = exchange.index(partition, lane);
@@ -130,9 +109,8 @@ impl Inbox {
     /// of a lane where it is answered `None`. Takes no memory.
     pub fn hear(&mut self, exchange: &Exchange, outbox: u32, stubs: Vec<Stub>)
         requires { HasHeard exchange.now outbox self.old × AreStubsFrom exchange.now self.old.partition outbox stubs.items }
-        ensures same { HasHeard exchange.now (outbox + 1) self.new × (self.new.partition ≡ self.old.partition) × (takens self.new ≡ takens self.old) }
-        ensures heard { (k : ℕ) → k < exchange.now.lanes
-            → slice_index_or (heards self.new) k [] ≡ slice_index_or (heards self.old) k [] ++ slice_index_or (map sent_of stubs.items) k [] ∷ [] }
+        ensures same { HasHeard exchange.now (outbox + 1) self.new × (self.new.partition ≡ self.old.partition) × (taken_by_lane self.new ≡ taken_by_lane self.old) }
+        ensures heard { HearsOf exchange.now stubs.items self.old self.new }
     {
         let mut left = stubs.into_iter();
         round(exchange, self.partition, outbox, &mut self.ends, &mut left);
@@ -153,14 +131,8 @@ impl Inbox {
         stubs: Vec<Stub>,
     ) -> Result<Finished, (Inbox, Vec<Stub>)>
         requires { IsInboxOf exchange.now self × AreStubsOf exchange.now self.partition stubs.items }
-        ensures all { MatchResult result
-            (λ f. (length f.rest.items ≡ exchange.now.lanes)
-            × ((k : ℕ) (v : PostedVec) → k < exchange.now.lanes
-            → IsAllSent exchange.now.lanes stubs.items k (slice_index_or (takens self) k [] ++ (slice_index_or f.rest.items k v).items)))
-            (λ b. (b.0 ≡ self) × (b.1 ≡ stubs)) }
-        ensures placed { IfOk result
-            (λ f. (k : ℕ) (v : PostedVec) → k < exchange.now.lanes
-            → All (Belongs (where_at exchange.now self.partition k)) (slice_index_or f.rest.items k v).items) }
+        ensures all { MatchResult result (λ f. AreRestsOf exchange.now self stubs.items f.rest.items) (λ b. (b.0 ≡ self) × (b.1 ≡ stubs)) }
+        ensures placed { IfOk result (λ f. BelongToLanes exchange.now self.partition f.rest.items) }
     {
         let Ok(mut rest) = rooms(alloc, exchange.lanes, exchange.capacity) else {
             return Err((self, stubs));

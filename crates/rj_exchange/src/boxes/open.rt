@@ -1,17 +1,17 @@
 //! The opening of an exchange.
-ghost use Rattle.std.specs.Prelude.{◌≡◌, ◌<◌, ◌≤◌, ◌*◌, ◌+◌, ◌∷◌, ◌++◌, [], ℕ, length, IfOk, OnOk, All, slice_index_or};
-ghost use Rattle.crossbeam_queue.specs.Passes.{view, IsPassOf, ruled_capacity};
-ghost use Rattle.rj_exchange.specs.Passing.{sender, taker};
-ghost use Rattle.rj_exchange.specs.declared.boxes.Stub.{Stub};
-ghost use Rattle.rj_exchange.specs.declared.boxes.Outbox.{Outbox};
-ghost use Rattle.rj_exchange.specs.Boxes.{Queue, sent_of, taken_of, IsStubOf, IsEndOf, IsTaker, IsOpened, place_of, AddsStub};
+ghost use Rattle.std.specs.Prelude.{◌≡◌, ◌<◌, ◌≤◌, ◌+◌, ◌∷◌, ◌++◌, [], length, IfOk};
+ghost use Rattle.crossbeam_queue.specs.Passes.{view, IsPassOf};
+ghost use Rattle.rj_exchange.specs.Passing.{taker};
+ghost use Rattle.rj_exchange.specs.Boxes.{IsOpened};
+ghost use Rattle.rj_exchange.specs.Opening.{place_of, IsFreshStub, IsFreshQueue, AddStubs};
+ghost use Rattle.rj_exchange.specs.Ends.{IsTaker};
 
 use crate::boxes::{Exchange, Inbox, Outbox, Stub};
-use crate::queue::{ParcelQueue, Place, deal, fix};
+use crate::queue::{ParcelQueue, QueuePlace, deal, fix};
 use std::alloc::{AllocError, Global};
 use std::marker::Brand;
 
-fn queue_at<B: Place>(
+fn queue_at<B: QueuePlace>(
     alloc: Global,
     capacity: usize,
     partition: u32,
@@ -21,8 +21,7 @@ fn queue_at<B: Place>(
 ) -> Result<(ParcelQueue, Stub), AllocError>
     requires capacity { 0 < capacity }
     requires place { B.place ≡ place_of partition lane lanes outboxes }
-    ensures { IfOk result
-        (λ q. (ruled_capacity q.0 ≡ capacity) × IsPassOf q.0 q.1.pass × (view q.1.pass ≡ taker (place_of partition lane lanes outboxes) 0 [] [])) }
+    ensures { IfOk result (λ q. IsFreshQueue (place_of partition lane lanes outboxes) 0 capacity q.0 q.1) }
 {
     let (queue, mut pass) = ParcelQueue::ruled(alloc, capacity)?;
     fix::<B>(&queue, &mut pass);
@@ -32,7 +31,7 @@ fn queue_at<B: Place>(
 fn deal_at(queue: &ParcelQueue, end: &mut Stub) -> Stub
     requires { IsTaker 0 queue.now end.old }
     ensures end { let v = view end.old.pass in IsPassOf queue.now end.new.pass × (view end.new.pass ≡ taker v.place (v.made + 1) v.taken v.known) }
-    ensures stub { let v = view end.old.pass in IsPassOf queue.now result.pass × (view result.pass ≡ sender v.place v.made []) }
+    ensures stub { let v = view end.old.pass in IsFreshStub v.place v.made queue.now result }
 {
     let pass = deal(queue, &mut end.pass);
     Stub { pass }
@@ -57,12 +56,8 @@ fn add_queue(
 ) -> Result<(ParcelQueue, Stub), AllocError>
     requires capacity { 0 < capacity }
     requires boxes { length boxes.old.items ≡ outboxes }
-    ensures queue { IfOk result
-        (λ q. (ruled_capacity q.0 ≡ capacity) × IsPassOf q.0 q.1.pass × (view q.1.pass ≡ taker (place_of partition lane lanes outboxes) outboxes [] [])) }
-    ensures boxes { IfOk result
-        (λ q. (length boxes.new.items ≡ outboxes)
-        × ((i : ℕ) (b d : Outbox) → i < outboxes
-        → AddsStub (place_of partition lane lanes outboxes) i q.0 (slice_index_or boxes.old.items i b) (slice_index_or boxes.new.items i d))) }
+    ensures queue { IfOk result (λ q. IsFreshQueue (place_of partition lane lanes outboxes) outboxes capacity q.0 q.1) }
+    ensures boxes { IfOk result (λ q. AddStubs (place_of partition lane lanes outboxes) outboxes q.0 boxes.old.items boxes.new.items) }
 {
     let (queue, mut end) = queue_at::<Brand>(alloc, capacity, partition, lane, lanes, outboxes)?;
     for at in 0..boxes.len() {

@@ -1,9 +1,9 @@
 //! The calls of the halt word.
 ghost use Rattle.std.specs.Prelude.{◌≡◌, ◌≤◌, ◌⊎◌, ◌↔◌, All, IfOk, IsTrue};
-ghost use Rattle.rj_exchange.specs.Halt.{HasRaised, HasSeen, IsCalm, halt_seats_of, IsHaltSeatOf, IsNewHalt, AreAllHaltSeats, AnyRaised, AnySeen};
+ghost use Rattle.rj_exchange.specs.Halt.{HasRaised, HasSeen, IsUnraised, halt_seats_of, IsHaltSeatOf, IsNewHalt, AreAllHaltSeats, AnyRaised, AnySeen};
 ghost use Rattle.std.specs.Bool.{OnFalse};
 
-use crate::halt::{CutLook, Halt, HaltSeat, Looks, Raises};
+use crate::halt::{CutToken, Halt, HaltSeat, Looks, Raises};
 use atomic_table::Table;
 use std::alloc::{AllocError, Global};
 
@@ -21,7 +21,7 @@ impl Halt {
         let (table, mut all) = Table::of_words(alloc, &[0], &seats)?;
         let mut dealt = Vec::new(alloc);
         for _ in 1..seats {
-            let seat = table.shared.split_seat::<CutLook>(&mut all);
+            let seat = table.shared.split_seat::<CutToken>(&mut all);
             dealt.push(HaltSeat {
                 seat,
                 raised: false,
@@ -69,7 +69,7 @@ impl Halt {
         requires { AreAllHaltSeats self seats.items }
         ensures raised { IsTrue result ↔ AnyRaised seats.items }
         ensures seen { AnySeen seats.items → IsTrue result }
-        ensures calm { OnFalse result (All IsCalm seats.items) }
+        ensures calm { OnFalse result (All IsUnraised seats.items) }
     {
         let Halt { table } = self;
         let mut seats = seats;
@@ -89,7 +89,7 @@ impl Halt {
                 raised: _,
                 seen: _,
             } = next;
-            table.shared.join_seat::<CutLook>(&mut all, seat);
+            table.shared.join_seat::<CutToken>(&mut all, seat);
         }
         let closed = table.close_with(all);
         let word = closed.word(0);

@@ -6,11 +6,12 @@ ghost use Rattle.rj_exchange.specs.Totals.{total};
 ghost use Rattle.rj_exchange.specs.Tickets.{times, EachOnce};
 ghost use Rattle.rj_exchange.specs.declared.stripes.Stripe.{Stripe};
 ghost use Rattle.rj_exchange.specs.Striping.{share, below, opening, stripe, without};
-ghost use Rattle.rj_exchange.specs.Stripes.{held, draws, puts, drew_in_all, put_in_all, Holds, Queued, stripes_of, stripe_seats_of, IsStripeSeatOf};
+ghost use Rattle.rj_exchange.specs.Stripes.{held_by, stripes_drawn_by, stripes_put_by, drew_in_all, put_in_all, Holds, Queued, stripes_of, stripe_seats_of, IsStripeSeatOf};
 ghost use Rattle.rj_exchange.specs.Stripes.{IsNewStripeSeat, AreAllStripeSeats};
 
 use crate::stripes::{
-    CutShare, DealOut, Draws, Gives, Lot, Settle, Share, Stripe, StripeQueue, StripeSeat, Stripes,
+    CutShare, DealOut, Draws, Gives, Lot, Settle, Stripe, StripeQueue, StripeSeat, StripeShare,
+    Stripes,
 };
 use crossbeam_queue::Pass;
 use std::alloc::{AllocError, Global};
@@ -22,7 +23,7 @@ fn empty<B: Lot>(
     alloc: Global,
     n: u32,
     seats: u32,
-) -> Result<(StripeQueue, Pass<Stripe, Share>), AllocError>
+) -> Result<(StripeQueue, Pass<Stripe, StripeShare>), AllocError>
     requires some { (1 ≤ n) × (1 ≤ seats) }
     requires lot { (B.limit ≡ n) × (B.seats ≡ seats) }
     ensures { IfOk result (λ q. (ruled_capacity q.0 ≡ n) × IsPassOf q.0 q.1 × (view q.1 ≡ share n seats seats (below n) (opening n) [])) }
@@ -33,7 +34,7 @@ fn empty<B: Lot>(
 }
 
 // There is room, as the token holds one of the numbers that there is room for.
-fn give<R: Wait>(rt: &R, queue: &StripeQueue, pass: &mut Pass<Stripe, Share>, stripe: Stripe)
+fn give<R: Wait>(rt: &R, queue: &StripeQueue, pass: &mut Pass<Stripe, StripeShare>, stripe: Stripe)
     requires pass { IsPassOf queue.now pass.old }
     requires view { let v = view pass.old in (0 < v.parts) × (0 < times stripe.number v.held) × (v.limit ≡ ruled_capacity queue.now) }
     ensures pass { IsSamePass pass.old pass.new }
@@ -45,7 +46,7 @@ fn give<R: Wait>(rt: &R, queue: &StripeQueue, pass: &mut Pass<Stripe, Share>, st
 }
 
 // Each number goes into the queue.
-fn fill<R: Wait>(rt: &R, queue: &StripeQueue, pass: &mut Pass<Stripe, Share>, n: u32)
+fn fill<R: Wait>(rt: &R, queue: &StripeQueue, pass: &mut Pass<Stripe, StripeShare>, n: u32)
     requires pass { IsPassOf queue.now pass.old × (ruled_capacity queue.now ≡ n) }
     requires view { let v = view pass.old in (0 < v.parts) × (v ≡ share n v.seats v.parts (below n) (opening n) []) }
     ensures pass { IsPassOf queue.now pass.new }
@@ -97,12 +98,12 @@ impl Stripes {
     pub fn draw<R: Wait>(&self, rt: &R, seat: &mut StripeSeat) -> Option<(u32, u32)>
         requires { IsStripeSeatOf self.now seat.old }
         ensures seat { IsStripeSeatOf self.now seat.new }
-        ensures held { MatchOption result ((held seat.new ≡ held seat.old) × Held 0 (Queued seat.old))
-            (λ x. (held seat.new ≡ held seat.old ++ x.0 ∷ []) × (x.0 < stripes_of self.now)) }
+        ensures held { MatchOption result ((held_by seat.new ≡ held_by seat.old) × Held 0 (Queued seat.old))
+            (λ x. (held_by seat.new ≡ held_by seat.old ++ x.0 ∷ []) × (x.0 < stripes_of self.now)) }
         ensures holds { IfSome result (λ x. Holds seat.new x.0) }
         ensures gains { IfSome result (λ x. (y : ℕ) → Holds seat.new y ↔ (Holds seat.old y ⊎ (y ≡ x.0))) }
-        ensures drawn { MatchOption result (draws seat.new ≡ draws seat.old) (λ x. draws seat.new ≡ draws seat.old ++ stripe x.0 x.1 ∷ []) }
-        ensures put { puts seat.new ≡ puts seat.old }
+        ensures drawn { MatchOption result (stripes_drawn_by seat.new ≡ stripes_drawn_by seat.old) (λ x. stripes_drawn_by seat.new ≡ stripes_drawn_by seat.old ++ stripe x.0 x.1 ∷ []) }
+        ensures put { stripes_put_by seat.new ≡ stripes_put_by seat.old }
     {
         let stripe = self.queue.pop_as::<Draws, R>(rt, &mut seat.pass)?;
         Some((stripe.number, stripe.count))
@@ -113,9 +114,9 @@ impl Stripes {
         requires seat { IsStripeSeatOf self.now seat.old }
         requires number { Holds seat.old number }
         ensures seat { IsStripeSeatOf self.now seat.new }
-        ensures held { held seat.new ≡ without number (held seat.old) }
-        ensures put { puts seat.new ≡ puts seat.old ++ stripe number count ∷ [] }
-        ensures drawn { draws seat.new ≡ draws seat.old }
+        ensures held { held_by seat.new ≡ without number (held_by seat.old) }
+        ensures put { stripes_put_by seat.new ≡ stripes_put_by seat.old ++ stripe number count ∷ [] }
+        ensures drawn { stripes_drawn_by seat.new ≡ stripes_drawn_by seat.old }
     {
         give(rt, &self.queue, &mut seat.pass, Stripe { number, count });
     }
@@ -124,7 +125,7 @@ impl Stripes {
     /// drew, each number with its count, was put in at the opening or by one of them before. Takes no memory.
     pub fn finish<R: Wait>(self, rt: &R, seats: Vec<StripeSeat>) -> bool
         requires { AreAllStripeSeats self seats.items }
-        ensures held { IsTrue result ↔ EachOnce (stripes_of self) (map held seats.items) }
+        ensures held { IsTrue result ↔ EachOnce (stripes_of self) (map held_by seats.items) }
         ensures drawn { (h : Stripe → ℕ) → drew_in_all h seats.items ≤ put_in_all h seats.items + total h (opening (stripes_of self)) }
         ensures all { IsTrue result → (h : Stripe → ℕ) → drew_in_all h seats.items ≡ put_in_all h seats.items + total h (opening (stripes_of self)) }
     {

@@ -1,8 +1,8 @@
 //! The calls of tickets.
-ghost use Rattle.std.specs.Prelude.{◌≡◌, ◌≤◌, ◌<◌, ◌+◌, ◌++◌, ◌∷◌, [], ◌^◌, map, All, IfOk, IsNone, MatchOption};
-ghost use Rattle.rj_exchange.specs.Tickets.{drawn, IsSpent, IsUnspent, limit_of, seats_of, IsSeatOf, IsNew, AreAllSeats, EachOnce, AnySpent};
+ghost use Rattle.std.specs.Prelude.{◌≡◌, ◌≤◌, ◌<◌, ◌++◌, ◌∷◌, [], ◌^◌, map, All, IfOk, IsNone, MatchOption};
+ghost use Rattle.rj_exchange.specs.Tickets.{drawn_by, IsSpent, IsUnspent, limit_of, seats_of, IsSeatOf, IsNew, AreAllSeats, EachOnce, AnySpent};
 
-use crate::tickets::{Cut, Draws, Plan, Seat, Tickets};
+use crate::tickets::{Claims, Cut, Plan, Seat, Tickets};
 use atomic_table::Table;
 use std::alloc::{AllocError, Global};
 
@@ -37,14 +37,14 @@ impl Tickets {
     pub fn claim(&self, seat: &mut Seat) -> Option<u64>
         requires { IsSeatOf self.now seat.old }
         ensures seat { IsSeatOf self.now seat.new }
-        ensures drawn { MatchOption result ((drawn seat.new ≡ drawn seat.old) × IsSpent seat.new)
-            (λ x. (drawn seat.new ≡ drawn seat.old ++ x ∷ []) × (x < limit_of self.now) × IsUnspent seat.new) }
+        ensures drawn { MatchOption result ((drawn_by seat.new ≡ drawn_by seat.old) × IsSpent seat.new)
+            (λ x. (drawn_by seat.new ≡ drawn_by seat.old ++ x ∷ []) × (x < limit_of self.now) × IsUnspent seat.new) }
         ensures spent { IsSpent seat.old → IsNone result }
     {
         if seat.spent {
             return None;
         }
-        let found = self.table.shared.fetch_add::<Draws>(&mut seat.seat, 0, 1);
+        let found = self.table.shared.fetch_add::<Claims>(&mut seat.seat, 0, 1);
         if found < self.limit {
             return Some(found);
         }
@@ -56,7 +56,7 @@ impl Tickets {
     /// the numbers below the answer, each once. Takes no memory and waits for nobody.
     pub fn finish(self, seats: Vec<Seat>) -> u64
         requires { AreAllSeats self seats.items }
-        ensures numbers { EachOnce result (map drawn seats.items) }
+        ensures numbers { EachOnce result (map drawn_by seats.items) }
         ensures most { result ≤ limit_of self }
         ensures spent { AnySpent seats.items → result ≡ limit_of self }
     {

@@ -1,6 +1,6 @@
 use Rattle.std.proofs.Common.{◌≡◌, ◌<◌, ◌+◌, ◌++◌, ◌∷◌, [], ℕ, List, length, get_or, sym, subst, arith, length-append}
 use Rattle.std.specs.Vec.Iter.{into_iter_items}
-use Rattle.rj_workers.specs.declared.ending.Ended.{Ended}
+use Rattle.rj_workers.specs.declared.ending.EndedPartition.{EndedPartition}
 use Rattle.rj_workers.specs.Posts.{Due}
 use Rattle.rj_workers.specs.Arrivals.{IsDelivered, due_lists, rows_by_sender}
 use Rattle.rj_workers.specs.Takes.{Builds, IsBuilding}
@@ -11,8 +11,8 @@ use Rattle.rj_workers.proofs.Wholes.{delivered_rows}
 use Rattle.rj_workers.proofs.closing.build_rest.Goals as goal
 
 -- the partition that comes next
-ended_at : {T : Type 0} (builds : Builds T) (due : Due) (senders n : ℕ) (xs ys zs all : List (Ended T)) (x : Ended T) → ys ≡ x ∷ zs → xs ++ ys ≡ all → length all ≡ n
-    → ((p : ℕ) (d : Ended T) → p < n → IsSettled builds due senders p (get_or all p d)) → (length xs < n) × IsSettled builds due senders (length xs) x
+ended_at : {T : Type 0} (builds : Builds T) (due : Due) (senders n : ℕ) (xs ys zs all : List (EndedPartition T)) (x : EndedPartition T) → ys ≡ x ∷ zs → xs ++ ys ≡ all → length all ≡ n
+    → ((p : ℕ) (d : EndedPartition T) → p < n → IsSettled builds due senders p (get_or all p d)) → (length xs < n) × IsSettled builds due senders (length xs) x
 ended_at builds due senders n xs ys zs all x is parts len each =
     let f = next_at xs ys zs all x is parts in let lt : length xs < n = (let l = f.0 in omega arith) in (lt, subst (IsSettled builds due senders (length xs)) f.1 (each (length xs) x lt))
 
@@ -41,7 +41,7 @@ pub loop-ended-preserved : goal.loop-ended-preserved
 loop-ended-preserved g c =
     let v = c.loop-ended.invariant in let steps = c.in-Some.ensures.steps in
     let due : Due = g.J.Job.due c.args.job.now in let builds : Builds _ = g.J.Job.builds c.args.job.now in let senders : ℕ = g.J.Job.stripes c.args.job.now + g.J.Job.stripes c.args.job.now in
-    let xs : List (Ended _) = c.loop-ended.yielded in let ys : List (Ended _) = into_iter_items c.loop-ended.ended-iterator in let zs : List (Ended _) = into_iter_items c.next.new.self in let x : Ended _ = c.in-Some.ended in
+    let xs : List (EndedPartition _) = c.loop-ended.yielded in let ys : List (EndedPartition _) = into_iter_items c.loop-ended.ended-iterator in let zs : List (EndedPartition _) = into_iter_items c.next.new.self in let x : EndedPartition _ = c.in-Some.ended in
     let s = ended_at builds due senders (g.J.Job.partitions c.args.job.now) xs ys zs c.args.all.items x steps.0 v.rest c.requires.len c.requires.each in
     let long : length (xs ++ x ∷ []) ≡ length xs + 1 = length-append xs (x ∷ []) in
     let r = c.in_ok-ledger.ensures in let p : ℕ = length xs in

@@ -6,16 +6,16 @@ use Rattle.rj_exchange.specs.declared.boxes.Exchange.{Exchange}
 use Rattle.rj_exchange.specs.declared.boxes.Outbox.{Outbox}
 use Rattle.rj_exchange.specs.declared.halt.HaltSeat.{HaltSeat}
 use Rattle.rj_exchange.specs.declared.stripes.StripeSeat.{StripeSeat}
-use Rattle.rj_exchange.specs.Stripes.{IsStripeSeatOf, held, AreAllStripeSeats}
+use Rattle.rj_exchange.specs.Stripes.{IsStripeSeatOf, held_by, AreAllStripeSeats}
 use Rattle.rj_exchange.specs.Tickets.{EachOnce}
 use Rattle.rj_workers.specs.declared.scan.Scanner.{Scanner}
 use Rattle.rj_workers.specs.declared.take.Taker.{Taker}
-use Rattle.rj_workers.specs.declared.take.Held.{Held}
+use Rattle.rj_workers.specs.declared.take.OwnedPartition.{OwnedPartition}
 use Rattle.rj_workers.specs.Posts.{Due}
 use Rattle.rj_workers.specs.Arrivals.{AreOutboxes, stub_lists}
-use Rattle.rj_workers.specs.Takes.{Builds, IsHeldOf}
+use Rattle.rj_workers.specs.Takes.{Builds, IsOwnedOf}
 use Rattle.rj_workers.specs.Ends.{IsEnded}
-use Rattle.rj_workers.proofs.Wholes.{seats_of_all, seats_are, seats_many, all_unraised, scans_calm, takes_held, scans_outboxes, settled_of}
+use Rattle.rj_workers.proofs.Wholes.{seats_of_all, seats_are, seats_many, all_know_no_halt, scans_know_no_halt, takes_held, scans_outboxes, settled_of}
 use Rattle.rj_workers.proofs.closing.conclude.Goals as goal
 
 -- the seats of all, from how they were put behind one another
@@ -52,10 +52,10 @@ place_all-requires g c =
     c.new-seats.ensures.items c.in_ok-outboxes.ensures.seats c.in_ok-groups.ensures.seats c.in_ok-add.ensures in
     let due : Due = g.J.Job.due c.args.shared.now.job.now in let builds : Builds _ = g.J.Job.builds c.args.shared.now.job.now in let e : Exchange = c.args.shared.now.exchange.now in let r = c.requires in
     let count : ℕ = c.args.shared.now.settings.workers in let block : ℕ = c.args.shared.now.settings.block in
-    let calm = all_unraised c.add.new.list.items (c.if-not-is_unraised.ensures.raised refl) (c.if-not-is_unraised.ensures.seen refl) in
-    let held = takes_held due builds count block e c.args.words.halt c.args.words.stripes c.args.back.scanners.items c.args.back.takers.items c.args.own r.back.scanned r.back.taken r.own c.add.new.list.items is calm in
-    subst (All (λ (v : Vec (Held _) Global). All (IsHeldOf builds e count block) v.items)) (sym c.in_ok-groups.ensures.groups)
-    (All-map (λ (v : Vec (Held _) Global). All (IsHeldOf builds e count block) v.items) (λ (t : Taker _). t.all) c.args.back.takers.items held)
+    let calm = all_know_no_halt c.add.new.list.items (c.if-not-is_unraised.ensures.raised refl) (c.if-not-is_unraised.ensures.seen refl) in
+    let owned = takes_held due builds count block e c.args.words.halt c.args.words.stripes c.args.back.scanners.items c.args.back.takers.items c.args.own r.back.scanned r.back.taken r.own c.add.new.list.items is calm in
+    subst (All (λ (v : Vec (OwnedPartition _) Global). All (IsOwnedOf builds e count block) v.items)) (sym c.in_ok-groups.ensures.groups)
+    (All-map (λ (v : Vec (OwnedPartition _) Global). All (IsOwnedOf builds e count block) v.items) (λ (t : Taker _). t.all) c.args.back.takers.items owned)
 
 pub finish_all-requires-clause-outboxes : goal.finish_all-requires-clause-outboxes
 finish_all-requires-clause-outboxes g c =
@@ -71,11 +71,11 @@ returns-clause-each g c =
     c.new-seats.ensures.items c.in_ok-outboxes.ensures.seats c.in_ok-groups.ensures.seats c.in_ok-add.ensures in
     let due : Due = g.J.Job.due c.args.shared.now.job.now in let builds : Builds _ = g.J.Job.builds c.args.shared.now.job.now in let e : Exchange = c.args.shared.now.exchange.now in let r = c.requires in
     let count : ℕ = c.args.shared.now.settings.workers in let block : ℕ = c.args.shared.now.settings.block in let rs : List Scanner = c.args.back.scanners.items in
-    let calm = all_unraised c.add.new.list.items (c.if-not-is_unraised.ensures.raised refl) (c.if-not-is_unraised.ensures.seen refl) in
-    let quiet = scans_calm due builds count block e c.args.words.halt c.args.words.stripes rs c.args.back.takers.items c.args.own r.back.scanned r.back.taken r.own c.add.new.list.items is calm in
+    let calm = all_know_no_halt c.add.new.list.items (c.if-not-is_unraised.ensures.raised refl) (c.if-not-is_unraised.ensures.seen refl) in
+    let quiet = scans_know_no_halt due builds count block e c.args.words.halt c.args.words.stripes rs c.args.back.takers.items c.args.own r.back.scanned r.back.taken r.own c.add.new.list.items is calm in
     let drew = all_draws c.new-draws.result.items c.hand_scanned.new.draws.items rs c.new-draws.ensures.items c.in_ok-outboxes.ensures.draws in
-    let each : EachOnce c.args.words.stripes.limit (map held c.hand_scanned.new.draws.items) = c.if-not-are_scanned.ensures refl in
-    let once : EachOnce count (map held (map (λ (z : Scanner). z.draws) rs)) = subst (λ (n : ℕ). EachOnce n (map held (map (λ (z : Scanner). z.draws) rs))) r.words.0.drawn
-    (subst (λ (l : List StripeSeat). EachOnce c.args.words.stripes.limit (map held l)) drew each) in
+    let each : EachOnce c.args.words.stripes.limit (map held_by c.hand_scanned.new.draws.items) = c.if-not-are_scanned.ensures refl in
+    let once : EachOnce count (map held_by (map (λ (z : Scanner). z.draws) rs)) = subst (λ (n : ℕ). EachOnce n (map held_by (map (λ (z : Scanner). z.draws) rs))) r.words.0.drawn
+    (subst (λ (l : List StripeSeat). EachOnce c.args.words.stripes.limit (map held_by l)) drew each) in
     λ p d pl. settled_of due count block e c.args.words.halt c.args.words.stripes rs r.back.scanned quiet once (λ q xs. c.contained_suffice.ensures due block q (count + count) r.block xs) c.shape_stays.ensures builds p (get_or c.in_ok-all.all.items p d) pl
     (subst (λ (l : List Outbox). IsEnded builds (count + count) block e (stub_lists l) p (get_or c.in_ok-all.all.items p d)) c.in_ok-outboxes.ensures.outboxes (c.in_ok-all.ensures.each p d pl))

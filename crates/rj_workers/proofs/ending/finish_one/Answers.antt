@@ -4,7 +4,7 @@ use Rattle.rj_ledger.specs.declared.parcel.Parcel.{Parcel}
 use Rattle.rj_ledger.specs.Ledgers.{LedgerValue, opened, after_all}
 use Rattle.rj_exchange.specs.declared.boxes.Exchange.{Exchange}
 use Rattle.rj_exchange.specs.declared.boxes.Inbox.{Inbox}
-use Rattle.rj_exchange.specs.Boxes.{PostedVec, takens, taken_of}
+use Rattle.rj_exchange.specs.Boxes.{PostedVec, taken_by_lane, taken_of}
 use Rattle.rj_workers.specs.Arrivals.{parcels_of}
 use Rattle.rj_workers.proofs.Ends.{all_arrived}
 use Rattle.rj_workers.proofs.Ledgers.{after_append, building_kept}
@@ -15,7 +15,7 @@ returns-clause-arrived g c =
     let e : Exchange = c.args.shared.now.exchange.now in let inbox : Inbox = c.args.held.inbox in let t = c.requires.held.taking in let a = t.1 in let xs : List Parcel = a.0 in let f = c.in-Ok.ensures.all in
     let rests : List PostedVec = c.in-Ok.finished.rest.items in let opening : LedgerValue = opened inbox.partition (c.args.shared.now.settings.workers + c.args.shared.now.settings.workers) c.args.shared.now.settings.block in (
       xs ++ parcels_of rests,
-      all_arrived e.outboxes e.lanes c.args.stubs.items (takens inbox) rests xs c.requires.stubs.many (length-map inbox.ends.items taken_of ∙ t.0.takes.many) f.0 a.1 f.1,
+      all_arrived e.outboxes e.lanes c.args.stubs.items (taken_by_lane inbox) rests xs c.requires.stubs.many (length-map inbox.ends.items taken_of ∙ t.0.takes.many) f.0 a.1 f.1,
       c.in_ok-offer_rests.ensures ∙ ap (λ (u : LedgerValue). after_all u (parcels_of rests)) a.2 ∙ sym (after_append opening xs (parcels_of rests)),
     )
 

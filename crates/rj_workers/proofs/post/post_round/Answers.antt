@@ -1,6 +1,6 @@
 use Rattle.std.proofs.Common.{◌<◌, ℕ, List, length, length-set, set, ◌∙◌, arith}
 use Rattle.rj_exchange.specs.declared.boxes.Exchange.{Exchange}
-use Rattle.rj_exchange.specs.Boxes.{sents}
+use Rattle.rj_exchange.specs.Boxes.{sent_by_queue}
 use Rattle.rj_workers.specs.declared.post.Sending.{Sending}
 use Rattle.rj_workers.specs.Posts.{Posts, IsLeft}
 use Rattle.rj_workers.proofs.Sends.{left_at, sent_at, sent_more}
@@ -18,7 +18,7 @@ loop-at-preserved g c =
     let e : Exchange = c.args.shared.now.exchange.now in let at : ℕ = c.loop-at.at in
     let ss : List Sending = c.loop-at.lists.items in let lt : at < length ss = omega arith in
     let x : Sending = c.index_mut.result.now in let s : Sending = c.post_some.new.list in let o = c.post_some.ensures in
-    let a : Posts = sents c.args.me.now.outbox in let b : Posts = sents c.loop-at.me.outbox in let d : Posts = sents c.post_some.new.me.outbox in record {
+    let a : Posts = sent_by_queue c.args.me.now.outbox in let b : Posts = sent_by_queue c.loop-at.me.outbox in let d : Posts = sent_by_queue c.post_some.new.me.outbox in record {
       me = o.me.0;
       same = (o.me.1.0 ∙ v.same.0, o.me.1.1 ∙ v.same.1);
       many = length-set ss at s ∙ many;

@@ -1,6 +1,6 @@
 use Rattle.std.proofs.Common.{◌≡◌, length}
-use Rattle.rj_exchange.specs.Boxes.{sents}
-use Rattle.rj_workers.specs.Posts.{Sent, IsLeft}
+use Rattle.rj_exchange.specs.Boxes.{sent_by_queue}
+use Rattle.rj_workers.specs.Posts.{PostsOrKeeps, IsLeft}
 use Rattle.rj_workers.specs.Scans.{IsScanner, SameScanner}
 use Rattle.rj_workers.proofs.post.post_round.Given as goal
 
@@ -9,5 +9,5 @@ invariant-loop-at g l = record {
   me : IsScanner l.shared l.me;
   same : SameScanner l.fn.me l.me;
   many : length l.lists.items ≡ length l.fn.lists.items;
-  sent : Sent l.shared.exchange.now (IsLeft l.fn.lists.items) (IsLeft l.lists.items) (sents l.fn.me.outbox) (sents l.me.outbox);
+  sent : PostsOrKeeps l.shared.exchange.now (IsLeft l.fn.lists.items) (IsLeft l.lists.items) (sent_by_queue l.fn.me.outbox) (sent_by_queue l.me.outbox);
 }

@@ -1,6 +1,6 @@
 use Rattle.std.specs.Prelude.{Contains}
-use Rattle.rj_exchange.specs.Boxes.{sents}
-use Rattle.rj_workers.specs.Posts.{Sent, to_post}
+use Rattle.rj_exchange.specs.Boxes.{sent_by_queue}
+use Rattle.rj_workers.specs.Posts.{PostsOrKeeps, to_post}
 use Rattle.rj_workers.specs.Scans.{IsScanner, SameScanner}
 use Rattle.rj_workers.proofs.post.post_some.Given as goal
 
@@ -8,5 +8,5 @@ abbrev pub invariant-loop : goal.invariant-loop
 invariant-loop g l = record {
   me : IsScanner l.shared l.me;
   same : SameScanner l.fn.me l.me;
-  sent : Sent l.shared.exchange.now (Contains (to_post l.fn.list)) (Contains (to_post l.list)) (sents l.fn.me.outbox) (sents l.me.outbox);
+  sent : PostsOrKeeps l.shared.exchange.now (Contains (to_post l.fn.list)) (Contains (to_post l.list)) (sent_by_queue l.fn.me.outbox) (sent_by_queue l.me.outbox);
 }

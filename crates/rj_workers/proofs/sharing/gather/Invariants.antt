@@ -2,8 +2,8 @@ use Rattle.std.proofs.Common.{◌≡◌, ◌++◌, length}
 use Rattle.std.specs.Prelude.{All}
 use Rattle.std.specs.List.{flat_map}
 use Rattle.std.specs.Vec.Iter.{into_iter_items, into_iter_len}
-use Rattle.rj_exchange.specs.Halt.{IsCalm, IsHaltSeatOf}
-use Rattle.rj_exchange.specs.Tickets.{IsSeatOf, drawn}
+use Rattle.rj_exchange.specs.Halt.{IsUnraised, IsHaltSeatOf}
+use Rattle.rj_exchange.specs.Tickets.{IsSeatOf, drawn_by}
 use Rattle.rj_workers.specs.Sharing.{AreMadeBy}
 use Rattle.rj_workers.proofs.sharing.gather.Given as goal
 
@@ -15,5 +15,5 @@ invariant-loop-result g l = record {
   draws : All (IsSeatOf l.tickets) l.draws.items;
   seats_len : length l.seats.items ≡ length l.yielded;
   seats : All (IsHaltSeatOf l.halt) l.seats.items;
-  made : All IsCalm l.seats.items → AreMadeBy (g.S.Shares.makes l.shares) (flat_map drawn l.draws.items) l.all.items;
+  made : All IsUnraised l.seats.items → AreMadeBy (g.S.Shares.makes l.shares) (flat_map drawn_by l.draws.items) l.all.items;
 }

@@ -2,7 +2,7 @@ use Rattle.std.proofs.Common.{◌≡◌, ◌+◌, ◌<◌, ◌++◌, ◌∷◌, 
 use Rattle.std.proofs.lemmas.List.{length-map}
 use Rattle.rj_ledger.specs.declared.parcel.Parcel.{Parcel}
 use Rattle.rj_ledger.specs.Ledgers.{LedgerValue, opened, after_offer, after_all}
-use Rattle.rj_exchange.specs.Boxes.{takens, taken_of}
+use Rattle.rj_exchange.specs.Boxes.{taken_by_lane, taken_of}
 use Rattle.rj_exchange.specs.declared.boxes.Inbox.{Inbox}
 use Rattle.rj_workers.specs.Arrivals.{Takes, IsArrived}
 use Rattle.rj_workers.specs.Takes.{IsBuilding}
@@ -25,7 +25,7 @@ returns g c =
     let h = c.requires.held in let t = h.taking in let a = t.1 in let senders : ℕ = c.args.shared.now.settings.workers + c.args.shared.now.settings.workers in let block : ℕ = c.args.shared.now.settings.block in
     let x : Parcel = c.in-Some.parcel in let took = c.in-Some.ensures.taken in let inbox : Inbox = c.args.held.now.inbox in
     let many = t.0.takes.many in let len = length-map inbox.ends.items taken_of in let lane = c.requires.lane in
-    let lt : c.args.lane < length (takens inbox) = omega arith in
+    let lt : c.args.lane < length (taken_by_lane inbox) = omega arith in
     let v : LedgerValue = c.args.held.now.ledger in let w : LedgerValue = c.offer.new.ledger in let xs : List Parcel = a.0 in
     let is : w ≡ after_offer v x = c.in_ok-offer.ensures in
     let opening : LedgerValue = opened inbox.partition senders block in
@@ -34,7 +34,7 @@ returns g c =
         c.take.ensures.inbox t.0,
         (
           xs ++ x ∷ [],
-          arrived_more (takens inbox) (takens c.take.new.self) c.args.lane took.0 x xs lt took.1 a.1,
+          arrived_more (taken_by_lane inbox) (taken_by_lane c.take.new.self) c.args.lane took.0 x xs lt took.1 a.1,
           now ∙ ap (λ (p : ℕ). after_all (opened p senders block) (xs ++ x ∷ [])) (sym c.take.ensures.same.1),
         ),
       );

@@ -2,7 +2,7 @@ use Rattle.std.proofs.Common.{◌≡◌, ◌+◌, ◌++◌, ◌∷◌, [], List,
 use Rattle.std.specs.Vec.Iter.{into_iter_items}
 use Rattle.rj_exchange.specs.declared.boxes.Outbox.{Outbox}
 use Rattle.rj_exchange.specs.declared.boxes.Exchange.{Exchange}
-use Rattle.rj_exchange.specs.Boxes.{sents, IsOutboxOf}
+use Rattle.rj_exchange.specs.Boxes.{sent_by_queue, IsOutboxOf}
 use Rattle.rj_workers.specs.declared.scan.Scanner.{Scanner}
 use Rattle.rj_workers.specs.Posts.{NothingPosted}
 use Rattle.rj_workers.specs.Scans.{IsNewScanner}
@@ -17,7 +17,7 @@ loop-outbox-preserved c =
     let all : List Outbox = c.args.outboxes.items in let x : Outbox = c.in-Some.outbox in let steps = c.in-Some.ensures.steps in
     let n = next_at xs ys zs all x steps.0 v.rest in
     let long : length (xs ++ x ∷ []) ≡ length xs + 1 = length-append xs (x ∷ []) in
-    let here = subst (λ (o : Outbox). IsOutboxOf e o × (o.number ≡ length xs) × NothingPosted (sents o)) n.1 (c.requires.outboxes.1 (length xs) x n.0) in
+    let here = subst (λ (o : Outbox). IsOutboxOf e o × (o.number ≡ length xs) × NothingPosted (sent_by_queue o)) n.1 (c.requires.outboxes.1 (length xs) x n.0) in
     let draws = c.in-Some-next_draws.ensures.seat in
     let new : Scanner = record { outbox = x; seat = c.in-Some-next_seat.seat; draws = c.in-Some-next_draws.draws } in
     let is : IsNewScanner e c.args.words.now.halt c.args.words.now.stripes

@@ -15,13 +15,13 @@ loop-draws-preserved g c =
     let n = next_at xs ys zs all x steps.0 v.rest in
     let long : length (xs ++ x ∷ []) ≡ length xs + 1 = length-append xs (x ∷ []) in
     let here = subst (IsSeatOf c.args.words.now.tickets) n.1 (c.requires.draws (length xs) x n.0) in
-    let new : Taker _ = record { all = c.new.result; seat = c.in-Some-next_seat.seat; look = c.in-Some-next_seat-2.look; draws = x } in
+    let new : Taker _ = record { all = c.new.result; seat = c.in-Some-next_seat.seat; done_seat = c.in-Some-next_seat-2.done_seat; draws = x } in
     let is : IsNewTaker c.args.words.now.halt c.args.words.now.done c.args.words.now.tickets new =
-    (record { seat = c.in-Some-next_seat.ensures.seat; look = c.in-Some-next_seat-2.ensures.seat; draws = here }, c.new.ensures.items) in record {
+    (record { seat = c.in-Some-next_seat.ensures.seat; done_seat = c.in-Some-next_seat-2.ensures.seat; draws = here }, c.new.ensures.items) in record {
       rest = next_is xs ys zs all x steps.0 v.rest;
       rest_len = next_len ys zs x _ _ steps.0 v.rest_len steps.1;
       seats = c.in-Some-next_seat.ensures.seats;
-      looks = c.in-Some-next_seat-2.ensures.seats;
+      done_seats = c.in-Some-next_seat-2.ensures.seats;
       len = kept_len c.loop-draws.takers.items c.push.new.self.items new (length xs) (length (xs ++ x ∷ [])) c.in_ok-push.ensures.items v.len long;
       takers = all_kept c.loop-draws.takers.items c.push.new.self.items new c.in_ok-push.ensures.items (IsNewTaker c.args.words.now.halt c.args.words.now.done c.args.words.now.tickets) v.takers is;
     }

@@ -10,7 +10,7 @@ invariant-loop-draws g l = record {
   rest : l.yielded ++ into_iter_items l.draws-iterator ≡ l.fn.draws.items;
   rest_len : into_iter_len l.draws-iterator ≡ length (into_iter_items l.draws-iterator);
   seats : All (IsHaltSeatOf l.words.halt) (into_iter_items l.seats);
-  looks : All (IsHaltSeatOf l.words.done) (into_iter_items l.looks);
+  done_seats : All (IsHaltSeatOf l.words.done) (into_iter_items l.done_seats);
   len : length l.takers.items ≡ length l.yielded;
   takers : All (IsNewTaker l.words.halt l.words.done l.words.tickets) l.takers.items;
 }

@@ -4,8 +4,9 @@ use Rattle.crossbeam_queue.specs.Passes.{view, ruled_capacity}
 use Rattle.rj_exchange.specs.declared.boxes.Stub.{Stub}
 use Rattle.rj_exchange.specs.declared.queue.Trace.{Trace}
 use Rattle.rj_exchange.specs.Passing.{taker, sender}
-use Rattle.rj_exchange.specs.Boxes.{Queue, place_of, IsEndOf}
-use Rattle.rj_exchange.specs.Opening.{AreBoxes, AreEnds, AreInboxes}
+use Rattle.rj_exchange.specs.Boxes.{Queue, IsEndOf}
+use Rattle.rj_exchange.specs.Opening.{place_of}
+use Rattle.rj_exchange.proofs.Opening.{AreBoxes, AreFreshEnds, AreInboxes}
 use Rattle.rj_exchange.proofs.Stubs.{pick, row_fits}
 use Rattle.rj_exchange.proofs.Opening.{grows, ends_grow, inboxes_stay, inboxes_grow, fresh_untold}
 use Rattle.rj_exchange.proofs.boxes.Exchange.open.Goals as goal
@@ -19,13 +20,13 @@ loop-lane-preserved c = let v = c.loop-lane.invariant in let lanes : ℕ = c.arg
       caps = subst (All (λ (z : Queue). ruled_capacity z ≡ c.args.capacity)) (sym e) (All-push (λ (z : Queue). ruled_capacity z ≡ c.args.capacity) queues queue v.caps q.0);
       boxes = subst (λ (z : List Queue). AreBoxes lanes outboxes z c.add_queue.new.boxes.items) (sym e) (grows lanes outboxes queues queue c.loop-lane.boxes.items c.add_queue.new.boxes.items p k v.boxes lt v.count b.0 b.1);
       inboxes = subst (λ (z : List Queue). AreInboxes lanes outboxes p z c.loop-partition.inboxes.items) (sym e) (inboxes_stay lanes outboxes p queues queue c.loop-partition.inboxes.items v.inboxes (omega arith));
-      ends = subst (λ (z : List Queue × List Stub). AreEnds lanes outboxes p (k + 1) z.0 z.1) (λ i. (sym e i, sym f i)) (ends_grow lanes outboxes p k queues queue c.loop-lane.ends.items end v.ends v.count (q.1, q.2));
+      ends = subst (λ (z : List Queue × List Stub). AreFreshEnds lanes outboxes p (k + 1) z.0 z.1) (λ i. (sym e i, sym f i)) (ends_grow lanes outboxes p k queues queue c.loop-lane.ends.items end v.ends v.count q.1);
     }
 
 pub loop-partition-preserved : goal.loop-partition-preserved
 loop-partition-preserved c = let v = c.loop-lane.invariant in let lanes : ℕ = c.args.lanes in let outboxes : ℕ = c.args.outboxes in let p : ℕ = c.loop-partition.partition in let e = c.in_ok-push-4.ensures.items in
     let all : c.loop-lane.lane ≡ lanes = (let a = c.loop-lane-test.false in let b = c.loop-lane.auto.lane-end in omega arith) in
-    let ends = subst (λ (m : ℕ). AreEnds lanes outboxes p m c.loop-lane.queues.items c.loop-lane.ends.items) all v.ends in record {
+    let ends = subst (λ (m : ℕ). AreFreshEnds lanes outboxes p m c.loop-lane.queues.items c.loop-lane.ends.items) all v.ends in record {
       count = (let n = v.count in omega arith);
       caps = v.caps;
       boxes = v.boxes;

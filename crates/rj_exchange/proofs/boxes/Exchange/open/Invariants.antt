@@ -2,7 +2,7 @@ use Rattle.std.proofs.Common.{◌≡◌, ℕ, ◌<◌, ◌+◌, ◌*◌, [], len
 use Rattle.crossbeam_queue.specs.Passes.{ruled_capacity}
 use Rattle.rj_exchange.specs.declared.boxes.Outbox.{Outbox}
 use Rattle.rj_exchange.specs.Boxes.{Queue}
-use Rattle.rj_exchange.specs.Opening.{AreBoxes, AreEnds, AreInboxes}
+use Rattle.rj_exchange.proofs.Opening.{AreBoxes, AreFreshEnds, AreInboxes}
 use Rattle.rj_exchange.proofs.boxes.Exchange.open.Given as goal
 
 abbrev pub invariant-loop-number : goal.invariant-loop-number
@@ -25,5 +25,5 @@ invariant-loop-lane l = record {
   caps : All (λ (q : Queue). ruled_capacity q ≡ l.capacity) l.queues.items;
   boxes : AreBoxes l.lanes l.outboxes l.queues.items l.boxes.items;
   inboxes : AreInboxes l.lanes l.outboxes l.partition l.queues.items l.inboxes.items;
-  ends : AreEnds l.lanes l.outboxes l.partition l.lane l.queues.items l.ends.items;
+  ends : AreFreshEnds l.lanes l.outboxes l.partition l.lane l.queues.items l.ends.items;
 }

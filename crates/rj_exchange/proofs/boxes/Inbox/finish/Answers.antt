@@ -5,7 +5,8 @@ use Rattle.rj_exchange.specs.declared.queue.Where.{Where}
 use Rattle.rj_ledger.specs.declared.parcel.Parcel.{Parcel}
 use Rattle.rj_exchange.specs.declared.posted.Posted.{Posted}
 use Rattle.rj_exchange.specs.Passing.{Belongs, Interleaves}
-use Rattle.rj_exchange.specs.Boxes.{Queue, taken_of, heard_of, IsTaker}
+use Rattle.rj_exchange.specs.Boxes.{Queue, taken_of, heard_of}
+use Rattle.rj_exchange.specs.Ends.{IsTaker}
 use Rattle.rj_exchange.proofs.Stubs.{knows_taker, all_sent, was, any_default, pick, row_fits, taker_self, get_or-map}
 use Rattle.rj_exchange.proofs.boxes.Inbox.finish.Goals as goal
 

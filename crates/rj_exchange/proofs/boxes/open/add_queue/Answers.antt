@@ -7,7 +7,7 @@ use Rattle.rj_exchange.specs.declared.boxes.Stub.{Stub}
 use Rattle.rj_exchange.specs.declared.queue.Trace.{Trace}
 use Rattle.rj_exchange.specs.declared.queue.Where.{Where}
 use Rattle.rj_exchange.specs.Passing.{taker, sender}
-use Rattle.rj_exchange.specs.Boxes.{place_of, AddsStub}
+use Rattle.rj_exchange.specs.Opening.{place_of, AddsStub}
 use Rattle.rj_exchange.proofs.Stubs.{any_default, taker_self}
 use Rattle.rj_exchange.proofs.boxes.open.add_queue.Goals as goal
 
@@ -27,7 +27,7 @@ loop-at-preserved c = let v = c.loop-at.invariant in let k : ℕ = c.loop-at.at 
           (λ is.
           let a = mine ∙ any_default first k old b (omega arith) ∙ ap (λ (m : ℕ). get_or first m b) (sym is) in
           let h = sym (ap (λ (m : ℕ). get_or (set boxes k new) m f) is ∙ get_or-set_same boxes k new f lt) in
-          let fact : AddsStub place k c.in_ok-queue.queue old new = (g.0, (stub, g.1, d.stub.0, token)) in
+          let fact : AddsStub place k c.in_ok-queue.queue old new = (g.0, (stub, g.1, (d.stub.0, token))) in
           subst (λ (z : Outbox × Outbox × ℕ). AddsStub place z.2 c.in_ok-queue.queue z.0 z.1) (λ i. (a i, h i, sym is i)) fact)
           (λ ne. subst (λ (z : Outbox). AddsStub place j c.in_ok-queue.queue (get_or first j b) z) (sym (get_or-set_other boxes k j new f ne)) (v.done j b f (omega arith)));
       yet = λ j b le. get_or-set_other boxes k j new b (λ is. omega arith) ∙ v.yet j b (omega arith);
@@ -36,7 +36,7 @@ loop-at-preserved c = let v = c.loop-at.invariant in let k : ℕ = c.loop-at.at 
 pub returns-clause-queue : goal.returns-clause-queue
 returns-clause-queue c = let v = c.loop-at.invariant in let q = c.in_ok-queue.ensures in
     let n : c.loop-at.at ≡ c.args.outboxes = (let a = c.loop-at-test.false in let b = c.requires.boxes in let f = c.loop-at.auto.at-end in omega (arith, c.args.boxes.now.ok)) in
-    (q.0, v.end.0, subst (λ (m : ℕ). view c.loop-at.end.pass ≡ taker (place_of c.args.partition c.args.lane c.args.lanes c.args.outboxes) m [] []) n v.end.1)
+    (q.0, (v.end.0, subst (λ (m : ℕ). view c.loop-at.end.pass ≡ taker (place_of c.args.partition c.args.lane c.args.lanes c.args.outboxes) m [] []) n v.end.1))
 
 pub returns-clause-boxes : goal.returns-clause-boxes
 returns-clause-boxes c = let v = c.loop-at.invariant in let n : c.args.outboxes ≤ c.loop-at.at = (let a = c.loop-at-test.false in let b = c.requires.boxes in omega (arith, c.args.boxes.now.ok)) in

@@ -2,7 +2,7 @@ use Rattle.std.proofs.Common.{◌≡◌, ◌<◌, [], ◌∷◌, length, length-
 use Rattle.std.proofs.lemmas.List.Elements.{All-pop}
 use Rattle.rj_exchange.proofs.Halting.{merges, closes}
 use Rattle.rj_exchange.proofs.Seats.{popped, ends}
-use Rattle.rj_exchange.proofs.HaltSeats.{IsHaltAt, raises_of, sees_of, some_raised, raised_some, seen_some, zero_unless, all_calm}
+use Rattle.rj_exchange.proofs.HaltSeats.{IsHaltAt, raises_of, sees_of, some_raised, raised_some, seen_some, zero_unless, all_unraised}
 use Rattle.rj_exchange.proofs.halt.Halt.finish.Goals as goal
 
 pub unreachable-requires : goal.unreachable-requires
@@ -52,4 +52,4 @@ returns-clause-raised c = let i = c.loop-next.invariant in let word = c.word-wor
 pub returns-then-word-eq0-clause-calm : goal.returns-then-word-eq0-clause-calm
 returns-then-word-eq0-clause-calm c = let i = c.loop-next.invariant in let word = c.word-word.result in let none : length c.loop-next.seats.items ≡ 0 = (let a = c.in_default-pop.ensures.cases in omega (arith, c.loop-next.seats.ok)) in
     let f = closes _ _ _ _ _ word c.close_with-closed.ensures.values.2 (let n = i.parts in omega arith) c.word-word.ensures in let z = ends raises_of _ none in let y = ends sees_of _ none in let n = i.raises in let m = i.sees in
-    let t = c.if-word-eq0.true in let r = zero_unless _ word f.1 t in let s = zero_unless _ word f.2 t in all_calm _ (omega arith) (omega arith)
+    let t = c.if-word-eq0.true in let r = zero_unless _ word f.1 t in let s = zero_unless _ word f.2 t in all_unraised _ (omega arith) (omega arith)

@@ -1,7 +1,7 @@
 use Rattle.std.proofs.Common.{length, length-append, sym, ap, ◌∙◌, subst, refl, arith, All}
 use Rattle.std.proofs.lemmas.List.Elements.{All-push}
 use Rattle.rj_exchange.specs.Halt.{IsNewHalt}
-use Rattle.rj_exchange.specs.Halting.{look}
+use Rattle.rj_exchange.specs.Halting.{halt_token}
 use Rattle.rj_exchange.proofs.Halting.{cuts}
 use Rattle.rj_exchange.proofs.HaltSeats.{IsHaltAt}
 use Rattle.rj_exchange.proofs.halt.Halt.open.Goals as goal
@@ -13,7 +13,7 @@ split_seat-seat-requires c = let i = c.loop.invariant in
 pub loop-preserved : goal.loop-preserved
 loop-preserved c = let i = c.loop.invariant in let k = c.split_seat-seat.ensures in let e = c.in_ok-push.ensures.items in let f = k.2 in let l = ap length e ∙ length-append c.loop.dealt.items _ in record {
   same = k.0 ∙ i.same;
-  view = f ∙ (λ j. (look (ap (λ m. m.0.parts) (sym f) j) (i.view j).0.raises (i.view j).0.sees, (i.view j).1));
+  view = f ∙ (λ j. (halt_token (ap (λ m. m.0.parts) (sym f) j) (i.view j).0.raises (i.view j).0.sees, (i.view j).1));
   parts = (let p = i.parts in let q = ap (λ m. m.0.parts) f in let t = c.loop-test.true in let d = i.dealt in omega arith);
   dealt = (let d = i.dealt in omega arith);
   theirs = subst (All (IsHaltAt _)) (sym e) (All-push (IsHaltAt _) _ _ i.theirs (k.3 ∙ i.same));
