@@ -1,5 +1,5 @@
 //! Tickets, drawn by four threads.
-ghost use Rattle.std.specs.Prelude.{◌≡◌, ◌≤◌, ◌^◌, All, IfOk};
+ghost use Rattle.std.specs.Prelude.{◌≡◌, ◌≤◌, ◌^◌, IfOk};
 ghost use Rattle.rj_exchange.specs.Tickets.{IsSeatOf, AreAllSeats, limit_of, seats_of};
 
 use rj_exchange::{Seat, Tickets};

@@ -1,6 +1,6 @@
 //! The halt word, raised in one thread and seen in another.
 ghost use Rattle.std.specs.Prelude.{◌≡◌, IfOk};
-ghost use Rattle.rj_exchange.specs.Halt.{IsHaltSeatOf, IsNewHalt, halt_seats_of};
+ghost use Rattle.rj_exchange.specs.Halt.{IsHaltSeatOf, halt_seats_of};
 
 use crate::exchange::TURNS;
 use rj_exchange::{Halt, HaltSeat};

@@ -1,5 +1,5 @@
 //! One outbox and one inbox.
-ghost use Rattle.std.specs.Prelude.{◌≡◌, ◌<◌, ◌≤◌, IfOk};
+ghost use Rattle.std.specs.Prelude.{◌≡◌, ◌≤◌, IfOk};
 ghost use Rattle.rj_exchange.specs.Boxes.{IsOutboxOf, IsInboxOf};
 
 use crate::exchange::moving::{Taken, finish_all, post_each, take_lane};

@@ -1,5 +1,5 @@
 //! Stripes, drawn and put back by four threads.
-ghost use Rattle.std.specs.Prelude.{◌≡◌, ◌≤◌, All, IfOk};
+ghost use Rattle.std.specs.Prelude.{◌≡◌, ◌≤◌, IfOk};
 ghost use Rattle.rj_exchange.specs.Stripes.{IsStripeSeatOf, AreAllStripeSeats, stripe_seats_of};
 
 use rj_exchange::{StripeSeat, Stripes};

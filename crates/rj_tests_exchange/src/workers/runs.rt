@@ -1,5 +1,5 @@
 //! Runs of one, two, three and eight workers.
-ghost use Rattle.std.specs.Prelude.{◌≡◌, ◌<◌, ◌≤◌, ◌+◌, ℕ, IfOk, IfSome, length, slice_index_or};
+ghost use Rattle.std.specs.Prelude.{◌≡◌, ◌<◌, ◌≤◌, ◌+◌, ℕ, IfSome, length, slice_index_or};
 
 use crate::workers::dealt::{Dealt, PARTITIONS, deal};
 use rj_ledger::Ledger;
