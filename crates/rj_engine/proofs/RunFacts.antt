@@ -1,16 +1,15 @@
 -- Runs: how their left rows are counted within a segment, and how they follow one another.
-use Rattle.std.proofs.Common.{◌≡◌, ℕ, zero, suc, ◌+◌, ◌-◌, ◌<◌, ◌≤◌, ◌^◌, List, [], ◌∷◌, ◌++◌, Some, All, refl, ap, sym, subst, ◌∙◌, arith, length, length-append, map, take, drop, get_or}
+use Rattle.std.proofs.Common.{◌≡◌, ℕ, zero, ◌+◌, ◌-◌, ◌<◌, ◌≤◌, ◌^◌, List, [], ◌∷◌, ◌++◌, Some, All, refl, ap, sym, subst, ◌∙◌, arith, length, length-append, map, take, drop, get_or}
 use Rattle.std.specs.Prelude.{max, slice_get}
 use Rattle.std.proofs.lemmas.Grind.{flat_map-append}
-use Rattle.std.proofs.lemmas.List.{append-nil, drop-drop, drop-map, drop-take, get_or-drop, get_or-take, length-drop, length-map, length-take-le, take-append-drop, take-map, take-take, take_all, take_more}
+use Rattle.std.proofs.lemmas.List.{append-nil, drop-drop, drop-map, drop-take, get_or-drop, get_or-take, length-drop, length-map, length-take-le, take-append-drop, take-map, take-take, take_more}
 use Rattle.std.proofs.lemmas.Option.{get_or_from_slice_get}
 use Rattle.std.proofs.Math.ListN.{get_or-map}
 use Rattle.std.proofs.lemmas.List.Concat.{flat_map-append as flat_map-joined, get_or-flat_map}
 use Rattle.std.proofs.lemmas.List.Elements.{All-drop, All-head, All-map, All-tail, All-take}
-use Rattle.rj_columns.specs.Contents.{Content, nothing}
+use Rattle.rj_columns.specs.Contents.{nothing}
 use Rattle.rj_columns.specs.Scales.{coalesced, in_scale}
 use Rattle.rj_columns.specs.Tables.{TableValue, cell_of, rows_of_all}
-use Rattle.rj_columns.specs.declared.cell.ColumnType.{ColumnType}
 use Rattle.rj_engine.specs.declared.joined.JoinedRow.{JoinedRow}
 use Rattle.rj_engine.specs.declared.joined.JoinedRow.TheVariants.{Both, LeftOnly, RightOnly}
 use Rattle.rj_engine.specs.declared.origin.Origin.{Origin}
@@ -21,7 +20,7 @@ use Rattle.rj_engine.specs.Cells.{joined_cell, joined_cells, left_cell, right_ce
 use Rattle.rj_engine.specs.Chosen.{shown_rows}
 use Rattle.rj_engine.specs.Join.{JoinedValue}
 use Rattle.rj_engine.proofs.Sections.{from-zero}
-use Rattle.rj_engine.specs.Shown.{Follow, HasColumnsOf, IsRunOf, IsRunWithin, IsShownOf, StandsWithin, counted_from, rows_between, run_rows, run_view, shown_view, start_of}
+use Rattle.rj_engine.specs.Shown.{Follow, HasColumnsOf, IsRunOf, IsRunWithin, IsShownOf, StandsWithin, counted_from, rows_between, run_view, shown_view, start_of}
 
 -- ---- left rows that are counted from another one on
 

@@ -5,7 +5,7 @@ use Rattle.rj_engine.specs.declared.joined.JoinedRow.{JoinedRow}
 use Rattle.rj_engine.specs.declared.joined.JoinedRow.TheVariants.{Both, LeftOnly, RightOnly}
 use Rattle.rj_engine.specs.declared.runs.Run.{Run}
 use Rattle.rj_engine.specs.declared.shown.Shown.{Shown}
-use Rattle.rj_engine.specs.Cells.{ViewValue, joined_cells, shown_scale, IsColumnOf, IsMemberOf, IsRightRow}
+use Rattle.rj_engine.specs.Cells.{ViewValue, joined_cells, shown_scale, IsColumnOf, IsMemberOf}
 use Rattle.rj_engine.specs.Chosen.{shown_rows}
 use Rattle.rj_engine.specs.Join.{JoinedValue}
 

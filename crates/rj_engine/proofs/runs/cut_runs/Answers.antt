@@ -1,4 +1,4 @@
-use Rattle.std.proofs.Common.{All, List, arith, subst, sym}
+use Rattle.std.proofs.Common.{All, arith, subst, sym}
 use Rattle.std.proofs.lemmas.List.Elements.{All-nil, All-push}
 use Rattle.rj_engine.specs.Chosen.{shown_rows}
 use Rattle.rj_engine.specs.Shown.{Follow, IsRunOf}

@@ -3,7 +3,7 @@ use Rattle.rj_columns.specs.Tables.{cell_in}
 use Rattle.rj_engine.specs.Cells.{IsMemberOf, joined_cell}
 use Rattle.rj_engine.specs.Chosen.{shown_rows}
 use Rattle.rj_engine.specs.Shown.{counted_from, run_rows}
-use Rattle.rj_engine.proofs.RunFacts.{fits-within, length-between, length-run, run-place}
+use Rattle.rj_engine.proofs.RunFacts.{fits-within, length-run, run-place}
 use Rattle.rj_engine.proofs.Sections.{cell_at_place}
 use Rattle.std.proofs.lemmas.List.{length-map}
 use Rattle.rj_engine.proofs.run_view.RunViewRowSource.cell.Goals as goal
