@@ -1,6 +1,6 @@
 -- The texts of runs, one after another.
-use Rattle.std.proofs.Common.{◌≡◌, ◌≢◌, ◌⊎◌, ℕ, zero, suc, ◌+◌, ◌-◌, ◌<◌, ◌≤◌, ◌==◌, Bool, true, false, cond, List, [], ◌∷◌, ◌++◌, All, refl, ap, sym, subst, ◌∙◌, arith, inl, inr, length, map, take, drop, get_or, set}
-use Rattle.std.specs.Prelude.{IfOk, IfSome, Ok, Option, Result, Some, unwrap_or}
+use Rattle.std.proofs.Common.{◌≡◌, ◌≢◌, ℕ, suc, ◌+◌, ◌-◌, ◌<◌, ◌==◌, true, false, cond, List, [], ◌∷◌, ◌++◌, All, refl, ap, sym, subst, ◌∙◌, arith, inl, inr, length, map, take, drop, get_or, set}
+use Rattle.std.specs.Prelude.{IfOk, IfSome, Ok, Result, Some, unwrap_or}
 use Rattle.std.specs.Option.{ForSome}
 use Rattle.std.specs.List.{concat, filter}
 use Rattle.std.specs.declared.alloc.AllocError.{AllocError}
@@ -11,21 +11,19 @@ use Rattle.std.proofs.lemmas.Bool.{cases_Bool, cases_eq}
 use Rattle.std.proofs.lemmas.Bool.Decides.{nat_tests}
 use borrow.Author.Tests.{eqb-true}
 use Rattle.std.proofs.lemmas.List.{drop_more, get_or-set_other, get_or-set_same, append-nil, get_or_default, length-map, length-set, map-append, take_all, take_more}
-use Rattle.std.proofs.lemmas.List.Elements.{All-head, All-tail, filter_more}
+use Rattle.std.proofs.lemmas.List.Elements.{All-head, All-tail}
 use Rattle.std.proofs.lemmas.List.Folds.{concat-append}
 use Rattle.rj_columns.specs.Contents.{Content}
 use Rattle.rj_columns.specs.Tables.{TableValue, rows_of_all}
 use Rattle.csv.specs.Writing.{default_writer, row_text}
-use Rattle.rj_csv_io.specs.Shown.{range_text, rows_text, shown, table_text}
+use Rattle.rj_csv_io.specs.Shown.{range_text, rows_text, table_text}
 use Rattle.rj_csv_io.proofs.RangeFacts.{range-join, range-none}
-use Rattle.rj_engine.specs.declared.joined.JoinedRow.{JoinedRow}
-use Rattle.rj_engine.specs.declared.joined.JoinedRow.TheVariants.{Both, LeftOnly, RightOnly}
 use Rattle.rj_engine.specs.declared.runs.Run.{Run}
 use Rattle.rj_engine.specs.declared.shown.Shown.{Shown}
-use Rattle.rj_engine.specs.Cells.{IsMemberOf, joined_cells}
+use Rattle.rj_engine.specs.Cells.{joined_cells}
 use Rattle.rj_engine.specs.Chosen.{shown_rows}
 use Rattle.rj_engine.specs.Join.{JoinedValue}
-use Rattle.rj_engine.specs.Shown.{Follow, IsRunOf, IsShownOf, StandsWithin, shown_view}
+use Rattle.rj_engine.specs.Shown.{Follow, IsRunOf, IsShownOf, shown_view}
 use Rattle.rj_engine.proofs.RunFacts.{run-cells, run-within}
 use Rattle.rj_command.specs.declared.join.texts.Share.{Share}
 use Rattle.rj_command.specs.Texts.{AreCounted, AreRunTexts, AreTextsOf, AreWithin, cells_text, is_of, no_table, run_text, text_in, whole_text}

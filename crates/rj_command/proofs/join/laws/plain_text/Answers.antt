@@ -1,4 +1,4 @@
-use Rattle.std.proofs.Common.{◌≡◌, ◌∙◌, List, Ok, ap, subst, sym, ℕ}
+use Rattle.std.proofs.Common.{◌≡◌, ◌∙◌, List, Ok, subst, ℕ}
 use Rattle.std.specs.Prelude.{Result}
 use Rattle.rj_csv_io.specs.Shown.{table_text}
 use Rattle.rj_engine.specs.Chosen.{chosen_header}
