@@ -1,5 +1,7 @@
 //! Where a text stops being a clause.
 
+ghost use Rattle.std.specs.Prelude.{◌<◌};
+
 use crate::inputs::Inputs;
 use crate::shown::Shown;
 use rj_condition::{ParseRefused, parse, quoted};
@@ -80,15 +82,23 @@ fn number_len(text: &[u8]) -> usize {
     let whole = word_len(text);
     match text.get(whole..) {
         Some([b'.', rest @ ..]) if rest.first().is_some_and(u8::is_ascii_digit) => {
-            whole + 1 + word_len(rest)
+            whole.saturating_add(1).saturating_add(word_len(rest))
         }
         _ => whole,
     }
 }
 
-// How many bytes of a text stand before its rest.
-fn before(text: &str, rest: &str) -> usize {
-    text.len().saturating_sub(rest.len())
+// How many bytes stand between quotes, with them, that a text begins with, or none where they aren't closed.
+fn quoted_len(alloc: Global, quote: u8, text: &str) -> Result<usize, AllocError>
+    requires { quote < 128 }
+{
+    let Some(inner) = text.get(1..) else {
+        return Ok(0);
+    };
+    Ok(match quoted(alloc, quote, inner)? {
+        Some((_, rest)) => text.len().saturating_sub(rest.len()),
+        None => 0,
+    })
 }
 
 // How many bytes the token takes that a text begins with, where it isn't one byte or a character that no token begins with.
@@ -96,13 +106,11 @@ fn long_token_len(alloc: Global, text: &str) -> Result<usize, AllocError> {
     Ok(match text.as_bytes() {
         [b'<', b'>' | b'=', ..] | [b'>', b'=', ..] => 2,
         [b'+' | b'-', rest @ ..] if rest.first().is_some_and(u8::is_ascii_digit) => {
-            1 + number_len(rest)
+            number_len(rest).saturating_add(1)
         }
         [b'0'..=b'9', ..] => number_len(text.as_bytes()),
-        [quote @ (b'"' | b'\''), ..] => {
-            quoted(alloc, *quote, &text[1..])?.map_or(0, |(_, rest)| before(text, rest))
-        }
-        _ => word_len(text.as_bytes()),
+        [quote @ (b'"' | b'\''), ..] => quoted_len(alloc, *quote, text)?,
+        bytes => word_len(bytes),
     })
 }
 
