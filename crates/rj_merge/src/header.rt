@@ -25,20 +25,12 @@ pub(crate) struct SharedHeader {
 fn only_column(header: &ByteRecord, name: &[u8]) -> Option<usize>
     ensures { result ≡ only_one (columns_named name.now 0 (fields_of header.now)) }
 {
-    let mut found = None;
-    for i in 0..header.len() {
-        let Some(field) = header.get(i) else {
-            unreachable!()
-        };
-        if field != name {
-            continue;
-        }
-        if found.is_some() {
-            return None;
-        }
-        found = Some(i);
+    let mut fields = header.iter();
+    let place = fields.position(|field| field == name)?;
+    if fields.any(|field| field == name) {
+        return None;
     }
-    found
+    Some(place)
 }
 
 /// Where the places stand under a header, which has exactly one column of each of the two names.
@@ -62,19 +54,6 @@ pub(crate) fn columns_of(header: &ByteRecord) -> Option<Columns>
 pub(crate) fn are_same(first: &ByteRecord, second: &ByteRecord) -> bool
     ensures { result ≡ pointwise bytes_eq (fields_of first.now) (fields_of second.now) }
 {
-    if first.len() != second.len() {
-        return false;
-    }
-    for i in 0..first.len() {
-        let Some(here) = first.get(i) else {
-            unreachable!()
-        };
-        let Some(there) = second.get(i) else {
-            unreachable!()
-        };
-        if here != there {
-            return false;
-        }
-    }
-    true
+    // Not `==` of the records, which also compares bytes behind the last field.
+    first.iter().eq(second.iter())
 }
