@@ -1,5 +1,4 @@
 mod ChainFacts
 mod LineFacts
 mod NumberFacts
-mod NullFacts
 pub mod LimitFacts

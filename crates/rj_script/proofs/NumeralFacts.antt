@@ -1,5 +1,5 @@
 -- Numerals, as std reads them.
-use Rattle.std.proofs.Common.{◌≡◌, ℕ, ◌<◌, ◌^◌, ◌&&◌, Bool, true, false, List, length, nat_lt, ap, sym, ◌∙◌, arith, rules, Option, Some, None, Result, Ok, Err, if◌then◌else◌}
+use Rattle.std.proofs.Common.{◌≡◌, ℕ, ◌<◌, ◌^◌, ◌&&◌, Bool, true, false, List, length, nat_lt, ap, sym, ◌∙◌, arith, rules, Some, None, Result, Ok, Err, if◌then◌else◌}
 use Rattle.std.specs.Result.{OkIff, result_ok}
 use Rattle.std.specs.Char.{is_ascii_digit}
 use Rattle.std.specs.List.{list_all}

@@ -1,7 +1,6 @@
 -- Words read as row numbers, one after the other.
-use Rattle.std.proofs.Common.{◌≡◌, ℕ, suc, ◌^◌, ◌==◌, ◌&&◌, Bool, true, false, if◌then◌else◌, codes, length, arith, List, [], ◌∷◌, ◌++◌, Option, Some, None, refl, ap, sym, ◌∙◌, append_assoc}
-use Rattle.rj_ledger.specs.declared.parcel.Body.{Body}
-use Rattle.rj_script.specs.Script.{number_of, with_first, rows_of, body_of, words_of, parcel_of}
+use Rattle.std.proofs.Common.{◌≡◌, ℕ, suc, ◌==◌, ◌&&◌, Bool, true, false, if◌then◌else◌, codes, length, arith, List, ◌∷◌, ◌++◌, Option, Some, None, refl, ap, ◌∙◌}
+use Rattle.rj_script.specs.Script.{rows_of, body_of, words_of}
 use Rattle.std.specs.Prelude.{option_map}
 use Rattle.std.specs.Str.{bytes_eq}
 use Rattle.std.proofs.lemmas.Bool.Decides.{nat_tests}
