@@ -5,7 +5,7 @@ use Rattle.std.proofs.lemmas.List.{length-append, length-map, get_or_push, get_o
 use Rattle.std.proofs.Math.ListN.{get_or-append}
 use Rattle.rj_columns.specs.Contents.{Content, content_of, nothing}
 use Rattle.rj_columns.specs.declared.cell.Cell.{Cell}
-use Rattle.rj_csv_io.specs.declared.block.Block.{Block}
+use Rattle.rj_csv_io.specs.declared.block.RowBlock.{RowBlock}
 use Rattle.rj_csv_io.specs.Shown.{shown}
 use Rattle.rj_columns.specs.Tables.{cell_in, part_of}
 use Rattle.rj_csv_io.specs.Blocks.{block_of, offset, Holds}
@@ -105,7 +105,7 @@ pub block-step : (rows : List (List Content)) (from n width : ℕ) (old now : Li
 block-step rows from n width old now h e = h ∙ (ap (λ t. t ++ part_of rows width from n) e ∙ sym (block-more rows from n width))
 
 -- the place of a cell in a block
-pub place : (rows : List (List Content)) (width row col : ℕ) (b : Block) → Holds rows width b → b.from ≤ row → row < b.to → col < width
+pub place : (rows : List (List Content)) (width row col : ℕ) (b : RowBlock) → Holds rows width b → b.from ≤ row → row < b.to → col < width
     → (offset (b.to - b.from) col + (row - b.from) < length b.cells.items) × (offset (b.to - b.from) col + (b.to - b.from) ≤ length b.cells.items)
 place rows width row col b h low high inside =
     let size : length (map content_of b.cells.items) ≡ length b.cells.items = length-map b.cells.items content_of in
@@ -113,7 +113,7 @@ place rows width row col b h low high inside =
     let fits = offset-inside (b.to - b.from) col width inside in
     (omega arith, omega arith)
 
-pub placed : (rows : List (List Content)) (width row col : ℕ) (b : Block) (i : ℕ) (x : Cell) → Holds rows width b → b.from ≤ row → row < b.to → col < width
+pub placed : (rows : List (List Content)) (width row col : ℕ) (b : RowBlock) (i : ℕ) (x : Cell) → Holds rows width b → b.from ≤ row → row < b.to → col < width
     → i ≡ offset (b.to - b.from) col + (row - b.from) → x ≡ slice_index_or b.cells.items i x → content_of x ≡ cell_in rows row col
 placed rows width row col b i x h low high inside at e =
     let there = (place rows width row col b h low high inside).0 in
