@@ -1,7 +1,7 @@
 -- The records under a header, text by text.
 use Rattle.std.proofs.Common.{◌≡◌, ◌≢◌, ◌<◌, ◌≤◌, ◌+◌, ◌-◌, ◌^◌, ℕ, suc, List, [], ◌∷◌, ◌++◌, length, take, drop}
-use Rattle.std.proofs.Common.{false, Option, Some, None, Result, Ok, Err, refl, sym, ap, ◌∙◌, arith, append_assoc, inl, inr, map, Bor}
-use Rattle.std.specs.Prelude.{All, nat_lt, ◌==◌, slice_index_or}
+use Rattle.std.proofs.Common.{true, false, Option, Some, None, Result, Ok, Err, refl, sym, ap, ◌∙◌, arith, append_assoc, inl, inr, map, Bor}
+use Rattle.std.specs.Prelude.{All, IfErr, IfOk, nat_lt, ◌==◌, slice_index_or}
 use Rattle.std.proofs.lemmas.Bool.{cases_Bool, ne_eqb, false≢true}
 use Rattle.std.proofs.lemmas.List.{append-nil, length-take, take_more, take-append-drop, get_or-drop, get_or-map, length-map}
 use Rattle.std.proofs.lemmas.List.{flat_map_more, length-append}
@@ -16,10 +16,10 @@ use Rattle.rj_csv_io.specs.declared.refused.ReadRefused.{ReadRefused}
 use Rattle.rj_csv_io.specs.declared.refused.ReadRefused.TheVariants as refused
 use Rattle.rj_csv_io.specs.Rows.{read_rows}
 use Rattle.rj_csv_io.proofs.PartRowFacts.{part-rows, part-many, part-fault, fault-first}
-use Rattle.rj_csv_io.proofs.TableFacts.{header_fault, read_bad_header, read_fault, rows_fault}
+use Rattle.rj_csv_io.proofs.TableFacts.{header_fault, of_reading, of_table, read_bad_header, read_fault, rows_fault}
 use Rattle.rj_csv_io.specs.Cuts.{records_in, records_in_all}
-use Rattle.rj_csv_io.specs.Tables.{of_begun, read_records}
-use Rattle.rj_csv_io.specs.Parts.{AreReadings, AreTables, moved, row_records, under_header}
+use Rattle.rj_csv_io.specs.Tables.{are_null_texts, of_begun, read_of, read_records}
+use Rattle.rj_csv_io.specs.Parts.{AreReadings, AreTables, IsReading, moved, row_records, under_header}
 
 all-append : (a b : List (List ℕ)) → records_in_all (a ++ b) ≡ records_in_all a ++ records_in_all b
 unfolding records_in_all
@@ -101,6 +101,26 @@ pub table-of-none : (nulls : List (List ℕ)) (types : List ColumnType) (header 
 table-of-none nulls types header records t u b e same none =
     let again : record t { rows = [] } ≡ t = ap (λ (r : List (List Content)). record t { rows = r }) (sym e) in
     rw (same, none) (b ∙ ap Ok (sym again), rw e (no-rows nulls types))
+
+-- what is read of the records under a header that was begun
+pub reading-from : (nulls : List (List ℕ)) (types : List ColumnType) (header : List (List ℕ)) (records : List (List (List ℕ))) (start : TableValue) (r : Result TableValue ReadRefused)
+    → begun header types ≡ Ok start → IfOk r (λ t. (read_rows nulls types [] records ≡ Ok t.rows) × (t ≡ record start { rows = t.rows }))
+    → IfErr r (λ e. e ≢ refused.Memory → read_rows nulls types [] records ≡ Err e) → IsReading nulls types header records r
+reading-from nulls types header records start (Ok t) b ok err =
+    let none = ap (λ (r : List (List Content)). record start { rows = r }) (begun-rows header types start b) in
+    (b ∙ ap Ok (none ∙ sym (ap (λ (t : TableValue). record t { rows = [] }) ok.1)), ok.0)
+reading-from nulls types header records start (Err e) b ok err = λ ne. read_fault nulls types header records start e b (err ne)
+
+-- and so of a text with this header
+module _ (bytes : List ℕ) (types : List ColumnType) (nulls : List (List ℕ)) (lawful : are_null_texts nulls ≡ true) (header : List (List ℕ)) (records : List (List (List ℕ)))
+    (e : records_in bytes ≡ header ∷ records) where
+  pub reading-table : (r : Result TableValue ReadRefused) → IsReading nulls types header records r → IfOk r (λ t. read_of bytes types nulls ≡ Ok t)
+  reading-table (Ok t) read = of_table bytes types nulls lawful header records e record t { rows = [] } t.rows read.0 read.1
+  reading-table (Err x) read = tt
+
+  pub reading-fault : (r : Result TableValue ReadRefused) → IsReading nulls types header records r → IfErr r (λ x. x ≢ refused.Memory → read_of bytes types nulls ≡ Err x)
+  reading-fault (Ok t) read = tt
+  reading-fault (Err x) read = λ ne. of_reading bytes types nulls lawful header records e x (read ne)
 
 not-memory : (n : ℕ) (e : ReadRefused) → moved n e ≢ refused.Memory → e ≢ refused.Memory
 not-memory n e ne q = ne (ap (moved n) q)
