@@ -1,6 +1,7 @@
 -- Where a cell of a block stands.
-use Rattle.std.proofs.Common.{◌≡◌, ◌≤◌, ◌<◌, ◌+◌, ◌-◌, ◌∙◌, ℕ, zero, suc, List, [], ◌∷◌, ◌++◌, map, length, refl, sym, ap, arith, inl, inr, ◌⊎◌, add-one, append_assoc, take}
+use Rattle.std.proofs.Common.{◌≡◌, ◌≤◌, ◌<◌, ◌+◌, ◌-◌, ◌∙◌, ℕ, zero, suc, List, [], ◌∷◌, ◌++◌, map, length, refl, sym, ap, arith, inl, inr, add-one, append_assoc, take}
 use Rattle.std.specs.Prelude.{slice_index_or}
+use Rattle.std.proofs.lemmas.Bool.{cases_lt}
 use Rattle.std.proofs.lemmas.List.{length-append, length-map, get_or_push, get_or-append-add, get_or-map, append-nil, map-append, take_more}
 use Rattle.std.proofs.Math.ListN.{get_or-append}
 use Rattle.rj_columns.specs.Contents.{Content, content_of, nothing}
@@ -9,9 +10,6 @@ use Rattle.rj_csv_io.specs.declared.block.RowBlock.{RowBlock}
 use Rattle.rj_csv_io.specs.Shown.{shown}
 use Rattle.rj_columns.specs.Tables.{cell_in, part_of}
 use Rattle.rj_csv_io.specs.Blocks.{block_of, offset, Holds}
-
-lt_or_eq : (i n : ℕ) → i < suc n → (i < n) ⊎ (i ≡ n)
-lt_or_eq i n h = grind arith
 
 pub length-part : (rows : List (List Content)) (col from n : ℕ) → length (part_of rows col from n) ≡ n
 unfolding part_of
@@ -39,11 +37,11 @@ unfolding part_of
 part-at rows col from zero r h = absurd (omega arith)
 part-at rows col from (suc n) r h =
     let size = length-part rows col from n in
-    elim (lt_or_eq r n h) [
+    elim (cases_lt r n) [
       | inl low ↦
           let inside : r < length (part_of rows col from n) = omega arith in
           rw (get_or-append (part_of rows col from n) (cell_in rows (from + n) col ∷ []) nothing r inside) (part-at rows col from n r low)
-      | inr same ↦ let e : length (part_of rows col from n) ≡ r = omega arith in let f : r ≡ n = same in rw (get_or_push (part_of rows col from n) (cell_in rows (from + n) col) nothing r e, f) refl
+      | inr last ↦ let e : length (part_of rows col from n) ≡ r = omega arith in let f : r ≡ n = omega arith in rw (get_or_push (part_of rows col from n) (cell_in rows (from + n) col) nothing r e, f) refl
     ]
 
 pub offset-none : (n : ℕ) → offset n 0 ≡ 0
@@ -64,9 +62,9 @@ length-block rows from n (suc width) =
 pub offset-inside : (n col width : ℕ) → col < width → offset n col + n ≤ offset n width
 unfolding offset
 offset-inside n col zero h = absurd (omega arith)
-offset-inside n col (suc width) h = elim (lt_or_eq col width h) [
+offset-inside n col (suc width) h = elim (cases_lt col width) [
   | inl low ↦ let more = offset-inside n col width low in omega arith
-  | inr same ↦ let e : col ≡ width = same in rw e (omega arith)
+  | inr last ↦ let e : col ≡ width = omega arith in rw e (omega arith)
 ]
 
 pub block-at : (rows : List (List Content)) (from n width col r : ℕ) → col < width → r < n → slice_index_or (block_of rows from n width) (offset n col + r) nothing ≡ cell_in rows (from + r) col
@@ -74,13 +72,13 @@ unfolding block_of
 block-at rows from n zero col r h k = absurd (omega arith)
 block-at rows from n (suc width) col r h k =
     let size = length-block rows from n width in
-    elim (lt_or_eq col width h) [
+    elim (cases_lt col width) [
       | inl low ↦
           let fits = offset-inside n col width low in
           let inside : offset n col + r < length (block_of rows from n width) = omega arith in
           rw (get_or-append (block_of rows from n width) (part_of rows width from n) nothing (offset n col + r) inside) (block-at rows from n width col r low k)
-      | inr same ↦
-          let e : col ≡ width = same in
+      | inr last ↦
+          let e : col ≡ width = omega arith in
           rw (e, ← size, get_or-append-add (block_of rows from n width) (part_of rows width from n) r nothing) (part-at rows width from n r k)
     ]
 

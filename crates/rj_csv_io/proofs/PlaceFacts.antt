@@ -1,8 +1,9 @@
 -- How places in a text follow its bytes.
 use Rattle.std.proofs.Common.{◌≡◌, ◌<◌, ◌≤◌, ◌+◌, ◌-◌, ℕ, zero, suc, List, [], ◌∷◌, ◌++◌, length, take, drop, get_or, true, false, Bool, refl, sym, ap, arith, inl, inr, ◌∙◌, subst}
 use Rattle.std.specs.Prelude.{if◌then◌else◌, ◌==◌}
-use Rattle.std.proofs.lemmas.Bool.{cases_Bool, eqb-true}
-use Rattle.std.proofs.lemmas.List.{take_more, take_rest, get_or-drop, take-append-drop, take-take, drop-take}
+use Rattle.std.proofs.lemmas.Bool.{cases_Bool, eqb-true, false_from_ne_true}
+use Rattle.std.proofs.Math.Seq.{take-add}
+use Rattle.std.proofs.lemmas.List.{take_more, take_rest, get_or-drop}
 use Rattle.rj_csv_io.proofs.CutFacts.{line-closes}
 use Rattle.csv.specs.declared.parser.State.{State}
 use Rattle.csv.specs.declared.parser.State.TheVariants as st
@@ -176,10 +177,6 @@ pub run-quote : (p : ReaderPlace) (text : List ℕ) (at : ℕ) → at < length t
     → place_after p (take (at + 1) text) ≡ after_quote (place_after p (take at text))
 run-quote p text at h q = rw (take_more text at 0 h, places-append p (take at text) (get_or text at 0 ∷ []), place-one (place_after p (take at text)) (get_or text at 0), q) refl
 
-not-true : (x : Bool) → (x ≡ true → ⊥) → x ≡ false
-not-true true n = absurd (n refl)
-not-true false n = refl
-
 pub rest-at : (text : List ℕ) (at k : ℕ) → get_or (take (length text - at) (drop at text)) k 0 ≡ get_or text (at + k) 0
 rest-at text at k = ap (λ t. get_or t k 0) (take_rest text at) ∙ get_or-drop at text k 0
 
@@ -190,14 +187,7 @@ no-quote text at n h i a b =
     let e = rest-at text at (i - at) in
     let f : at + (i - at) ≡ i = omega arith in
     let g = rw f at e in
-    not-true (get_or text i 0 == 34) (λ t. h (i - at) (omega arith) (omega arith) (rw g t))
-
--- the bytes up to a place, and those from there to the next
-pub take-on : (text : List ℕ) (at m : ℕ) → take at text ++ take m (drop at text) ≡ take (at + m) text
-take-on text at m =
-    let whole = take-append-drop at (take (at + m) text) in
-    let first : take at (take (at + m) text) ≡ take at text = take-take at (at + m) text (omega arith) in
-    rw (first, drop-take at m text) at whole
+    false_from_ne_true (get_or text i 0 == 34) (λ t. h (i - at) (omega arith) (omega arith) (rw g t))
 
 -- a line's end outside quotes ends a record
 pub line-ends : (text : List ℕ) (at : ℕ) → at < length text → (get_or text at 0 == 10) ≡ true
@@ -213,7 +203,7 @@ pub next-place : (p q r : ReaderPlace) (text : List ℕ) (at next : ℕ) → at 
     → r ≡ place_after q (take (next - at) (drop at text)) → r ≡ place_after p (take next text)
 next-place p q r text at next h e f =
     let size : at + (next - at) ≡ next = omega arith in
-    let whole = take-on text at (next - at) in
+    let whole = sym (take-add at (next - at) text) in
     let joined = rw size at whole in
     f ∙ (ap (λ x. place_after x (take (next - at) (drop at text))) e
     ∙ (sym (places-append p (take at text) (take (next - at) (drop at text))) ∙ ap (λ t. place_after p t) joined))

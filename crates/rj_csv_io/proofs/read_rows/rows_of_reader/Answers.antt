@@ -1,4 +1,4 @@
-use Rattle.std.proofs.Common.{◌≡◌, ◌+◌, ◌∙◌, [], ℕ, List, Ok, ap, sym, arith}
+use Rattle.std.proofs.Common.{◌≡◌, ◌+◌, ◌∙◌, [], List, Ok, ap, sym, arith}
 use Rattle.rj_columns.specs.Contents.{Content}
 use Rattle.rj_columns.specs.Tables.{BuilderValue, TableValue}
 use Rattle.rj_csv_io.proofs.RowsFacts.{rows-end, read-on, read-same, read-size, row-room}
