@@ -1,8 +1,7 @@
 //! Cells whose text is that of null.
 
-ghost use Rattle.std.specs.Prelude.{◌≡◌, ◌<◌, ◌≤◌, ◌-◌, ◌+◌, ◌^◌, ℕ, false, IsTrue, IfOk, IfSome, MatchOption, length, map};
+ghost use Rattle.std.specs.Prelude.{◌≡◌, ◌<◌, ◌≤◌, ◌-◌, ◌+◌, ◌^◌, ℕ, false, IsTrue, IfOk, IfSome, MatchOption};
 ghost use Rattle.rj_columns.specs.Contents.{content_of};
-ghost use Rattle.rj_columns.specs.Tables.{cell_in};
 ghost use Rattle.rj_csv_io.specs.Ambiguous.{AreClear, IsClearRow, IsFirstAmbiguous, IsFirstInRow, is_ambiguous};
 ghost use Rattle.rj_csv_io.specs.Blocks.{Holds};
 ghost use Rattle.rj_csv_io.specs.Tables.{is_null_text};

@@ -1,7 +1,7 @@
 //! Where a text of CSV stands after its bytes, as far as quotes go.
 
 ghost use Rattle.std.specs.Prelude.{◌≡◌, ◌<◌, ◌≤◌, ◌==◌, ℕ, false, length, take, slice_index};
-ghost use Rattle.rj_csv_io.specs.Cuts.{after_quote, after_run, is_separator, is_open_place, place_after};
+ghost use Rattle.rj_csv_io.specs.Cuts.{after_quote, after_run, is_open_place, place_after};
 
 use memchr::memchr;
 
