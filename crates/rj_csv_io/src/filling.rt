@@ -76,10 +76,8 @@ pub fn read_up_to<I: Input>(
     ensures fault { IfErr result (λ e. e ≢ ReadRefused.Memory → e ≡ ReadRefused.ReadDevice) }
 {
     while bytes.len() < size {
-        match read_piece(input, bytes) {
-            Ok(true) => {}
-            Ok(false) => return Ok(true),
-            Err(e) => return Err(e),
+        if !read_piece(input, bytes)? {
+            return Ok(true);
         }
     }
     Ok(false)
