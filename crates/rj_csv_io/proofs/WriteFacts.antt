@@ -1,6 +1,7 @@
 -- What a writer has written after one more field, and after the end of a record.
-use Rattle.std.proofs.Common.{◌≡◌, ◌≢◌, ◌==◌, ◌∙◌, ◌<◌, ◌+◌, ◌-◌, ◌^◌, ℕ, List, [], ◌∷◌, ◌++◌, length, Option, Some, None, true, false, refl, sym, ap, append_assoc, arith, Vec, Global}
-use Rattle.std.specs.Prelude.{not, min}
+use Rattle.std.proofs.Common.{◌≡◌, ◌≢◌, ◌==◌, ◌∙◌, ◌<◌, ◌+◌, ◌-◌, ◌^◌, ℕ, List, [], ◌∷◌, ◌++◌, length, Option, Some, None, Result, Ok, Err, true, false, refl, sym, ap, append_assoc, arith, Vec, Global}
+use Rattle.std.specs.Prelude.{OnOk, not, min}
+use Rattle.std.specs.Result.{is_ok}
 use Rattle.std.specs.Io.KnownBytes.{Appends}
 use Rattle.std.proofs.lemmas.List.{append-nil, length-append}
 use Rattle.csv.specs.declared.writer.QuoteStyle.TheVariants as style
@@ -60,3 +61,8 @@ record-written a b text fields h bytes same count wrote =
       bytes = appended (text_written known a) (text_written known b) (text ++ row_body default_writer fields) _ h.bytes tail
           ∙ ap Some (append_assoc text (row_body default_writer fields) _ ∙ sym (append-nil (text ++ row_text default_writer fields)));
     }
+
+-- what holds where a call went well
+pub ok-holds : {T E P : Type 0} (r : Result T E) → is_ok r ≡ true → OnOk r P → P
+ok-holds (Ok x) e h = h
+ok-holds (Err x) e h = absurd (cc)
