@@ -3,7 +3,7 @@ use Rattle.std.proofs.Common.{◌≡◌, ◌≢◌, ◌∙◌, ◌+◌, ℕ, ℤ
 use Rattle.std.specs.Prelude.{All, ◌==◌, ◌-◌, ◌^◌, nat_le, if◌then◌else◌, option_map, slice_index_or}
 use Rattle.std.specs.Str.{bytes_eq, is_utf8}
 use Rattle.std.specs.Str.Parse.{signed_digits_value}
-use Rattle.std.proofs.lemmas.Bool.{cases_Bool, cases_lt, false≢true}
+use Rattle.std.proofs.lemmas.Bool.{cases_Bool, cases_lt, false_from_ne_true, false≢true}
 use Rattle.std.proofs.lemmas.List.{get_or_past}
 use Rattle.std.proofs.lemmas.List.Elements.{All-nil, All-push}
 use Rattle.std.proofs.lemmas.Slice.Eq.{bytes_eq-Decides}
@@ -127,7 +127,4 @@ clear-from null rows lawful apart row col = go (cell_in rows row col) (apart row
     go nothing other = refl
     go (whole n) other = whole-apart n null lawful
     go (decimal units scale) other = decimal-apart scale units null lawful
-    go (word s) other = elim (cases_Bool (bytes_eq s null)) [
-      | inl same ↦ absurd (other (ap word ((bytes_eq-Decides s null).0 same)))
-      | inr not ↦ not
-    ]
+    go (word s) other = false_from_ne_true (bytes_eq s null) (λ same. other (ap word ((bytes_eq-Decides s null).0 same)))

@@ -1,17 +1,15 @@
 -- Where a cell of a block stands.
-use Rattle.std.proofs.Common.{◌≡◌, ◌≤◌, ◌<◌, ◌+◌, ◌-◌, ◌∙◌, ℕ, zero, suc, List, [], ◌∷◌, ◌++◌, map, length, refl, sym, ap, arith, inl, inr, ◌⊎◌, add-one, append_assoc, take}
+use Rattle.std.proofs.Common.{◌≡◌, ◌≤◌, ◌<◌, ◌+◌, ◌-◌, ◌∙◌, ℕ, zero, suc, List, [], ◌∷◌, ◌++◌, map, length, refl, sym, ap, arith, inl, inr, add-one, append_assoc, take}
 use Rattle.std.specs.Prelude.{slice_index_or}
+use Rattle.std.proofs.lemmas.Bool.{cases_lt}
 use Rattle.std.proofs.lemmas.List.{length-append, length-map, get_or_push, get_or-append-add, get_or-map, append-nil, map-append, take_more}
 use Rattle.std.proofs.Math.ListN.{get_or-append}
 use Rattle.rj_columns.specs.Contents.{Content, content_of, nothing}
 use Rattle.rj_columns.specs.declared.cell.Cell.{Cell}
-use Rattle.rj_csv_io.specs.declared.block.Block.{Block}
+use Rattle.rj_csv_io.specs.declared.block.RowBlock.{RowBlock}
 use Rattle.rj_csv_io.specs.Shown.{shown}
 use Rattle.rj_columns.specs.Tables.{cell_in, part_of}
 use Rattle.rj_csv_io.specs.Blocks.{block_of, offset, Holds}
-
-lt_or_eq : (i n : ℕ) → i < suc n → (i < n) ⊎ (i ≡ n)
-lt_or_eq i n h = grind arith
 
 pub length-part : (rows : List (List Content)) (col from n : ℕ) → length (part_of rows col from n) ≡ n
 unfolding part_of
@@ -39,11 +37,11 @@ unfolding part_of
 part-at rows col from zero r h = absurd (omega arith)
 part-at rows col from (suc n) r h =
     let size = length-part rows col from n in
-    elim (lt_or_eq r n h) [
+    elim (cases_lt r n) [
       | inl low ↦
           let inside : r < length (part_of rows col from n) = omega arith in
           rw (get_or-append (part_of rows col from n) (cell_in rows (from + n) col ∷ []) nothing r inside) (part-at rows col from n r low)
-      | inr same ↦ let e : length (part_of rows col from n) ≡ r = omega arith in let f : r ≡ n = same in rw (get_or_push (part_of rows col from n) (cell_in rows (from + n) col) nothing r e, f) refl
+      | inr last ↦ let e : length (part_of rows col from n) ≡ r = omega arith in let f : r ≡ n = omega arith in rw (get_or_push (part_of rows col from n) (cell_in rows (from + n) col) nothing r e, f) refl
     ]
 
 pub offset-none : (n : ℕ) → offset n 0 ≡ 0
@@ -64,9 +62,9 @@ length-block rows from n (suc width) =
 pub offset-inside : (n col width : ℕ) → col < width → offset n col + n ≤ offset n width
 unfolding offset
 offset-inside n col zero h = absurd (omega arith)
-offset-inside n col (suc width) h = elim (lt_or_eq col width h) [
+offset-inside n col (suc width) h = elim (cases_lt col width) [
   | inl low ↦ let more = offset-inside n col width low in omega arith
-  | inr same ↦ let e : col ≡ width = same in rw e (omega arith)
+  | inr last ↦ let e : col ≡ width = omega arith in rw e (omega arith)
 ]
 
 pub block-at : (rows : List (List Content)) (from n width col r : ℕ) → col < width → r < n → slice_index_or (block_of rows from n width) (offset n col + r) nothing ≡ cell_in rows (from + r) col
@@ -74,13 +72,13 @@ unfolding block_of
 block-at rows from n zero col r h k = absurd (omega arith)
 block-at rows from n (suc width) col r h k =
     let size = length-block rows from n width in
-    elim (lt_or_eq col width h) [
+    elim (cases_lt col width) [
       | inl low ↦
           let fits = offset-inside n col width low in
           let inside : offset n col + r < length (block_of rows from n width) = omega arith in
           rw (get_or-append (block_of rows from n width) (part_of rows width from n) nothing (offset n col + r) inside) (block-at rows from n width col r low k)
-      | inr same ↦
-          let e : col ≡ width = same in
+      | inr last ↦
+          let e : col ≡ width = omega arith in
           rw (e, ← size, get_or-append-add (block_of rows from n width) (part_of rows width from n) r nothing) (part-at rows width from n r k)
     ]
 
@@ -105,7 +103,7 @@ pub block-step : (rows : List (List Content)) (from n width : ℕ) (old now : Li
 block-step rows from n width old now h e = h ∙ (ap (λ t. t ++ part_of rows width from n) e ∙ sym (block-more rows from n width))
 
 -- the place of a cell in a block
-pub place : (rows : List (List Content)) (width row col : ℕ) (b : Block) → Holds rows width b → b.from ≤ row → row < b.to → col < width
+pub place : (rows : List (List Content)) (width row col : ℕ) (b : RowBlock) → Holds rows width b → b.from ≤ row → row < b.to → col < width
     → (offset (b.to - b.from) col + (row - b.from) < length b.cells.items) × (offset (b.to - b.from) col + (b.to - b.from) ≤ length b.cells.items)
 place rows width row col b h low high inside =
     let size : length (map content_of b.cells.items) ≡ length b.cells.items = length-map b.cells.items content_of in
@@ -113,7 +111,7 @@ place rows width row col b h low high inside =
     let fits = offset-inside (b.to - b.from) col width inside in
     (omega arith, omega arith)
 
-pub placed : (rows : List (List Content)) (width row col : ℕ) (b : Block) (i : ℕ) (x : Cell) → Holds rows width b → b.from ≤ row → row < b.to → col < width
+pub placed : (rows : List (List Content)) (width row col : ℕ) (b : RowBlock) (i : ℕ) (x : Cell) → Holds rows width b → b.from ≤ row → row < b.to → col < width
     → i ≡ offset (b.to - b.from) col + (row - b.from) → x ≡ slice_index_or b.cells.items i x → content_of x ≡ cell_in rows row col
 placed rows width row col b i x h low high inside at e =
     let there = (place rows width row col b h low high inside).0 in

@@ -198,12 +198,6 @@ bom-size (a ∷ []) h = absurd (false≢true h)
 bom-size (a ∷ b ∷ []) h = absurd (false≢true h)
 bom-size (a ∷ b ∷ c ∷ rest) h = omega arith
 
--- one more text
-pub all-more : (texts : List (List ℕ)) (text : List ℕ) → records_in_all (texts ++ text ∷ []) ≡ records_in_all texts ++ records_in text
-unfolding records_in_all
-all-more [] text = append-nil (records_in text)
-all-more (t ∷ texts) text = ap (λ r. records_in t ++ r) (all-more texts text) ∙ sym (append_assoc (records_in t) (records_in_all texts) (records_in text))
-
 pub all-none : records_in_all [] ≡ []
 unfolding records_in_all
 all-none = refl
@@ -211,6 +205,16 @@ all-none = refl
 pub all-one : (text : List ℕ) → records_in_all (text ∷ []) ≡ records_in text
 unfolding records_in_all
 all-one text = append-nil (records_in text)
+
+-- more texts
+pub all-append : (a b : List (List ℕ)) → records_in_all (a ++ b) ≡ records_in_all a ++ records_in_all b
+unfolding records_in_all
+all-append [] b = refl
+all-append (p ∷ a) b = ap (λ r. records_in p ++ r) (all-append a b) ∙ sym (append_assoc (records_in p) (records_in_all a) (records_in_all b))
+
+-- one more text
+pub all-more : (texts : List (List ℕ)) (text : List ℕ) → records_in_all (texts ++ text ∷ []) ≡ records_in_all texts ++ records_in text
+all-more texts text = all-append texts (text ∷ []) ∙ ap (λ r. records_in_all texts ++ r) (all-one text)
 
 -- a text more
 pub text-step : (done : List (List ℕ)) (rest whole : List ℕ) (at : ℕ) → strip_bom rest ≡ rest → strip_bom (drop at rest) ≡ drop at rest

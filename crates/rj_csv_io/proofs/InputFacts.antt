@@ -1,27 +1,10 @@
 -- Bytes that a device gives, piece by piece.
-use Rattle.std.proofs.Common.{◌≡◌, ◌≤◌, ◌+◌, ◌∙◌, ℕ, List, [], ◌++◌, length, take, drop, Option, Some, None, Result, Ok, Err, refl, sym, ap, subst, append_assoc, arith}
-use Rattle.std.specs.Prelude.{IfOk, IfSome}
-use Rattle.std.specs.Io.KnownBytes.{Consumes, IsAtEnd, Keeps}
+use Rattle.std.proofs.Common.{◌≡◌, ◌≤◌, ◌+◌, ◌∙◌, ℕ, List, ◌++◌, length, take, drop, Option, Result, Ok, Err, sym, ap, subst, arith}
+use Rattle.std.specs.Prelude.{IfOk}
+use Rattle.std.specs.Io.KnownBytes.{Consumes}
+use Rattle.std.proofs.KnownBytes.{Consumes-trans}
 use Rattle.std.proofs.Math.Seq.{drop-append_seam, take-add, take-append_seam}
-use Rattle.std.proofs.lemmas.List.{append-nil, length-take, take-append-le, take-take, take_all}
-
--- before the first read
-pub consumes-none : (a : Option (List ℕ)) → Consumes a a []
-consumes-none None = tt
-consumes-none (Some x) = refl
-
--- one more piece
-pub consumes-more : (a b c : Option (List ℕ)) (xs ys : List ℕ) → Consumes a b xs → Consumes b c ys → Consumes a c (xs ++ ys)
-consumes-more None b c xs ys p q = tt
-consumes-more (Some x) None c xs ys p q = absurd p
-consumes-more (Some x) (Some y) None xs ys p q = absurd q
-consumes-more (Some x) (Some y) (Some z) xs ys p q = p ∙ ap (λ l. xs ++ l) q ∙ sym (append_assoc xs ys z)
-
--- what was read to the end is all that there was
-pub consumes-all : (a b : Option (List ℕ)) (xs : List ℕ) → Consumes a b xs → IsAtEnd b → IfSome a (λ all. xs ≡ all)
-consumes-all None b xs p q = tt
-consumes-all (Some x) None xs p q = absurd p
-consumes-all (Some x) (Some y) xs p q = sym (p ∙ ap (λ l. xs ++ l) q ∙ append-nil xs)
+use Rattle.std.proofs.lemmas.List.{length-take, take-append-le, take-take, take_all}
 
 -- what was got into a part of a buffer stands behind the bytes before it
 pub consumes-behind : {E : Type 0} (a b : Option (List ℕ)) (r : Result ℕ E) (front part rest : List ℕ) (at : ℕ) → length front ≡ at → IfOk r (λ n. n ≤ length part)
@@ -53,7 +36,7 @@ module _ (old room buffer : List ℕ) (n f k : ℕ) (e : take f room ≡ old) (g
       ∙ (take-add f k buffer ∙ ap (λ t. t ++ take k (drop f buffer)) (g ∙ e)))
 
   pub consumes-cut : (start a b : Option (List ℕ)) → Consumes start a old → Consumes a b (take k (drop f buffer)) → Consumes start b (take (f + k) (take n (buffer ++ drop (length buffer) room)))
-  consumes-cut start a b before read = subst (Consumes start b) (sym cut-off) (consumes-more start a b old (take k (drop f buffer)) before read)
+  consumes-cut start a b before read = subst (Consumes start b) (sym cut-off) (Consumes-trans start a b old (take k (drop f buffer)) before read)
 
   -- it begins as before
   pub front-cut : take (length old) (take (f + k) (take n (buffer ++ drop (length buffer) room))) ≡ old

@@ -1,28 +1,26 @@
 -- Fields beside several null texts, and the texts of numbers beside them.
-use Rattle.std.proofs.Common.{◌≡◌, ◌<◌, ◌≤◌, ◌+◌, ◌/◌, ◌%◌, ◌^◌, ◌∙◌, ℕ, ℤ, pos, negsuc, zero, suc, List, [], ◌∷◌, length, Bool, true, false, Bor, refl, sym, ap, arith, inl, inr}
+use Rattle.std.proofs.Common.{◌≡◌, ◌<◌, ◌+◌, ◌/◌, ◌%◌, ◌^◌, ◌∙◌, ℕ, ℤ, pos, negsuc, zero, suc, List, [], ◌∷◌, length, Bool, true, false, Bor, refl, sym, ap, arith}
 use Rattle.std.specs.Prelude.{◌&&◌, not, ◌==◌, nat_lt, nat_le, if◌then◌else◌, slice_index_or}
 use Rattle.std.specs.Char.{is_ascii_digit}
 use Rattle.std.specs.Fmt.{decimal, digit_glyph, digits, digits_onto, signed_decimal}
 use Rattle.std.specs.List.{list_all, list_any}
 use Rattle.std.specs.Str.{bytes_eq}
-use Rattle.std.proofs.lemmas.Bool.{cases_Bool, false≢true, and_parts, le-leb, lt-ltb}
+use Rattle.std.proofs.lemmas.Bool.{false_from_ne_true, false≢true, and_parts, le-leb, lt-ltb}
 use Rattle.std.proofs.Math.Bool.{or-true}
-use Rattle.std.proofs.lemmas.List.Folds.{list_any-append}
+use Rattle.std.proofs.lemmas.List.Folds.{list_any-append, list_any_at}
 use Rattle.std.proofs.lemmas.Slice.Eq.{bytes_eq-Decides}
 use Rattle.rj_decimal.specs.Written.{size_text, text_of, fraction_text}
-use Rattle.std.proofs.lemmas.List.{get_or_past}
-use Rattle.rj_columns.specs.Contents.{Content, nothing}
-use Rattle.rj_columns.specs.Tables.{cell_in}
-use Rattle.rj_csv_io.specs.Ambiguous.{is_ambiguous}
+use Rattle.std.proofs.lemmas.List.{get_or-map, length-map}
 use Rattle.rj_csv_io.specs.Tables.{may_stand_in_null, is_null_text}
 use Rattle.rj_csv_io.specs.Typed.{is_null_field, null_texts}
 
 -- a null text that a field is
 pub null-found : (nulls : List (Bor (List ℕ))) (field text : List ℕ) (i : ℕ) (d : Bor (List ℕ)) → i < length nulls → text ≡ (slice_index_or nulls i d).now
     → true ≡ bytes_eq field text → is_null_field (null_texts nulls) field ≡ true
-null-found [] field text i d h at e = absurd (omega arith)
-null-found (n ∷ nulls) field text zero d h at e = rw (sym (ap (bytes_eq field) at) ∙ sym e) refl
-null-found (n ∷ nulls) field text (suc i) d h at e = rw (null-found nulls field text i d (omega arith) at e) (or-true (bytes_eq field n.now))
+null-found nulls field text i d h at e =
+    let size = length-map nulls (λ (n : Bor (List ℕ)). n.now) in
+    let there = get_or-map (λ (n : Bor (List ℕ)). n.now) nulls i d [] h in
+    list_any_at (λ null. bytes_eq field null) (null_texts nulls) i [] (omega (arith, size, h)) (ap (bytes_eq field) (there ∙ sym at) ∙ sym e)
 
 -- a text with a digit
 abbrev pub has_digit : List ℕ → Bool
@@ -76,13 +74,10 @@ size-digit scale n = list_any-append is_ascii_digit (decimal (n / 10 ^ scale)) (
 
 -- a text with a digit is no null text
 apart : (text null : List ℕ) → is_null_text null ≡ true → has_digit text ≡ true → bytes_eq text null ≡ false
-apart text null lawful digit = elim (cases_Bool (bytes_eq text null)) [
-  | inl same ↦
-      let e = (bytes_eq-Decides text null).0 same in
-      let none = no-digit null (and_parts (nat_le (length null) 16) (list_all may_stand_in_null null) lawful).1 in
-      absurd (false≢true (sym none ∙ (ap has_digit (sym e) ∙ digit)))
-  | inr other ↦ other
-]
+apart text null lawful digit = false_from_ne_true (bytes_eq text null) (λ same.
+    let e = (bytes_eq-Decides text null).0 same in
+    let none = no-digit null (and_parts (nat_le (length null) 16) (list_all may_stand_in_null null) lawful).1 in
+    false≢true (sym none ∙ (ap has_digit (sym e) ∙ digit)))
 
 -- the text of a number is no null text
 pub whole-apart : (n : ℤ) (null : List ℕ) → is_null_text null ≡ true → bytes_eq (signed_decimal n) null ≡ false

@@ -1,9 +1,9 @@
 -- The records under a header, text by text.
 use Rattle.std.proofs.Common.{◌≡◌, ◌≢◌, ◌<◌, ◌≤◌, ◌+◌, ◌-◌, ◌^◌, ℕ, suc, List, [], ◌∷◌, ◌++◌, length, take, drop}
-use Rattle.std.proofs.Common.{false, Option, Some, None, Result, Ok, Err, refl, sym, ap, ◌∙◌, arith, append_assoc, inl, inr, map, Bor}
-use Rattle.std.specs.Prelude.{All, nat_lt, ◌==◌, slice_index_or}
+use Rattle.std.proofs.Common.{true, false, Option, Some, None, Result, Ok, Err, refl, sym, ap, ◌∙◌, arith, append_assoc, inl, inr, map, Bor}
+use Rattle.std.specs.Prelude.{All, IfErr, IfOk, nat_lt, ◌==◌, slice_index_or}
 use Rattle.std.proofs.lemmas.Bool.{cases_Bool, ne_eqb, false≢true}
-use Rattle.std.proofs.lemmas.List.{append-nil, length-take, take_more, take-append-drop, get_or-drop, get_or-map, length-map}
+use Rattle.std.proofs.lemmas.List.{append-nil, length-take, take_more, take-append-drop, get_or-map, length-map}
 use Rattle.std.proofs.lemmas.List.{flat_map_more, length-append}
 use Rattle.std.proofs.lemmas.List.Elements.{All-head, All-nil, All-push, All-tail, All-weaker}
 use Rattle.rj_columns.specs.declared.cell.ColumnType.{ColumnType}
@@ -15,27 +15,20 @@ use Rattle.rj_columns.specs.Tables.{AreAlike, TableValue, concatenated, rows_of_
 use Rattle.rj_csv_io.specs.declared.refused.ReadRefused.{ReadRefused}
 use Rattle.rj_csv_io.specs.declared.refused.ReadRefused.TheVariants as refused
 use Rattle.rj_csv_io.specs.Rows.{read_rows}
+use Rattle.rj_csv_io.proofs.CutFacts.{all-append, all-more}
+use Rattle.rj_csv_io.proofs.RowsFacts.{rows-end}
 use Rattle.rj_csv_io.proofs.PartRowFacts.{part-rows, part-many, part-fault, fault-first}
-use Rattle.rj_csv_io.proofs.TableFacts.{header_fault, read_bad_header, read_fault, rows_fault}
+use Rattle.rj_csv_io.proofs.TableFacts.{header_fault, of_reading, of_table, read_bad_header, read_fault, rows_fault}
 use Rattle.rj_csv_io.specs.Cuts.{records_in, records_in_all}
-use Rattle.rj_csv_io.specs.Tables.{of_begun, read_records}
-use Rattle.rj_csv_io.specs.Parts.{AreReadings, AreTables, moved, row_records, under_header}
-
-all-append : (a b : List (List ℕ)) → records_in_all (a ++ b) ≡ records_in_all a ++ records_in_all b
-unfolding records_in_all
-all-append [] b = refl
-all-append (p ∷ a) b = ap (λ r. records_in p ++ r) (all-append a b) ∙ sym (append_assoc (records_in p) (records_in_all a) (records_in_all b))
-
-all-of-one : (p : List ℕ) → records_in_all (p ∷ []) ≡ records_in p
-unfolding records_in_all
-all-of-one p = append-nil (records_in p)
+use Rattle.rj_csv_io.specs.Tables.{are_null_texts, of_begun, read_of, read_records}
+use Rattle.rj_csv_io.specs.Parts.{AreReadings, AreTables, IsReading, moved, row_records, under_header}
 
 under-more : (texts : List (List ℕ)) (p : List ℕ) → under_header (texts ++ p ∷ []) ≡ under_header texts ++ row_records (length texts == 0) p
 unfolding under_header records_in_all
 under-more [] p = append-nil (drop 1 (records_in p))
 under-more (q ∷ texts) p =
     let some : (length (q ∷ texts) == 0) ≡ false = ne_eqb (length (q ∷ texts)) 0 (λ z. absurd (omega (arith, z))) in
-    rw some (ap (λ r. drop 1 (records_in q) ++ r) (all-append texts (p ∷ []) ∙ ap (λ r. records_in_all texts ++ r) (all-of-one p))
+    rw some (ap (λ r. drop 1 (records_in q) ++ r) (all-more texts p)
     ∙ sym (append_assoc (drop 1 (records_in q)) (records_in_all texts) (records_in p)))
 
 -- one more text
@@ -68,10 +61,6 @@ pub header-first : (text : List ℕ) (texts : List (List ℕ)) (header : List (L
 unfolding under_header records_in_all
 header-first text texts header rest e = rw e refl
 
-pub no-rows : (nulls : List (List ℕ)) (types : List ColumnType) → read_rows nulls types [] [] ≡ Ok []
-unfolding read_rows
-no-rows nulls types = refl
-
 pub begun-rows : (names : List (List ℕ)) (types : List ColumnType) (t : TableValue) → begun names types ≡ Ok t → t.rows ≡ []
 begun-rows names types t e = elim (cases_Bool (nat_lt 256 (length names))) [
   | inl many ↦ let no : Err build.TooManyColumns ≡ Ok t = rw many at e in absurd cc
@@ -88,19 +77,32 @@ begun-rows names types t e = elim (cases_Bool (nat_lt 256 (length names))) [
       | inr other ↦ let no : Err build.TypeCount ≡ Ok t = rw (few, f, other) at e in absurd cc
     ]
 
--- the next of the parts that remain
-pub head-at : {X : Type 0} (parts items : List X) (i : ℕ) (x : X) → items ≡ drop i parts → x ≡ slice_index_or items 0 x → slice_index_or parts i x ≡ x
-head-at parts items i x e h =
-    let none : i + 0 ≡ i = omega arith in
-    let at = get_or-drop i parts 0 x in
-    sym (h ∙ (ap (λ l. slice_index_or l 0 x) e ∙ (rw none at at)))
-
 pub table-of-none : (nulls : List (List ℕ)) (types : List ColumnType) (header : List (List ℕ)) (records : List (List (List ℕ))) (t u : TableValue)
     → begun header types ≡ Ok t → t.rows ≡ [] → u ≡ t → records ≡ []
     → (begun header types ≡ Ok record u { rows = [] }) × (read_rows nulls types [] records ≡ Ok u.rows)
 table-of-none nulls types header records t u b e same none =
     let again : record t { rows = [] } ≡ t = ap (λ (r : List (List Content)). record t { rows = r }) (sym e) in
-    rw (same, none) (b ∙ ap Ok (sym again), rw e (no-rows nulls types))
+    rw (same, none) (b ∙ ap Ok (sym again), rw e (rows-end nulls types []))
+
+-- what is read of the records under a header that was begun
+pub reading-from : (nulls : List (List ℕ)) (types : List ColumnType) (header : List (List ℕ)) (records : List (List (List ℕ))) (start : TableValue) (r : Result TableValue ReadRefused)
+    → begun header types ≡ Ok start → IfOk r (λ t. (read_rows nulls types [] records ≡ Ok t.rows) × (t ≡ record start { rows = t.rows }))
+    → IfErr r (λ e. e ≢ refused.Memory → read_rows nulls types [] records ≡ Err e) → IsReading nulls types header records r
+reading-from nulls types header records start (Ok t) b ok err =
+    let none = ap (λ (r : List (List Content)). record start { rows = r }) (begun-rows header types start b) in
+    (b ∙ ap Ok (none ∙ sym (ap (λ (t : TableValue). record t { rows = [] }) ok.1)), ok.0)
+reading-from nulls types header records start (Err e) b ok err = λ ne. read_fault nulls types header records start e b (err ne)
+
+-- and so of a text with this header
+module _ (bytes : List ℕ) (types : List ColumnType) (nulls : List (List ℕ)) (lawful : are_null_texts nulls ≡ true) (header : List (List ℕ)) (records : List (List (List ℕ)))
+    (e : records_in bytes ≡ header ∷ records) where
+  pub reading-table : (r : Result TableValue ReadRefused) → IsReading nulls types header records r → IfOk r (λ t. read_of bytes types nulls ≡ Ok t)
+  reading-table (Ok t) read = of_table bytes types nulls lawful header records e record t { rows = [] } t.rows read.0 read.1
+  reading-table (Err x) read = tt
+
+  pub reading-fault : (r : Result TableValue ReadRefused) → IsReading nulls types header records r → IfErr r (λ x. x ≢ refused.Memory → read_of bytes types nulls ≡ Err x)
+  reading-fault (Ok t) read = tt
+  reading-fault (Err x) read = λ ne. of_reading bytes types nulls lawful header records e x (read ne)
 
 not-memory : (n : ℕ) (e : ReadRefused) → moved n e ≢ refused.Memory → e ≢ refused.Memory
 not-memory n e ne q = ne (ap (moved n) q)
@@ -121,7 +123,7 @@ rows-more tables t =
 
 -- the reading of no records
 pub none-read : (nulls : List (List ℕ)) (types : List ColumnType) (header : List (List ℕ)) → AreTables nulls types header (under_header []) []
-none-read nulls types header = record { columns = All-nil _; rows = rw under-none (no-rows nulls types); few = omega arith }
+none-read nulls types header = record { columns = All-nil _; rows = rw under-none (rows-end nulls types []); few = omega arith }
 
 module _ (nulls : List (List ℕ)) (types : List ColumnType) (header : List (List ℕ)) (texts : List (List ℕ)) (parts : List (Result TableValue ReadRefused))
     (are : AreReadings nulls types header texts parts) (i : ℕ) (h : i < length texts) (tables : List TableValue)

@@ -3,7 +3,7 @@ use Rattle.std.proofs.Common.{◌≡◌, ◌<◌, ◌≤◌, ◌+◌, ◌-◌, �
 use Rattle.std.proofs.Common.{Option, Some, None, Result, Ok, Err, refl, sym, ap, ◌∙◌, arith, append_assoc}
 use Rattle.std.specs.Prelude.{if◌then◌else◌, nat_le, ◌==◌}
 use Rattle.std.proofs.lemmas.Bool.{le-leb, lt-leb}
-use Rattle.std.proofs.lemmas.List.{length-append, append-nil}
+use Rattle.std.proofs.lemmas.List.{length-append, length_push, append-nil}
 use native.Mathlib.Decide.{dec_lt}
 use Rattle.rj_columns.specs.declared.cell.ColumnType.{ColumnType}
 use Rattle.rj_columns.specs.declared.cell.ColumnType.TheVariants as kind
@@ -175,9 +175,6 @@ module _ (nulls : List (List ℕ)) where
     grows-less m n (Ok rows) l h = omega (arith, l, h)
     grows-less m n (Err e) l h = after-less m n e l h
 
-    pub one-more : (acc : List (List Content)) (cells : List Content) → length (acc ++ cells ∷ []) ≡ length acc + 1
-    one-more acc cells = let size = length-append acc (cells ∷ []) in omega (arith, size)
-
     grows : (xs : List (List (List ℕ))) (acc : List (List Content)) → Grows (length acc) (read_rows nulls types acc xs)
     unfolding read_rows
     grows [] acc = omega arith
@@ -186,7 +183,7 @@ module _ (nulls : List (List ℕ)) where
         go : (r : Result (List Content) ReadRefused) → RowAfter (length acc) r
             → ((cells : List Content) → Grows (length (acc ++ cells ∷ [])) (read_rows nulls types (acc ++ cells ∷ []) xs))
             → Grows (length acc) (reading_then r (λ cells. read_rows nulls types (acc ++ cells ∷ []) xs))
-        go (Ok cells) h again = let size = one-more acc cells in grows-less (length acc) (length (acc ++ cells ∷ [])) _ (omega (arith, size)) (again cells)
+        go (Ok cells) h again = let size = length_push acc cells in grows-less (length acc) (length (acc ++ cells ∷ [])) _ (omega (arith, size)) (again cells)
         go (Err e) h again = h
 
     -- what a part reads as, after the rows before it
@@ -210,7 +207,7 @@ module _ (nulls : List (List ℕ)) where
         go : (r : Result (List Content) ReadRefused) → RowAfter (length acc) r
             → ((cells : List Content) → Grows (length (acc ++ cells ∷ [])) (read_rows nulls types (acc ++ cells ∷ []) xs))
             → Adds (length acc) (reading_then r (λ cells. read_rows nulls types (acc ++ cells ∷ []) xs))
-        go (Ok cells) h again = adds-from (length acc) _ (rw (one-more acc cells) at (again cells))
+        go (Ok cells) h again = adds-from (length acc) _ (rw (length_push acc cells) at (again cells))
         go (Err e) h again = h
 
     too-many : (done : List (List Content)) (k : ℕ) (r s : Rows) → 2 ^ 31 - 1 ≤ length done + k → Adds k r → s ≡ Err refused.TooManyRows → Later done r s
@@ -231,7 +228,7 @@ module _ (nulls : List (List ℕ)) where
           | yes below ↦
               let moved = row-moved (length done) (length acc) f below in
               go (read_row nulls types (length acc) f) (read_row nulls types (length (done ++ acc)) f) (rw size moved)
-              (λ cells. let one = one-more acc cells in rw (← append_assoc done acc (cells ∷ [])) at (later xs done (acc ++ cells ∷ []) (omega (arith, one, below))))
+              (λ cells. let one = length_push acc cells in rw (← append_assoc done acc (cells ∷ [])) at (later xs done (acc ++ cells ∷ []) (omega (arith, one, below))))
           | no above ↦ too-many done (length acc) _ _ (omega (arith, above)) (adds f xs acc) (full f xs (done ++ acc) (omega (arith, size, above)))
         ]
       where

@@ -5,8 +5,8 @@ use Rattle.std.proofs.lemmas.Bool.{cases_lt, eq-eqb, eqb-true, false≢true}
 use Rattle.std.proofs.lemmas.List.{get_or-drop, get_or-take, take-append-drop, length-take, length-drop}
 use Rattle.csv.specs.declared.parser.State.TheVariants as st
 use Rattle.csv.specs.Reading.{default_config, records, strip_bom}
-use Rattle.rj_csv_io.specs.declared.place.Place.{Place}
-use Rattle.rj_csv_io.specs.declared.place.Place.TheVariants as place
+use Rattle.rj_csv_io.specs.declared.place.ReaderPlace.{ReaderPlace}
+use Rattle.rj_csv_io.specs.declared.place.ReaderPlace.TheVariants as place
 use Rattle.rj_csv_io.specs.Cuts.{state_after, is_open, is_separator, after_run, place_after, is_open_place, has_bom, records_in}
 use Rattle.rj_csv_io.specs.Parts.{row_records}
 use Rattle.rj_csv_io.specs.Pieces.{IsLastEnd, piece_records}
@@ -35,7 +35,7 @@ one-last text end last other h o = elim (cases_lt last other) [
   ]
 ]
 
-still-closed : (p : Place) (c : ℕ) → is_open_place p ≡ false → is_open_place (after_run p c) ≡ false
+still-closed : (p : ReaderPlace) (c : ℕ) → is_open_place p ≡ false → is_open_place (after_run p c) ≡ false
 still-closed place.Fresh c h = go (is_separator c)
   where
     go : (b : Bool) → is_open_place (if b then place.Fresh else place.Inside) ≡ false
@@ -53,7 +53,7 @@ still-closed place.Closed c h = go (is_separator c)
     go true = refl
     go false = refl
 
-open-is : (p : Place) → is_open_place p ≡ true → p ≡ place.Open
+open-is : (p : ReaderPlace) → is_open_place p ≡ true → p ≡ place.Open
 open-is place.Fresh h = absurd (false≢true h)
 open-is place.Inside h = absurd (false≢true h)
 open-is place.Open h = refl

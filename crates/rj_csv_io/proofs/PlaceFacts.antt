@@ -1,15 +1,16 @@
 -- How places in a text follow its bytes.
 use Rattle.std.proofs.Common.{◌≡◌, ◌<◌, ◌≤◌, ◌+◌, ◌-◌, ℕ, zero, suc, List, [], ◌∷◌, ◌++◌, length, take, drop, get_or, true, false, Bool, refl, sym, ap, arith, inl, inr, ◌∙◌, subst}
 use Rattle.std.specs.Prelude.{if◌then◌else◌, ◌==◌}
-use Rattle.std.proofs.lemmas.Bool.{cases_Bool, eqb-true}
-use Rattle.std.proofs.lemmas.List.{take_more, take_rest, get_or-drop, take-append-drop, take-take, drop-take}
+use Rattle.std.proofs.lemmas.Bool.{cases_Bool, eqb-true, false_from_ne_true}
+use Rattle.std.proofs.Math.Seq.{take-add}
+use Rattle.std.proofs.lemmas.List.{take_more, take_rest, get_or-drop}
 use Rattle.rj_csv_io.proofs.CutFacts.{line-closes}
 use Rattle.csv.specs.declared.parser.State.{State}
 use Rattle.csv.specs.declared.parser.State.TheVariants as st
 use Rattle.csv.specs.Machine.{step}
 use Rattle.csv.specs.Reading.{default_config}
-use Rattle.rj_csv_io.specs.declared.place.Place.{Place}
-use Rattle.rj_csv_io.specs.declared.place.Place.TheVariants as place
+use Rattle.rj_csv_io.specs.declared.place.ReaderPlace.{ReaderPlace}
+use Rattle.rj_csv_io.specs.declared.place.ReaderPlace.TheVariants as place
 use Rattle.rj_csv_io.specs.Cuts.{state_after, is_open, is_separator, after_plain, after_run, after_quote, after_byte, place_after, place_of, is_open_place}
 
 -- a state that csv's defaults lead to
@@ -115,20 +116,20 @@ open-after text =
     let follow = places-follow st.StartRecord text tt in
     open-place (state_after st.StartRecord text) follow.1 ∙ ap is_open_place follow.0
 
-pub places-append : (p : Place) (a b : List ℕ) → place_after p (a ++ b) ≡ place_after (place_after p a) b
+pub places-append : (p : ReaderPlace) (a b : List ℕ) → place_after p (a ++ b) ≡ place_after (place_after p a) b
 unfolding place_after
 places-append p [] b = refl
 places-append p (c ∷ a) b = places-append (after_byte p c) a b
 
-pub place-one : (p : Place) (c : ℕ) → place_after p (c ∷ []) ≡ after_byte p c
+pub place-one : (p : ReaderPlace) (c : ℕ) → place_after p (c ∷ []) ≡ after_byte p c
 unfolding place_after
 place-one p c = refl
 
-pub place-none : (p : Place) → place_after p [] ≡ p
+pub place-none : (p : ReaderPlace) → place_after p [] ≡ p
 unfolding place_after
 place-none p = refl
 
-run-run : (p : Place) (c d : ℕ) → after_run (after_run p c) d ≡ after_run p d
+run-run : (p : ReaderPlace) (c d : ℕ) → after_run (after_run p c) d ≡ after_run p d
 run-run place.Fresh c d = go (is_separator c)
   where
     go : (b : Bool) → after_run (if b then place.Fresh else place.Inside) d ≡ after_plain d
@@ -147,7 +148,7 @@ run-run place.Closed c d = go (is_separator c)
     go false = refl
 
 -- bytes without a quote
-pub run-plain : (p : Place) (text : List ℕ) (from n : ℕ) → from + suc n ≤ length text
+pub run-plain : (p : ReaderPlace) (text : List ℕ) (from n : ℕ) → from + suc n ≤ length text
     → ((i : ℕ) → from ≤ i → i < from + suc n → (get_or text i 0 == 34) ≡ false)
     → place_after p (take (from + suc n) text) ≡ after_run (place_after p (take from text)) (get_or text (from + n) 0)
 run-plain p text from zero h plain =
@@ -162,7 +163,7 @@ run-plain p text from (suc n) h plain =
     let e : from + suc (suc n) ≡ (from + suc n) + 1 = omega arith in
     rw (e, more, places-append p (take (from + suc n) text) (get_or text (from + suc n) 0 ∷ []), place-one (place_after p (take (from + suc n) text)) (get_or text (from + suc n) 0), last, before) again
 
-pub run-to : (p : Place) (text : List ℕ) (from to : ℕ) → from < to → to ≤ length text
+pub run-to : (p : ReaderPlace) (text : List ℕ) (from to : ℕ) → from < to → to ≤ length text
     → ((i : ℕ) → from ≤ i → i < to → (get_or text i 0 == 34) ≡ false)
     → place_after p (take to text) ≡ after_run (place_after p (take from text)) (get_or text (to - 1) 0)
 run-to p text from to some within plain =
@@ -172,13 +173,9 @@ run-to p text from to some within plain =
     rw (e, f) at run
 
 -- and then a quote
-pub run-quote : (p : Place) (text : List ℕ) (at : ℕ) → at < length text → (get_or text at 0 == 34) ≡ true
+pub run-quote : (p : ReaderPlace) (text : List ℕ) (at : ℕ) → at < length text → (get_or text at 0 == 34) ≡ true
     → place_after p (take (at + 1) text) ≡ after_quote (place_after p (take at text))
 run-quote p text at h q = rw (take_more text at 0 h, places-append p (take at text) (get_or text at 0 ∷ []), place-one (place_after p (take at text)) (get_or text at 0), q) refl
-
-not-true : (x : Bool) → (x ≡ true → ⊥) → x ≡ false
-not-true true n = absurd (n refl)
-not-true false n = refl
 
 pub rest-at : (text : List ℕ) (at k : ℕ) → get_or (take (length text - at) (drop at text)) k 0 ≡ get_or text (at + k) 0
 rest-at text at k = ap (λ t. get_or t k 0) (take_rest text at) ∙ get_or-drop at text k 0
@@ -190,14 +187,7 @@ no-quote text at n h i a b =
     let e = rest-at text at (i - at) in
     let f : at + (i - at) ≡ i = omega arith in
     let g = rw f at e in
-    not-true (get_or text i 0 == 34) (λ t. h (i - at) (omega arith) (omega arith) (rw g t))
-
--- the bytes up to a place, and those from there to the next
-pub take-on : (text : List ℕ) (at m : ℕ) → take at text ++ take m (drop at text) ≡ take (at + m) text
-take-on text at m =
-    let whole = take-append-drop at (take (at + m) text) in
-    let first : take at (take (at + m) text) ≡ take at text = take-take at (at + m) text (omega arith) in
-    rw (first, drop-take at m text) at whole
+    false_from_ne_true (get_or text i 0 == 34) (λ t. h (i - at) (omega arith) (omega arith) (rw g t))
 
 -- a line's end outside quotes ends a record
 pub line-ends : (text : List ℕ) (at : ℕ) → at < length text → (get_or text at 0 == 10) ≡ true
@@ -209,11 +199,11 @@ line-ends text at h lf closed =
     rw more (line-closes st.StartRecord (take at text) (rw more at still))
 
 -- the place after the bytes up to the next place
-pub next-place : (p q r : Place) (text : List ℕ) (at next : ℕ) → at ≤ next → q ≡ place_after p (take at text)
+pub next-place : (p q r : ReaderPlace) (text : List ℕ) (at next : ℕ) → at ≤ next → q ≡ place_after p (take at text)
     → r ≡ place_after q (take (next - at) (drop at text)) → r ≡ place_after p (take next text)
 next-place p q r text at next h e f =
     let size : at + (next - at) ≡ next = omega arith in
-    let whole = take-on text at (next - at) in
+    let whole = sym (take-add at (next - at) text) in
     let joined = rw size at whole in
     f ∙ (ap (λ x. place_after x (take (next - at) (drop at text))) e
     ∙ (sym (places-append p (take at text) (take (next - at) (drop at text))) ∙ ap (λ t. place_after p t) joined))

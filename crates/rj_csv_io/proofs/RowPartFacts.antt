@@ -21,20 +21,15 @@ start-past rows parts part h k =
     let more : rows / parts * parts ≤ rows / parts * part = mul-le-mul_left (rows / parts) k in
     omega arith
 
-concat-one : (t : List ℕ) → concat (t ∷ []) ≡ t
-concat-one t = append-nil t
-
--- one more text
-pub concat-more : (texts : List (Vec ℕ Global)) (t : Vec ℕ Global)
-    → concat (map (λ (t : Vec ℕ Global). t.items) (texts ++ t ∷ [])) ≡ concat (map (λ (t : Vec ℕ Global). t.items) texts) ++ t.items
-concat-more texts t =
-    rw map-append
-    (concat-append (map (λ (t : Vec ℕ Global). t.items) texts) (t.items ∷ []) ∙ ap (λ r. concat (map (λ (t : Vec ℕ Global). t.items) texts) ++ r) (concat-one t.items))
-
 -- more texts
 pub concat-joined : (texts more : List (Vec ℕ Global)) → concat (map (λ (t : Vec ℕ Global). t.items) (texts ++ more))
     ≡ concat (map (λ (t : Vec ℕ Global). t.items) texts) ++ concat (map (λ (t : Vec ℕ Global). t.items) more)
 concat-joined texts more = rw map-append (concat-append (map (λ (t : Vec ℕ Global). t.items) texts) (map (λ (t : Vec ℕ Global). t.items) more))
+
+-- one more text
+pub concat-more : (texts : List (Vec ℕ Global)) (t : Vec ℕ Global)
+    → concat (map (λ (t : Vec ℕ Global). t.items) (texts ++ t ∷ [])) ≡ concat (map (λ (t : Vec ℕ Global). t.items) texts) ++ t.items
+concat-more texts t = concat-joined texts (t ∷ []) ∙ ap (λ r. concat (map (λ (t : Vec ℕ Global). t.items) texts) ++ r) (append-nil t.items)
 
 -- the texts up to one more
 pub concat-take : (texts : List (Vec ℕ Global)) (i : ℕ) (t : Vec ℕ Global) → i < length texts → t ≡ slice_index_or texts i t

@@ -1,17 +1,21 @@
 -- The rows of records, one more at a time.
-use Rattle.std.proofs.Common.{◌≡◌, ◌<◌, ◌≤◌, ◌+◌, ◌-◌, ◌^◌, ℕ, List, [], ◌∷◌, ◌++◌, length, true, false, Bool, Some, None, Ok, Err, refl, ap, sym, ◌∙◌, arith, drop, subst, zero, suc}
+use Rattle.std.proofs.Common.{◌≡◌, ◌<◌, ◌≤◌, ◌+◌, ◌-◌, ◌^◌, ℕ, List, [], ◌∷◌, ◌++◌, length, true, false, Bool, Some, None, Ok, Err, refl, ap, sym, ◌∙◌, arith, drop, subst, zero, suc, Bor, inl, inr}
 use Rattle.std.specs.Prelude.{if◌then◌else◌, nat_lt, ℤ, pos, neg_ℤ, Option, option_map, slice_index_or, unsigned_abs}
 use Rattle.std.specs.Str.{is_utf8}
 use Rattle.std.specs.Str.Parse.{signed_digits_value, starts_with_minus, without_leading_sign}
-use Rattle.std.proofs.lemmas.Bool.{and_parts, le-leb, lt-leb, ltb-true, eq-eqb, ne_eqb}
+use Rattle.std.proofs.lemmas.Bool.{and_parts, cases_lt, le-leb, lt-leb, ltb-true, eq-eqb, ne_eqb}
+use Rattle.std.proofs.lemmas.List.{length_push}
+use Rattle.csv.specs.declared.reader.Reader.{Reader}
 use Rattle.rj_decimal.specs.Read.{after_point, are_zeros, before_point, fits, is_numeric_text, is_unsigned_text, numeric_of, signed_size, size_at, units_in}
 use Rattle.rj_columns.specs.declared.cell.ColumnType.{ColumnType}
 use Rattle.rj_columns.specs.declared.cell.ColumnType.TheVariants as kind
 use Rattle.rj_columns.specs.Contents.{Content, nothing, whole, decimal, word, FitsType}
-use Rattle.rj_columns.specs.Tables.{FitsAt, BuilderValue}
+use Rattle.rj_columns.specs.Tables.{FitsAt, BuilderValue, TableValue}
 use Rattle.rj_csv_io.specs.declared.refused.ReadRefused.{ReadRefused}
 use Rattle.rj_csv_io.specs.declared.refused.ReadRefused.TheVariants as refused
 use Rattle.rj_csv_io.specs.Typed.{is_null_field, read_cell, typed_cell, read_cells, is_int_text}
+use Rattle.rj_csv_io.specs.Remaining.{rows_from}
+use Rattle.rj_csv_io.specs.RowReading.{HasReadRow}
 use Rattle.rj_csv_io.specs.Rows.{read_row, read_rows}
 
 -- a sign leaves the size
@@ -107,7 +111,28 @@ pub grows-same : (start now next : BuilderValue) (row : List Content) → now �
 grows-same start now next row e h = let t : now.table ≡ start.table = ap (λ (v : BuilderValue). v.table) e in rw (h, t) refl
 
 pub ended : (start full next : BuilderValue) → full ≡ record start { row = full.row } → next ≡ record { table = record full.table { rows = full.table.rows ++ full.row ∷ [] }; row = [] }
-    → (next.table.rows ≡ start.table.rows ++ full.row ∷ []) × (next ≡ record { table = record start.table { rows = next.table.rows }; row = [] })
+    → next ≡ record { table = record start.table { rows = start.table.rows ++ full.row ∷ [] }; row = [] }
 ended start full next e h =
-    let t : full.table ≡ start.table = ap (λ (v : BuilderValue). v.table) e in
-    (ap (λ (v : BuilderValue). v.table.rows) h ∙ rw t refl, rw (h, t) refl)
+    let same : full.table ≡ start.table = ap (λ (v : BuilderValue). v.table) e in
+    h ∙ ap (λ (t : TableValue). record { table = record t { rows = t.rows ++ full.row ∷ [] }; row = [] }) same
+
+-- a row that was read had room
+pub row-room : (nulls : List (List ℕ)) (types : List ColumnType) (n : ℕ) (f : List (List ℕ)) (cells : List Content) → read_row nulls types n f ≡ Ok cells → n < 2 ^ 31 - 1
+row-room nulls types n f cells e = elim (cases_lt n (2 ^ 31 - 1)) [
+  | inl room ↦ room
+  | inr full ↦ let no : Err refused.TooManyRows ≡ Ok cells = sym (row-too_many nulls types n f full) ∙ e in absurd (cc)
+]
+
+-- one more row of a reader
+module _ (nulls : List (List ℕ)) (types : List ColumnType) (reader rest : Reader (Bor (List ℕ))) (before after : BuilderValue) (read : HasReadRow nulls types reader rest before after) where
+  pub read-rows : after.table.rows ≡ before.table.rows ++ read.cells ∷ []
+  read-rows = ap (λ (v : BuilderValue). v.table.rows) read.added
+
+  pub read-size : length after.table.rows ≡ length before.table.rows + 1
+  read-size = ap length read-rows ∙ length_push before.table.rows read.cells
+
+  pub read-same : after ≡ record { table = record before.table { rows = after.table.rows }; row = [] }
+  read-same = read.added ∙ ap (λ (rows : List (List Content)). record { table = record before.table { rows = rows }; row = [] }) (sym read-rows)
+
+  pub read-on : rows_from nulls types before.table.rows reader ≡ rows_from nulls types after.table.rows rest
+  read-on = rw (read.next, read-rows) (rows-step nulls types before.table.rows (length before.table.rows) read.fields _ read.cells refl read.row)

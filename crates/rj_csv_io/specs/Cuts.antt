@@ -4,8 +4,8 @@ use Rattle.csv.specs.Machine.{step}
 use Rattle.csv.specs.Reading.{default_config, is_bom, records, strip_bom}
 use Rattle.csv.specs.declared.parser.State.{State}
 use Rattle.csv.specs.declared.parser.State.TheVariants as st
-use Rattle.rj_csv_io.specs.declared.place.Place.{Place}
-use Rattle.rj_csv_io.specs.declared.place.Place.TheVariants as place
+use Rattle.rj_csv_io.specs.declared.place.ReaderPlace.{ReaderPlace}
+use Rattle.rj_csv_io.specs.declared.place.ReaderPlace.TheVariants as place
 
 -- the records of a text that may begin with a byte order mark
 abbrev pub records_in : List ℕ → List (List (List ℕ))
@@ -37,32 +37,32 @@ abbrev pub is_separator : ℕ → Bool
 is_separator c = (c == 44) || (c == 13) || (c == 10)
 
 -- the place after a byte that is no quote, outside quotes
-abbrev pub after_plain : ℕ → Place
+abbrev pub after_plain : ℕ → ReaderPlace
 after_plain c = if is_separator c then place.Fresh else place.Inside
 
 -- the place after a quote
-abbrev pub after_quote : Place → Place
+abbrev pub after_quote : ReaderPlace → ReaderPlace
 after_quote place.Fresh = place.Open
 after_quote place.Inside = place.Inside
 after_quote place.Open = place.Closed
 after_quote place.Closed = place.Open
 
 -- the place after one or more bytes without a quote, of which this is the last
-abbrev pub after_run : Place → ℕ → Place
+abbrev pub after_run : ReaderPlace → ℕ → ReaderPlace
 after_run place.Fresh c = after_plain c
 after_run place.Inside c = after_plain c
 after_run place.Open c = place.Open
 after_run place.Closed c = after_plain c
 
-abbrev pub after_byte : Place → ℕ → Place
+abbrev pub after_byte : ReaderPlace → ℕ → ReaderPlace
 after_byte p c = if c == 34 then after_quote p else after_run p c
 
 -- the place after these bytes
-unfoldable pub place_after : Place → List ℕ → Place
+unfoldable pub place_after : ReaderPlace → List ℕ → ReaderPlace
 place_after p [] = p
 place_after p (c ∷ text) = place_after (after_byte p c) text
 
-abbrev pub place_of : State → Place
+abbrev pub place_of : State → ReaderPlace
 place_of st.StartRecord = place.Fresh
 place_of st.StartField = place.Fresh
 place_of st.InField = place.Inside
@@ -72,7 +72,7 @@ place_of st.InEscape = place.Open
 place_of st.InComment = place.Inside
 place_of st.AfterCr = place.Fresh
 
-abbrev pub is_open_place : Place → Bool
+abbrev pub is_open_place : ReaderPlace → Bool
 is_open_place place.Fresh = false
 is_open_place place.Inside = false
 is_open_place place.Open = true

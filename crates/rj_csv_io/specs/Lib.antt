@@ -1,6 +1,7 @@
 pub mod Typed
 pub mod Rows
 pub mod Remaining
+pub mod RowReading
 pub mod Tables
 pub mod Shown
 pub mod Written

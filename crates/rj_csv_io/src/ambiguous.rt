@@ -1,13 +1,12 @@
 //! Cells whose text is that of null.
 
-ghost use Rattle.std.specs.Prelude.{◌≡◌, ◌<◌, ◌≤◌, ◌-◌, ◌+◌, ◌^◌, ℕ, false, IsTrue, IfOk, IfSome, MatchOption, length, map};
+ghost use Rattle.std.specs.Prelude.{◌≡◌, ◌<◌, ◌≤◌, ◌-◌, ◌+◌, ◌^◌, ℕ, false, IsTrue, IfOk, IfSome, MatchOption};
 ghost use Rattle.rj_columns.specs.Contents.{content_of};
-ghost use Rattle.rj_columns.specs.Tables.{cell_in};
 ghost use Rattle.rj_csv_io.specs.Ambiguous.{AreClear, IsClearRow, IsFirstAmbiguous, IsFirstInRow, is_ambiguous};
 ghost use Rattle.rj_csv_io.specs.Blocks.{Holds};
 ghost use Rattle.rj_csv_io.specs.Tables.{is_null_text};
 
-use crate::block::{Block, next_block, no_rows};
+use crate::block::{RowBlock, next_block, no_rows};
 use rj_columns::{Cell, RowSource};
 use std::alloc::{AllocError, Global};
 
@@ -25,7 +24,7 @@ fn has_null_text(cell: Cell<'_>, null: &str) -> bool
 }
 
 // The first cell of a block's row that isn't null and has the null text.
-fn first_in_row<S: RowSource>(block: &Block<'_>, source: &S, row: u64, null: &str) -> Option<u64>
+fn first_in_row<S: RowSource>(block: &RowBlock<'_>, source: &S, row: u64, null: &str) -> Option<u64>
     requires null { IsTrue (is_null_text null.now) }
     requires holds { Holds (S.contents source.now) (S.width source.now) block.now }
     requires from { block.now.from ≤ row }
@@ -46,7 +45,7 @@ fn first_in_row<S: RowSource>(block: &Block<'_>, source: &S, row: u64, null: &st
 }
 
 // The first such cell of a block's rows.
-fn first_in_block<S: RowSource>(block: &Block<'_>, source: &S, null: &str) -> Option<(u64, u64)>
+fn first_in_block<S: RowSource>(block: &RowBlock<'_>, source: &S, null: &str) -> Option<(u64, u64)>
     requires null { IsTrue (is_null_text null.now) }
     requires holds { Holds (S.contents source.now) (S.width source.now) block.now }
     ensures { MatchOption result ((r : ℕ) → block.now.from ≤ r → r < block.now.to → IsClearRow null.now (S.contents source.now) r)

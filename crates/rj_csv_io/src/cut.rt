@@ -5,7 +5,7 @@ ghost use Rattle.csv.specs.Reading.{strip_bom};
 ghost use Rattle.csv.specs.declared.parser.State.TheVariants as st;
 ghost use Rattle.rj_csv_io.specs.Cuts.{has_bom, records_in, records_in_all, state_after};
 
-use crate::place::{Place, is_open, scan};
+use crate::place::{ReaderPlace, is_open, scan};
 use memchr::memchr;
 use std::alloc::{AllocError, Global};
 
@@ -37,7 +37,7 @@ fn cut_after(text: &[u8], target: usize) -> Option<usize>
     ensures ends { IfSome result (λ c. state_after st.StartRecord (take c text.now) ≡ st.StartRecord) }
     ensures unmarked { IfSome result (λ c. strip_bom (drop c text.now) ≡ drop c text.now) }
 {
-    let mut place = scan(Place::Fresh, &text[..target]);
+    let mut place = scan(ReaderPlace::Fresh, &text[..target]);
     let mut at = target;
     for _turn in target..text.len() {
         let Some(k) = memchr(b'\n', &text[at..]) else {

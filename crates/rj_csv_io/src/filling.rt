@@ -1,10 +1,56 @@
-//! Reading the next bytes of a device.
+//! Reading the bytes of a device, piece by piece.
 
-ghost use Rattle.std.specs.Prelude.{◌≡◌, ◌≢◌, ◌<◌, ◌≤◌, ◌+◌, ◌-◌, ◌^◌, ℕ, List, Option, Ok, Err, true, false, length, take, vec_len, IfErr, OnOk};
+ghost use Rattle.std.specs.Prelude.{◌≡◌, ◌≢◌, ◌<◌, ◌≤◌, ◌+◌, ◌-◌, ◌^◌, ℕ, List, Option, Ok, Err, true, false, [], length, take, drop, vec_len, IfOk, IfErr, IfSome, OnOk, OnErr};
 ghost use Rattle.std.specs.Io.KnownBytes.{Consumes, IsAtEnd};
 
-use crate::input::{Input, read_piece};
+use crate::input::Input;
+use crate::output::Failed;
 use crate::refused::ReadRefused;
+use std::alloc::Global;
+
+// How many bytes are asked of a device at once.
+const PIECE: usize = 65536;
+
+// Gets the next bytes of a device into a buffer, behind its first so many, and says how many they are.
+fn get_behind<I: Input>(input: &mut I, buffer: &mut [u8], filled: usize) -> Result<usize, Failed>
+    requires failures { I.count input.old < 2 ^ 64 - 1 }
+    requires room { filled < length buffer.old }
+    ensures size { length buffer.new ≡ length buffer.old }
+    ensures front { take filled buffer.new ≡ take filled buffer.old }
+    ensures fits { IfOk result (λ k. filled + k ≤ length buffer.new) }
+    ensures bytes { IfOk result (λ k. Consumes (I.tells input.old) (I.tells input.new) (take k (drop filled buffer.new))) }
+    ensures end { result ≡ Ok 0 → IsAtEnd (I.tells input.new) }
+    ensures kept { OnOk result (I.count input.new ≡ I.count input.old) }
+    ensures failed { OnErr result (I.count input.new ≡ I.count input.old + 1) }
+{
+    input.get(&mut buffer[filled..])
+}
+
+// Adds the next piece of a device's bytes, and says whether there was one.
+fn read_piece<I: Input>(input: &mut I, bytes: &mut Vec<u8>) -> Result<bool, ReadRefused>
+    requires failures { I.count input.old < 2 ^ 64 - 1 }
+    ensures bytes { OnOk result ((start : Option (List ℕ)) → Consumes start (I.tells input.old) bytes.old.items
+        → Consumes start (I.tells input.new) bytes.new.items) }
+    ensures front { OnOk result (take (length bytes.old.items) bytes.new.items ≡ bytes.old.items) }
+    ensures bound { OnOk result (vec_len bytes.new ≤ vec_len bytes.old + 2 ^ 16) }
+    ensures more { result ≡ Ok true → vec_len bytes.old < vec_len bytes.new }
+    ensures end { result ≡ Ok false → IsAtEnd (I.tells input.new) }
+    ensures device { result ≡ Err ReadRefused.ReadDevice → I.count input.new ≡ I.count input.old + 1 }
+    ensures kept { result ≢ Err ReadRefused.ReadDevice → I.count input.new ≡ I.count input.old }
+    ensures fault { IfErr result (λ e. e ≢ ReadRefused.Memory → e ≡ ReadRefused.ReadDevice) }
+{
+    let filled = bytes.len();
+    if bytes.resize(filled + PIECE, 0).is_err() {
+        return Err(ReadRefused::Memory);
+    }
+    match get_behind(input, bytes.as_mut_slice(), filled) {
+        Ok(k) => {
+            bytes.truncate(filled + k);
+            Ok(k > 0)
+        }
+        Err(Failed) => Err(ReadRefused::ReadDevice),
+    }
+}
 
 /// Adds the next bytes of a device to some, until these are at least so many or the device is at its end: whether it is
 /// at its end. Where any were read, they are less than 64 KiB more than so many.
@@ -30,11 +76,37 @@ pub fn read_up_to<I: Input>(
     ensures fault { IfErr result (λ e. e ≢ ReadRefused.Memory → e ≡ ReadRefused.ReadDevice) }
 {
     while bytes.len() < size {
-        match read_piece(input, bytes) {
-            Ok(true) => {}
-            Ok(false) => return Ok(true),
-            Err(e) => return Err(e),
+        if !read_piece(input, bytes)? {
+            return Ok(true);
         }
     }
     Ok(false)
+}
+
+// An empty list with room for about so many bytes and a piece more, where that room can be had.
+fn likely_room(alloc: Global, size: u64) -> Vec<u8>
+    ensures { result.items ≡ [] }
+{
+    let mut bytes = Vec::new(alloc);
+    let _ = bytes.reserve((size as usize).saturating_add(PIECE));
+    bytes
+}
+
+/// All bytes of a device, to its end.
+///
+/// # Errors
+///
+/// `ReadDevice` is answered where the device failed, `Memory` where a growth was refused; nothing is known then of
+/// how much was read.
+pub fn read_all<I: Input>(alloc: Global, input: &mut I) -> Result<Vec<u8>, ReadRefused>
+    requires { I.count input.old < 2 ^ 64 - 1 }
+    ensures bytes { IfOk result (λ v. IfSome (I.tells input.old) (λ xs. v.items ≡ xs)) }
+    ensures end { OnOk result (IsAtEnd (I.tells input.new)) }
+    ensures device { result ≡ Err ReadRefused.ReadDevice → I.count input.new ≡ I.count input.old + 1 }
+    ensures kept { result ≢ Err ReadRefused.ReadDevice → I.count input.new ≡ I.count input.old }
+    ensures fault { IfErr result (λ e. e ≢ ReadRefused.Memory → e ≡ ReadRefused.ReadDevice) }
+{
+    let mut bytes = likely_room(alloc, input.likely_size());
+    read_up_to(input, &mut bytes, usize::MAX)?;
+    Ok(bytes)
 }

@@ -1,12 +1,10 @@
 //! Devices that give bytes.
 
-ghost use Rattle.std.specs.Prelude.{◌≡◌, ◌≢◌, ◌<◌, ◌≤◌, ◌+◌, ◌-◌, ◌^◌, ℕ, List, Option, None, Some, Ok, Err, true, false, [], take, drop, length, vec_len, IfOk, IfErr, IfSome, OnOk, OnErr};
+ghost use Rattle.std.specs.Prelude.{◌≡◌, ◌<◌, ◌≤◌, ◌+◌, ◌-◌, ◌^◌, ℕ, List, Option, None, take, length, IfOk, IfSome, OnOk, OnErr};
 ghost use Rattle.std.specs.Io.KnownBytes.{Consumes, IsAtEnd};
 ghost use Rattle.rj_csv_io.specs.Devices.{likely_size_of, reader_of, read_failures_of};
 
 use crate::output::Failed;
-use crate::refused::ReadRefused;
-use std::alloc::Global;
 use std::io::{ErrorKind, Read};
 
 /// A device that gives bytes and counts its failures.
@@ -63,6 +61,8 @@ impl<R: Read> CountedReader<R> {
 
     /// The reader, with no failure so far, and about how many bytes it will give, so that [`read_all`] asks for
     /// their room at once. The number changes nothing of what is read.
+    ///
+    /// [`read_all`]: crate::read_all
     pub fn with_likely_size(reader: R, likely_size: u64) -> CountedReader<R>
         ensures reader { reader_of result ≡ reader }
         ensures failures { read_failures_of result ≡ 0 }
@@ -119,82 +119,4 @@ impl<R: Read> Input for CountedReader<R> {
     {
         self.likely_size
     }
-}
-
-// How many bytes are asked of a device at once.
-const PIECE: usize = 65536;
-
-// Gets the next bytes of a device into a buffer, behind its first so many, and says how many they are.
-fn get_behind<I: Input>(input: &mut I, buffer: &mut [u8], filled: usize) -> Result<usize, Failed>
-    requires failures { I.count input.old < 2 ^ 64 - 1 }
-    requires room { filled < length buffer.old }
-    ensures size { length buffer.new ≡ length buffer.old }
-    ensures front { take filled buffer.new ≡ take filled buffer.old }
-    ensures fits { IfOk result (λ k. filled + k ≤ length buffer.new) }
-    ensures bytes { IfOk result (λ k. Consumes (I.tells input.old) (I.tells input.new) (take k (drop filled buffer.new))) }
-    ensures end { result ≡ Ok 0 → IsAtEnd (I.tells input.new) }
-    ensures kept { OnOk result (I.count input.new ≡ I.count input.old) }
-    ensures failed { OnErr result (I.count input.new ≡ I.count input.old + 1) }
-{
-    input.get(&mut buffer[filled..])
-}
-
-// Adds the next piece of a device's bytes, and says whether there was one.
-pub(crate) fn read_piece<I: Input>(input: &mut I, bytes: &mut Vec<u8>) -> Result<bool, ReadRefused>
-    requires failures { I.count input.old < 2 ^ 64 - 1 }
-    ensures bytes { OnOk result ((start : Option (List ℕ)) → Consumes start (I.tells input.old) bytes.old.items
-        → Consumes start (I.tells input.new) bytes.new.items) }
-    ensures front { OnOk result (take (length bytes.old.items) bytes.new.items ≡ bytes.old.items) }
-    ensures bound { OnOk result (vec_len bytes.new ≤ vec_len bytes.old + 2 ^ 16) }
-    ensures more { result ≡ Ok true → vec_len bytes.old < vec_len bytes.new }
-    ensures end { result ≡ Ok false → IsAtEnd (I.tells input.new) }
-    ensures device { result ≡ Err ReadRefused.ReadDevice → I.count input.new ≡ I.count input.old + 1 }
-    ensures kept { result ≢ Err ReadRefused.ReadDevice → I.count input.new ≡ I.count input.old }
-    ensures fault { IfErr result (λ e. e ≢ ReadRefused.Memory → e ≡ ReadRefused.ReadDevice) }
-{
-    let filled = bytes.len();
-    if bytes.resize(filled + PIECE, 0).is_err() {
-        return Err(ReadRefused::Memory);
-    }
-    match get_behind(input, bytes.as_mut_slice(), filled) {
-        Ok(k) => {
-            bytes.truncate(filled + k);
-            Ok(k > 0)
-        }
-        Err(Failed) => Err(ReadRefused::ReadDevice),
-    }
-}
-
-// An empty list with room for about so many bytes and a piece more, where that room can be had.
-fn likely_room(alloc: Global, size: u64) -> Vec<u8>
-    ensures { result.items ≡ [] }
-{
-    let mut bytes = Vec::new(alloc);
-    let _ = bytes.reserve((size as usize).saturating_add(PIECE));
-    bytes
-}
-
-/// All bytes of a device, to its end.
-///
-/// # Errors
-///
-/// `ReadDevice` is answered where the device failed, `Memory` where a growth was refused; nothing is known then of
-/// how much was read.
-pub fn read_all<I: Input>(alloc: Global, input: &mut I) -> Result<Vec<u8>, ReadRefused>
-    requires { I.count input.old < 2 ^ 64 - 1 }
-    ensures bytes { IfOk result (λ v. IfSome (I.tells input.old) (λ xs. v.items ≡ xs)) }
-    ensures end { OnOk result (IsAtEnd (I.tells input.new)) }
-    ensures device { result ≡ Err ReadRefused.ReadDevice → I.count input.new ≡ I.count input.old + 1 }
-    ensures kept { result ≢ Err ReadRefused.ReadDevice → I.count input.new ≡ I.count input.old }
-    ensures fault { IfErr result (λ e. e ≢ ReadRefused.Memory → e ≡ ReadRefused.ReadDevice) }
-{
-    let mut bytes = likely_room(alloc, input.likely_size());
-    for _turn in 0..u64::MAX {
-        match read_piece(input, &mut bytes) {
-            Ok(true) => {}
-            Ok(false) => return Ok(bytes),
-            Err(e) => return Err(e),
-        }
-    }
-    unreachable!()
 }

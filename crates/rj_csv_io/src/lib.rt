@@ -31,8 +31,8 @@ mod write_more;
 pub use ambiguous::first_ambiguous;
 pub use cut::without_bom;
 pub use fields::is_null_field;
-pub use filling::read_up_to;
-pub use input::{CountedReader, Input, read_all};
+pub use filling::{read_all, read_up_to};
+pub use input::{CountedReader, Input};
 pub use laws::{
     cells_read_back, mark_is_of_the_first_name, null_texts_read_as_null, read_cells_read_back,
     read_tables_hold_their_types, read_tables_read_back, read_tables_read_back_by_others,

@@ -1,6 +1,6 @@
 //! One of the parts that a table is read in.
 
-ghost use Rattle.std.specs.Prelude.{◌≡◌, ◌<◌, ◌^◌, [], drop, ◌∷◌, List, ℕ, IfOk, Some, MatchOption};
+ghost use Rattle.std.specs.Prelude.{◌≡◌, ◌<◌, ◌^◌, [], ◌∷◌, List, ℕ, IfOk, IfErr, Some, MatchOption};
 ghost use Rattle.csv.specs.Records.{fields_of};
 ghost use Rattle.rj_csv_io.specs.Cuts.{records_in};
 ghost use Rattle.rj_csv_io.specs.Remaining.{IsBetween, records_remaining};
@@ -8,24 +8,24 @@ ghost use Rattle.rj_csv_io.specs.Parts.{IsReading, moved, row_records};
 ghost use Rattle.rj_csv_io.specs.Typed.{null_texts};
 
 use crate::header::{begin_table, likely_rows, open_reader};
-use crate::read_rows::{MAX_ROWS, rows_of_reader};
+use crate::read_rows::{MAX_ROWS, next_record, rows_of_reader};
 use crate::refused::ReadRefused;
 use csv::{ByteRecord, Reader};
 use rj_columns::{ColumnType, Table};
-use std::alloc::{AllocError, Global};
+use std::alloc::Global;
 
 /// The first record of a text, if it has one.
-pub(crate) fn header_of(alloc: Global, text: &[u8]) -> Result<Option<ByteRecord>, AllocError>
-    ensures { IfOk result (λ o. MatchOption o (records_in text.now ≡ [])
+pub(crate) fn header_of(alloc: Global, text: &[u8]) -> Result<Option<ByteRecord>, ReadRefused>
+    ensures header { IfOk result (λ o. MatchOption o (records_in text.now ≡ [])
         (λ h. (rest : List (List (List ℕ))) × (records_in text.now ≡ fields_of h ∷ rest))) }
+    ensures memory { IfErr result (λ e. e ≡ ReadRefused.Memory) }
 {
     let mut reader = open_reader(alloc, text);
     let mut header = ByteRecord::new(alloc);
-    match reader.read_byte_record(&mut header) {
-        Ok(true) => Ok(Some(header)),
-        Ok(false) => Ok(None),
-        Err(_) => Err(AllocError),
+    if !next_record(&mut reader, &mut header)? {
+        return Ok(None);
     }
+    Ok(Some(header))
 }
 
 // A reader of a text's records, but for the first one where that is the header; none where there are none.
@@ -33,20 +33,20 @@ fn reader_of_part<'a>(
     alloc: Global,
     text: &'a [u8],
     has_header: bool,
-) -> Result<Option<Reader<&'a [u8]>>, AllocError>
-    ensures { IfOk result (λ o. MatchOption o (row_records has_header text.now ≡ [])
+) -> Result<Option<Reader<&'a [u8]>>, ReadRefused>
+    ensures reader { IfOk result (λ o. MatchOption o (row_records has_header text.now ≡ [])
         (λ r. IsBetween (λ s. Some s.now) r × (records_remaining (λ s. Some s.now) r ≡ row_records has_header text.now))) }
+    ensures memory { IfErr result (λ e. e ≡ ReadRefused.Memory) }
 {
     let mut reader = open_reader(alloc, text);
     if !has_header {
         return Ok(Some(reader));
     }
     let mut header = ByteRecord::new(alloc);
-    match reader.read_byte_record(&mut header) {
-        Ok(true) => Ok(Some(reader)),
-        Ok(false) => Ok(None),
-        Err(_) => Err(AllocError),
+    if !next_record(&mut reader, &mut header)? {
+        return Ok(None);
     }
+    Ok(Some(reader))
 }
 
 /// The table of a text's records under this header, which is the first of them where the text has it.
@@ -61,20 +61,11 @@ pub(crate) fn read_part(
 ) -> Result<Table, ReadRefused>
     ensures { IsReading (null_texts nulls.now) types.now (fields_of header.now) (row_records has_header text.now) result }
 {
-    let builder = match begin_table(alloc, header, types, likely_rows(text, types.len())) {
-        Ok(builder) => builder,
-        Err(e) => return Err(e),
-    };
-    let Ok(reader) = reader_of_part(alloc, text, has_header) else {
-        return Err(ReadRefused::Memory);
-    };
-    let Some(reader) = reader else {
+    let builder = begin_table(alloc, header, types, likely_rows(text, types.len()))?;
+    let Some(reader) = reader_of_part(alloc, text, has_header)? else {
         return Ok(builder.finish());
     };
-    match rows_of_reader(alloc, reader, builder, nulls, types) {
-        Ok(table) => Ok(table),
-        Err(e) => Err(e),
-    }
+    rows_of_reader(alloc, reader, builder, nulls, types)
 }
 
 /// A fault of a part that has this many rows before it, with its row counted from the whole table's first one.

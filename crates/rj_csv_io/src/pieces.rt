@@ -39,9 +39,10 @@ impl Header {
         ensures { IfOk result (λ o. MatchOption o (records_in text.now ≡ [])
             (λ h. (rest : List (List (List ℕ))) × (records_in text.now ≡ names_in h ∷ rest))) }
     {
-        match header_of(alloc, text)? {
-            Some(record) => Ok(Some(Header { record })),
-            None => Ok(None),
+        match header_of(alloc, text) {
+            Ok(Some(record)) => Ok(Some(Header { record })),
+            Ok(None) => Ok(None),
+            Err(_) => Err(AllocError),
         }
     }
 

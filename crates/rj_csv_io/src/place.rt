@@ -1,13 +1,13 @@
 //! Where a text of CSV stands after its bytes, as far as quotes go.
 
 ghost use Rattle.std.specs.Prelude.{◌≡◌, ◌<◌, ◌≤◌, ◌==◌, ℕ, false, length, take, slice_index};
-ghost use Rattle.rj_csv_io.specs.Cuts.{after_quote, after_run, is_separator, is_open_place, place_after};
+ghost use Rattle.rj_csv_io.specs.Cuts.{after_quote, after_run, is_open_place, place_after};
 
 use memchr::memchr;
 
 /// A place in a text: at the start of a field, in one, between quotes, after the quote that closed.
 #[derive(Clone, Copy, Debug, PartialEq, Eq)]
-pub(crate) enum Place {
+pub(crate) enum ReaderPlace {
     Fresh,
     Inside,
     Open,
@@ -15,46 +15,46 @@ pub(crate) enum Place {
 }
 
 /// Whether a place is between quotes.
-pub(crate) fn is_open(place: Place) -> bool
+pub(crate) fn is_open(place: ReaderPlace) -> bool
     ensures { result ≡ is_open_place place }
 {
     match place {
-        Place::Open => true,
-        Place::Fresh | Place::Inside | Place::Closed => false,
+        ReaderPlace::Open => true,
+        ReaderPlace::Fresh | ReaderPlace::Inside | ReaderPlace::Closed => false,
     }
 }
 
 // The place after a quote.
-fn quoted(place: Place) -> Place
+fn quoted(place: ReaderPlace) -> ReaderPlace
     ensures { result ≡ after_quote place }
 {
     match place {
-        Place::Fresh => Place::Open,
-        Place::Inside => Place::Inside,
-        Place::Open => Place::Closed,
-        Place::Closed => Place::Open,
+        ReaderPlace::Fresh => ReaderPlace::Open,
+        ReaderPlace::Inside => ReaderPlace::Inside,
+        ReaderPlace::Open => ReaderPlace::Closed,
+        ReaderPlace::Closed => ReaderPlace::Open,
     }
 }
 
 // The place after bytes without a quote, of which this is the last.
-fn plain(place: Place, byte: u8) -> Place
+fn plain(place: ReaderPlace, byte: u8) -> ReaderPlace
     ensures { result ≡ after_run place byte }
 {
-    if place == Place::Open {
-        return Place::Open;
+    if place == ReaderPlace::Open {
+        return ReaderPlace::Open;
     }
     if byte == b',' || byte == b'\r' || byte == b'\n' {
-        return Place::Fresh;
+        return ReaderPlace::Fresh;
     }
-    Place::Inside
+    ReaderPlace::Inside
 }
 
 // The place after more bytes, of which none is a quote.
-fn run(place: Place, text: &[u8], from: usize, to: usize) -> Place
+fn run(place: ReaderPlace, text: &[u8], from: usize, to: usize) -> ReaderPlace
     requires order { from ≤ to }
     requires within { to ≤ length text.now }
     requires plain { (i : ℕ) → from ≤ i → i < to → (slice_index text.now i == 34) ≡ false }
-    ensures { (p : Place) → place ≡ place_after p (take from text.now) → result ≡ place_after p (take to text.now) }
+    ensures { (p : ReaderPlace) → place ≡ place_after p (take from text.now) → result ≡ place_after p (take to text.now) }
 {
     if from == to {
         return place;
@@ -63,7 +63,7 @@ fn run(place: Place, text: &[u8], from: usize, to: usize) -> Place
 }
 
 /// The place after a text that begins at this place.
-pub(crate) fn scan(start: Place, text: &[u8]) -> Place
+pub(crate) fn scan(start: ReaderPlace, text: &[u8]) -> ReaderPlace
     ensures { result ≡ place_after start text.now }
 {
     let mut place = start;

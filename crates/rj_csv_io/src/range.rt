@@ -7,7 +7,7 @@ ghost use Rattle.rj_csv_io.specs.Blocks.{Holds};
 ghost use Rattle.rj_csv_io.specs.Shown.{range_text, shown};
 ghost use Rattle.rj_csv_io.specs.Written.{HasWritten};
 
-use crate::block::{BLOCK_ROWS, Block, next_block, no_rows};
+use crate::block::{BLOCK_ROWS, RowBlock, next_block, no_rows};
 use crate::text::{close_text, end_record, open_text, write_cell, write_field};
 use csv::Writer;
 use rj_columns::RowSource;
@@ -48,7 +48,7 @@ pub(crate) fn text_of_header(alloc: Global, header: &[&str]) -> Result<Vec<u8>, 
 // Writes the record of a row whose cells stand in a block.
 fn write_row<S: RowSource>(
     writer: &mut Writer<Vec<u8>>,
-    block: &Block<'_>,
+    block: &RowBlock<'_>,
     source: &S,
     row: u64,
     null: &str,
@@ -73,7 +73,7 @@ fn write_row<S: RowSource>(
 // Writes the records of a block's rows.
 fn write_block<S: RowSource>(
     writer: &mut Writer<Vec<u8>>,
-    block: &Block<'_>,
+    block: &RowBlock<'_>,
     source: &S,
     null: &str,
 ) -> Result<(), AllocError>

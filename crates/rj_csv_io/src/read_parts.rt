@@ -78,75 +78,11 @@ fn read_texts<R: Threads + Sync>(
     let Ok(parts) = read else {
         return Err(ReadRefused::Memory);
     };
-    let tables = match tables_of_parts(alloc, parts, texts, header, types, nulls) {
-        Ok(tables) => tables,
-        Err(e) => return Err(e),
-    };
+    let tables = tables_of_parts(alloc, parts, texts, header, types, nulls)?;
     match Table::concat(tables) {
         Ok(table) => Ok(table),
         Err(_) => Err(ReadRefused::Memory),
     }
-}
-
-// Reads a table in up to so many parts.
-fn read_in_parts<R: Threads + Sync>(
-    rt: &R,
-    alloc: Global,
-    bytes: &[u8],
-    types: &[ColumnType],
-    nulls: &[&str],
-    parts: usize,
-) -> Result<Table, ReadRefused>
-    requires { 0 < parts }
-    ensures table { IfOk result (λ t. read_of bytes.now types.now (null_texts nulls.now) ≡ Ok t) }
-    ensures fault { IfErr result (λ e. e ≢ ReadRefused.Memory → read_of bytes.now types.now (null_texts nulls.now) ≡ Err e) }
-    ensures lawful { OnOk result (IsTrue (are_null_texts (null_texts nulls.now))) }
-{
-    if !are_lawful_nulls(nulls) {
-        return Err(ReadRefused::BadNull);
-    }
-    let Ok(texts) = cut_text(alloc, bytes, parts) else {
-        return Err(ReadRefused::Memory);
-    };
-    let texts = texts.as_slice();
-    if texts.is_empty() {
-        return read_table(alloc, bytes, types, nulls);
-    }
-    let header = match header_of(alloc, texts[0]) {
-        Ok(Some(header)) => header,
-        Ok(None) => return read_table(alloc, bytes, types, nulls),
-        Err(_) => return Err(ReadRefused::Memory),
-    };
-    match begin_table(alloc, &header, types, 0) {
-        Ok(_) => {}
-        Err(e) => return Err(e),
-    }
-    match read_texts(rt, alloc, texts, &header, types, nulls) {
-        Ok(table) => Ok(table),
-        Err(e) => Err(e),
-    }
-}
-
-// Reads a table in up to so many parts, none of fewer than so many bytes.
-pub(crate) fn read_in_parts_of<R: Threads + Sync>(
-    rt: &R,
-    alloc: Global,
-    bytes: &[u8],
-    types: &[ColumnType],
-    nulls: &[&str],
-    parts: usize,
-    least: usize,
-) -> Result<Table, ReadRefused>
-    requires { 0 < least }
-    ensures table { IfOk result (λ t. read_of bytes.now types.now (null_texts nulls.now) ≡ Ok t) }
-    ensures fault { IfErr result (λ e. e ≢ ReadRefused.Memory → read_of bytes.now types.now (null_texts nulls.now) ≡ Err e) }
-    ensures lawful { OnOk result (IsTrue (are_null_texts (null_texts nulls.now))) }
-{
-    let parts = parts.min(bytes.len() / least);
-    if parts <= 1 {
-        return read_table(alloc, bytes, types, nulls);
-    }
-    read_in_parts(rt, alloc, bytes, types, nulls, parts)
 }
 
 /// Reads a table as [`read_table`] does, in up to so many parts at a time, each by a thread. The calling thread reads one
@@ -169,5 +105,23 @@ pub fn read_table_in_parts<R: Threads + Sync>(
     ensures fault { IfErr result (λ e. e ≢ ReadRefused.Memory → read_of bytes.now types.now (null_texts nulls.now) ≡ Err e) }
     ensures lawful { OnOk result (IsTrue (are_null_texts (null_texts nulls.now))) }
 {
-    read_in_parts_of(rt, alloc, bytes, types, nulls, parts, LEAST_PART)
+    let parts = parts.min(bytes.len() / LEAST_PART);
+    if parts <= 1 {
+        return read_table(alloc, bytes, types, nulls);
+    }
+    if !are_lawful_nulls(nulls) {
+        return Err(ReadRefused::BadNull);
+    }
+    let Ok(texts) = cut_text(alloc, bytes, parts) else {
+        return Err(ReadRefused::Memory);
+    };
+    let texts = texts.as_slice();
+    if texts.is_empty() {
+        return read_table(alloc, bytes, types, nulls);
+    }
+    let Some(header) = header_of(alloc, texts[0])? else {
+        return read_table(alloc, bytes, types, nulls);
+    };
+    begin_table(alloc, &header, types, 0)?;
+    read_texts(rt, alloc, texts, &header, types, nulls)
 }

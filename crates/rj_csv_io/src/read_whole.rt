@@ -6,7 +6,7 @@ ghost use Rattle.rj_csv_io.specs.Typed.{null_texts};
 
 use crate::header::{begin_table, likely_rows, open_reader};
 use crate::null_text::are_lawful_nulls;
-use crate::read_rows::rows_of_reader;
+use crate::read_rows::{next_record, rows_of_reader};
 use crate::refused::ReadRefused;
 use csv::ByteRecord;
 use rj_columns::{ColumnType, Table};
@@ -40,17 +40,9 @@ pub fn read_table(
     }
     let mut reader = open_reader(alloc, bytes);
     let mut header = ByteRecord::new(alloc);
-    match reader.read_byte_record(&mut header) {
-        Ok(true) => {}
-        Ok(false) => return Err(ReadRefused::NoHeader),
-        Err(_) => return Err(ReadRefused::Memory),
+    if !next_record(&mut reader, &mut header)? {
+        return Err(ReadRefused::NoHeader);
     }
-    let builder = match begin_table(alloc, &header, types, likely_rows(bytes, types.len())) {
-        Ok(builder) => builder,
-        Err(e) => return Err(e),
-    };
-    match rows_of_reader(alloc, reader, builder, nulls, types) {
-        Ok(table) => Ok(table),
-        Err(e) => Err(e),
-    }
+    let builder = begin_table(alloc, &header, types, likely_rows(bytes, types.len()))?;
+    rows_of_reader(alloc, reader, builder, nulls, types)
 }

@@ -2,11 +2,11 @@
 
 ghost use Rattle.std.specs.Prelude.{◌≡◌, ◌==◌, ◌<◌, ◌≤◌, ◌-◌, ◌++◌, ℕ, List, false, length, take, drop, slice_index};
 ghost use Rattle.csv.specs.Reading.{default_config, records};
-ghost use Rattle.rj_csv_io.specs.declared.place.Place.TheVariants as from;
+ghost use Rattle.rj_csv_io.specs.declared.place.ReaderPlace.TheVariants as from;
 ghost use Rattle.rj_csv_io.specs.Cuts.{place_after};
 ghost use Rattle.rj_csv_io.specs.Pieces.{IsLastEnd};
 
-use crate::place::{Place, is_open, scan};
+use crate::place::{ReaderPlace, is_open, scan};
 use memchr::{memchr, memrchr};
 
 // The end of the stretch that begins here: behind its first double quote, or where the text ends.
@@ -23,7 +23,7 @@ fn stretch_end(text: &[u8], at: usize) -> usize
 }
 
 // The last line end up to the end of a stretch, by the last one up to its start.
-fn later_end(text: &[u8], at: usize, next: usize, place: Place, last: usize) -> usize
+fn later_end(text: &[u8], at: usize, next: usize, place: ReaderPlace, last: usize) -> usize
     requires order { at < next }
     requires within { next ≤ length text.now }
     requires plain { (i : ℕ) → at ≤ i → i < next - 1 → (slice_index text.now i == 34) ≡ false }
@@ -50,7 +50,7 @@ pub fn last_cut(text: &[u8]) -> usize
     ensures records { (more : List ℕ) → records default_config (text.now ++ more)
         ≡ records default_config (take result text.now) ++ records default_config (drop result text.now ++ more) }
 {
-    let mut place = Place::Fresh;
+    let mut place = ReaderPlace::Fresh;
     let mut at = 0usize;
     let mut last = 0usize;
     while at < text.len() {

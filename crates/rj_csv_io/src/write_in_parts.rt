@@ -108,32 +108,6 @@ fn texts_of_parts<R: Threads + Sync, S: RowSource + Sync>(
     all_made(alloc, made, source, null, parts)
 }
 
-/// The same with so many parts, however few rows they have.
-pub(crate) fn write_parts<R: Threads + Sync, O: Output, S: RowSource + Sync>(
-    rt: &R,
-    alloc: Global,
-    output: &mut O,
-    header: &[&str],
-    source: &S,
-    null: &str,
-    parts: usize,
-) -> Result<(), WriteRefused>
-    requires header { length header.now ≡ S.width source.now }
-    requires null { IsTrue (is_null_text null.now) }
-    requires failures { O.count output.old < 2 ^ 64 - 1 }
-    requires parts { 0 < parts }
-    ensures ok { OnOk result (Appends (O.told output.old) (O.told output.new)
-        (table_text null.now (map (λ n. n.now) header.now) (S.contents source.now))) }
-    ensures memory { result ≡ Err WriteRefused.Memory → output.new ≡ output.old }
-    ensures device { result ≡ Err WriteRefused.WriteDevice → O.count output.new ≡ O.count output.old + 1 }
-    ensures kept { result ≢ Err WriteRefused.WriteDevice → O.count output.new ≡ O.count output.old }
-{
-    let Ok(texts) = texts_of_parts(rt, alloc, source, null, parts) else {
-        return Err(WriteRefused::Memory);
-    };
-    write_texts(alloc, output, header, texts.as_slice())
-}
-
 /// Writes a header and the rows of a source as `write_rows` does, with the texts of shares of the rows made by up
 /// to so many threads. Few rows take fewer threads.
 ///
@@ -163,5 +137,8 @@ pub fn write_rows_in_parts<R: Threads + Sync, O: Output, S: RowSource + Sync>(
     ensures kept { result ≢ Err WriteRefused.WriteDevice → O.count output.new ≡ O.count output.old }
 {
     let parts = part_count(source.rows(), parts, LEAST_ROWS);
-    write_parts(rt, alloc, output, header, source, null, parts)
+    let Ok(texts) = texts_of_parts(rt, alloc, source, null, parts) else {
+        return Err(WriteRefused::Memory);
+    };
+    write_texts(alloc, output, header, texts.as_slice())
 }

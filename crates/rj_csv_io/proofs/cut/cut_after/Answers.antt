@@ -1,6 +1,6 @@
 use Rattle.std.proofs.Common.{◌<◌, ◌+◌, sym, ap, ◌∙◌, arith, length, drop}
 use Rattle.std.proofs.lemmas.List.{length-drop, take_rest}
-use Rattle.rj_csv_io.specs.declared.place.Place.TheVariants as place
+use Rattle.rj_csv_io.specs.declared.place.ReaderPlace.TheVariants as place
 use Rattle.rj_csv_io.specs.Cuts.{is_open_place, has_bom}
 use Rattle.rj_csv_io.proofs.CutFacts.{strip-plain}
 use Rattle.rj_csv_io.proofs.PlaceFacts.{rest-at, next-place, line-ends}

@@ -3,7 +3,8 @@ use Rattle.std.proofs.lemmas.List.{length-map, length-append, drop-drop}
 use Rattle.csv.specs.Records.{fields_of}
 use Rattle.rj_columns.specs.Tables.{rows_of_all}
 use Rattle.rj_csv_io.specs.Parts.{moved}
-use Rattle.rj_csv_io.proofs.PartFacts.{head-at, none-read, part-more, part-over, part-stops, rows-more}
+use Rattle.rj_csv_io.proofs.PartFacts.{none-read, part-more, part-over, part-stops, rows-more}
+use Rattle.rj_csv_io.proofs.RowPartFacts.{head-at}
 use Rattle.rj_csv_io.specs.Typed.{null_texts}
 use Rattle.rj_csv_io.proofs.read_parts.tables_of_parts.Goals as goal
 

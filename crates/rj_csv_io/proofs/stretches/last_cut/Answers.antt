@@ -1,6 +1,6 @@
 use Rattle.std.proofs.Common.{◌≡◌, length, sym, subst, arith}
 use Rattle.rj_csv_io.specs.Pieces.{IsLastEnd}
-use Rattle.rj_csv_io.specs.declared.place.Place.TheVariants as place
+use Rattle.rj_csv_io.specs.declared.place.ReaderPlace.TheVariants as place
 use Rattle.rj_csv_io.proofs.PieceFacts.{cut-records, last-ends, no-end, one-last}
 use Rattle.rj_csv_io.proofs.PlaceFacts.{next-place, place-none}
 use Rattle.rj_csv_io.proofs.stretches.last_cut.Goals as goal

@@ -1,7 +1,7 @@
 use Rattle.std.proofs.Common.{◌≡◌, ◌≤◌, ◌-◌, length, take}
 use Rattle.rj_csv_io.specs.Cuts.{place_after}
 use Rattle.rj_csv_io.specs.Pieces.{IsLastEnd}
-use Rattle.rj_csv_io.specs.declared.place.Place.TheVariants as place
+use Rattle.rj_csv_io.specs.declared.place.ReaderPlace.TheVariants as place
 use Rattle.rj_csv_io.proofs.stretches.last_cut.Given as goal
 
 abbrev pub invariant-loop-at : goal.invariant-loop-at

@@ -1,7 +1,7 @@
 use Rattle.std.proofs.Common.{arith, length-take-le}
 use borrow.Rule.Slice.PartMut.{take_put}
 use Rattle.rj_csv_io.proofs.InputFacts.{consumes-behind}
-use Rattle.rj_csv_io.proofs.input.get_behind.Goals as goal
+use Rattle.rj_csv_io.proofs.filling.get_behind.Goals as goal
 
 pub returns-clause-front : goal.returns-clause-front
 returns-clause-front g c = take_put _ _ c.args.buffer.now _ (omega (arith, c.requires.room))

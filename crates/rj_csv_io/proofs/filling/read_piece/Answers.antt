@@ -1,7 +1,7 @@
 use Rattle.std.proofs.Common.{rules, ◌≡◌, ◌≤◌, ◌+◌, ◌∙◌, take, ap, length, true, arith}
 use Rattle.std.specs.Result.{is_ok}
 use Rattle.rj_csv_io.proofs.InputFacts.{consumes-cut, front-cut, room-front}
-use Rattle.rj_csv_io.proofs.input.read_piece.Goals as goal
+use Rattle.rj_csv_io.proofs.filling.read_piece.Goals as goal
 
 pub returns-in-Ok-clause-bytes : goal.returns-in-Ok-clause-bytes
 returns-in-Ok-clause-bytes g c = λ start before.

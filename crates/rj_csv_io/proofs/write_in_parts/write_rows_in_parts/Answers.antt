@@ -5,7 +5,7 @@ use Rattle.std.specs.List.{concat}
 use Rattle.csv.specs.Writing.{default_writer, row_text}
 use Rattle.rj_csv_io.specs.Shown.{rows_text, shown}
 use Rattle.rj_csv_io.proofs.RangeFacts.{header-join}
-use Rattle.rj_csv_io.proofs.write_in_parts.write_parts.Goals as goal
+use Rattle.rj_csv_io.proofs.write_in_parts.write_rows_in_parts.Goals as goal
 
 pub returns-clause-ok : goal.returns-clause-ok
 returns-clause-ok g c =
