@@ -21,8 +21,8 @@ fn matching_of(matches: &ArgMatches<'_>) -> Option<Matching>
     }
 }
 
-// The number of an option, where it is given.
-fn number_of(matches: &ArgMatches<'_>, name: &str) -> Option<u32>
+/// The number of an option, where it is given.
+pub(crate) fn number_of(matches: &ArgMatches<'_>, name: &str) -> Option<u32>
     requires { IsNumberIn 0 (2 ^ 32 - 1) (first_value (found_of matches.now) name.now) }
     ensures { SpellsSome (first_value (found_of matches.now) name.now) result }
 {

@@ -6,7 +6,7 @@ ghost use Rattle.rj_line.specs.Named.{IsNameOf, IsNamedOr};
 ghost use Rattle.rj_line.specs.Line.{AreNumbersIn, AreSettings, HasValues, IsLineFault, IsLineOf, IsNumberIn, IsNumberOr, IsParseOf, IsRequestFault, IsRequestOf, IsStrictName, IsStrictness, hash_name, is_true, texts_found};
 
 use crate::choosing::choice_of;
-use crate::expecting::expectation_of;
+use crate::expecting::{expectation_of, number_of};
 use crate::nulls::read_nulls;
 use crate::options::line_command;
 use crate::request::{Hash, Request, Strictness};
@@ -78,10 +78,7 @@ fn number_or(matches: &ArgMatches<'_>, name: &str, other: u32) -> u32
     requires { IsNumberIn 0 (2 ^ 32 - 1) (first_value (found_of matches.now) name.now) }
     ensures { IsNumberOr other (first_value (found_of matches.now) name.now) result }
 {
-    match matches.get_str(name) {
-        Some(text) => text.parse::<i64>().unwrap() as u32,
-        None => other,
-    }
+    number_of(matches, name).unwrap_or(other)
 }
 
 // The settings of a join: where nothing else is asked, one worker, 16 partitions that are not parted further, blocks of
@@ -129,10 +126,7 @@ fn strictness_of(matches: &ArgMatches<'_>) -> Strictness
 fn is_given(matches: &ArgMatches<'_>, name: &str) -> bool
     ensures { result ≡ is_true (first_value (found_of matches.now) name.now) }
 {
-    match matches.get_str(name) {
-        Some(text) => text == "true",
-        None => false,
-    }
+    matches.get_str(name) == Some("true")
 }
 
 // What the values of the options ask of two tables.
