@@ -7,7 +7,7 @@ use Rattle.std.proofs.Math.ListN.{get_or-append}
 use Rattle.std.proofs.Math.Seq.{take-append_seam}
 use Rattle.std.proofs.lemmas.List.Elements.{All-head, All-tail, All-cons, All-push}
 use Rattle.rj_columns.specs.Contents.{Content, nothing, FitsType}
-use Rattle.rj_columns.specs.Columns.{ColumnValue, row_at, rows_of, Filling, IsTyped, cut, changed, popped, without, grown_by}
+use Rattle.rj_columns.specs.Columns.{ColumnValue, row_at, rows_of, Filling, IsTyped, cut, changed, without_last, without, grown_by}
 use Rattle.rj_columns.specs.Tables.{FitsTypes}
 use Rattle.rj_columns.proofs.RowFacts.{grown}
 
@@ -60,16 +60,16 @@ grown_by-step xs columns now x c new i e h state at made =
     rw (state, whole, ← e) (grown_by-next xs columns x c (rw (← e) at h))
 
 -- the cells that were pushed are taken back
-popped-one : (c : ColumnValue) (x : Content) → popped (grown c x) ≡ c
-popped-one c x =
+without_last-one : (c : ColumnValue) (x : Content) → without_last (grown c x) ≡ c
+without_last-one c x =
     let size : length (c.cells ++ x ∷ []) - 1 ≡ length c.cells = omega (arith, length-append c.cells (x ∷ [])) in
     rw (size, take-append_seam c.cells (x ∷ [])) refl
 
-pub popped-grown : (xs : List Content) (columns : List ColumnValue) → length xs ≤ length columns → changed popped (length xs) (grown_by xs columns) ≡ columns
+pub without_last-grown : (xs : List Content) (columns : List ColumnValue) → length xs ≤ length columns → changed without_last (length xs) (grown_by xs columns) ≡ columns
 unfolding changed grown_by
-popped-grown [] columns h = refl
-popped-grown (x ∷ xs) [] h = absurd (omega arith)
-popped-grown (x ∷ xs) (c ∷ columns) h = rw (popped-one c x, popped-grown xs columns (omega arith)) refl
+without_last-grown [] columns h = refl
+without_last-grown (x ∷ xs) [] h = absurd (omega arith)
+without_last-grown (x ∷ xs) (c ∷ columns) h = rw (without_last-one c x, without_last-grown xs columns (omega arith)) refl
 
 -- the cells before the ones that were pushed are dropped
 removed-one : (cells : List Content) (n : ℕ) (x : Content) → length cells ≡ suc n → remove (cells ++ x ∷ []) n ≡ take n cells ++ x ∷ []

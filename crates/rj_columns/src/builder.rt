@@ -1,7 +1,7 @@
 //! How a table is built, row by row.
 
 ghost use Rattle.std.specs.Prelude.{◌≡◌, ◌<◌, ◌-◌, ◌^◌, ◌++◌, ◌∷◌, [], map, length, OnOk, OnErr, IfOk, IfErr, Ok, Err, ◌≢◌};
-ghost use Rattle.rj_columns.specs.Names.{begun};
+ghost use Rattle.rj_columns.specs.Names.{empty_table};
 ghost use Rattle.rj_columns.specs.Contents.{content_of};
 ghost use Rattle.rj_columns.specs.Tables.{FitsAt, FitsTypes, with_row};
 
@@ -55,10 +55,10 @@ impl TableBuilder {
         names: &[&[u8]],
         types: &[ColumnType],
     ) -> Result<TableBuilder, BuildRefused>
-        ensures table { IfOk result (λ b. (begun (map (λ n. n.now) names.now) types.now ≡ Ok b.table) × (b.row ≡ [])) }
+        ensures table { IfOk result (λ b. (empty_table (map (λ n. n.now) names.now) types.now ≡ Ok b.table) × (b.row ≡ [])) }
         ensures names { IfOk result (λ b. b.table.names ≡ map (λ n. n.now) names.now) }
         ensures columns { IfOk result (λ b. (b.table.types ≡ types.now) × (b.table.rows ≡ [])) }
-        ensures fault { IfErr result (λ e. e ≢ BuildRefused.Memory → begun (map (λ n. n.now) names.now) types.now ≡ Err e) }
+        ensures fault { IfErr result (λ e. e ≢ BuildRefused.Memory → empty_table (map (λ n. n.now) names.now) types.now ≡ Err e) }
     {
         if names.len() > MAX_COLUMNS {
             return Err(BuildRefused::TooManyColumns);

@@ -2,7 +2,7 @@
 
 ghost use Rattle.std.specs.Prelude.{◌≡◌, ◌<◌, ◌≤◌, ◌+◌, ◌-◌, ◌^◌, ◌++◌, ◌∷◌, [], true, map, length, All, OnOk, OnErr, IfOk};
 ghost use Rattle.rj_columns.specs.Contents.{content_of};
-ghost use Rattle.rj_columns.specs.Columns.{AreFull, cut, changed, popped, without, grown_by};
+ghost use Rattle.rj_columns.specs.Columns.{AreFull, cut, changed, without_last, without, grown_by};
 ghost use Rattle.rj_columns.specs.Tables.{FitsAt, FitsTypes, with_row};
 
 use crate::cell::{Cell, ColumnType};
@@ -68,7 +68,7 @@ fn cut_back(columns: &mut Vec<Column>, filled: usize, rows: usize)
 // Drops the last cells of the first columns.
 fn pop_each(columns: &mut Vec<Column>, pushed: usize)
     requires { pushed ≤ length columns.old.items }
-    ensures { columns.new.items ≡ changed popped pushed columns.old.items }
+    ensures { columns.new.items ≡ changed without_last pushed columns.old.items }
 {
     for i in 0..pushed {
         columns[i].pop();

@@ -3,7 +3,7 @@ use Rattle.std.proofs.Common.{◌≡◌, ◌∙◌, ◌∷◌, [], Bool, true, f
 use Rattle.std.specs.Prelude.{◌≢◌, if◌then◌else◌, option_map, Result, Ok, Err, IfOk, IfErr}
 use Rattle.std.proofs.lemmas.Bool.{cases_Bool}
 use Rattle.csv.specs.Reading.{default_config, records, strip_bom}
-use Rattle.rj_columns.specs.Names.{begun}
+use Rattle.rj_columns.specs.Names.{empty_table}
 use Rattle.rj_csv_io.specs.Tables.{records_read}
 use Rattle.rj_strict.specs.Grammar.{records_of}
 use Rattle.rj_types.specs.Columns.{name_fault, types_under}
@@ -102,7 +102,7 @@ named_apart s false o r f e = told_apart s r f e
 header_apart : (q : Request) (s : Side) (rs : List (List (List ℕ))) (f : Fault) → header_records q s rs ≡ Err f → is_device f ≡ false
 header_apart q s [] f e = told_apart s (records_read [] [] (nulls_of q s)) f e
 header_apart q s (header ∷ rest) f e =
-    named_apart s (stands (begun header (types_under (types_of q s) header))) (name_fault (types_of q s) header)
+    named_apart s (stands (empty_table header (types_under (types_of q s) header))) (name_fault (types_of q s) header)
     (records_read (header ∷ rest) (types_under (types_of q s) header) (nulls_of q s)) f e
 
 records_apart : (q : Request) (s : Side) (rs : List (List (List ℕ))) (f : Fault) → side_records q s rs ≡ Err f → is_device f ≡ false

@@ -1,7 +1,7 @@
 -- What the bytes of a table's file denote, or their first fault.
 use Rattle.std.specs.Prelude.{◌≡◌, ◌≢◌, ◌&&◌, if◌then◌else◌, Bool, true, false, List, [], ◌∷◌, ℕ, Result, Ok, Err, Option, Some, None, option_map}
 use Rattle.csv.specs.Reading.{default_config, records, strip_bom}
-use Rattle.rj_columns.specs.Names.{begun}
+use Rattle.rj_columns.specs.Names.{empty_table}
 use Rattle.rj_columns.specs.Tables.{TableValue}
 use Rattle.rj_columns.specs.declared.refused.BuildRefused.{BuildRefused}
 use Rattle.rj_columns.specs.declared.refused.BuildRefused.TheVariants as build
@@ -58,7 +58,7 @@ stands (Err e) = false
 -- first, but for the count of types
 abbrev pub type_fault : List TypeEntry → Side → List (List ℕ) → Option Fault
 type_fault entries s header =
-    if stands (begun header (types_under entries header)) then option_map (fault.TypeName s) (name_fault entries header) else None
+    if stands (empty_table header (types_under entries header)) then option_map (fault.TypeName s) (name_fault entries header) else None
 
 -- what is denoted, or the fault of a side
 abbrev pub told : Side → Result TableValue ReadRefused → Result TableValue Fault

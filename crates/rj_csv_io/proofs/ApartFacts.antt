@@ -12,7 +12,7 @@ use Rattle.rj_columns.specs.declared.cell.ColumnType.{ColumnType}
 use Rattle.rj_columns.specs.declared.cell.ColumnType.TheVariants as kind
 use Rattle.rj_columns.specs.declared.refused.BuildRefused.{BuildRefused}
 use Rattle.rj_columns.specs.Contents.{Content, nothing, whole, decimal, word}
-use Rattle.rj_columns.specs.Names.{begun}
+use Rattle.rj_columns.specs.Names.{empty_table}
 use Rattle.rj_columns.specs.Tables.{TableValue, cell_in}
 use Rattle.rj_csv_io.specs.declared.refused.ReadRefused.{ReadRefused}
 use Rattle.rj_csv_io.specs.declared.refused.ReadRefused.TheVariants as refused
@@ -103,7 +103,7 @@ module _ (nulls : List (List ℕ)) (null : List ℕ) (among : is_null_field null
     | inr unlawful ↦ let no : Err refused.BadNull ≡ Ok t = rw unlawful at e in absurd (cc)
   ]
     where
-      under : (header : List (List ℕ)) (rest : List (List (List ℕ))) (begins : Result TableValue BuildRefused) → begun header types ≡ begins → read_records nulls types (header ∷ rest) ≡ Ok t → AreApart null t.rows
+      under : (header : List (List ℕ)) (rest : List (List (List ℕ))) (begins : Result TableValue BuildRefused) → empty_table header types ≡ begins → read_records nulls types (header ∷ rest) ≡ Ok t → AreApart null t.rows
       under header rest (Err f) b e = let no : Err (of_begun f) ≡ Ok t = rw b at e in absurd (cc)
       under header rest (Ok start) b e = go (read_rows nulls types [] rest) refl
         where
@@ -117,7 +117,7 @@ module _ (nulls : List (List ℕ)) (null : List ℕ) (among : is_null_field null
 
       with_header : (records : List (List (List ℕ))) → read_records nulls types records ≡ Ok t → AreApart null t.rows
       with_header [] e = absurd (cc)
-      with_header (header ∷ rest) e = under header rest (begun header types) refl e
+      with_header (header ∷ rest) e = under header rest (empty_table header types) refl e
 
 -- and then each cell that isn't null is told from null
 pub clear-from : (null : List ℕ) (rows : List (List Content)) → is_null_text null ≡ true → AreApart null rows → AreClear null rows

@@ -10,7 +10,7 @@ use Rattle.rj_columns.specs.declared.cell.ColumnType.{ColumnType}
 use Rattle.rj_columns.specs.declared.refused.BuildRefused.{BuildRefused}
 use Rattle.rj_columns.specs.declared.refused.BuildRefused.TheVariants as build
 use Rattle.rj_columns.specs.Contents.{Content}
-use Rattle.rj_columns.specs.Names.{begun, name_fault}
+use Rattle.rj_columns.specs.Names.{empty_table, name_fault}
 use Rattle.rj_columns.specs.Tables.{AreAlike, TableValue, concatenated, rows_of_all}
 use Rattle.rj_csv_io.specs.declared.refused.ReadRefused.{ReadRefused}
 use Rattle.rj_csv_io.specs.declared.refused.ReadRefused.TheVariants as refused
@@ -61,8 +61,8 @@ pub header-first : (text : List ℕ) (texts : List (List ℕ)) (header : List (L
 unfolding under_header records_in_all
 header-first text texts header rest e = rw e refl
 
-pub begun-rows : (names : List (List ℕ)) (types : List ColumnType) (t : TableValue) → begun names types ≡ Ok t → t.rows ≡ []
-begun-rows names types t e = elim (cases_Bool (nat_lt 256 (length names))) [
+pub empty_table-rows : (names : List (List ℕ)) (types : List ColumnType) (t : TableValue) → empty_table names types ≡ Ok t → t.rows ≡ []
+empty_table-rows names types t e = elim (cases_Bool (nat_lt 256 (length names))) [
   | inl many ↦ let no : Err build.TooManyColumns ≡ Ok t = rw many at e in absurd cc
   | inr few ↦ go few (name_fault [] names) refl
 ]
@@ -78,18 +78,18 @@ begun-rows names types t e = elim (cases_Bool (nat_lt 256 (length names))) [
     ]
 
 pub table-of-none : (nulls : List (List ℕ)) (types : List ColumnType) (header : List (List ℕ)) (records : List (List (List ℕ))) (t u : TableValue)
-    → begun header types ≡ Ok t → t.rows ≡ [] → u ≡ t → records ≡ []
-    → (begun header types ≡ Ok record u { rows = [] }) × (read_rows nulls types [] records ≡ Ok u.rows)
+    → empty_table header types ≡ Ok t → t.rows ≡ [] → u ≡ t → records ≡ []
+    → (empty_table header types ≡ Ok record u { rows = [] }) × (read_rows nulls types [] records ≡ Ok u.rows)
 table-of-none nulls types header records t u b e same none =
     let again : record t { rows = [] } ≡ t = ap (λ (r : List (List Content)). record t { rows = r }) (sym e) in
     rw (same, none) (b ∙ ap Ok (sym again), rw e (rows-end nulls types []))
 
 -- what is read of the records under a header that was begun
 pub reading-from : (nulls : List (List ℕ)) (types : List ColumnType) (header : List (List ℕ)) (records : List (List (List ℕ))) (start : TableValue) (r : Result TableValue ReadRefused)
-    → begun header types ≡ Ok start → IfOk r (λ t. (read_rows nulls types [] records ≡ Ok t.rows) × (t ≡ record start { rows = t.rows }))
+    → empty_table header types ≡ Ok start → IfOk r (λ t. (read_rows nulls types [] records ≡ Ok t.rows) × (t ≡ record start { rows = t.rows }))
     → IfErr r (λ e. e ≢ refused.Memory → read_rows nulls types [] records ≡ Err e) → IsReading nulls types header records r
 reading-from nulls types header records start (Ok t) b ok err =
-    let none = ap (λ (r : List (List Content)). record start { rows = r }) (begun-rows header types start b) in
+    let none = ap (λ (r : List (List Content)). record start { rows = r }) (empty_table-rows header types start b) in
     (b ∙ ap Ok (none ∙ sym (ap (λ (t : TableValue). record t { rows = [] }) ok.1)), ok.0)
 reading-from nulls types header records start (Err e) b ok err = λ ne. read_fault nulls types header records start e b (err ne)
 
@@ -136,7 +136,7 @@ module _ (nulls : List (List ℕ)) (types : List ColumnType) (header : List (Lis
       let more : rows_of_all tables ++ t.rows ≡ rows_of_all (tables ++ t ∷ []) = flat_map_more (λ (t : TableValue). t.rows) [] tables t in
       let size = length-append (rows_of_all tables) t.rows in
       record {
-        columns = All-push (λ (t : TableValue). begun header types ≡ Ok record t { rows = [] }) tables t read.columns is.0;
+        columns = All-push (λ (t : TableValue). empty_table header types ≡ Ok record t { rows = [] }) tables t read.columns is.0;
         rows = rw (under-next texts i h, ← more) (part-rows nulls types (under_header (take i texts)) _ (rows_of_all tables) t.rows read.rows is.1 fits);
         few = rw (← more) (omega (arith, size, fits));
       }
@@ -153,7 +153,7 @@ module _ (nulls : List (List ℕ)) (types : List ColumnType) (header : List (Lis
       rw rest-on (fault-first nulls types (under_header (take i texts) ++ row_records (i == 0) (slice_index_or texts i [])) _ refused.TooManyRows so)
 
   -- a part with a fault
-  pub part-bad : (x : ReadRefused) (t : TableValue) → slice_index_or parts i (Err x) ≡ Err x → begun header types ≡ Ok t → moved (length (rows_of_all tables)) x ≢ refused.Memory
+  pub part-bad : (x : ReadRefused) (t : TableValue) → slice_index_or parts i (Err x) ≡ Err x → empty_table header types ≡ Ok t → moved (length (rows_of_all tables)) x ≢ refused.Memory
       → read_rows nulls types [] (under_header texts) ≡ Err (moved (length (rows_of_all tables)) x)
   part-bad x t e b ne =
       let is = rw e at (are i (Err x) h) in
@@ -169,9 +169,9 @@ module _ (nulls : List (List ℕ)) (types : List ColumnType) (header : List (Lis
 
   pub part-stops : (x : ReadRefused) → slice_index_or parts i (Err x) ≡ Err x → moved (length (rows_of_all tables)) x ≢ refused.Memory
       → read_records nulls types (header ∷ under_header texts) ≡ Err (moved (length (rows_of_all tables)) x)
-  part-stops x e ne = go (begun header types) refl
+  part-stops x e ne = go (empty_table header types) refl
     where
-      go : (r : Result TableValue BuildRefused) → begun header types ≡ r → read_records nulls types (header ∷ under_header texts) ≡ Err (moved (length (rows_of_all tables)) x)
+      go : (r : Result TableValue BuildRefused) → empty_table header types ≡ r → read_records nulls types (header ∷ under_header texts) ≡ Err (moved (length (rows_of_all tables)) x)
       go (Ok t) b = read_fault nulls types header (under_header texts) t (moved (length (rows_of_all tables)) x) b (part-bad x t e b ne)
       go (Err f) b =
           let is = rw e at (are i (Err x) h) in
@@ -199,24 +199,24 @@ head-records texts d bytes header rest some e all =
 
 -- tables that one header begins are alike
 module _ (header : List (List ℕ)) (types : List ColumnType) where
-  begun-alike : (t u : TableValue) → begun header types ≡ Ok record t { rows = [] } → begun header types ≡ Ok record u { rows = [] } → (u.names ≡ t.names) × (u.types ≡ t.types)
-  begun-alike t u a b =
+  empty_tables-alike : (t u : TableValue) → empty_table header types ≡ Ok record t { rows = [] } → empty_table header types ≡ Ok record u { rows = [] } → (u.names ≡ t.names) × (u.types ≡ t.types)
+  empty_tables-alike t u a b =
       let q = sym a ∙ b in
       let r : record t { rows = [] } ≡ record u { rows = [] } = cc in
       (sym (ap (λ (v : TableValue). v.names) r), sym (ap (λ (v : TableValue). v.types) r))
 
-  pub tables-alike : (tables : List TableValue) → 0 < length tables → All (λ (t : TableValue). begun header types ≡ Ok record t { rows = [] }) tables → AreAlike tables
+  pub tables-alike : (tables : List TableValue) → 0 < length tables → All (λ (t : TableValue). empty_table header types ≡ Ok record t { rows = [] }) tables → AreAlike tables
   tables-alike [] h a = absurd (omega arith)
   tables-alike (t ∷ tables) h a =
-      let first = All-head (λ (t : TableValue). begun header types ≡ Ok record t { rows = [] }) t tables a in
-      All-weaker (λ (u : TableValue). begun header types ≡ Ok record u { rows = [] }) (λ (u : TableValue). (u.names ≡ t.names) × (u.types ≡ t.types)) (λ u b. begun-alike t u first b) tables
-      (All-tail (λ (t : TableValue). begun header types ≡ Ok record t { rows = [] }) t tables a)
+      let first = All-head (λ (t : TableValue). empty_table header types ≡ Ok record t { rows = [] }) t tables a in
+      All-weaker (λ (u : TableValue). empty_table header types ≡ Ok record u { rows = [] }) (λ (u : TableValue). (u.names ≡ t.names) × (u.types ≡ t.types)) (λ u b. empty_tables-alike t u first b) tables
+      (All-tail (λ (t : TableValue). empty_table header types ≡ Ok record t { rows = [] }) t tables a)
 
   -- and so is their rows' table
-  pub whole-begun : (tables : List TableValue) → 0 < length tables → All (λ (t : TableValue). begun header types ≡ Ok record t { rows = [] }) tables
-      → begun header types ≡ Ok record (concatenated tables) { rows = [] }
-  whole-begun [] h a = absurd (omega arith)
-  whole-begun (t ∷ tables) h a = All-head (λ (t : TableValue). begun header types ≡ Ok record t { rows = [] }) t tables a
+  pub whole-empty_table : (tables : List TableValue) → 0 < length tables → All (λ (t : TableValue). empty_table header types ≡ Ok record t { rows = [] }) tables
+      → empty_table header types ≡ Ok record (concatenated tables) { rows = [] }
+  whole-empty_table [] h a = absurd (omega arith)
+  whole-empty_table (t ∷ tables) h a = All-head (λ (t : TableValue). empty_table header types ≡ Ok record t { rows = [] }) t tables a
 
 pub whole-rows : (tables : List TableValue) → 0 < length tables → (concatenated tables).rows ≡ rows_of_all tables
 whole-rows [] h = absurd (omega arith)

@@ -20,7 +20,7 @@ use Rattle.rj_columns.specs.declared.cell.ColumnType.TheVariants as kind
 use Rattle.rj_columns.specs.declared.refused.BuildRefused.{BuildRefused}
 use Rattle.rj_columns.specs.declared.refused.BuildRefused.TheVariants as build
 use Rattle.rj_columns.specs.Contents.{Content, nothing, whole, decimal, word}
-use Rattle.rj_columns.specs.Names.{begun, name_fault}
+use Rattle.rj_columns.specs.Names.{empty_table, name_fault}
 use Rattle.rj_columns.specs.Tables.{TableValue, FitsTypes}
 use Rattle.rj_csv_io.specs.declared.refused.ReadRefused.{ReadRefused}
 use Rattle.rj_csv_io.specs.declared.refused.ReadRefused.TheVariants as refused
@@ -181,8 +181,8 @@ module _ (nulls : List (List ℕ)) where
       named : length header ≡ length types
       same : record { names = header; types = types; rows = [] } ≡ start
 
-    begun-parts : (header : List (List ℕ)) (start : TableValue) → begun header types ≡ Ok start → Begins header start
-    begun-parts header start e = elim (cases_Bool (nat_lt 256 (length header))) [
+    empty_table-parts : (header : List (List ℕ)) (start : TableValue) → empty_table header types ≡ Ok start → Begins header start
+    empty_table-parts header start e = elim (cases_Bool (nat_lt 256 (length header))) [
       | inl many ↦ let no : Err build.TooManyColumns ≡ Ok start = rw many at e in absurd (cc)
       | inr few ↦ go few (name_fault [] header) refl
     ]
@@ -207,7 +207,7 @@ module _ (nulls : List (List ℕ)) where
         Holds : TableValue → Type 0
         Holds t = All (FitsTypes t.types) t.rows × All (All IsHeld) t.rows
 
-        under : (header : List (List ℕ)) (rest : List (List (List ℕ))) (begins : Result TableValue BuildRefused) → begun header types ≡ begins
+        under : (header : List (List ℕ)) (rest : List (List (List ℕ))) (begins : Result TableValue BuildRefused) → empty_table header types ≡ begins
             → read_records nulls types (header ∷ rest) ≡ Ok t → Holds t
         under header rest (Err f) b r = let no : Err (of_begun f) ≡ Ok t = rw b at r in absurd (cc)
         under header rest (Ok start) b r = go (read_rows nulls types [] rest) refl
@@ -216,7 +216,7 @@ module _ (nulls : List (List ℕ)) where
             go (Err x) is = let no : Err x ≡ Ok t = rw (b, is) at r in absurd (cc)
             go (Ok rows) is =
                 let made : Ok record start { rows = rows } ≡ Ok t = rw (b, is) at r in
-                let begins = begun-parts header start b in
+                let begins = empty_table-parts header start b in
                 let good = rows-good rest [] rows (record { few = omega arith; fits = All-nil (FitsTypes types); held = All-nil (All IsHeld) }) is in
                 let last : record start { rows = rows } ≡ t = cc in
                 let same : record { names = header; types = types; rows = rows } ≡ t = ap (λ (s : TableValue). record s { rows = rows }) begins.same ∙ last in
@@ -224,7 +224,7 @@ module _ (nulls : List (List ℕ)) where
 
         of_records : (all : List (List (List ℕ))) → read_records nulls types all ≡ Ok t → Holds t
         of_records [] r = absurd (cc)
-        of_records (header ∷ rest) r = under header rest (begun header types) refl r
+        of_records (header ∷ rest) r = under header rest (empty_table header types) refl r
 
     -- a table that records read as
     abbrev Apart : List (List ℕ) → TableValue → Type 0
@@ -244,7 +244,7 @@ module _ (nulls : List (List ℕ)) where
       | inr unlawful ↦ let no : Err refused.BadNull ≡ Ok t = rw unlawful at e in absurd (cc)
     ]
       where
-        under : are_null_texts nulls ≡ true → (header : List (List ℕ)) (rest : List (List (List ℕ))) → 0 < length header → (begins : Result TableValue BuildRefused) → begun header types ≡ begins
+        under : are_null_texts nulls ≡ true → (header : List (List ℕ)) (rest : List (List (List ℕ))) → 0 < length header → (begins : Result TableValue BuildRefused) → empty_table header types ≡ begins
             → read_records nulls types (header ∷ rest) ≡ Ok t → Told t
         under lawful header rest some (Err f) b r = let no : Err (of_begun f) ≡ Ok t = rw b at r in absurd (cc)
         under lawful header rest some (Ok start) b r = go (read_rows nulls types [] rest) refl
@@ -253,7 +253,7 @@ module _ (nulls : List (List ℕ)) where
             go (Err x) is = let no : Err x ≡ Ok t = rw (b, is) at r in absurd (cc)
             go (Ok rows) is =
                 let made : Ok record start { rows = rows } ≡ Ok t = rw (b, is) at r in
-                let begins = begun-parts header start b in
+                let begins = empty_table-parts header start b in
                 let good = rows-good rest [] rows (record { few = omega arith; fits = All-nil (FitsTypes types); held = All-nil (All IsHeld) }) is in
                 let last : record start { rows = rows } ≡ t = cc in
                 let same : record { names = header; types = types; rows = rows } ≡ t = ap (λ (s : TableValue). record s { rows = rows }) begins.same ∙ last in
@@ -275,7 +275,7 @@ module _ (nulls : List (List ℕ)) where
         with_header : are_null_texts nulls ≡ true → (all : List (List (List ℕ))) → records default_config (strip_bom bytes) ≡ all → read_records nulls types all ≡ Ok t → Told t
         with_header lawful [] is r = absurd (cc)
         with_header lawful (header ∷ rest) is r =
-            under lawful header rest (header-some (length (strip_bom bytes) + 1) st.StartRecord (strip_bom bytes) header rest is) (begun header types) refl r
+            under lawful header rest (header-some (length (strip_bom bytes) + 1) st.StartRecord (strip_bom bytes) header rest is) (empty_table header types) refl r
 
 -- its text is read back by null texts that it is apart from
 pub others-back : (bytes : List ℕ) (types : List ColumnType) (known nulls : List (List ℕ)) (null : List ℕ) (t : TableValue)

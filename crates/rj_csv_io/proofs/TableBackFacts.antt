@@ -10,7 +10,7 @@ use Rattle.csv.specs.Writing.{default_writer, read_back, row_text}
 use Rattle.csv.proofs.RoundTrip.{read-write}
 use Rattle.rj_columns.specs.declared.cell.ColumnType.{ColumnType}
 use Rattle.rj_columns.specs.Contents.{Content}
-use Rattle.rj_columns.specs.Names.{begun}
+use Rattle.rj_columns.specs.Names.{empty_table}
 use Rattle.rj_columns.specs.Tables.{TableValue, FitsTypes}
 use Rattle.rj_columns.proofs.RowFacts.{FitsTypes-length}
 use Rattle.rj_csv_io.specs.Cuts.{has_bom}
@@ -47,8 +47,8 @@ records-back (r ∷ written) some =
     first ∙ rw (same, more) refl
 
 -- the header and the types of a table begin it
-begun-back : (nulls : List (List ℕ)) (t : TableValue) → CanReadBack nulls t → begun t.names t.types ≡ Ok record t { rows = [] }
-begun-back nulls t h = rw (le-ltb 256 (length t.names) h.few, h.lawful, eq-eqb (length t.names) (length t.types) h.named) refl
+empty_table-back : (nulls : List (List ℕ)) (t : TableValue) → CanReadBack nulls t → empty_table t.names t.types ≡ Ok record t { rows = [] }
+empty_table-back nulls t h = rw (le-ltb 256 (length t.names) h.few, h.lawful, eq-eqb (length t.names) (length t.types) h.named) refl
 
 module _ (nulls : List (List ℕ)) (null : List ℕ) (lawful : are_null_texts nulls ≡ true) (among : is_null_field nulls null ≡ true) where
   -- the texts of rows read back as the rows
@@ -73,5 +73,5 @@ module _ (nulls : List (List ℕ)) (null : List ℕ) (lawful : are_null_texts nu
       let some = All-cons Some_field t.names cells h.some (All-map Some_field (map (shown null)) t.rows
       (All-weaker (FitsTypes t.types) (λ row. Some_field (map (shown null) row)) wide t.rows h.typed)) in
       let read = ap (records default_config) (strip-plain text plain) ∙ records-back (t.names ∷ cells) some in
-      of_table text t.types nulls lawful t.names cells read (record t { rows = [] }) t.rows (begun-back nulls t h)
+      of_table text t.types nulls lawful t.names cells read (record t { rows = [] }) t.rows (empty_table-back nulls t h)
       (rows-back t.types t.rows [] (omega (arith, h.within)) h.typed h.held (none-of nulls t.rows h.apart))

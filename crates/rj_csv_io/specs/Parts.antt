@@ -2,7 +2,7 @@
 use Rattle.std.specs.Prelude.{ℕ, ◌+◌, ◌-◌, ◌^◌, ◌==◌, ◌≡◌, ◌≢◌, ◌<◌, ◌≤◌, nat_le, if◌then◌else◌, Bool, true, false, List, [], ◌∷◌, ◌++◌, length, drop, slice_index_or, Result, Ok, Err, All}
 use Rattle.rj_columns.specs.declared.cell.ColumnType.{ColumnType}
 use Rattle.rj_columns.specs.Tables.{TableValue, rows_of_all}
-use Rattle.rj_columns.specs.Names.{begun}
+use Rattle.rj_columns.specs.Names.{empty_table}
 use Rattle.rj_csv_io.specs.Cuts.{records_in, records_in_all}
 use Rattle.rj_csv_io.specs.Rows.{read_rows}
 use Rattle.rj_csv_io.specs.Tables.{read_records}
@@ -40,7 +40,7 @@ under_header (text ∷ texts) = drop 1 (records_in text) ++ records_in_all texts
 
 -- what the reading of records under a header gives: the table, or the first fault of the header and the records; or memory is refused
 abbrev pub IsReading : List (List ℕ) → List ColumnType → List (List ℕ) → List (List (List ℕ)) → Result TableValue ReadRefused → Type 0
-IsReading nulls types header records (Ok t) = (begun header types ≡ Ok record t { rows = [] }) × (read_rows nulls types [] records ≡ Ok t.rows)
+IsReading nulls types header records (Ok t) = (empty_table header types ≡ Ok record t { rows = [] }) × (read_rows nulls types [] records ≡ Ok t.rows)
 IsReading nulls types header records (Err e) = e ≢ refused.Memory → read_records nulls types (header ∷ records) ≡ Err e
 
 -- each part is what the reading of its text gives
@@ -51,6 +51,6 @@ AreReadings nulls types header texts parts = (i : ℕ) (d : Result TableValue Re
 -- tables with the header's columns, whose rows put together are those that the records read as
 pub record AreTables (nulls : List (List ℕ)) (types : List ColumnType) (header : List (List ℕ)) (records : List (List (List ℕ)))
     (tables : List TableValue) : Type 0 where
-  pub columns : All (λ (t : TableValue). begun header types ≡ Ok record t { rows = [] }) tables
+  pub columns : All (λ (t : TableValue). empty_table header types ≡ Ok record t { rows = [] }) tables
   pub rows : read_rows nulls types [] records ≡ Ok (rows_of_all tables)
   pub few : length (rows_of_all tables) ≤ 2 ^ 31 - 1

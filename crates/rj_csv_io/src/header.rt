@@ -3,7 +3,7 @@
 ghost use Rattle.std.specs.Prelude.{◌≡◌, ◌≢◌, ◌≤◌, ◌*◌, [], length, map, IfOk, IfErr, Ok, Err, Some};
 ghost use Rattle.csv.specs.Reading.{default_config, records, strip_bom};
 ghost use Rattle.csv.specs.Records.{fields_of};
-ghost use Rattle.rj_columns.specs.Names.{begun};
+ghost use Rattle.rj_columns.specs.Names.{empty_table};
 ghost use Rattle.rj_columns.specs.declared.refused.BuildRefused.{BuildRefused};
 ghost use Rattle.rj_csv_io.specs.Remaining.{records_remaining, IsBetween};
 ghost use Rattle.rj_csv_io.specs.Tables.{of_begun};
@@ -82,9 +82,9 @@ pub(crate) fn begin_table(
     types: &[ColumnType],
     rows: usize,
 ) -> Result<TableBuilder, ReadRefused>
-    ensures table { IfOk result (λ b. (begun (fields_of header.now) types.now ≡ Ok b.table) × (b.row ≡ [])) }
+    ensures table { IfOk result (λ b. (empty_table (fields_of header.now) types.now ≡ Ok b.table) × (b.row ≡ [])) }
     ensures fault { IfErr result (λ e. e ≢ ReadRefused.Memory
-        → (f : BuildRefused) × (begun (fields_of header.now) types.now ≡ Err f) × (e ≡ of_begun f)) }
+        → (f : BuildRefused) × (empty_table (fields_of header.now) types.now ≡ Err f) × (e ≡ of_begun f)) }
 {
     let Ok(names) = fields_of_record(alloc, header) else {
         return Err(ReadRefused::Memory);

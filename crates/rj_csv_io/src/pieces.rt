@@ -2,7 +2,7 @@
 
 ghost use Rattle.std.specs.Prelude.{◌≡◌, ◌≢◌, ◌∷◌, [], List, ℕ, length, IfOk, IfErr, MatchOption, Ok, Err, Some, map};
 ghost use Rattle.csv.specs.Reading.{default_config, records};
-ghost use Rattle.rj_columns.specs.Names.{begun};
+ghost use Rattle.rj_columns.specs.Names.{empty_table};
 ghost use Rattle.rj_columns.specs.declared.refused.BuildRefused.{BuildRefused};
 ghost use Rattle.rj_csv_io.specs.Cuts.{records_in};
 ghost use Rattle.rj_csv_io.specs.Parts.{IsReading};
@@ -89,9 +89,9 @@ impl Header {
     ///
     /// [`read_table`]: crate::read_table
     pub fn table(&self, alloc: Global, types: &[ColumnType]) -> Result<Table, ReadRefused>
-        ensures table { IfOk result (λ t. begun (names_in self.now) types.now ≡ Ok t) }
+        ensures table { IfOk result (λ t. empty_table (names_in self.now) types.now ≡ Ok t) }
         ensures fault { IfErr result (λ e. e ≢ ReadRefused.Memory
-            → (f : BuildRefused) × (begun (names_in self.now) types.now ≡ Err f) × (e ≡ of_begun f)) }
+            → (f : BuildRefused) × (empty_table (names_in self.now) types.now ≡ Err f) × (e ≡ of_begun f)) }
     {
         match begin_table(alloc, &self.record, types, 0) {
             Ok(builder) => Ok(builder.finish()),

@@ -8,7 +8,7 @@ use Rattle.rj_columns.specs.declared.cell.ColumnType.TheVariants as kind
 use Rattle.rj_columns.specs.declared.refused.BuildRefused.{BuildRefused}
 use Rattle.rj_columns.specs.declared.refused.BuildRefused.TheVariants as build
 use Rattle.rj_columns.specs.Contents.{Content}
-use Rattle.rj_columns.specs.Names.{begun}
+use Rattle.rj_columns.specs.Names.{empty_table}
 use Rattle.rj_columns.specs.Tables.{TableValue}
 use Rattle.rj_csv_io.specs.declared.refused.ReadRefused.{ReadRefused}
 use Rattle.rj_csv_io.specs.declared.refused.ReadRefused.TheVariants as read
@@ -63,7 +63,7 @@ unless-memory P n e r is memory other = elim (memory-or e) [
 
 -- a piece under a header that makes no table
 pub refusal-of : (nulls : List (List ℕ)) (types : List ColumnType) (names : List (List ℕ)) (xs : List (List (List ℕ))) (n : ℕ) (e : ReadRefused) (r : DivideRefused) (b : BuildRefused)
-    → (row_told e < 2 ^ 63 → r ≡ fault_behind n e) → (e ≢ read.Memory → read_records nulls types (names ∷ xs) ≡ Err e) → begun names types ≡ Err b → IsHeaderRefusal b r
+    → (row_told e < 2 ^ 63 → r ≡ fault_behind n e) → (e ≢ read.Memory → read_records nulls types (names ∷ xs) ≡ Err e) → empty_table names types ≡ Err b → IsHeaderRefusal b r
 refusal-of nulls types names xs n e r b is reading begins = unless-memory (IsHeaderRefusal b) n e r is tt (λ other.
     let P : ReadRefused → Type 0 = λ x. (row_told x < 2 ^ 63) × IsHeaderRefusal b (fault_behind n x) in
     subst P (sym (header_fault nulls types names xs b e begins (reading other))) (refusal-behind b n))
@@ -224,7 +224,7 @@ module _ (d : Dividing) where
   ]
 
   pub piece-fault : (before : ℕ) (xs : List (List (List ℕ))) (e : ReadRefused) (r : DivideRefused) (names : List (List ℕ)) (outputs : ℕ) → (row_told e < 2 ^ 63 → r ≡ fault_behind before e)
-      → (e ≢ read.Memory → read_records d.nulls d.types (names ∷ xs) ≡ Err e) → (t : TableValue) → begun names d.types ≡ Ok t → IsFaultBehind d before outputs xs r
+      → (e ≢ read.Memory → read_records d.nulls d.types (names ∷ xs) ≡ Err e) → (t : TableValue) → empty_table names d.types ≡ Ok t → IsFaultBehind d before outputs xs r
   piece-fault before xs e r names outputs is reading t b = unless-memory (IsFaultBehind d before outputs xs) before e r is tt (λ other.
       let P : Result (List (List Content)) ReadRefused → Type 0 = Outcome d.nulls d.types [] xs in
       fault-of before xs e outputs (subst P (rows_fault d.nulls d.types names xs t e b (reading other)) (outcome d.nulls d.types xs [])))

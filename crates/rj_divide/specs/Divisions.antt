@@ -4,7 +4,7 @@ use Rattle.std.specs.Io.KnownBytes.{Appends}
 use Rattle.rj_columns.specs.declared.cell.ColumnType.{ColumnType}
 use Rattle.rj_columns.specs.declared.refused.BuildRefused.{BuildRefused}
 use Rattle.rj_columns.specs.Contents.{Content}
-use Rattle.rj_columns.specs.Names.{begun}
+use Rattle.rj_columns.specs.Names.{empty_table}
 use Rattle.rj_columns.specs.Tables.{TableValue}
 use Rattle.rj_csv_io.specs.Pieces.{AreRows, names_in}
 use Rattle.rj_csv_io.specs.Shown.{rows_text, shown}
@@ -44,7 +44,7 @@ after_rows n d = record d { first = d.first + n }
 
 -- the table without rows that the header begins with the types, or why it begins none
 abbrev pub table_begun : {R : Type 0} → Division R → Result TableValue BuildRefused
-table_begun division = begun (names_in division.header.now) division.types.now
+table_begun division = empty_table (names_in division.header.now) division.types.now
 
 -- these records are rows, so many of them, and each part's output got the text of its rows
 pub record IsDivided (d : Dividing) (records : List (List (List ℕ))) (before after : List (Option (List ℕ))) (count : ℕ) : Type 0 where

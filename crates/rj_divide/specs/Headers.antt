@@ -5,7 +5,7 @@ use Rattle.csv.specs.Writing.{default_writer, row_text}
 use Rattle.rj_columns.specs.declared.cell.ColumnType.{ColumnType}
 use Rattle.rj_columns.specs.declared.cell.ColumnType.TheVariants as kind
 use Rattle.rj_columns.specs.declared.refused.BuildRefused.{BuildRefused}
-use Rattle.rj_columns.specs.Names.{begun}
+use Rattle.rj_columns.specs.Names.{empty_table}
 use Rattle.rj_columns.specs.Tables.{TableValue}
 use Rattle.rj_csv_io.specs.Tables.{of_begun}
 use Rattle.rj_divide.specs.declared.refused.DivideRefused.{DivideRefused}
@@ -29,7 +29,7 @@ HaveText text before after = (p : ℕ) → p < length before → Appends (slice_
 
 -- why a header is not written: the columns make no table, or an output failed
 abbrev pub IsHeaderFault : TableValue → List ℕ → ℕ → DivideRefused → Type 0
-IsHeaderFault t name outputs (refused.Read f) = (b : BuildRefused) × (begun (names_with t name) (types_with t) ≡ Err b) × (f ≡ of_begun b)
+IsHeaderFault t name outputs (refused.Read f) = (b : BuildRefused) × (empty_table (names_with t name) (types_with t) ≡ Err b) × (f ≡ of_begun b)
 IsHeaderFault t name outputs refused.TooLong = ⊥
 IsHeaderFault t name outputs refused.ReadDevice = ⊥
 IsHeaderFault t name outputs (refused.WriteDevice p) = p < outputs

@@ -2,7 +2,7 @@
 
 ghost use Rattle.std.specs.Prelude.{◌≡◌, ◌≢◌, ◌<◌, ◌-◌, ◌^◌, [], Ok, Err, map, length, All, IfErr, IfOk, OnOk};
 ghost use Rattle.csv.specs.Writing.{default_writer, row_text};
-ghost use Rattle.rj_columns.specs.Names.{begun};
+ghost use Rattle.rj_columns.specs.Names.{empty_table};
 ghost use Rattle.rj_columns.specs.Tables.{TableValue};
 ghost use Rattle.rj_columns.specs.declared.refused.BuildRefused.{BuildRefused};
 ghost use Rattle.rj_csv_io.specs.Tables.{of_begun};
@@ -71,9 +71,9 @@ fn fault_of_columns(e: BuildRefused) -> DivideRefused
 
 // A table of a table's columns and of one more, without rows.
 fn widened(alloc: Global, table: &Table, names: &[&str]) -> Result<Table, DivideRefused>
-    ensures table { IfOk result (λ t. (begun (map (λ n. n.now) names.now) (types_with table.now) ≡ Ok t) × (t.rows ≡ [])) }
+    ensures table { IfOk result (λ t. (empty_table (map (λ n. n.now) names.now) (types_with table.now) ≡ Ok t) × (t.rows ≡ [])) }
     ensures fault { IfErr result (λ e. e ≢ DivideRefused.Memory
-        → (b : BuildRefused) × (begun (map (λ n. n.now) names.now) (types_with table.now) ≡ Err b) × (e ≡ DivideRefused.Read (of_begun b))) }
+        → (b : BuildRefused) × (empty_table (map (λ n. n.now) names.now) (types_with table.now) ≡ Err b) × (e ≡ DivideRefused.Read (of_begun b))) }
 {
     let Ok(types) = widened_types(alloc, table) else {
         return Err(DivideRefused::Memory);
@@ -103,7 +103,7 @@ fn text_of_names(alloc: Global, table: &Table, names: &[&str]) -> Result<Vec<u8>
 // The record of a table's names and of one more.
 fn header_of(alloc: Global, table: &Table, name: &str) -> Result<Vec<u8>, DivideRefused>
     ensures text { IfOk result (λ v. v.items ≡ header_text table.now name.now) }
-    ensures lawful { OnOk result ((t : TableValue) × (begun (names_with table.now name.now) (types_with table.now) ≡ Ok t)) }
+    ensures lawful { OnOk result ((t : TableValue) × (empty_table (names_with table.now name.now) (types_with table.now) ≡ Ok t)) }
     ensures fault { IfErr result (IsHeaderFault table.now name.now 0) }
 {
     let Ok(names) = widened_names(alloc, table, name) else {
@@ -135,7 +135,7 @@ pub fn write_headers<O: Output>(
     requires { All (λ o. O.count o < 2 ^ 64 - 1) outputs.old }
     ensures told { OnOk result (HaveText (header_text table.now name.now) (map O.told outputs.old) (map O.told outputs.new)) }
     ensures size { IfOk result (λ n. n ≡ length (header_text table.now name.now)) }
-    ensures lawful { OnOk result ((t : TableValue) × (begun (names_with table.now name.now) (types_with table.now) ≡ Ok t)) }
+    ensures lawful { OnOk result ((t : TableValue) × (empty_table (names_with table.now name.now) (types_with table.now) ≡ Ok t)) }
     ensures counts { map O.count outputs.new ≡ counts_after result (map O.count outputs.old) }
     ensures writes { OnOk result (All (λ o. O.count o < 2 ^ 64 - 1) outputs.new) }
     ensures fault { IfErr result (IsHeaderFault table.now name.now (length outputs.old)) }

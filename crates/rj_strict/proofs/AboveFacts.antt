@@ -6,14 +6,14 @@ use Rattle.std.proofs.lemmas.List.{at_drop_more, at_drop_all}
 use Rattle.std.proofs.Math.Seq.{take-append_seam}
 use Rattle.rj_strict.specs.Grammar.{Field, escaped, non-escaped, Line, fields_text, lines_text}
 use Rattle.rj_strict.specs.Faults.{AreAbove, HasFault, row_at}
-use Rattle.rj_strict.specs.Steps.{at_comma, at_cr, at_dquote, at_lf, at_textdata, begun, end_empty, end_of, forbids_empty, step_of, verdict}
+use Rattle.rj_strict.specs.Steps.{at_comma, at_cr, at_dquote, at_lf, at_textdata, end_empty, end_of, forbids_empty, initial_standing, step_of, verdict}
 use Rattle.rj_strict.specs.declared.header.Header.{Header}
 use Rattle.rj_strict.specs.declared.header.Header.TheVariants.{First, Above}
 use Rattle.rj_strict.specs.declared.fault.StrictFault.{StrictFault}
 use Rattle.rj_strict.specs.declared.standing.Place.TheVariants as place
 use Rattle.rj_strict.specs.declared.standing.Standing.{Standing}
 use Rattle.rj_strict.proofs.Parsing.{Part, within, opened, returned, Taken, nothing, part_text, taken_text, take_byte, untaken}
-use Rattle.rj_strict.proofs.Seen.{all_seen, begun-seen, byte-seen, place_of, seen}
+use Rattle.rj_strict.proofs.Seen.{all_seen, initial-seen, byte-seen, place_of, seen}
 use Rattle.rj_strict.proofs.Sound.{Good, IsTaken, byte-good}
 use Rattle.rj_strict.proofs.StepFacts.{verdict-end, verdict-err, verdict-ok}
 use Rattle.rj_strict.proofs.Answering.{says-err}
@@ -142,16 +142,16 @@ pub record Stands (h : Header) (row : ℕ) (text : List ℕ) (at : ℕ) (s : Sta
   pub sees : s ≡ seen h taken
   pub starts : s.row ≡ row → s.place ≡ place.Start
 
-pub begun-near : (h : Header) → ((begun h).row ≤ 1) × ((begun h).column ≤ 1)
-begun-near First = (omega arith, omega arith)
-begun-near (Above names) = (omega arith, omega arith)
+pub initial-near : (h : Header) → ((initial_standing h).row ≤ 1) × ((initial_standing h).column ≤ 1)
+initial-near First = (omega arith, omega arith)
+initial-near (Above names) = (omega arith, omega arith)
 
-begun-start : (h : Header) → (begun h).place ≡ place.Start
-begun-start First = refl
-begun-start (Above names) = refl
+initial-start : (h : Header) → (initial_standing h).place ≡ place.Start
+initial-start First = refl
+initial-start (Above names) = refl
 
-pub stands-begun : (h : Header) (row : ℕ) (text : List ℕ) (s : Standing) → (full : Bool) × (f : StrictFault) × HasFault h full text f × (row_at f ≡ row) → s ≡ begun h → Stands h row text 0 s
-stands-begun h row text s has is = record {
+pub stands-initial : (h : Header) (row : ℕ) (text : List ℕ) (s : Standing) → (full : Bool) × (f : StrictFault) × HasFault h full text f × (row_at f ≡ row) → s ≡ initial_standing h → Stands h row text 0 s
+stands-initial h row text s has is = record {
   full = has.0;
   fault = has.1;
   is_row = has.3;
@@ -159,8 +159,8 @@ stands-begun h row text s has is = record {
   taken = untaken;
   lawful = record { lines = refl; fields = refl; part = refl };
   spelled = refl;
-  sees = is ∙ begun-seen h;
-  starts = λ on. ap (λ (x : Standing). x.place) is ∙ begun-start h;
+  sees = is ∙ initial-seen h;
+  starts = λ on. ap (λ (x : Standing). x.place) is ∙ initial-start h;
 }
 
 ok-standing : (s t : Standing) → ◌≡◌ {A = Result Standing StrictFault} (Ok s) (Ok t) → s ≡ t

@@ -3,7 +3,7 @@ use Rattle.std.specs.Prelude.{◌≡◌, Bool, List, ℕ, Result, Ok, Err, OnOk,
 use Rattle.std.proofs.Common.{ap, ◌∙◌}
 use Rattle.rj_strict.specs.Grammar.{File, Derives}
 use Rattle.rj_strict.specs.Faults.{HasFault}
-use Rattle.rj_strict.specs.Steps.{begun, verdict}
+use Rattle.rj_strict.specs.Steps.{initial_standing, verdict}
 use Rattle.rj_strict.specs.declared.header.Header.{Header}
 use Rattle.rj_strict.specs.declared.fault.StrictFault.{StrictFault}
 use Rattle.rj_strict.proofs.Parsing.{parse, untaken}
@@ -24,14 +24,14 @@ module _ (h : Header) (full : Bool) (text : List ℕ) where
       let same : f ≡ x = cc e in
       rw same g
 
-  pub is-derived : (r : Result (Unit {0}) StrictFault) → r ≡ verdict full (begun h) text → OnOk r ((file : File) × Derives h full text file)
+  pub is-derived : (r : Result (Unit {0}) StrictFault) → r ≡ verdict full (initial_standing h) text → OnOk r ((file : File) × Derives h full text file)
   is-derived r e = from-ok r (parse h full untaken text) (e ∙ verdict-parse h full text) (sound h full text)
 
-  pub has-fault : (r : Result (Unit {0}) StrictFault) → r ≡ verdict full (begun h) text → IfErr r (λ f. HasFault h full text f)
+  pub has-fault : (r : Result (Unit {0}) StrictFault) → r ≡ verdict full (initial_standing h) text → IfErr r (λ f. HasFault h full text f)
   has-fault r e = from-err r (parse h full untaken text) (e ∙ verdict-parse h full text) (sound h full text)
 
-  pub says-ok : (file : File) → Derives h full text file → verdict full (begun h) text ≡ Ok tt
+  pub says-ok : (file : File) → Derives h full text file → verdict full (initial_standing h) text ≡ Ok tt
   says-ok file d = verdict-parse h full text ∙ ap told (derived h full text file d)
 
-  pub says-err : (f : StrictFault) → HasFault h full text f → verdict full (begun h) text ≡ Err f
+  pub says-err : (f : StrictFault) → HasFault h full text f → verdict full (initial_standing h) text ≡ Err f
   says-err f d = verdict-parse h full text ∙ ap told (faulty h full text f d)

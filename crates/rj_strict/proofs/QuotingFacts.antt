@@ -6,7 +6,7 @@ use Rattle.std.proofs.lemmas.List.{append-nil, map-append, at_drop_more, at_drop
 use Rattle.csv.specs.Reading.{strip_bom}
 use Rattle.rj_strict.specs.Grammar.{Field, escaped, non-escaped, Line, LineEnd, LF, CRLF, File, comma, dquote, cr, lf, doubled, field_text, fields_text, is_blank, end_text, lines_text, names_of, file_text, Derives}
 use Rattle.rj_strict.specs.Reading.{begins_empty, quoted, quoted_line}
-use Rattle.rj_strict.specs.Steps.{begun, step_of}
+use Rattle.rj_strict.specs.Steps.{initial_standing, step_of}
 use Rattle.rj_strict.specs.declared.header.Header.{Header}
 use Rattle.rj_strict.specs.declared.header.Header.TheVariants.{First}
 use Rattle.rj_strict.specs.declared.fault.StrictFault.{StrictFault}
@@ -15,7 +15,7 @@ use Rattle.rj_strict.specs.declared.standing.Place.{Place}
 use Rattle.rj_strict.specs.declared.standing.Place.TheVariants as place
 use Rattle.rj_strict.specs.declared.standing.Standing.{Standing}
 use Rattle.rj_strict.proofs.Parsing.{Part, within, opened, returned, Taken, row_of, record_with, with_line, end_line, end_within, take_comma, take_lf, take_cr, take_dquote, take_textdata, take_byte, take_end, taken_then, parse, untaken}
-use Rattle.rj_strict.proofs.Seen.{all_seen, begun-seen, byte-seen, opens, place_of, seen}
+use Rattle.rj_strict.proofs.Seen.{all_seen, initial-seen, byte-seen, opens, place_of, seen}
 use Rattle.rj_strict.proofs.Sound.{nothing-doubled}
 use Rattle.rj_strict.proofs.Texts.{doubled-dquote, doubled-plain, fields-more, lines-more}
 use Rattle.rj_strict.proofs.Complete.{derived}
@@ -187,13 +187,13 @@ pub record Quotes (text : List ℕ) (at : ℕ) (s : Standing) (out : List ℕ) :
   pub parsed : parse First full taken (drop at text) ≡ Ok file
   pub wrote : (rest : List ℕ) → out ++ rest ≡ mark ++ written taken rest
 
-pub quotes-begun : (text : List ℕ) (s : Standing) (out : List ℕ) → (full : Bool) × (file : File) × Derives First full text file → s ≡ begun First → out ≡ mark → Quotes text 0 s out
-quotes-begun text s out has is empty = record {
+pub quotes-initial : (text : List ℕ) (s : Standing) (out : List ℕ) → (full : Bool) × (file : File) × Derives First full text file → s ≡ initial_standing First → out ≡ mark → Quotes text 0 s out
+quotes-initial text s out has is empty = record {
   full = has.0;
   file = has.1;
   derives = has.2;
   taken = untaken;
-  sees = is ∙ begun-seen First;
+  sees = is ∙ initial-seen First;
   parsed = derived First has.0 text has.1 has.2;
   wrote = λ rest. ap (λ (x : List ℕ). x ++ rest) empty;
 }

@@ -4,7 +4,7 @@ use Rattle.std.proofs.Common.{refl, sym, ap, arith, ◌∙◌}
 use Rattle.std.proofs.lemmas.List.{length_push}
 use Rattle.rj_strict.specs.Grammar.{Field, escaped, non-escaped, Line, LineEnd, LF, CRLF, File, comma, dquote, cr, lf, is_blank, names_of, width}
 use Rattle.rj_strict.specs.Faults.{first_row}
-use Rattle.rj_strict.specs.Steps.{begun, header_below, forbids_empty, next_line, next_field, end_empty, at_comma, at_lf, at_cr, at_dquote, at_textdata, step_of, end_of, step_then, verdict}
+use Rattle.rj_strict.specs.Steps.{initial_standing, header_below, forbids_empty, next_line, next_field, end_empty, at_comma, at_lf, at_cr, at_dquote, at_textdata, step_of, end_of, step_then, verdict}
 use Rattle.rj_strict.specs.declared.header.Header.{Header}
 use Rattle.rj_strict.specs.declared.header.Header.TheVariants.{First, Above}
 use Rattle.rj_strict.specs.declared.fault.StrictFault.{StrictFault}
@@ -232,10 +232,10 @@ verdict-seen h full (c ∷ text) t =
     go (Ok t2) more = more t2
     go (Err e) more = refl
 
-pub begun-seen : (h : Header) → begun h ≡ seen h untaken
-begun-seen First = refl
-begun-seen (Above names) = refl
+pub initial-seen : (h : Header) → initial_standing h ≡ seen h untaken
+initial-seen First = refl
+initial-seen (Above names) = refl
 
 -- what the check says of a text is whether it has a derivation
-pub verdict-parse : (h : Header) (full : Bool) (text : List ℕ) → verdict full (begun h) text ≡ told (parse h full untaken text)
-verdict-parse h full text = ap (λ (s : Standing). verdict full s text) (begun-seen h) ∙ verdict-seen h full text untaken
+pub verdict-parse : (h : Header) (full : Bool) (text : List ℕ) → verdict full (initial_standing h) text ≡ told (parse h full untaken text)
+verdict-parse h full text = ap (λ (s : Standing). verdict full s text) (initial-seen h) ∙ verdict-seen h full text untaken

@@ -4,7 +4,7 @@ use Rattle.std.specs.List.{list_all}
 use Rattle.std.proofs.Common.{refl, sym, ap, ◌∙◌, arith}
 use Rattle.std.proofs.lemmas.Bool.{and_parts, and_from, or_parts, not-true, not_from_false, false≢true, eqb-true}
 use Rattle.rj_strict.specs.Grammar.{comma, dquote, cr, lf}
-use Rattle.rj_strict.specs.Steps.{begun, step_of, end_of, step_then, verdict}
+use Rattle.rj_strict.specs.Steps.{initial_standing, step_of, end_of, step_then, verdict}
 use Rattle.rj_strict.specs.Walk.{by_byte, walk_byte, walk, over_quote, place_after, may_not_follow, all_follow, may_end}
 use Rattle.rj_strict.specs.declared.header.Header.{Header}
 use Rattle.rj_strict.specs.declared.fault.StrictFault.{StrictFault}
@@ -69,8 +69,8 @@ walk-verdict full (c ∷ text) s p e m = go (walk_byte s.place c) (step_of s c) 
     go (Some q) (Err f) g n more = absurd g
 
 -- a text that is walked over is derived under any header
-pub clean : (h : Header) (full : Bool) (text : List ℕ) (p : Place) → walk place.Start text ≡ Some p → may_end full p ≡ true → verdict full (begun h) text ≡ Ok tt
-clean h full text p e m = walk-verdict full text (begun h) place.Start refl (rw e m)
+pub clean : (h : Header) (full : Bool) (text : List ℕ) (p : Place) → walk place.Start text ≡ Some p → may_end full p ≡ true → verdict full (initial_standing h) text ≡ Ok tt
+clean h full text p e m = walk-verdict full text (initial_standing h) place.Start refl (rw e m)
 
 -- the tests of a byte
 abbrev by_tests : {X : Type 0} → Bool → Bool → Bool → Bool → X → X → X → X → X → X

@@ -10,8 +10,8 @@ use Rattle.rj_strict.specs.declared.standing.Place.{Place}
 use Rattle.rj_strict.specs.declared.standing.Place.TheVariants as place
 use Rattle.rj_strict.specs.declared.standing.Standing.{Standing}
 
-abbrev pub begun : Header → Standing
-begun header = record { place = place.Start; header = header; row = first_row header; column = 1 }
+abbrev pub initial_standing : Header → Standing
+initial_standing header = record { place = place.Start; header = header; row = first_row header; column = 1 }
 
 abbrev pub header_below : Header → ℕ → Header
 header_below First column = Above column

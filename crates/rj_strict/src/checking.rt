@@ -4,7 +4,7 @@ ghost use Rattle.std.specs.Prelude.{◌≡◌, Ok, Err, OnOk, IfErr};
 ghost use Rattle.rj_strict.specs.Faults.{HasFault};
 ghost use Rattle.rj_strict.specs.Grammar.{Derives, File};
 ghost use Rattle.rj_strict.specs.Reading.{body_of};
-ghost use Rattle.rj_strict.specs.Steps.{begun, verdict};
+ghost use Rattle.rj_strict.specs.Steps.{initial_standing, verdict};
 ghost use Rattle.rj_strict.specs.declared.fault.StrictFault.{StrictFault};
 
 use crate::clean::is_clean;
@@ -15,7 +15,7 @@ use crate::standing::{begin, finish, step};
 
 // The verdict, byte by byte.
 fn check_bytes(text: &[u8], header: Header, full: bool) -> Result<(), StrictFault>
-    ensures { result ≡ verdict full (begun header) text.now }
+    ensures { result ≡ verdict full (initial_standing header) text.now }
 {
     let mut standing = begin(header);
     for i in 0..text.len() {
@@ -29,7 +29,7 @@ fn check_bytes(text: &[u8], header: Header, full: bool) -> Result<(), StrictFaul
 
 // The verdict, by the fast look where it is enough.
 fn judge(text: &[u8], header: Header, full: bool) -> Result<(), StrictFault>
-    ensures { result ≡ verdict full (begun header) text.now }
+    ensures { result ≡ verdict full (initial_standing header) text.now }
 {
     if is_clean(text, full) {
         return Ok(());

@@ -1,7 +1,7 @@
 //! A fast look at a text that has neither a fault nor an empty line.
 
 ghost use Rattle.std.specs.Prelude.{◌≡◌, ◌<◌, ◌==◌, ℕ, true, false, Bool, Ok, Some, IfSome, length, slice_index};
-ghost use Rattle.rj_strict.specs.Steps.{begun, verdict};
+ghost use Rattle.rj_strict.specs.Steps.{initial_standing, verdict};
 ghost use Rattle.rj_strict.specs.Walk.{all_follow, may_end, may_not_follow, over_quote, place_after, walk};
 ghost use Rattle.rj_strict.specs.declared.header.Header.{Header as Heading};
 ghost use Rattle.rj_strict.specs.declared.standing.Place.TheVariants.{Start};
@@ -165,7 +165,7 @@ pub(crate) fn ends_well(place: Place, full: bool) -> bool
 /// Whether a text is seen to be derived whatever its header is, in a look that is much faster than [`crate::check`]
 /// byte by byte. One with an empty line isn't.
 pub(crate) fn is_clean(text: &[u8], full: bool) -> bool
-    ensures { result ≡ true → (h : Heading) → verdict full (begun h) text.now ≡ Ok tt }
+    ensures { result ≡ true → (h : Heading) → verdict full (initial_standing h) text.now ≡ Ok tt }
 {
     match place_at_end(text) {
         Some(place) => ends_well(place, full),

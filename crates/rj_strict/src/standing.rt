@@ -1,7 +1,7 @@
 //! Where a check stands in a text, and what a byte does there.
 
 ghost use Rattle.std.specs.Prelude.{◌≡◌, ◌<◌, ◌≤◌, ◌+◌, ◌^◌, ◌-◌, Err};
-ghost use Rattle.rj_strict.specs.Steps.{at_comma, at_cr, at_dquote, at_lf, at_textdata, begun, end_empty, end_of, next_field, next_line, step_of};
+ghost use Rattle.rj_strict.specs.Steps.{at_comma, at_cr, at_dquote, at_lf, at_textdata, end_empty, end_of, initial_standing, next_field, next_line, step_of};
 
 use crate::fault::StrictFault;
 use crate::header::Header;
@@ -30,7 +30,7 @@ pub(crate) struct Standing {
 
 /// Before a text's first byte.
 pub(crate) fn begin(header: Header) -> Standing
-    ensures { result ≡ begun header }
+    ensures { result ≡ initial_standing header }
 {
     let row = match header {
         Header::First => 0,

@@ -8,7 +8,7 @@ use Rattle.std.proofs.lemmas.Bool.Decides.{nat_tests}
 use Rattle.std.proofs.lemmas.List.{append-nil, length-append, length-map}
 use Rattle.csv.specs.Reading.{default_config, records, strip_bom}
 use Rattle.rj_columns.specs.Contents.{Content, nothing, word}
-use Rattle.rj_columns.specs.Names.{begun, name_fault}
+use Rattle.rj_columns.specs.Names.{empty_table, name_fault}
 use Rattle.rj_columns.specs.Tables.{TableValue}
 use Rattle.rj_columns.specs.declared.cell.ColumnType.{ColumnType}
 use Rattle.rj_columns.specs.declared.cell.ColumnType.TheVariants as kind
@@ -214,15 +214,15 @@ rows-retyped nulls header kinds n (r ∷ rs) (row ∷ rows) same h all =
     (cells ∷ others, (h.0, are, read))
 
 -- a header begins a table with any types, so many
-begun-retyped : (names : List (List ℕ)) (types kinds : List ColumnType) (t : TableValue) → length kinds ≡ length types → begun names types ≡ Ok t
-    → (begun names kinds ≡ Ok (record { names = names; types = kinds; rows = [] })) × (t ≡ record { names = names; types = types; rows = [] })
-begun-retyped names types kinds t size e = elim (cases_Bool (nat_lt 256 (length names))) [
+empty_table-retyped : (names : List (List ℕ)) (types kinds : List ColumnType) (t : TableValue) → length kinds ≡ length types → empty_table names types ≡ Ok t
+    → (empty_table names kinds ≡ Ok (record { names = names; types = kinds; rows = [] })) × (t ≡ record { names = names; types = types; rows = [] })
+empty_table-retyped names types kinds t size e = elim (cases_Bool (nat_lt 256 (length names))) [
   | inl many ↦ let no : Err build.TooManyColumns ≡ Ok t = rw many at e in absurd cc
   | inr few ↦ go few (name_fault [] names) refl
 ]
   where
     go : nat_lt 256 (length names) ≡ false → (o : Option BuildRefused) → name_fault [] names ≡ o
-        → (begun names kinds ≡ Ok (record { names = names; types = kinds; rows = [] })) × (t ≡ record { names = names; types = types; rows = [] })
+        → (empty_table names kinds ≡ Ok (record { names = names; types = kinds; rows = [] })) × (t ≡ record { names = names; types = types; rows = [] })
     go few (Some x) f = let no : Err x ≡ Ok t = rw (few, f) at e in absurd cc
     go few None f = elim (cases_Bool (length names == length types)) [
       | inl same ↦
@@ -253,9 +253,9 @@ rows-read kinds (row ∷ rows) h =
 records-retyped : (nulls : List (List ℕ)) (header : List (List ℕ)) (rest : List (List (List ℕ))) (kinds : List ColumnType) (t : TableValue)
     → read_records nulls (texts header) (header ∷ rest) ≡ Ok t → length kinds ≡ length t.types → ReadColumns kinds t.rows
     → (u : TableValue) × (read_records nulls kinds (header ∷ rest) ≡ Ok u)
-records-retyped nulls header rest kinds t e size h = by_header (begun header (texts header)) refl
+records-retyped nulls header rest kinds t e size h = by_header (empty_table header (texts header)) refl
   where
-    by_rows : (b : TableValue) → begun header (texts header) ≡ Ok b → (r : Result (List (List Content)) ReadRefused) → read_rows nulls (texts header) [] rest ≡ r
+    by_rows : (b : TableValue) → empty_table header (texts header) ≡ Ok b → (r : Result (List (List Content)) ReadRefused) → read_rows nulls (texts header) [] rest ≡ r
         → (u : TableValue) × (read_records nulls kinds (header ∷ rest) ≡ Ok u)
     by_rows b begins (Err x) is = let no : Err x ≡ Ok t = rw (begins, is) at e in absurd cc
     by_rows b begins (Ok rows) is =
@@ -263,17 +263,17 @@ records-retyped nulls header rest kinds t e size h = by_header (begun header (te
         let q : record b { rows = rows } ≡ t = cc in
         let same : rows ≡ t.rows = ap (λ (v : TableValue). v.rows) q in
         let typed : t.types ≡ texts header =
-        ap (λ (v : TableValue). v.types) (sym q) ∙ ap (λ (v : TableValue). v.types) (begun-retyped header (texts header) (texts header) b refl begins).1 in
+        ap (λ (v : TableValue). v.types) (sym q) ∙ ap (λ (v : TableValue). v.types) (empty_table-retyped header (texts header) (texts header) b refl begins).1 in
         let count : length kinds ≡ length (texts header) = size ∙ ap length typed in
         let wide : length kinds ≡ length header = count ∙ length-map header (λ _. kind.Text) in
         let (_, ends, read) = rows-inverted nulls (texts header) [] rest rows is in
         let P : List (List Content) → Type 0 = RowsRead nulls (texts header) 0 rest in
         let R : List (List Content) → Type 0 = ReadColumns kinds in
         let (others, are) = rows-retyped nulls header kinds 0 rest rows wide (subst P (sym ends) read) (rows-read kinds rows (subst R (sym same) h)) in
-        let starts = (begun-retyped header (texts header) kinds b count begins).0 in
+        let starts = (empty_table-retyped header (texts header) kinds b count begins).0 in
         (record { names = header; types = kinds; rows = others }, rw (starts, rows-built nulls kinds [] rest others are) refl)
 
-    by_header : (b : Result TableValue BuildRefused) → begun header (texts header) ≡ b → (u : TableValue) × (read_records nulls kinds (header ∷ rest) ≡ Ok u)
+    by_header : (b : Result TableValue BuildRefused) → empty_table header (texts header) ≡ b → (u : TableValue) × (read_records nulls kinds (header ∷ rest) ≡ Ok u)
     by_header (Err x) is = let no : Err (of_begun x) ≡ Ok t = rw is at e in absurd cc
     by_header (Ok b) is = by_rows b is (read_rows nulls (texts header) [] rest) refl
 

@@ -1,7 +1,7 @@
 //! The types that type lists give the columns of a text.
 
 ghost use Rattle.std.specs.Prelude.{◌≡◌, ◌≢◌, IfOk, IfErr, IsTrue, None, Err, OnOk, Some};
-ghost use Rattle.rj_columns.specs.Names.{begun};
+ghost use Rattle.rj_columns.specs.Names.{empty_table};
 ghost use Rattle.rj_columns.specs.declared.refused.BuildRefused.{BuildRefused};
 ghost use Rattle.rj_csv_io.specs.Pieces.{names_in};
 ghost use Rattle.rj_csv_io.specs.Tables.{of_begun, read_of};
@@ -30,7 +30,7 @@ fn stands_refused(refused: ReadRefused) -> Result<bool, AllocError>
 
 // Whether a header has no fault, or only another number of types.
 fn header_stands(alloc: Global, header: &Header, types: &[ColumnType]) -> Result<bool, AllocError>
-    ensures { IfOk result (λ b. b ≡ stands (begun (names_in header.now) types.now)) }
+    ensures { IfOk result (λ b. b ≡ stands (empty_table (names_in header.now) types.now)) }
 {
     match header.table(alloc, types) {
         Ok(_) => Ok(true),

@@ -1,6 +1,6 @@
 use Rattle.std.proofs.Common.{◌≡◌}
-use Rattle.rj_columns.specs.Columns.{changed, popped}
+use Rattle.rj_columns.specs.Columns.{changed, without_last}
 use Rattle.rj_columns.proofs.segment_builder.pop_each.Given as goal
 
 abbrev pub invariant-loop-i : goal.invariant-loop-i
-invariant-loop-i l = l.columns.items ≡ changed popped l.i l.fn.columns.items
+invariant-loop-i l = l.columns.items ≡ changed without_last l.i l.fn.columns.items

@@ -7,7 +7,7 @@ use Rattle.rj_columns.specs.Contents.{content_of, nothing}
 use Rattle.rj_columns.specs.Columns.{ColumnValue, grown_by}
 use Rattle.rj_columns.specs.Tables.{FitsAt, FitsTypes}
 use Rattle.rj_columns.proofs.RowFacts.{FitsTypes-length, FitsTypes-at, FitsAt-type}
-use Rattle.rj_columns.proofs.PushFacts.{length-grown_by, grown_by-kinds, grown_by-none, grown_by-step, popped-grown}
+use Rattle.rj_columns.proofs.PushFacts.{length-grown_by, grown_by-kinds, grown_by-none, grown_by-step, without_last-grown}
 use Rattle.rj_columns.proofs.segment_builder.push_each.Goals as goal
 
 -- as many columns as cells
@@ -61,7 +61,7 @@ returns-then-is_err-clause-err c =
     let contents : length (map content_of c.args.cells.now) ≡ length c.args.cells.now = length-map c.args.cells.now content_of in
     let size : length (take c.loop-i.i (map content_of c.args.cells.now)) ≡ c.loop-i.i = length-take-le c.loop-i.i (map content_of c.args.cells.now) (omega arith) in
     let same : c.push.new.self ≡ c.index_mut.result.now = search rules in
-    let back = popped-grown (take c.loop-i.i (map content_of c.args.cells.now)) c.args.columns.now.items (omega arith) in
+    let back = without_last-grown (take c.loop-i.i (map content_of c.args.cells.now)) c.args.columns.now.items (omega arith) in
     rw (c.pop_each.ensures, kept c.loop-i.columns.items c.loop-i.i c.index_mut.result.now c.push.new.self c.index_mut.ensures.value same, c.loop-i.invariant.state) (rw size at back)
 
 pub loop-i-preserved : goal.loop-i-preserved

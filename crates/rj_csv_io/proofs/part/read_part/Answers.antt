@@ -1,7 +1,7 @@
 use Rattle.std.proofs.Common.{Some, List, ℕ, Bor, subst}
 use Rattle.std.proofs.lemmas.Result.{err_from_is_err_and}
 use Rattle.csv.specs.Records.{fields_of}
-use Rattle.rj_csv_io.proofs.PartFacts.{begun-rows, reading-from, table-of-none}
+use Rattle.rj_csv_io.proofs.PartFacts.{empty_table-rows, reading-from, table-of-none}
 use Rattle.rj_csv_io.proofs.TableFacts.{read_bad_header}
 use Rattle.rj_csv_io.specs.Parts.{IsReading, row_records}
 use Rattle.rj_csv_io.specs.Remaining.{records_remaining}
@@ -22,7 +22,7 @@ returns-in_err-reader c =
 
 pub returns-in_default : goal.returns-in_default
 returns-in_default c =
-    let none = begun-rows (fields_of c.args.header.now) c.args.types.now c.in_ok-builder.builder.table c.in_ok-builder.ensures.table.0 in
+    let none = empty_table-rows (fields_of c.args.header.now) c.args.types.now c.in_ok-builder.builder.table c.in_ok-builder.ensures.table.0 in
     table-of-none (null_texts c.args.nulls.now) c.args.types.now (fields_of c.args.header.now) _ c.in_ok-builder.builder.table c.finish.result c.in_ok-builder.ensures.table.0 none c.finish.ensures (rw c.in_default.is at c.in_ok-reader.ensures.reader)
 
 pub returns : goal.returns

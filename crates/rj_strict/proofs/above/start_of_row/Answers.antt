@@ -1,17 +1,17 @@
 use Rattle.std.proofs.Common.{◌≡◌, ◌<◌, List, arith, get_or, length, subst, take}
 use Rattle.rj_strict.specs.Faults.{AreAbove}
 use Rattle.rj_strict.specs.Grammar.{Line, lines_text}
-use Rattle.rj_strict.proofs.AboveFacts.{begun-near, end-here, fault-here, lines-here, stands-begun, stands-more}
+use Rattle.rj_strict.proofs.AboveFacts.{initial-near, end-here, fault-here, lines-here, stands-initial, stands-more}
 use Rattle.rj_strict.proofs.StepFacts.{step-near}
 use Rattle.rj_strict.proofs.above.start_of_row.Goals as goal
 
 pub loop-i-init : goal.loop-i-init
 loop-i-init c =
-    let near = begun-near c.args.header in
+    let near = initial-near c.args.header in
     record {
       row = rw c.begin-standing.ensures near.0;
       column = rw c.begin-standing.ensures near.1;
-      stands = stands-begun c.args.header c.args.row c.args.text.now c.begin-standing.result c.requires c.begin-standing.ensures;
+      stands = stands-initial c.args.header c.args.row c.args.text.now c.begin-standing.result c.requires c.begin-standing.ensures;
     }
 
 pub returns-in-Err-clause-lines : goal.returns-in-Err-clause-lines

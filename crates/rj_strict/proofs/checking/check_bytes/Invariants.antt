@@ -1,10 +1,10 @@
 use Rattle.std.proofs.Common.{◌≡◌, ◌+◌, ◌≤◌, drop}
-use Rattle.rj_strict.specs.Steps.{begun, verdict}
+use Rattle.rj_strict.specs.Steps.{initial_standing, verdict}
 use Rattle.rj_strict.proofs.checking.check_bytes.Given as goal
 
 abbrev pub invariant-loop-i : goal.invariant-loop-i
 invariant-loop-i l = record {
   row : l.standing.row ≤ l.i + 1;
   column : l.standing.column ≤ l.i + 1;
-  told : verdict l.full l.standing (drop l.i l.text) ≡ verdict l.full (begun l.fn.header) l.text;
+  told : verdict l.full l.standing (drop l.i l.text) ≡ verdict l.full (initial_standing l.fn.header) l.text;
 }

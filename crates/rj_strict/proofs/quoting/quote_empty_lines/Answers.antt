@@ -3,22 +3,22 @@ use Rattle.std.specs.declared.alloc.Global.{Global}
 use Rattle.std.specs.declared.vec.Vec.{Vec}
 use Rattle.rj_strict.specs.Grammar.{Derives}
 use Rattle.rj_strict.specs.declared.header.Header.TheVariants.{First}
-use Rattle.rj_strict.proofs.AboveFacts.{begun-near}
-use Rattle.rj_strict.proofs.QuotingFacts.{added, never, quotes-begun, quotes-end, quotes-more, wrote-byte, wrote-quotes}
+use Rattle.rj_strict.proofs.AboveFacts.{initial-near}
+use Rattle.rj_strict.proofs.QuotingFacts.{added, never, quotes-initial, quotes-end, quotes-more, wrote-byte, wrote-quotes}
 use Rattle.rj_strict.proofs.StepFacts.{step-near}
 use Rattle.rj_strict.proofs.quoting.quote_empty_lines.Goals as goal
 use Rattle.rj_strict.proofs.quoting.quote_empty_lines.Goals.{then-begins_empty_line+in_ok-extend_from_slice-2, else-begins_empty_line}
 
 pub loop-i-init : goal.loop-i-init
 loop-i-init c =
-    let near = begun-near First in
+    let near = initial-near First in
     let text = c.body-text.result.now in
     let empty : c.extend_from_slice.new.self.items ≡ 239 ∷ 187 ∷ 191 ∷ [] =
     c.in_ok-extend_from_slice.ensures.items ∙ ap (λ (x : List ℕ). x ++ (239 ∷ 187 ∷ 191 ∷ [])) c.in_ok-quoted.ensures.items in
     record {
       row = rw c.begin-standing.ensures near.0;
       column = rw c.begin-standing.ensures near.1;
-      quotes = quotes-begun text c.begin-standing.result c.extend_from_slice.new.self.items
+      quotes = quotes-initial text c.begin-standing.result c.extend_from_slice.new.self.items
           (c.requires.0, c.requires.1, subst (λ (x : List ℕ). Derives First c.requires.0 x c.requires.1) (sym c.body-text.ensures) c.requires.2) c.begin-standing.ensures empty;
     }
 
