@@ -18,12 +18,12 @@ use std::thread::{self, Threads};
 // Fewer rows than these are no work for a thread of their own.
 const LEAST_ROWS: u64 = 4096;
 
-/// How many parts to make of rows: no more than asked for or than can have so many rows each, and at least one.
-pub(crate) fn part_count(rows: u64, parts: usize, least: u64) -> usize
+// How many parts to make of rows: no more than asked for or than can have `LEAST_ROWS` each, and at least one.
+fn part_count(rows: u64, parts: usize) -> usize
     ensures some { 0 < result }
     ensures few { result ≤ max 1 parts }
 {
-    (rows / least.max(1)).min(parts as u64).max(1) as usize
+    (rows / LEAST_ROWS).min(parts as u64).max(1) as usize
 }
 
 // The first row of a part, where the parts differ by one row at most, or the number of rows behind the last part.
@@ -136,7 +136,7 @@ pub fn write_rows_in_parts<R: Threads + Sync, O: Output, S: RowSource + Sync>(
     ensures device { result ≡ Err WriteRefused.WriteDevice → O.count output.new ≡ O.count output.old + 1 }
     ensures kept { result ≢ Err WriteRefused.WriteDevice → O.count output.new ≡ O.count output.old }
 {
-    let parts = part_count(source.rows(), parts, LEAST_ROWS);
+    let parts = part_count(source.rows(), parts);
     let Ok(texts) = texts_of_parts(rt, alloc, source, null, parts) else {
         return Err(WriteRefused::Memory);
     };
