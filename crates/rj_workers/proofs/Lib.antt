@@ -11,3 +11,4 @@ pub mod Closed
 pub mod Openings
 pub mod Numbers
 pub mod MadeShares
+pub mod Dealt
