@@ -5,6 +5,7 @@ pub mod Sends
 pub mod Takes
 pub mod Ledgers
 pub mod Ends
+pub mod Placed
 pub mod Parts
 pub mod Wholes
 pub mod Closed

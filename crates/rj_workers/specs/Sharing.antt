@@ -11,7 +11,6 @@ use Rattle.rj_exchange.specs.Halt.{IsUnraised, IsHaltSeatOf}
 use Rattle.rj_exchange.specs.Tickets.{IsSeatOf, drawn_by}
 use Rattle.rj_workers.specs.declared.sharing.Drawer.{Drawer}
 use Rattle.rj_workers.specs.declared.sharing.DrawerOutput.{DrawerOutput}
-use Rattle.rj_workers.specs.declared.sharing.Gathered.{Gathered}
 
 -- it is what one of the shares below n makes
 abbrev pub IsMade : {T : Type 0} → (ℕ → T → Type 0) → ℕ → T → Type 0

@@ -188,7 +188,11 @@ where
             ensures { IfOk result (IsDrawerOutput (S.makes shares.entry.now) at_tickets.entry.now at_halt.entry.now) }
         { draw_shares(alloc, shares, gate, at_tickets, at_halt, drawer) },
     )?;
-    let Gathered { draws, seats, mut made } = gather(alloc, results)?;
+    let Gathered {
+        draws,
+        seats,
+        mut made,
+    } = gather(alloc, results)?;
     if halt.finish(seats) {
         return Err(AllocError);
     }

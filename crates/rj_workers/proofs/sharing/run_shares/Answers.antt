@@ -10,7 +10,7 @@ pub map_vec-requires-after_bounds : goal.map_vec-requires-after_bounds
 map_vec-requires-after_bounds g c κs within =
     let t = c.in_ok-tickets.tickets in let h = c.in_ok-halt.halt in let all = c.in_ok-drawers.drawers.items in
     let drawers = new_drawers t h all c.in_ok-tickets.draws.items c.in_ok-halt.seats.items (sym c.in_ok-drawers.ensures.draws) (sym c.in_ok-drawers.ensures.seats)
-        c.in_ok-tickets.ensures.seats.0.1 c.in_ok-tickets.ensures.seats.1 c.in_ok-halt.ensures.seats.0.1 in
+    c.in_ok-tickets.ensures.seats.0.1 c.in_ok-tickets.ensures.seats.1 c.in_ok-halt.ensures.seats.0.1 in
     λ i x lt is. ((let few = c.min.ensures in let n = c.in_ok-tickets.ensures.counts.0 in let of = c.count.ensures in omega arith), subst (IsNewDrawer t h) (sym is) (drawers i x lt))
 
 pub finish-requires : goal.finish-requires
@@ -32,8 +32,8 @@ make_rest-requires-clause-made g c = record {
   made =
       let gathered =
       gathered_seats (g.S.Shares.makes c.args.shares.now) {results = c.in_ok-results.results.items} c.in_ok-tickets.tickets c.in_ok-halt.halt c.in_ok-drawers.drawers.items c.in_ok-tickets.draws.items
-    c.in_ok-drawers.ensures.draws c.in_ok-tickets.ensures.seats.0 (c.in_ok-halt.ensures.counts ∙ sym c.in_ok-tickets.ensures.counts.1) (let long = c.in_ok-results.ensures.len in omega arith)
-    (λ k d lt. (c.in_ok-results.ensures.each k d lt).1.call.met) c.in_ok-draws.ensures in
+      c.in_ok-drawers.ensures.draws c.in_ok-tickets.ensures.seats.0 (c.in_ok-halt.ensures.counts ∙ sym c.in_ok-tickets.ensures.counts.1) (let long = c.in_ok-results.ensures.len in omega arith)
+      (λ k d lt. (c.in_ok-results.ensures.each k d lt).1.call.met) c.in_ok-draws.ensures in
       gathered.made_are c.if-finish.ensures.calm;
 }
 
