@@ -5,9 +5,11 @@ pub mod Sends
 pub mod Takes
 pub mod Ledgers
 pub mod Ends
+pub mod Placed
 pub mod Parts
 pub mod Wholes
 pub mod Closed
 pub mod Openings
 pub mod Numbers
 pub mod MadeShares
+pub mod Dealt

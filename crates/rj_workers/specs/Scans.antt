@@ -1,5 +1,5 @@
 -- What scanners know, and what they hand back. The program's own: no public contract speaks of it.
-use Rattle.std.specs.Prelude.{◌≡◌, ℕ, ◌+◌, ◌<◌, List, [], ◌⊎◌, length, slice_index_or}
+use Rattle.std.specs.Prelude.{◌≡◌, ℕ, ◌+◌, ◌<◌, List, [], ◌⊎◌, length, map, slice_index_or}
 use Rattle.rj_exchange.specs.declared.boxes.Exchange.{Exchange}
 use Rattle.rj_exchange.specs.declared.boxes.Outbox.{Outbox}
 use Rattle.rj_exchange.specs.declared.stripes.StripeSeat.{StripeSeat}
@@ -42,6 +42,16 @@ pub record IsNewScanner (e : Exchange) (h : Halt) (st : Stripes) (n : ℕ) (me :
 
 abbrev pub AreNewScanners : Exchange → Halt → Stripes → ℕ → List Scanner → Type 0
 AreNewScanners e h st n rs = (length rs ≡ n) × ((s : ℕ) (d : Scanner) → s < n → IsNewScanner e h st s (slice_index_or rs s d))
+
+-- the tokens of scanners, in order
+abbrev pub scanner_outboxes : List Scanner → List Outbox
+scanner_outboxes rs = map (λ (s : Scanner). s.outbox) rs
+
+abbrev pub scanner_seats : List Scanner → List HaltSeat
+scanner_seats rs = map (λ (s : Scanner). s.seat) rs
+
+abbrev pub scanner_draws : List Scanner → List StripeSeat
+scanner_draws rs = map (λ (s : Scanner). s.draws) rs
 
 -- outboxes as they were opened
 abbrev pub AreNewOutboxes : Exchange → ℕ → List Outbox → Type 0

@@ -1,14 +1,16 @@
 -- Shares that workers draw.
-use Rattle.std.specs.Prelude.{◌≡◌, ℕ, ◌<◌, List, [], ◌∷◌, ◌++◌, All, length, slice_index_or}
+use Rattle.std.specs.Prelude.{◌≡◌, ℕ, ◌<◌, List, [], ◌∷◌, ◌++◌, length, map, slice_index_or, All, Result, Ok}
+use Rattle.std.specs.declared.alloc.AllocError.{AllocError}
 use Rattle.std.specs.List.{flat_map, range_with_len}
 use Rattle.std.specs.List.Sorted.{IsPermutation}
 use Rattle.rj_exchange.specs.declared.halt.Halt.{Halt}
+use Rattle.rj_exchange.specs.declared.halt.HaltSeat.{HaltSeat}
+use Rattle.rj_exchange.specs.declared.tickets.Seat.{Seat}
 use Rattle.rj_exchange.specs.declared.tickets.Tickets.{Tickets}
-use Rattle.rj_exchange.specs.Halt.{AreAllHaltSeats, IsUnraised, IsHaltSeatOf}
-use Rattle.rj_exchange.specs.Tickets.{AreAllSeats, IsSeatOf, drawn_by}
+use Rattle.rj_exchange.specs.Halt.{IsUnraised, IsHaltSeatOf}
+use Rattle.rj_exchange.specs.Tickets.{IsSeatOf, drawn_by}
 use Rattle.rj_workers.specs.declared.sharing.Drawer.{Drawer}
 use Rattle.rj_workers.specs.declared.sharing.DrawerOutput.{DrawerOutput}
-use Rattle.rj_workers.specs.declared.sharing.Gathered.{Gathered}
 
 -- it is what one of the shares below n makes
 abbrev pub IsMade : {T : Type 0} → (ℕ → T → Type 0) → ℕ → T → Type 0
@@ -46,8 +48,10 @@ pub record IsDrawerOutput {T : Type 0} (makes : ℕ → T → Type 0) (t : Ticke
   pub drawer : IsDrawer t h d.drawer
   pub made : IsUnraised d.drawer.seat → AreMadeBy makes (drawn_by d.drawer.draws) d.made.items
 
--- all seats, and what was made of the shares that they drew
-pub record IsGathered {T : Type 0} (makes : ℕ → T → Type 0) (t : Tickets) (h : Halt) (g : Gathered T) : Type 0 where
-  pub draws : AreAllSeats t g.draws.items
-  pub seats : AreAllHaltSeats h g.seats.items
-  pub made : All IsUnraised g.seats.items → AreMadeBy makes (flat_map drawn_by g.draws.items) g.made.items
+-- workers that were refused nothing handed back these seats, and these things made, in their order
+pub record AreGathered {T : Type 0} (results : List (Result (DrawerOutput T) AllocError)) (draws : List Seat) (seats : List HaltSeat) (made : List T) : Type 0 where
+  pub outputs : List (DrawerOutput T)
+  pub all_are : results ≡ map Ok outputs
+  pub draws_are : draws ≡ map (λ o. o.drawer.draws) outputs
+  pub seats_are : seats ≡ map (λ o. o.drawer.seat) outputs
+  pub made_are : made ≡ flat_map (λ o. o.made.items) outputs

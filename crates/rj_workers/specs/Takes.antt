@@ -1,8 +1,10 @@
 -- What takers know, and what they hand back. The program's own: no public contract speaks of it.
-use Rattle.std.specs.Prelude.{◌≡◌, ℕ, ◌+◌, Bool, true, false, List, [], ◌⊎◌, Option, Some, IfSome, slice_get, length, All}
+use Rattle.std.specs.Prelude.{◌≡◌, ℕ, ◌+◌, Bool, true, false, List, [], ◌⊎◌, Option, Some, IfSome, slice_get, length, map, All}
 use Rattle.rj_ledger.specs.Ledgers.{LedgerValue, IsComplete}
 use Rattle.rj_exchange.specs.declared.boxes.Exchange.{Exchange}
 use Rattle.rj_exchange.specs.declared.halt.Halt.{Halt}
+use Rattle.rj_exchange.specs.declared.halt.HaltSeat.{HaltSeat}
+use Rattle.rj_exchange.specs.declared.tickets.Seat.{Seat}
 use Rattle.rj_exchange.specs.declared.tickets.Tickets.{Tickets}
 use Rattle.rj_exchange.specs.declared.boxes.Inbox.{Inbox}
 use Rattle.rj_exchange.specs.Boxes.{IsInboxOf, taken_by_lane}
@@ -56,9 +58,23 @@ pub record IsTakerOf {T : Type 0} (h o : Halt) (t : Tickets) (me : Taker T) : Ty
 abbrev pub IsTaker : {J G T : Type 0} → Shared J G → Taker T → Type 0
 IsTaker shared me = IsTakerOf shared.halt.now shared.done.now shared.tickets.now me
 
+-- a taker that owns no partition yet
+abbrev pub OwnsNothing : {T : Type 0} → Taker T → Type 0
+OwnsNothing me = me.all.items ≡ []
+
 -- a taker as it starts
 abbrev pub IsNewTaker : {T : Type 0} → Halt → Halt → Tickets → Taker T → Type 0
-IsNewTaker h o t me = IsTakerOf h o t me × (me.all.items ≡ [])
+IsNewTaker h o t me = IsTakerOf h o t me × OwnsNothing me
+
+-- the tokens of takers, in order
+abbrev pub taker_seats : {T : Type 0} → List (Taker T) → List HaltSeat
+taker_seats {T} rs = map (λ (t : Taker T). t.seat) rs
+
+abbrev pub taker_done_seats : {T : Type 0} → List (Taker T) → List HaltSeat
+taker_done_seats {T} rs = map (λ (t : Taker T). t.done_seat) rs
+
+abbrev pub taker_draws : {T : Type 0} → List (Taker T) → List Seat
+taker_draws {T} rs = map (λ (t : Taker T). t.draws) rs
 
 -- what a taker hands back: partitions with all that it took there, unless it has raised or seen the word halt
 pub record IsTakeOf {T : Type 0} (builds : Builds T) (e : Exchange) (h : Halt) (stripes block : ℕ) (me : Taker T) : Type 0 where

@@ -1,7 +1,9 @@
 -- What the workers of a run start with, and what they hand back. The program's own: no public contract speaks of it.
-use Rattle.std.specs.Prelude.{◌≡◌, ℕ, ◌+◌, length, All}
+use Rattle.std.specs.Prelude.{◌≡◌, ℕ, ◌+◌, List, ◌∷◌, ◌++◌, length, All}
 use Rattle.rj_exchange.specs.declared.boxes.Exchange.{Exchange}
+use Rattle.rj_exchange.specs.declared.boxes.Outbox.{Outbox}
 use Rattle.rj_exchange.specs.declared.halt.Halt.{Halt}
+use Rattle.rj_exchange.specs.declared.halt.HaltSeat.{HaltSeat}
 use Rattle.rj_exchange.specs.declared.stripes.Stripes.{Stripes}
 use Rattle.rj_exchange.specs.declared.tickets.Tickets.{Tickets}
 use Rattle.rj_exchange.specs.Halt.{IsHaltSeatOf, halt_seats_of}
@@ -14,8 +16,8 @@ use Rattle.rj_workers.specs.declared.shared.Shared.{Shared}
 use Rattle.rj_workers.specs.declared.coordination.Coordination.{Coordination}
 use Rattle.rj_workers.specs.declared.coordination.Seats.{Seats}
 use Rattle.rj_workers.specs.Posts.{Due}
-use Rattle.rj_workers.specs.Scans.{AreNewScanners, AreScans, IsFreshStripeSeat}
-use Rattle.rj_workers.specs.Takes.{Builds, AreTakes, IsNewTaker}
+use Rattle.rj_workers.specs.Scans.{AreNewScanners, AreScans, IsFreshStripeSeat, scanner_draws, scanner_outboxes, scanner_seats}
+use Rattle.rj_workers.specs.Takes.{Builds, AreTakes, IsNewTaker, OwnsNothing, taker_done_seats, taker_draws, taker_seats}
 
 -- words, stripes and tickets by these settings: a seat at the word halt for each scanner, each taker and the starting thread
 pub record IsCoordination (settings : WorkerSettings) (w : Coordination) : Type 0 where
@@ -31,6 +33,20 @@ pub record AreSeats (w : Coordination) (n : ℕ) (s : Seats) : Type 0 where
   pub at_stripes : All (IsFreshStripeSeat w.stripes) s.stripes.items
   pub at_tickets : All (IsSeatOf w.tickets) s.tickets.items
   pub takers : length s.tickets.items ≡ n
+
+-- a list begins with another
+abbrev pub IsPrefix : {A : Type 0} → List A → List A → Type 0
+IsPrefix {A} xs all = (left : List A) × (xs ++ left ≡ all)
+
+-- workers that hold these outboxes and seats, in the order in which they were given; the starting thread has the first seat
+-- at each word, and some seats may be left
+pub record AreWorkersWith {T : Type 0} (os : List Outbox) (s : Seats) (x : NewWorkers T) (own : HaltSeat) : Type 0 where
+  pub outboxes : scanner_outboxes x.scanners.items ≡ os
+  pub at_halt : IsPrefix (own ∷ scanner_seats x.scanners.items ++ taker_seats x.takers.items) s.halt.items
+  pub at_done : IsPrefix (x.over ∷ taker_done_seats x.takers.items) s.done.items
+  pub at_stripes : IsPrefix (scanner_draws x.scanners.items) s.stripes.items
+  pub at_tickets : taker_draws x.takers.items ≡ s.tickets.items
+  pub empty : All OwnsNothing x.takers.items
 
 -- a scanner for each outbox and as many takers, as they start
 pub record AreNewWorkersOf {T : Type 0} (e : Exchange) (h o : Halt) (st : Stripes) (t : Tickets) (x : NewWorkers T) : Type 0 where

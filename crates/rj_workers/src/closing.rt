@@ -6,7 +6,7 @@ ghost use Rattle.rj_exchange.specs.Tickets.{EachOnce};
 ghost use Rattle.rj_workers.specs.Arrivals.{IsDelivered, due_lists, rows_by_sender};
 ghost use Rattle.rj_workers.specs.Workers.{IsCoordination, AreEndedWorkersOf};
 ghost use Rattle.rj_workers.specs.Takes.{IsOwnedOf, IsBuilding};
-ghost use Rattle.rj_workers.specs.Ends.{AreSettled, AreSlots};
+ghost use Rattle.rj_workers.specs.Ends.{ArePlaced, AreSettled, AreSlots};
 
 use crate::coordination::Coordination;
 use crate::ending::{EndShared, EndedPartition, finish_all};
@@ -105,16 +105,10 @@ fn place<T: Drop>(slot: &mut Option<OwnedPartition<T>>, held: OwnedPartition<T>)
 }
 
 // Puts the partitions of one taker into their places.
-fn place_group<J: Job>(
-    shared: &EndShared<'_, J>,
-    slots: &mut Vec<Option<OwnedPartition<J::Built>>>,
-    group: Vec<OwnedPartition<J::Built>>,
-)
-    requires slots { AreSlots (J.builds shared.now.job.now) shared.now slots.old.items }
-    requires group { All (IsOwnedOf (J.builds shared.now.job.now) shared.now.exchange.now shared.now.settings.workers shared.now.settings.block) group.items }
-    ensures { AreSlots (J.builds shared.now.job.now) shared.now slots.new.items }
+fn place_group<T: Drop>(slots: &mut Vec<Option<OwnedPartition<T>>>, group: Vec<OwnedPartition<T>>)
+    requires { All (λ h. h.inbox.partition < length slots.old.items) group.items }
+    ensures { ArePlaced group.items slots.old.items slots.new.items }
 {
-    let _shared = shared;
     for held in group {
         let at = held.inbox.partition() as usize;
         place(&mut slots[at], held);
@@ -133,7 +127,7 @@ fn place_all<J: Job>(
 {
     let mut slots = no_slots(alloc, shared.exchange.partitions())?;
     for group in groups {
-        place_group(shared, &mut slots, group);
+        place_group(&mut slots, group);
     }
     Ok(slots)
 }

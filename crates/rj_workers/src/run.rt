@@ -53,7 +53,7 @@ where
         settings.block,
     )?;
     let (words, seats) = open_coordination(rt, alloc, settings)?;
-    let (workers, own) = make_workers(alloc, exchange, &words, outboxes, seats)?;
+    let (workers, own) = make_workers(alloc, outboxes, seats)?;
     let (back, own) = {
         let shared = words.shared(exchange, job, gate, settings);
         work(rt, alloc, &shared, &places, workers, own)?

@@ -1,8 +1,7 @@
 //! Workers that draw shares by ticket.
-ghost use Rattle.std.specs.Prelude.{◌≡◌, ◌<◌, ◌≤◌, All, IfOk, length};
-ghost use Rattle.rj_exchange.specs.Halt.{AreAllHaltSeats, halt_seats_of};
-ghost use Rattle.rj_exchange.specs.Tickets.{AreAllSeats, IsNew, limit_of, seats_of};
-ghost use Rattle.rj_workers.specs.Sharing.{AreMade, IsDrawerOutput, IsGathered, IsMadeBehind, IsMadeOfEach, IsNewDrawer};
+ghost use Rattle.std.specs.Prelude.{◌≡◌, ◌<◌, ◌≤◌, IfOk, length, map};
+ghost use Rattle.rj_exchange.specs.Tickets.{limit_of};
+ghost use Rattle.rj_workers.specs.Sharing.{AreGathered, AreMade, IsDrawerOutput, IsMadeBehind, IsMadeOfEach, IsNewDrawer};
 
 use crate::gate::Gate;
 use crate::shares::Shares;
@@ -40,18 +39,13 @@ pub(crate) struct Gathered<T> {
 // A worker for each seat at the tickets and at the word halt.
 fn make_drawers(
     alloc: Global,
-    tickets: &Tickets,
-    halt: &Halt,
     draws: Vec<Seat>,
     seats: Vec<HaltSeat>,
 ) -> Result<Vec<Drawer>, AllocError>
-    requires draws { AreAllSeats tickets.now draws.items × All IsNew draws.items }
-    requires seats { AreAllHaltSeats halt.now seats.items × (halt_seats_of halt.now ≡ seats_of tickets.now) }
-    ensures len { IfOk result (λ v. length v.items ≡ seats_of tickets.now) }
-    ensures drawers { IfOk result (λ v. All (IsNewDrawer tickets.now halt.now) v.items) }
+    requires { length draws.items ≡ length seats.items }
+    ensures draws { IfOk result (λ v. map (λ d. d.draws) v.items ≡ draws.items) }
+    ensures seats { IfOk result (λ v. map (λ d. d.seat) v.items ≡ seats.items) }
 {
-    let _tickets = tickets;
-    let _halt = halt;
     let mut left = seats.into_iter();
     let mut drawers = Vec::with_capacity(alloc, draws.len())?;
     for draws in draws {
@@ -113,20 +107,12 @@ fn draw_shares<S: Shares, G: Gate>(
 }
 
 // What all workers hand back, put together, unless one of them was refused memory.
-fn gather<S: Shares>(
+fn gather<T: Drop>(
     alloc: Global,
-    shares: &S,
-    tickets: &Tickets,
-    halt: &Halt,
-    results: Vec<Result<DrawerOutput<S::Done>, AllocError>>,
-) -> Result<Gathered<S::Done>, AllocError>
-    requires len { (length results.items ≡ seats_of tickets.now) × (halt_seats_of halt.now ≡ seats_of tickets.now) }
-    requires each { All (λ r. IfOk r (IsDrawerOutput (S.makes shares.now) tickets.now halt.now)) results.items }
-    ensures { IfOk result (IsGathered (S.makes shares.now) tickets.now halt.now) }
+    results: Vec<Result<DrawerOutput<T>, AllocError>>,
+) -> Result<Gathered<T>, AllocError>
+    ensures { IfOk result (λ g. AreGathered results.items g.draws.items g.seats.items g.made.items) }
 {
-    let _shares = shares;
-    let _tickets = tickets;
-    let _halt = halt;
     let mut draws = Vec::new(alloc);
     let mut seats = Vec::new(alloc);
     let mut all = Vec::new(alloc);
@@ -141,25 +127,6 @@ fn gather<S: Shares>(
         seats,
         made: all,
     })
-}
-
-// How many shares were drawn, the first ones, and what they made. Nothing comes of it where the word halt was raised.
-fn finish_draws<S: Shares>(
-    shares: &S,
-    tickets: Tickets,
-    halt: Halt,
-    gathered: Gathered<S::Done>,
-) -> Result<(u64, Vec<S::Done>), AllocError>
-    requires { IsGathered (S.makes shares.now) tickets halt gathered }
-    ensures most { IfOk result (λ r. r.0 ≤ limit_of tickets) }
-    ensures made { IfOk result (λ r. IsMadeOfEach (S.makes shares.now) r.0 r.1.items) }
-{
-    let _shares = shares;
-    let Gathered { draws, seats, made } = gathered;
-    if halt.finish(seats) {
-        return Err(AllocError);
-    }
-    Ok((tickets.finish(draws), made))
 }
 
 // Does the shares from a number on.
@@ -210,7 +177,7 @@ where
 {
     let (tickets, draws) = Tickets::open(alloc, shares.count().min(MOST_DRAWN), workers)?;
     let (halt, seats) = Halt::open(alloc, workers)?;
-    let drawers = make_drawers(alloc, &tickets, &halt, draws, seats)?;
+    let drawers = make_drawers(alloc, draws, seats)?;
     let at_tickets = &tickets;
     let at_halt = &halt;
     let results = thread::map_vec(
@@ -221,8 +188,15 @@ where
             ensures { IfOk result (IsDrawerOutput (S.makes shares.entry.now) at_tickets.entry.now at_halt.entry.now) }
         { draw_shares(alloc, shares, gate, at_tickets, at_halt, drawer) },
     )?;
-    let gathered = gather(alloc, shares, &tickets, &halt, results)?;
-    let (drawn, mut made) = finish_draws(shares, tickets, halt, gathered)?;
+    let Gathered {
+        draws,
+        seats,
+        mut made,
+    } = gather(alloc, results)?;
+    if halt.finish(seats) {
+        return Err(AllocError);
+    }
+    let drawn = tickets.finish(draws);
     make_rest(alloc, shares, gate, drawn, &mut made)?;
     Ok(made)
 }

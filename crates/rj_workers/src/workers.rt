@@ -1,16 +1,14 @@
 //! The workers of a run, as they start and as they end.
-ghost use Rattle.std.specs.Prelude.{◌≡◌, All, IfOk, IfSome, length};
+ghost use Rattle.std.specs.Prelude.{◌≡◌, ◌++◌, All, IfOk};
 ghost use Rattle.std.specs.Vec.Iter.{into_iter_items};
-ghost use Rattle.rj_exchange.specs.Halt.{IsHaltSeatOf};
-ghost use Rattle.rj_exchange.specs.Tickets.{IsSeatOf};
-ghost use Rattle.rj_workers.specs.Workers.{AreNewWorkersOf, AreSeats};
-ghost use Rattle.rj_workers.specs.Scans.{AreNewOutboxes, AreNewScanners, IsFreshStripeSeat};
-ghost use Rattle.rj_workers.specs.Takes.{IsNewTaker};
+ghost use Rattle.rj_workers.specs.Workers.{AreWorkersWith, IsPrefix};
+ghost use Rattle.rj_workers.specs.Scans.{scanner_draws, scanner_outboxes, scanner_seats};
+ghost use Rattle.rj_workers.specs.Takes.{OwnsNothing, taker_done_seats, taker_draws, taker_seats};
 
-use crate::coordination::{Coordination, Seats};
+use crate::coordination::Seats;
 use crate::scan::Scanner;
 use crate::take::Taker;
-use rj_exchange::{Exchange, Halt, HaltSeat, Outbox, Seat, StripeSeat, Stripes};
+use rj_exchange::{HaltSeat, Outbox, Seat, StripeSeat};
 use std::alloc::{AllocError, Global};
 use std::vec::IntoIter;
 
@@ -30,67 +28,24 @@ pub(crate) struct EndedWorkers<T> {
     pub(crate) takers: Vec<Taker<T>>,
 }
 
-/// The next of the seats.
-pub(crate) fn next_seat(halt: &Halt, seats: &mut IntoIter<HaltSeat, Global>) -> Option<HaltSeat>
-    requires { All (IsHaltSeatOf halt.now) (into_iter_items seats.old) }
-    ensures seats { All (IsHaltSeatOf halt.now) (into_iter_items seats.new) }
-    ensures seat { IfSome result (IsHaltSeatOf halt.now) }
-{
-    let _shared = halt;
-    match seats.next() {
-        Some(seat) => Some(seat),
-        None => None,
-    }
-}
-
-// The next of the seats, where there are enough.
-fn take_seat(halt: &Halt, seats: &mut IntoIter<HaltSeat, Global>) -> Result<HaltSeat, AllocError>
-    requires { All (IsHaltSeatOf halt.now) (into_iter_items seats.old) }
-    ensures seats { All (IsHaltSeatOf halt.now) (into_iter_items seats.new) }
-    ensures seat { IfOk result (IsHaltSeatOf halt.now) }
-{
-    match next_seat(halt, seats) {
-        Some(seat) => Ok(seat),
-        None => Err(AllocError),
-    }
-}
-
-// The next of the stripe seats.
-fn next_draws(stripes: &Stripes, seats: &mut IntoIter<StripeSeat, Global>) -> Option<StripeSeat>
-    requires { All (IsFreshStripeSeat stripes.now) (into_iter_items seats.old) }
-    ensures seats { All (IsFreshStripeSeat stripes.now) (into_iter_items seats.new) }
-    ensures seat { IfSome result (IsFreshStripeSeat stripes.now) }
-{
-    let _shared = stripes;
-    match seats.next() {
-        Some(seat) => Some(seat),
-        None => None,
-    }
-}
-
-// A scanner for each outbox.
+// A scanner for each outbox, where there are enough seats.
 fn make_scanners(
     alloc: Global,
-    exchange: &Exchange,
-    words: &Coordination,
     outboxes: Vec<Outbox>,
     seats: &mut IntoIter<HaltSeat, Global>,
     draws: Vec<StripeSeat>,
 ) -> Result<Vec<Scanner>, AllocError>
-    requires outboxes { AreNewOutboxes exchange.now (length outboxes.items) outboxes.items }
-    requires seats { All (IsHaltSeatOf words.now.halt) (into_iter_items seats.old) }
-    requires draws { All (IsFreshStripeSeat words.now.stripes) draws.items }
-    ensures seats { IfOk result (λ _. All (IsHaltSeatOf words.now.halt) (into_iter_items seats.new)) }
-    ensures scanners { IfOk result (λ v. AreNewScanners exchange.now words.now.halt words.now.stripes (length outboxes.items) v.items) }
+    ensures outboxes { IfOk result (λ v. scanner_outboxes v.items ≡ outboxes.items) }
+    ensures seats { IfOk result (λ v. scanner_seats v.items ++ into_iter_items seats.new ≡ into_iter_items seats.old) }
+    ensures draws { IfOk result (λ v. IsPrefix (scanner_draws v.items) draws.items) }
 {
-    let _shared = exchange;
     let mut left = draws.into_iter();
     let mut scanners = Vec::with_capacity(alloc, outboxes.len())?;
     for outbox in outboxes {
-        let Some(seat) = next_seat(&words.halt, seats) else {
+        let Some(seat) = seats.next() else {
             return Err(AllocError);
         };
-        let Some(draws) = next_draws(&words.stripes, &mut left) else {
+        let Some(draws) = left.next() else {
             return Err(AllocError);
         };
         scanners.push(Scanner {
@@ -102,26 +57,24 @@ fn make_scanners(
     Ok(scanners)
 }
 
-// A taker for each seat at the tickets.
+// A taker for each seat at the tickets, where there are enough seats at the words.
 fn make_takers<T: Drop>(
     alloc: Global,
-    words: &Coordination,
     seats: &mut IntoIter<HaltSeat, Global>,
     done_seats: &mut IntoIter<HaltSeat, Global>,
     draws: Vec<Seat>,
 ) -> Result<Vec<Taker<T>>, AllocError>
-    requires seats { All (IsHaltSeatOf words.now.halt) (into_iter_items seats.old) }
-    requires done_seats { All (IsHaltSeatOf words.now.done) (into_iter_items done_seats.old) }
-    requires draws { All (IsSeatOf words.now.tickets) draws.items }
-    ensures len { IfOk result (λ v. length v.items ≡ length draws.items) }
-    ensures takers { IfOk result (λ v. All (IsNewTaker words.now.halt words.now.done words.now.tickets) v.items) }
+    ensures seats { IfOk result (λ v. taker_seats v.items ++ into_iter_items seats.new ≡ into_iter_items seats.old) }
+    ensures done_seats { IfOk result (λ v. taker_done_seats v.items ++ into_iter_items done_seats.new ≡ into_iter_items done_seats.old) }
+    ensures draws { IfOk result (λ v. taker_draws v.items ≡ draws.items) }
+    ensures empty { IfOk result (λ v. All OwnsNothing v.items) }
 {
     let mut takers = Vec::with_capacity(alloc, draws.len())?;
     for draws in draws {
-        let Some(seat) = next_seat(&words.halt, seats) else {
+        let Some(seat) = seats.next() else {
             return Err(AllocError);
         };
-        let Some(done_seat) = next_seat(&words.done, done_seats) else {
+        let Some(done_seat) = done_seats.next() else {
             return Err(AllocError);
         };
         takers.push(Taker {
@@ -134,27 +87,22 @@ fn make_takers<T: Drop>(
     Ok(takers)
 }
 
-/// What all workers start with, and the starting thread's seat at the word halt.
+/// What all workers start with, and the starting thread's seat at the word halt, where there are enough seats.
 pub(crate) fn make_workers<T: Drop>(
     alloc: Global,
-    exchange: &Exchange,
-    words: &Coordination,
     outboxes: Vec<Outbox>,
     seats: Seats,
 ) -> Result<(NewWorkers<T>, HaltSeat), AllocError>
-    requires outboxes { AreNewOutboxes exchange.now exchange.now.outboxes outboxes.items }
-    requires seats { AreSeats words.now exchange.now.outboxes seats }
-    ensures workers { IfOk result (λ r. AreNewWorkersOf exchange.now words.now.halt words.now.done words.now.stripes words.now.tickets r.0) }
-    ensures own { IfOk result (λ r. IsHaltSeatOf words.now.halt r.1) }
+    ensures { IfOk result (λ r. AreWorkersWith outboxes.items seats r.0 r.1) }
 {
     let mut at_halt = seats.halt.into_iter();
     let mut at_done = seats.done.into_iter();
-    let own = take_seat(&words.halt, &mut at_halt)?;
-    let over = take_seat(&words.done, &mut at_done)?;
+    let own = at_halt.next().ok_or(AllocError)?;
+    let over = at_done.next().ok_or(AllocError)?;
     let draws = seats.stripes;
-    let scanners = make_scanners(alloc, exchange, words, outboxes, &mut at_halt, draws)?;
+    let scanners = make_scanners(alloc, outboxes, &mut at_halt, draws)?;
     let draws = seats.tickets;
-    let takers = make_takers(alloc, words, &mut at_halt, &mut at_done, draws)?;
+    let takers = make_takers(alloc, &mut at_halt, &mut at_done, draws)?;
     let workers = NewWorkers {
         scanners,
         takers,

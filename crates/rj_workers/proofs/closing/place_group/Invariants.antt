@@ -1,13 +1,11 @@
-use Rattle.std.proofs.Common.{◌≡◌, ◌++◌, ◌<◌, ℕ, length}
-use Rattle.std.specs.Prelude.{slice_index_or}
+use Rattle.std.proofs.Common.{◌≡◌, ◌++◌, length}
 use Rattle.std.specs.Vec.Iter.{into_iter_items, into_iter_len}
-use Rattle.rj_workers.specs.Takes.{IsSlot}
+use Rattle.rj_workers.specs.Ends.{ArePlaced}
 use Rattle.rj_workers.proofs.closing.place_group.Given as goal
 
 abbrev pub invariant-loop-held : goal.invariant-loop-held
 invariant-loop-held g l = record {
   rest : l.yielded ++ into_iter_items l.held-iterator ≡ l.fn.group.items;
   rest_len : into_iter_len l.held-iterator ≡ length (into_iter_items l.held-iterator);
-  len : length l.slots.items ≡ l.shared.exchange.now.partitions;
-  each : (p : ℕ) (d : _) → p < l.shared.exchange.now.partitions → IsSlot (g.J.Job.builds l.shared.job.now) l.shared.exchange.now l.shared.settings.workers l.shared.settings.block p (slice_index_or l.slots.items p d);
+  placed : ArePlaced l.yielded l.fn.slots.items l.slots.items;
 }

@@ -1,6 +1,15 @@
-use Rattle.std.proofs.Common.{ℕ, sym, subst}
-use Rattle.rj_workers.specs.Scans.{AreNewOutboxes}
+use Rattle.std.proofs.Common.{ap, Bor}
+use Rattle.rj_exchange.specs.declared.boxes.Exchange.{Exchange}
+use Rattle.rj_workers.proofs.Dealt.{shared_own, shared_workers}
 use Rattle.rj_workers.proofs.run.run_opened.Goals as goal
 
-pub make_workers-requires-clause-outboxes : goal.make_workers-requires-clause-outboxes
-make_workers-requires-clause-outboxes g c = subst (λ (n : ℕ). AreNewOutboxes c.args.exchange.now n c.args.outboxes.items) (sym c.requires.exchange.0) c.requires.outboxes
+pub work-requires-clause-workers : goal.work-requires-clause-workers
+work-requires-clause-workers g c κs within =
+    let words = c.in_ok-words.words in let same = c.shared-shared.ensures in
+    shared_workers c.args.exchange.now words _ c.args.outboxes.items c.in_ok-words.seats c.in_ok-workers.workers c.in_ok-workers.own c.requires.exchange.0 c.requires.outboxes
+    c.in_ok-words.ensures.seats c.in_ok-workers.ensures _ _ _ _ _ (ap (λ (b : Bor Exchange). b.now) same.shared.0) same.words
+
+pub work-requires-clause-own : goal.work-requires-clause-own
+work-requires-clause-own g c κs within =
+    shared_own c.args.exchange.now c.in_ok-words.words _ c.args.outboxes.items c.in_ok-words.seats c.in_ok-workers.workers c.in_ok-workers.own c.requires.exchange.0 c.requires.outboxes
+    c.in_ok-words.ensures.seats c.in_ok-workers.ensures _ c.shared-shared.ensures.words.0

@@ -1,8 +1,5 @@
-use Rattle.std.proofs.Common.{◌≡◌, ◌++◌, length}
-use Rattle.std.specs.Prelude.{All}
+use Rattle.std.proofs.Common.{◌≡◌, ◌++◌, length, map}
 use Rattle.std.specs.Vec.Iter.{into_iter_items, into_iter_len}
-use Rattle.rj_exchange.specs.Halt.{IsHaltSeatOf}
-use Rattle.rj_workers.specs.Sharing.{IsNewDrawer}
 use Rattle.rj_workers.proofs.sharing.make_drawers.Given as goal
 
 abbrev pub invariant-loop-draws : goal.invariant-loop-draws
@@ -10,7 +7,6 @@ invariant-loop-draws l = record {
   rest : l.yielded ++ into_iter_items l.draws-iterator ≡ l.fn.draws.items;
   rest_len : into_iter_len l.draws-iterator ≡ length (into_iter_items l.draws-iterator);
   left : length (into_iter_items l.left) ≡ length (into_iter_items l.draws-iterator);
-  seats : All (IsHaltSeatOf l.halt) (into_iter_items l.left);
-  len : length l.drawers.items ≡ length l.yielded;
-  drawers : All (IsNewDrawer l.tickets l.halt) l.drawers.items;
+  draws : map (λ d. d.draws) l.drawers.items ≡ l.yielded;
+  seats : map (λ d. d.seat) l.drawers.items ++ into_iter_items l.left ≡ l.fn.seats.items;
 }

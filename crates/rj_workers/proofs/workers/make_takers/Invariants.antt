@@ -1,16 +1,15 @@
 use Rattle.std.proofs.Common.{◌≡◌, ◌++◌, length}
 use Rattle.std.specs.Prelude.{All}
 use Rattle.std.specs.Vec.Iter.{into_iter_items, into_iter_len}
-use Rattle.rj_exchange.specs.Halt.{IsHaltSeatOf}
-use Rattle.rj_workers.specs.Takes.{IsNewTaker}
+use Rattle.rj_workers.specs.Takes.{OwnsNothing, taker_done_seats, taker_draws, taker_seats}
 use Rattle.rj_workers.proofs.workers.make_takers.Given as goal
 
 abbrev pub invariant-loop-draws : goal.invariant-loop-draws
 invariant-loop-draws g l = record {
   rest : l.yielded ++ into_iter_items l.draws-iterator ≡ l.fn.draws.items;
   rest_len : into_iter_len l.draws-iterator ≡ length (into_iter_items l.draws-iterator);
-  seats : All (IsHaltSeatOf l.words.halt) (into_iter_items l.seats);
-  done_seats : All (IsHaltSeatOf l.words.done) (into_iter_items l.done_seats);
-  len : length l.takers.items ≡ length l.yielded;
-  takers : All (IsNewTaker l.words.halt l.words.done l.words.tickets) l.takers.items;
+  draws : taker_draws l.takers.items ≡ l.yielded;
+  seats : taker_seats l.takers.items ++ into_iter_items l.seats ≡ into_iter_items l.fn.seats;
+  done_seats : taker_done_seats l.takers.items ++ into_iter_items l.done_seats ≡ into_iter_items l.fn.done_seats;
+  empty : All OwnsNothing l.takers.items;
 }
