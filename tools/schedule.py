@@ -1,14 +1,36 @@
 """When to prove each of several crates, and with how many jobs, so that all are proved soonest: planned by recorded seconds, and run."""
 
 import random
+import threading
+import time
 from collections import namedtuple
 from concurrent.futures import FIRST_COMPLETED, ThreadPoolExecutor, wait
+
+import repository
+
+# About how many seconds of processor time each crate takes from nothing, and the part of them that more jobs don't make shorter, where it is
+# much more than of most.
+RECORD = repository.ROOT / "tools" / "build.seconds"
 
 # What a check from nothing takes: how many seconds of processor time, and the part of them that further jobs don't make shorter, since libraries
 # are read, what the jobs proved is put together, and a program is compiled.
 Cost = namedtuple("Cost", ("seconds", "serial"), defaults=(0.43,))
 # How many jobs a check has at most, how many plans are tried, and what each job beyond the first adds to a check's memory.
 MOST_JOBS, PLANS, MORE_MEMORY = 4, 6000, 0.6
+
+
+def recorded_costs():
+    return {name: Cost(*map(float, numbers)) for name, *numbers in map(str.split, RECORD.read_text().splitlines())}
+
+
+def minutes(seconds):
+    return f"{seconds / 60:.0f} min" if seconds >= 90 else f"{max(seconds, 1):.0f} s"
+
+
+def minutes_of(program):
+    """About how long it takes here to prove and build a program with all that it stands on, beside nothing else."""
+    names = [*repository.below(repository.crates(), program), program]
+    return minutes(Planned(names, {}, 0, None, plans=300).total)
 
 
 def elapsed(cost, jobs):
@@ -63,12 +85,12 @@ def behind(below, costs):
     return found
 
 
-def planned(below, costs, lanes):
-    """The best of some thousand plans, each a change of the best one before it. below: for each crate, all that it stands on."""
+def planned(below, costs, lanes, plans=PLANS):
+    """The best of so many plans, each a change of the best one before it. below: for each crate, all that it stands on."""
     chains, chance = behind(below, costs), random.Random(1)
     best = Plan(sorted(below, key=lambda it: -chains[it]), dict.fromkeys(below, 1))
     least = max(best.ends(below, costs, lanes).values(), default=0)
-    for _ in range(PLANS if len(below) > 1 else 0):
+    for _ in range(plans if len(below) > 1 else 0):
         plan = best.changed(chance, lanes)
         last = max(plan.ends(below, costs, lanes).values())
         if last <= least:
@@ -76,21 +98,46 @@ def planned(below, costs, lanes):
     return best
 
 
-def run(plan, below, work, needs, lanes, memory):
-    """Calls work(name, jobs) of each crate in a thread, as planned, with no more than this memory where more than one is at work.
-    needs: what each takes with one job. It ends early where a work gives false."""
-    left, running, proved = list(plan.order), {}, set()
-    with ThreadPoolExecutor(lanes) as pool:
-        while left or running:
-            taken = sum(needs[it] * (1 + MORE_MEMORY * (plan.jobs[it] - 1)) for it in running.values())
-            idle = lanes - sum(plan.jobs[it] for it in running.values())
-            name = plan.next(left, below, proved, idle, lambda it: not running or taken + needs[it] <= memory)
-            if name:
-                left.remove(name)
-                running[pool.submit(work, name, plan.jobs[name])] = name
-                continue
-            for it in wait(running, return_when=FIRST_COMPLETED).done:
-                name = running.pop(it)
-                if not it.result():
-                    left.clear()
-                proved.add(name)
+class Planned:
+    """Crates to be proved, planned. needs: the memory that each takes with one job; free: what there is. It tells how far it is, and about how long the rest
+    takes at the pace so far."""
+
+    def __init__(self, names, needs, free, say, plans=PLANS):
+        lines, recorded = repository.crates(), recorded_costs()
+        self.lanes, self.needs, self.memory, self.say = repository.processors(), needs, 0.85 * free, say
+        self.below = {name: {it for it in repository.below(lines, name) if it in names} for name in names}
+        costs = {name: recorded.get(name, Cost(60)) for name in names}
+        self.plan = planned(self.below, costs, self.lanes, plans)
+        self.ends = self.plan.ends(self.below, costs, self.lanes)
+        self.total = max(self.ends.values(), default=0)
+        self.start, self.ended, self.printing = time.monotonic(), [], threading.Lock()
+
+    def tell_end(self, name):
+        with self.printing:
+            self.ended.append(name)
+            taken, reached = time.monotonic() - self.start, max(self.ends[it] for it in self.ended)
+            left = (self.total - reached) * taken / reached
+            rest = f", about {minutes(left)} left" if len(self.ended) < len(self.ends) else ""
+            self.say(f"{len(self.ended)} of {len(self.ends)}, {name} ({minutes(taken)} so far{rest})")
+
+    def run(self, work):
+        """Calls work(name, jobs) of each crate in a thread, as planned, with no more than the memory that is free where more than one is at work. It
+        ends early where a work gives false, and gives whether none did."""
+        left, running, proved = list(self.plan.order), {}, set()
+        with ThreadPoolExecutor(self.lanes) as pool:
+            while left or running:
+                taken = sum(self.needs[it] * (1 + MORE_MEMORY * (self.plan.jobs[it] - 1)) for it in running.values())
+                idle = self.lanes - sum(self.plan.jobs[it] for it in running.values())
+                name = self.plan.next(left, self.below, proved, idle, lambda it: not running or taken + self.needs[it] <= self.memory)
+                if name:
+                    left.remove(name)
+                    running[pool.submit(work, name, self.plan.jobs[name])] = name
+                    continue
+                for it in wait(running, return_when=FIRST_COMPLETED).done:
+                    name = running.pop(it)
+                    if it.result():
+                        self.tell_end(name)
+                        proved.add(name)
+                    else:
+                        left.clear()
+        return len(proved) == len(self.below)
