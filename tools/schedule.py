@@ -16,7 +16,7 @@ RECORD = repository.ROOT / "tools" / "build.seconds"
 # are read, what the jobs proved is put together, and a program is compiled.
 Cost = namedtuple("Cost", ("seconds", "serial"), defaults=(0.43,))
 # How many jobs a check has at most, how many plans are tried, and what each job beyond the first adds to a check's memory.
-MOST_JOBS, PLANS, MORE_MEMORY = 4, 6000, 0.6
+MOST_JOBS, PLANS, MORE_MEMORY = 4, 2000, 0.6
 
 
 def recorded_costs():
@@ -38,45 +38,6 @@ def elapsed(cost, jobs):
     return cost.seconds * (cost.serial + (1 - cost.serial) / jobs)
 
 
-class Plan:
-    """An order of crates, and the jobs of each. A crate begins once those below it are proved and as many lanes are free as it has jobs;
-    none that comes later in the order begins before one that waits for lanes alone."""
-
-    def __init__(self, order, jobs):
-        self.order, self.jobs = order, jobs
-
-    def next(self, left, below, proved, idle, room):
-        """The crate to begin now, of those that are left, or none."""
-        ready = next((it for it in left if below[it] <= proved), None)
-        return ready if ready and self.jobs[ready] <= idle and room(ready) else None
-
-    def ends(self, below, costs, lanes):
-        """When each crate ends."""
-        now, left, running, ends = 0.0, list(self.order), [], {}
-        while left or running:
-            idle = lanes - sum(self.jobs[name] for _, name in running)
-            name = self.next(left, below, ends.keys(), idle, lambda _: True)
-            if name:
-                left.remove(name)
-                running.append((now + elapsed(costs[name], self.jobs[name]), name))
-            else:
-                now, name = min(running)
-                running.remove((now, name))
-                ends[name] = now
-        return ends
-
-    def changed(self, chance, lanes):
-        """A plan that differs from it in the place or the jobs of one crate."""
-        order, jobs = list(self.order), dict(self.jobs)
-        name = chance.choice(order)
-        if chance.random() < 0.5:
-            jobs[name] = chance.randint(1, min(MOST_JOBS, lanes))
-        else:
-            order.remove(name)
-            order.insert(chance.randint(0, len(order)), name)
-        return Plan(order, jobs)
-
-
 def behind(below, costs):
     """The seconds of each crate with the longest chain of crates that wait for it."""
     found = {}
@@ -85,21 +46,42 @@ def behind(below, costs):
     return found
 
 
-def planned(below, costs, lanes, plans=PLANS):
-    """The best of so many plans, each a change of the best one before it. below: for each crate, all that it stands on."""
-    chains, chance = behind(below, costs), random.Random(1)
-    best = Plan(sorted(below, key=lambda it: -chains[it]), dict.fromkeys(below, 1))
-    least = max(best.ends(below, costs, lanes).values(), default=0)
+def next_of(left, below, proved, chains):
+    """The crate to begin now: of those that wait for no other the one with the longest chain behind it, or none."""
+    return max((it for it in left if below[it] <= proved), key=chains.get, default=None)
+
+
+def ends_of(below, costs, chains, jobs, lanes):
+    """When each crate ends, where each has so many jobs, or fewer where no more lanes are free."""
+    now, left, running, ends = 0.0, set(below), [], {}
+    while left or running:
+        idle = lanes - sum(count for _, _, count in running)
+        name = next_of(left, below, ends.keys(), chains) if idle else None
+        if name:
+            left.remove(name)
+            count = min(jobs[name], idle)
+            running.append((now + elapsed(costs[name], count), name, count))
+        else:
+            now, name, _ = first = min(running)
+            running.remove(first)
+            ends[name] = now
+    return ends
+
+
+def jobs_of(below, costs, chains, lanes, plans):
+    """How many jobs each crate is to have: the best of so many plans, each a change of the best one before it."""
+    chance, best = random.Random(1), dict.fromkeys(below, 1)
+    least = max(ends_of(below, costs, chains, best, lanes).values(), default=0)
     for _ in range(plans if len(below) > 1 else 0):
-        plan = best.changed(chance, lanes)
-        last = max(plan.ends(below, costs, lanes).values())
+        tried = {**best, chance.choice(list(below)): chance.randint(1, min(MOST_JOBS, lanes))}
+        last = max(ends_of(below, costs, chains, tried, lanes).values())
         if last <= least:
-            best, least = plan, last
+            best, least = tried, last
     return best
 
 
 class Planned:
-    """Crates to be proved, planned. needs: the memory that each takes with one job; free: what there is. It tells how far it is, and about how long the rest
+    """Crates to be proved, and the jobs that each is to have. needs: the memory that each takes with one job; free: what there is. It tells how far it is, and about how long the rest
     takes at the pace so far."""
 
     def __init__(self, names, needs, free, say, plans=PLANS):
@@ -107,8 +89,9 @@ class Planned:
         self.lanes, self.needs, self.memory, self.say = repository.processors(), needs, 0.85 * free, say
         self.below = {name: {it for it in repository.below(lines, name) if it in names} for name in names}
         costs = {name: recorded.get(name, Cost(60)) for name in names}
-        self.plan = planned(self.below, costs, self.lanes, plans)
-        self.ends = self.plan.ends(self.below, costs, self.lanes)
+        self.chains = behind(self.below, costs)
+        self.jobs = jobs_of(self.below, costs, self.chains, self.lanes, plans)
+        self.ends = ends_of(self.below, costs, self.chains, self.jobs, self.lanes)
         self.total = max(self.ends.values(), default=0)
         self.start, self.ended, self.printing = time.monotonic(), [], threading.Lock()
 
@@ -121,20 +104,21 @@ class Planned:
             self.say(f"{len(self.ended)} of {len(self.ends)}, {name} ({minutes(taken)} so far{rest})")
 
     def run(self, work):
-        """Calls work(name, jobs) of each crate in a thread, as planned, with no more than the memory that is free where more than one is at work. It
-        ends early where a work gives false, and gives whether none did."""
-        left, running, proved = list(self.plan.order), {}, set()
+        """Calls work(name, jobs) of each crate in a thread, with no more than the memory that is free where more than one is at work. It ends early where a
+        work gives false, and gives whether none did."""
+        left, running, proved = set(self.below), {}, set()
         with ThreadPoolExecutor(self.lanes) as pool:
             while left or running:
-                taken = sum(self.needs[it] * (1 + MORE_MEMORY * (self.plan.jobs[it] - 1)) for it in running.values())
-                idle = self.lanes - sum(self.plan.jobs[it] for it in running.values())
-                name = self.plan.next(left, self.below, proved, idle, lambda it: not running or taken + self.needs[it] <= self.memory)
-                if name:
+                idle = self.lanes - sum(jobs for _, jobs in running.values())
+                taken = sum(self.needs[name] * (1 + MORE_MEMORY * (jobs - 1)) for name, jobs in running.values())
+                name = next_of(left, self.below, proved, self.chains) if idle else None
+                if name and (not running or taken + self.needs[name] <= self.memory):
                     left.remove(name)
-                    running[pool.submit(work, name, self.plan.jobs[name])] = name
+                    jobs = min(self.jobs[name], idle)
+                    running[pool.submit(work, name, jobs)] = name, jobs
                     continue
                 for it in wait(running, return_when=FIRST_COMPLETED).done:
-                    name = running.pop(it)
+                    name, _ = running.pop(it)
                     if it.result():
                         self.tell_end(name)
                         proved.add(name)
