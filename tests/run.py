@@ -53,6 +53,7 @@ PARTS = (
     "threads",
     "retried",
     "installation",
+    "unproved",
     "recipes",
     "pages",
     "options",
