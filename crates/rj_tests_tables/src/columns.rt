@@ -1,7 +1,8 @@
 //! That tables are built, copied and taken apart with ample memory, and how many rows a segment has.
 
-ghost use Rattle.std.specs.Prelude.{◌≡◌, length, IfOk};
+ghost use Rattle.std.specs.Prelude.{◌≡◌, ◌∷◌, []};
 
+use crate::csv_io::repeated;
 use rj_columns::{Cell, ColumnType, RowSource, Table, TableBuilder};
 use rj_csv_io::read_table_in_parts;
 use std::alloc::{AllocError, Global};
@@ -10,46 +11,62 @@ use std::thread::Threads;
 
 const TYPES: [ColumnType; 2] = [ColumnType::Int, ColumnType::Text];
 
-// A row with a number and a text, a row of nulls, and a cell of a row that is not ended.
+// Adds a row with a number and a text, a row of nulls, and a cell of a row that is not ended.
 #[tactic(auto, unfolding(rj_columns::specs::Tables::FitsTypes, rj_columns::specs::Tables::FitsAt))]
-fn sample(alloc: Global) -> Result<Table, Fail>
-    ensures size { IfOk result (λ t. (length t.types ≡ 2) × (length t.rows ≡ 2)) }
+fn push(builder: &mut TableBuilder) -> Result<(), AllocError>
+    requires types { builder.old.table.types ≡ ColumnType.Int ∷ ColumnType.Text ∷ [] }
+    requires rows { builder.old.table.rows ≡ [] }
+    requires hand { builder.old.row ≡ [] }
 {
-    let names = [b"id".as_slice(), b"Word".as_slice()];
-    let mut builder = TableBuilder::new(alloc, names.as_slice(), TYPES.as_slice())?;
     builder.reserve(2);
     builder.push_row([Cell::Int(-7), Cell::Text("\u{e4},")].as_slice())?;
     builder.push_cell(Cell::Null)?;
     builder.push_cell(Cell::Null)?;
     builder.end_row();
-    builder.push_cell(Cell::Int(5))?;
+    builder.push_cell(Cell::Int(5))
+}
+
+fn sample(alloc: Global) -> Result<Table, Fail> {
+    let names = [b"id".as_slice(), b"Word".as_slice()];
+    let mut builder = TableBuilder::new(alloc, names.as_slice(), TYPES.as_slice())?;
+    push(&mut builder)?;
     Ok(builder.finish())
 }
 
-// Each answer is as the contracts have it, but where memory is refused.
+// Whether the rows of a table are copied, where it has two rows and two columns. Each answer is as the contracts have it, but
+// where memory is refused.
+fn is_copied(alloc: Global, table: &Table) -> bool {
+    if table.rows() != 2 || table.columns() != 2 {
+        return false;
+    }
+    let mut cells = Vec::new(alloc);
+    RowSource::cells(table, &mut cells, 1, 0, 2).is_ok()
+        && table
+            .select(alloc, [1, 0].as_slice(), [1].as_slice())
+            .is_ok()
+}
+
 #[test]
 fn tables_are_built_and_copied(rt: HostRuntime) -> Result<(), Fail> {
     let table = sample(rt.alloc())?;
-    let mut cells = Vec::new(rt.alloc());
-    RowSource::cells(&table, &mut cells, 1, 0, 2)?;
-    let copied = table.select(rt.alloc(), [1, 0].as_slice(), [1].as_slice())?;
-    assert!(rt; copied.cell(1, 0) == Cell::Text("\u{e4},"));
+    assert!(rt; is_copied(rt.alloc(), &table));
     Ok(())
 }
 
-// The segments of a table of so many rows, read in so many parts.
+// The segments of the table of a text that is read in so many parts.
 fn segments_of<R: Threads + Sync>(
     rt: &R,
     alloc: Global,
-    rows: u64,
+    text: &[u8],
     parts: usize,
-) -> Result<Vec<Table>, Fail> {
-    let mut text = Vec::from_slice(alloc, b"k,v\n")?;
-    for _row in 0..rows {
-        text.extend_from_slice(b"7,seven\n")?;
+) -> Option<Vec<Table>> {
+    let Ok(table) = read_table_in_parts(rt, alloc, text, &TYPES, &[""], parts) else {
+        return None;
+    };
+    match table.into_segments(alloc) {
+        Ok(segments) => Some(segments),
+        Err(_) => None,
     }
-    let table = read_table_in_parts(rt, alloc, &text, &TYPES, &[""], parts)?;
-    Ok(table.into_segments(alloc)?)
 }
 
 // How many rows the longest of these tables has.
@@ -62,18 +79,25 @@ fn most_rows(tables: &[Table]) -> u64 {
 }
 
 // The rows of a table, the parts that it is read in, its segments, and the rows of the longest of these.
-type SegmentsCase = (u64, usize, usize, u64);
+type SegmentsCase = (usize, usize, usize, u64);
+
+fn has_segments<R: Threads + Sync>(rt: &R, alloc: Global, text: &[u8], case: SegmentsCase) -> bool {
+    let (_, parts, count, most) = case;
+    match segments_of(rt, alloc, text, parts) {
+        Some(segments) => segments.len() == count && most_rows(&segments) == most,
+        None => false,
+    }
+}
 
 // The first of these tables, counted from 0, that has other segments.
 fn wrong_segments<R: Threads + Sync>(
     rt: &R,
     alloc: Global,
     cases: &[SegmentsCase],
-) -> Result<Option<usize>, Fail> {
+) -> Result<Option<usize>, AllocError> {
     for (place, case) in cases.iter().enumerate() {
-        let (rows, parts, count, most) = *case;
-        let segments = segments_of(rt, alloc, rows, parts)?;
-        if segments.len() != count || most_rows(&segments) != most {
+        let text = repeated(alloc, b"k,v\n", b"7,seven\n", case.0, b"")?;
+        if !has_segments(rt, alloc, &text, *case) {
             return Ok(Some(place));
         }
     }

@@ -50,13 +50,18 @@ fn is_told(alloc: Global, table: &Table, left: u64) -> bool {
     }
 }
 
-#[test]
-fn tiring_writer_sweep(rt: HostRuntime) -> Result<(), Fail> {
-    let table = read_table(rt.alloc(), b"a\n1\n", &[INT], &[""])?;
-    for left in 0..8 {
-        assert!(rt; is_told(rt.alloc(), &table, left), "at {left}");
+fn is_row_told(alloc: Global, left: u64) -> bool {
+    match read_table(alloc, b"a\n1\n", &[INT], &[""]) {
+        Ok(table) => is_told(alloc, &table, left),
+        Err(_) => false,
     }
-    Ok(())
+}
+
+#[test]
+fn tiring_writer_sweep(rt: HostRuntime) {
+    for left in 0..8 {
+        assert!(rt; is_row_told(rt.alloc(), left), "at {left}");
+    }
 }
 
 // A writer of std that takes everything, and whose flush fails where it holds something back.
