@@ -1,12 +1,10 @@
-//! The tests of tables and what they are read from and written to: decimals, columns, CSV and hashes of keys: worked examples,
-//! and what no contract says. The crate holds nothing but tests, so that none of the libraries is proved a second time.
+//! The tests of tables and what they are read from and written to: columns, CSV and hashes of keys: worked examples, and what
+//! no contract says. The crate holds nothing but tests, so that none of the libraries is proved a second time.
 #![tactic(auto)]
 
 #[cfg(test)]
 mod columns;
 #[cfg(test)]
 mod csv_io;
-#[cfg(test)]
-mod decimal;
 #[cfg(test)]
 mod radix;
