@@ -96,14 +96,16 @@ def sweep(tally, refuse, run):
         folder = pathlib.Path(at)
         for file, content in run.files.items():
             (folder / file).write_bytes(content)
-        report = folder / "report"
+        report, ended_for_memory = folder / "report", False
         for n in range(1, MOST):
             environment = {**os.environ, "LD_PRELOAD": str(refuse), "REFUSE_ALLOCATION": str(n), "REFUSE_REPORT": str(report)}
             ran = ended(run, folder, environment)
             if not report.exists():
                 tally.check(f"{run.name}: no refusal", harness.differences(ran, run.stdout, run.stderr, run.status))
+                tally.check(f"{run.name}: ends for want of memory", [] if ended_for_memory else ["no refusal ended it"])
                 return n - 1
             report.unlink()
+            ended_for_memory |= ran.status == 5
             tally.check(f"{run.name}: allocation {n} refused", faults_of(run, ran))
     tally.check(run.name, [f"{MOST} refusals, and no end"])
     return MOST

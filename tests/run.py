@@ -53,6 +53,7 @@ PARTS = (
     "threads",
     "retried",
     "installation",
+    "merges",
     "recipes",
     "pages",
     "options",
@@ -63,7 +64,7 @@ PARTS = (
     "streams",
     "comparisons",
 )
-TABLES = ("examples.toml", "arrivals.toml", "ends.toml")
+TABLES = ("examples.toml", "arrivals.toml", "ends.toml", "merges.toml")
 
 
 def run_part(name):
