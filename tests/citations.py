@@ -306,6 +306,25 @@ def library_faults(text):
     yield from (f"crates.txt has no {name}" for name in sorted(told - wanted))
 
 
+def endings_of(program, source, definitions):
+    """The lines that a program's source tells, each up to the first thing that it names, with their exit statuses."""
+    lines = re.findall(rf'#\[error\("{program}: ([^"]*)"\)\]\n +(\w+)', (harness.ROOT / "crates" / source).read_text())
+    statuses = dict(re.findall(r"^exit_of \(?failure\.(\w+).* = (\d)$", (harness.ROOT / "crates" / definitions).read_text(), re.MULTILINE))
+    return {(line.partition(" {")[0], statuses.get(name)) for line, name in lines}
+
+
+def ending_faults(text):
+    """Where the table of what `merges` tells, and by which exit status it ends, differs from its source and its definition. One of
+    these lines no command line is long enough for."""
+    table = text.partition("| Line, after `merges: ` |")[2].partition("\n\n")[0]
+    told = set()
+    for tokens, status in re.findall(r"^\| (`.*`) \| (\d) \|", table, re.MULTILINE):
+        told |= {(re.split(r" (?:FILE|left L)\b", token)[0], status) for token in re.findall(r"`([^`]+)`", tokens)}
+    found = endings_of("merges", "merges/src/failure.rt", "merges/specs/Failures.antt")
+    yield from (f"merges tells {line!r} and ends by {status}, which isn't told" for line, status in sorted(found - told))
+    yield from (f"merges doesn't tell {line!r} and end by {status}" for line, status in sorted(told - found))
+
+
 def number_faults(text):
     """The numbers of decisions that stand twice, or not in order in their section."""
     for section in text.split("\n## ")[1:]:
@@ -328,6 +347,7 @@ def check_agreement(tally, files):
     docs = {name: (harness.ROOT / "docs" / f"{name}.md").read_text() for name in ("specification", "architecture", "changing", "proved", "DECISIONS")}
     tally.check("docs/specification.md: definitions", list(definition_faults(docs["specification"])))
     tally.check("docs/specification.md: limits", list(limit_faults(docs["specification"])))
+    tally.check("docs/specification.md: what merges tells", list(ending_faults(docs["specification"])))
     tally.check("docs/architecture.md: crates", list(crate_faults(docs["architecture"])))
     tally.check("crates.txt: crates that none names", list(unnamed_faults(files)))
     tally.check("docs/architecture.md: types of one name", list(type_faults(docs["architecture"], files)))

@@ -121,6 +121,8 @@ def scripts_that_cannot_be_read(folder):
     os.close(opened)
     with open(folder / "write_only", "wb") as file:
         yield "a script open for writing", harness.differences(run("arrivals", ARRIVALS, folder, stdin=file), *wanted)
+    ran = run("arrivals", ARRIVALS, folder, preexec_fn=lambda: os.close(0))
+    yield "a closed standard input", harness.differences(ran, *wanted)
 
 
 def closed_standard_error(folder):
@@ -138,7 +140,9 @@ def closed_standard_error(folder):
 
 def output_that_nobody_reads(folder):
     """A pipe whose reader has gone is a writer that failed."""
-    for name, words in (("radixjoin", two_files(folder)), ("arrivals", ARRIVALS)):
+    joined = ["joined.csv"]
+    (folder / joined[0]).write_text("left_place,a,right_place\n0,x,5\n")
+    for name, words in (("radixjoin", two_files(folder)), ("arrivals", ARRIVALS), ("merges", joined)):
         reader, writer = os.pipe()
         os.close(reader)
         ran = run(name, words, folder, stdout=writer)
@@ -146,21 +150,26 @@ def output_that_nobody_reads(folder):
         yield f"{name}: a pipe without a reader", harness.differences(ran, b"", f"{name}: E20 WriteDevice\n".encode(), 6)
 
 
-def files_without_permission(folder):
-    """A file that this user may not read can't be opened: E19, the left one first."""
-    words = two_files(folder)
+def run_with_permissions(name, words, folder):
+    """Runs a program on words as a user whom the permissions of files bind."""
     how = {}
     if os.geteuid() == 0:
         # Nobody has to reach the program, so it is copied beside the files.
         folder.chmod(0o755)
         how = {"user": NOBODY, "group": NOBODY, "extra_groups": []}
     program = folder / "program"
-    shutil.copy(harness.program("radixjoin"), program)
+    shutil.copy(harness.program(name), program)
+    return run_command([program, *words], folder, **how)
+
+
+def files_without_permission(folder):
+    """A file that this user may not read can't be opened: E19, the left one first."""
+    words = two_files(folder)
     for side, others in (("left", 0o644), ("right", 0o644), ("left", 0)):
         other = "right" if side == "left" else "left"
         (folder / f"{side}.csv").chmod(0)
         (folder / f"{other}.csv").chmod(others)
-        ran = run_command([program, *words], folder, **how)
+        ran = run_with_permissions("radixjoin", words, folder)
         told = f"radixjoin: E19 ReadDevice {side}\n".encode()
         yield f"the {side} file without permission, the other {others:o}", harness.differences(ran, b"", told, 6)
 

@@ -21,6 +21,8 @@ def bytes_of(file):
 
 def words_of(case, files, folder):
     """The words that a case runs its program with; writes its files into the folder."""
+    for name, text in case.get("files", {}).items():
+        (folder / name).write_bytes(spelled(text).encode())
     if "words" in case:
         return [spelled(word) for word in case["words"]]
     words = []

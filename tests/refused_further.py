@@ -1,6 +1,6 @@
 """Refuses each allocation in turn in further runs of the built programs: statistics, coalesced texts, a remainder, a
 quoted header, a left table of three segments, the versions, faults, a write that fails, scripts with gaps, and the division and
-the merge of shards.
+the merge of shards, also of broken ones.
 
 Each run ends as if nothing had been refused, or with `E18 Memory`, status 5. Where it would end by a fault it may end
 by that too; nothing is on standard output then but after a write that failed."""
@@ -48,6 +48,7 @@ REPLAY = ["--partition=0", "--senders=2", "--block=2", "--gaps"]
 DIVISION = ["--side=left", "--left=left.csv", "--right=right.csv", "--left-types=int,text", "--right-types=int", "--join=JOIN USING (k)", "--parts=2"]
 DIVIDED = {"left.csv": b'k,a\n1,"x\ny"\n,z\n2,"say ""it"""\n', "right.csv": b"k\n1\n"}
 MERGED = {"0.csv": b"left_place,a,right_place\n0,x,5\n1,y,\n", "1.csv": b'left_place,a,right_place\n0,"z\n",7\n,w,2\n'}
+OTHERS = {**MERGED, "2.csv": b"left_place,b,right_place\n0,x,5\n"}
 RUNS = [
     joined("statistics", b"k\n-1\n0\n5\n", b"k\n5\n", ["int", "int"], "JOIN USING (k)", b"k\n5\n", "--bits1=2", "--stats", stderr=STATISTICS),
     joined("coalesced texts", *TEXTS, ["text,int", "int,text"], "FULL JOIN USING (k)", b"k,a,b\ncy,3,5\nann,1,\n,2,\nbob,,4\n,,6\n"),
@@ -71,6 +72,9 @@ RUNS = [
     Run("cuts", [*DIVISION, "--cuts=2"], DIVIDED, b"", program="shards"),
     Run("a merge", ["0.csv", "1.csv"], MERGED, b'a\nx\n"z\n"\ny\nw\n', program="merges"),
     Run("a merge to a full device", ["0.csv", "1.csv"], MERGED, b"", b"merges: E20 WriteDevice\n", 6, program="merges", is_full=True),
+    Run("a merge of rows in two files each", ["--copies=2x2,2x2", "0.csv", "1.csv"], MERGED, b'a\nx\n"z\n"\n', program="merges"),
+    Run("a merge of a missing file", ["0.csv", "none.csv", "1.csv"], MERGED, b"", b"merges: E19 ReadDevice none.csv\n", 6, program="merges"),
+    Run("a merge of another header", ["0.csv", "2.csv"], OTHERS, b"", b"merges: E22 OtherHeader 2.csv\n", 3, program="merges"),
 ]
 
 
@@ -96,14 +100,16 @@ def sweep(tally, refuse, run):
         folder = pathlib.Path(at)
         for file, content in run.files.items():
             (folder / file).write_bytes(content)
-        report = folder / "report"
+        report, ended_for_memory = folder / "report", False
         for n in range(1, MOST):
             environment = {**os.environ, "LD_PRELOAD": str(refuse), "REFUSE_ALLOCATION": str(n), "REFUSE_REPORT": str(report)}
             ran = ended(run, folder, environment)
             if not report.exists():
                 tally.check(f"{run.name}: no refusal", harness.differences(ran, run.stdout, run.stderr, run.status))
+                tally.check(f"{run.name}: ends for want of memory", [] if ended_for_memory else ["no refusal ended it"])
                 return n - 1
             report.unlink()
+            ended_for_memory |= ran.status == 5
             tally.check(f"{run.name}: allocation {n} refused", faults_of(run, ran))
     tally.check(run.name, [f"{MOST} refusals, and no end"])
     return MOST

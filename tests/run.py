@@ -54,6 +54,7 @@ PARTS = (
     "retried",
     "installation",
     "unproved",
+    "merges",
     "recipes",
     "pages",
     "options",
@@ -64,7 +65,7 @@ PARTS = (
     "streams",
     "comparisons",
 )
-TABLES = ("examples.toml", "arrivals.toml", "ends.toml")
+TABLES = ("examples.toml", "arrivals.toml", "ends.toml", "merges.toml")
 
 
 def run_part(name):

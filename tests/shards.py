@@ -1,6 +1,6 @@
 """Divides, joins and merges as cluster/radixjoin-cluster does, one task after another and without Dask, and compares with what
 `radixjoin` writes: on the examples that have a key, on random tables in several numbers of parts and ranges, and with faults.
-It also looks at what `shards` and `merges` tell of their own faults."""
+It also looks at what `shards` tells of its own faults."""
 import contextlib
 import csv
 import io
@@ -235,75 +235,6 @@ def run_shards_alone(tally):
             tally.check(f"shards: {more}, explained", harness.differences(ran, None, told, status))
 
 
-# The joins of two runs of left rows, 0 and 1, with one run of right rows, and a shard that isn't cut; and those of one run of left
-# rows with two of right rows, in order of left rows.
-GRID = [
-    "left_place,a,right_place\n0,p,5\n1,l,\n,u,6\n,x,7\n",
-    "left_place,a,right_place\n3,r,6\n4,m,\n,v,5\n,x,7\n",
-    "left_place,a,right_place\n9,n,\n,z,8\n",
-]
-TURNED = [
-    "left_place,a,right_place\n0,l,\n1,p,5\n2,no,\n,x,6\n",
-    "left_place,a,right_place\n0,l,\n1,no,\n2,q,9\n,y,7\n",
-]
-
-# Inputs of `merges`, and how it ends: its status, and what it writes or tells; and its options.
-MERGES = (
-    ("two inputs", ["left_place,a,right_place\n0,x,5\n1,y,\n", "left_place,a,right_place\n0,z,7\n,w,2\n"], 0, b"a\nx\nz\ny\nw\n"),
-    ("no rows", ["a,left_place,right_place\n"], 0, b"a\n"),
-    ("quotes", ['a,left_place,right_place\n"x\n, ""y""",0,0\n'], 0, b'a\n"x\n, ""y"""\n'),
-    ("no header", ["left_place,right_place\n", ""], 3, None),
-    ("no places", ["left_place,a\n1,x\n"], 3, None),
-    ("places twice", ["left_place,right_place,left_place\n1,1,1\n"], 3, None),
-    ("another header", ["left_place,right_place,a\n", "left_place,right_place,b\n"], 3, None),
-    ("a ragged row", ["left_place,right_place,a\n1,1\n"], 3, None),
-    ("a place that is none", ["left_place,right_place,a\n1,x,y\n"], 3, None),
-    ("both places null", ["left_place,right_place,a\n,,y\n"], 3, None),
-    ("not in order", ["left_place,right_place,a\n1,1,y\n1,0,z\n"], 3, None),
-    ("a place twice", ["left_place,right_place,a\n1,1,y\n", "left_place,right_place,a\n1,1,z\n"], 3, None),
-    ("pairs first, by name", ["left_place,right_place,a\n1,1,y\n0,,x\n"], 0, b"a\ny\nx\n", "--order=pairs"),
-    ("each left row at its place", ["left_place,a,right_place\n0,x,\n2,z,9\n,w,2\n", "left_place,a,right_place\n1,y,5\n3,u,\n,v,0\n"], 0, b"a\nx\ny\nz\nu\nv\nw\n", "--order", "left"),
-    ("pairs first, where each left row is to be at its place", ["left_place,right_place,a\n1,1,y\n0,,x\n"], 3, None, "--order=left"),
-    ("a lone left row twice", ["left_place,right_place,a\n1,,y\n", "left_place,right_place,a\n1,,z\n"], 3, None, "--order=left"),
-    ("pairs of the first left rows", ["left_place,a,right_place\n0,x,5\n1,y,\n", "left_place,a,right_place\n0,z,7\n,w,2\n"], 0, b"a\nx\nz\n", "--to=1"),
-    ("pairs of later left rows, and the rows in no pair", ["left_place,a,right_place\n0,x,5\n1,y,\n", "left_place,a,right_place\n0,z,7\n,w,2\n"], 0, b"y\nw\n", "--from", "1"),
-    ("a range of left rows", ["left_place,a,right_place\n0,x,5\n1,y,\n7,t,1\n", "left_place,a,right_place\n6,z,7\n,w,2\n"], 0, b"y\nz\n", "--from=1", "--to=7", "--order=left"),
-    ("a range without rows", ["left_place,a,right_place\n0,x,5\n"], 0, b"", "--from=1", "--to=0"),
-    ("a row behind a range that has no place", ["left_place,a,right_place\n0,x,5\n1,y,0\nb,a,d\n"], 0, b"a\nx\n", "--to=1"),
-    ("a row before a range that has no place", ["left_place,a,right_place\nb,a,d\n1,y,0\n"], 3, None, "--from=1"),
-    ("a range that begins nowhere", ["left_place,right_place,a\n"], 2, None, "--from=-1"),
-    ("an order that is none", ["left_place,right_place,a\n"], 2, None, "--order=right"),
-    ("a grid of two runs of left rows", GRID[:2], 0, b"a\np\nr\nl\nm\nx\n", "--copies=1x2,1x2"),
-    ("a grid of two runs of right rows, in order of left rows", TURNED, 0, b"a\nl\np\nq\nx\ny\n", "--copies", "2x1,2x1", "--order=left"),
-    ("the first rows of a grid", TURNED, 0, b"a\nl\n", "--copies=2x1,2x1", "--order=left", "--to=1"),
-    ("the last rows of a grid", TURNED, 0, b"p\nq\nx\ny\n", "--copies=2x1,2x1", "--order=left", "--from=1"),
-    ("a grid beside a shard that isn't cut", GRID, 0, b"a\np\nr\nl\nm\nn\nx\nz\n", "--copies=1x2,1x2,1"),
-    ("copies of one file each", GRID[:2], 3, None, "--copies=1,1"),
-    ("a pair twice", [GRID[0], GRID[0]], 3, None, "--copies=2x2,2x2"),
-    ("a lone row in three files of two", [TURNED[0], TURNED[1], TURNED[1]], 3, None, "--copies=2x1,2x1,2x1", "--order=left"),
-    ("too few copies", GRID, 2, None, "--copies=1x2,1x2"),
-    ("too many copies", GRID, 2, None, "--copies=1,1,1,1"),
-    ("copies that are none", GRID, 2, None, "--copies=1,2,1"),
-    ("copies of no file", GRID, 2, None, "--copies=1,0x1,1"),
-    ("copies past the limit", GRID, 2, None, "--copies=1,1x1048577,1"),
-    ("an empty list of copies", GRID, 2, None, "--copies="),
-)
-
-
-def run_merges_alone(tally):
-    """What `merges` writes of small inputs, or how it ends."""
-    for name, texts, status, written, *options in MERGES:
-        with harness.folder() as place:
-            folder = pathlib.Path(place)
-            for number, text in enumerate(texts):
-                (folder / f"{number}.csv").write_bytes(text.encode())
-            ran = harness.run([harness.program("merges"), *options, *(f"{number}.csv" for number in range(len(texts)))], folder)
-            faults = harness.differences(ran, written, b"" if status == 0 else None, status)
-            if status == 3 and not ran.stderr.startswith(b"merges: "):
-                faults.append(f"it tells {harness.shorten(ran.stderr)}")
-            tally.check(f"merges: {name}", faults)
-
-
 def run_in_bounds(tally):
     """Divides a file of some megabytes with an address space that is smaller than the file."""
     with harness.folder() as name, contextlib.suppress(FileNotFoundError):
@@ -328,5 +259,4 @@ def run_all(tally):
     for row in (1, 3, 50_000):
         run_fault(row, tally)
     run_shards_alone(tally)
-    run_merges_alone(tally)
     run_in_bounds(tally)

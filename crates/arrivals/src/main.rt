@@ -189,6 +189,3 @@ fn main(rt: HostRuntime) -> ExitCode {
         Err(failure) => ExitCode::from(tell(&rt, &failure)),
     }
 }
-
-#[cfg(test)]
-mod tests;
