@@ -7,4 +7,6 @@ mod exchange;
 #[cfg(test)]
 mod ledger;
 #[cfg(test)]
+mod waiting;
+#[cfg(test)]
 mod workers;

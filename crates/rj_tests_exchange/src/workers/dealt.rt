@@ -1,85 +1,60 @@
-//! A job over rows made by hand, which counts how often each partition is built, and can refuse scans.
-ghost use Rattle.std.specs.Prelude.{◌≡◌, ◌<◌, ◌≤◌, ◌+◌, ℕ, All, IfOk, IfSome, length, map};
+//! A job over rows made by hand, which counts how often it builds a partition, and can refuse scans.
+ghost use Rattle.std.specs.Prelude.{◌≡◌, ◌<◌, ◌≤◌, ◌+◌, ℕ, All, IfOk, IfSome, length};
 ghost use Rattle.std.proofs.Props.{props};
 ghost use Rattle.rj_radix.specs.Groups.{IsPart, group};
 
 use rj_ledger::Ledger;
 use rj_radix::{Scattered, scatter};
-use rj_workers::Job;
+use rj_workers::{Gate, Job, WorkerSettings, run_workers};
 use std::alloc::{AllocError, Global};
+use std::sync::Wait;
 use std::sync::atomic::{AtomicU64, Ordering};
+use std::thread::Threads;
+use std::time::Clock;
 
-/// How many partitions there are: a row goes to that of its number modulo this.
-pub const PARTITIONS: u32 = 3;
-
-/// The rows of one sender, with the partition of each.
+// The rows of one sender, with the partition of each: its number modulo three.
 #[derive(Drop)]
-pub struct Rows {
-    pub rows: Vec<u32>,
+struct Rows {
+    rows: Vec<u32>,
     routes: Vec<Option<u32>>,
     ghost len: { length routes.items ≡ length rows.items },
     ghost below: { All (λ r. IfSome r (λ p. p < 3)) routes.items } by { Prim.hlevel props },
 }
 
-/// These rows of a sender.
-pub fn rows_of(alloc: Global, given: &[u32]) -> Result<Rows, AllocError> {
+// Five rows, from this one on.
+fn rows_from(alloc: Global, first: u32) -> Result<Rows, AllocError>
+    requires { first ≤ 1270 }
+{
     let mut rows = Vec::new(alloc);
     let mut routes = Vec::new(alloc);
-    for row in given {
-        rows.push(*row)?;
-        routes.push(Some(*row % PARTITIONS))?;
+    for row in first..first + 5 {
+        rows.push(row)?;
+        routes.push(Some(row % 3))?;
     }
     Ok(Rows { rows, routes })
 }
 
-/// The rows of all senders. A partition keeps each row of the first sender there, paired with itself.
-#[derive(Drop)]
-pub struct Dealt {
-    pub senders: Vec<Rows>,
-    pub stripes: u32,
-    /// How many scans are refused memory: the first ones.
-    pub refused: u64,
-    scans: AtomicU64,
-    builds: Vec<AtomicU64>,
-    ghost both: { length senders.items ≡ stripes + stripes },
-    ghost limits: { (1 ≤ stripes) × (stripes ≤ 64) },
-}
-
-/// Rows for so many senders of each table: sender 0 has the rows 0 to 4, sender 1 the rows 10 to 14, and so on.
-pub fn deal(alloc: Global, stripes: u32) -> Result<Dealt, AllocError>
-    requires { (1 ≤ stripes) × (stripes ≤ 64) }
-    ensures { IfOk result (λ d. d.stripes ≡ stripes) }
+// The rows of so many senders: of sender 0 the rows 0 to 4, of sender 1 the rows 10 to 14, and so on.
+fn deal(alloc: Global, count: u32) -> Result<Vec<Rows>, AllocError>
+    requires { count ≤ 128 }
+    ensures { IfOk result (λ v. length v.items ≡ count) }
 {
     let mut senders = Vec::new(alloc);
-    for sender in 0..stripes + stripes {
-        let first = sender * 10;
-        let rows = [first, first + 1, first + 2, first + 3, first + 4];
-        senders.push(rows_of(alloc, rows.as_slice())?)?;
+    for sender in 0..count {
+        senders.push(rows_from(alloc, sender * 10)?)?;
     }
-    let builds = vec![in alloc; AtomicU64::new(0), AtomicU64::new(0), AtomicU64::new(0)]?;
-    Ok(Dealt {
-        senders,
-        stripes,
-        refused: 0,
-        scans: AtomicU64::new(0),
-        builds,
-    })
+    Ok(senders)
 }
 
-impl Dealt {
-    // Counts that a partition is built.
-    fn count_build(&self, partition: u32) {
-        if let Some(count) = self.builds.get(partition as usize) {
-            count.fetch_add(1, Ordering::SeqCst);
-        }
-    }
-
-    /// Whether each partition was built so often.
-    pub fn is_built(&self, times: u64) -> bool {
-        self.builds
-            .iter()
-            .all(|count| count.load(Ordering::SeqCst) == times)
-    }
+#[derive(Drop)]
+struct Dealt {
+    senders: Vec<Rows>,
+    stripes: u32,
+    refused: u64,
+    scans: AtomicU64,
+    builds: AtomicU64,
+    ghost both: { length senders.items ≡ stripes + stripes },
+    ghost limits: { (1 ≤ stripes) × (stripes ≤ 64) },
 }
 
 // The rows of a sender by partition.
@@ -87,23 +62,12 @@ fn scatter_rows(alloc: Global, sender: &Rows) -> Result<Scattered, AllocError>
     ensures parts { IfOk result (λ s. length s.starts.items ≡ 3) }
     ensures each { IfOk result (λ s. (p : ℕ) → p < 3 → IsPart s.rows.items s.starts.items p (group sender.now.rows.items sender.now.routes.items p)) }
 {
-    let scattered = scatter(alloc, &sender.rows, &sender.routes, PARTITIONS as usize)?;
+    let scattered = scatter(alloc, &sender.rows, &sender.routes, 3)?;
     Ok(scattered)
 }
 
-// Each row, paired with itself.
-fn pairs_of(alloc: Global, rows: &[u32]) -> Result<Vec<(u32, u32)>, AllocError>
-    ensures { IfOk result (λ v. v.items ≡ map (λ r. (r, r)) rows.now) }
-{
-    let mut pairs = Vec::new(alloc);
-    for row in rows {
-        pairs.push((*row, *row))?;
-    }
-    Ok(pairs)
-}
-
 impl Job for Dealt {
-    ghost use Rattle.std.specs.Prelude.{◌≡◌, [], map, slice_index_or};
+    ghost use Rattle.std.specs.Prelude.{[], map, slice_index_or};
     ghost use Rattle.rj_radix.specs.Groups.{group};
 
     ghost stripes = { λ s. s.stripes };
@@ -115,9 +79,9 @@ impl Job for Dealt {
 
     ghost joinable = { λ s lists. Unit {0} };
 
-    type Built = Vec<(u32, u32)>;
+    type Built = ();
 
-    ghost builds = { λ s p lists pairs. pairs.items ≡ map (λ r. (r, r)) (slice_index_or lists 0 []) };
+    ghost builds = { λ s p lists built. Unit {0} };
 
     fn scatter(&self, alloc: Global, stripe: u32) -> Result<(Scattered, Scattered), AllocError> {
         if self.scans.fetch_add(1, Ordering::SeqCst) < self.refused {
@@ -133,20 +97,49 @@ impl Job for Dealt {
         alloc: Global,
         partition: u32,
         ledger: &Ledger,
-    ) -> Result<Option<Vec<(u32, u32)>>, AllocError> {
-        self.count_build(partition);
-        let pairs = pairs_of(alloc, ledger.delivered(0))?;
-        Ok(Some(pairs))
+    ) -> Result<Option<()>, AllocError> {
+        self.build(alloc, partition, ledger)?;
+        Ok(Some(()))
     }
 
-    fn build(
-        &self,
-        alloc: Global,
-        partition: u32,
-        ledger: &Ledger,
-    ) -> Result<Vec<(u32, u32)>, AllocError> {
-        self.count_build(partition);
-        let pairs = pairs_of(alloc, ledger.delivered(0))?;
-        Ok(pairs)
+    fn build(&self, alloc: Global, partition: u32, ledger: &Ledger) -> Result<(), AllocError> {
+        let (_alloc, _partition, _ledger) = (alloc, partition, ledger);
+        self.builds.fetch_add(1, Ordering::SeqCst);
+        Ok(())
+    }
+}
+
+/// How often the three partitions are built by a run of so many workers with blocks of one row, where it ends with its result. The
+/// first `refused` scans are refused memory.
+pub fn builds<R: Threads + Wait + Clock + Sync, G: Gate + Sync>(
+    rt: &R,
+    alloc: Global,
+    gate: &G,
+    workers: u32,
+    (lanes, capacity): (u32, u32),
+    (refused, retries): (u64, u32),
+) -> Result<Option<u64>, AllocError> {
+    if workers < 1 || workers > 64 || lanes < 1 || lanes > 4 || capacity < 1 || capacity > 4096 {
+        return Ok(None);
+    }
+    let senders = deal(alloc, workers + workers)?;
+    let job = Dealt {
+        senders,
+        stripes: workers,
+        refused,
+        scans: AtomicU64::new(0),
+        builds: AtomicU64::new(0),
+    };
+    let settings = WorkerSettings {
+        workers,
+        partitions: 3,
+        block: 1,
+        lanes,
+        capacity,
+        retries,
+    };
+    match run_workers(rt, alloc, &job, gate, settings) {
+        Ok(_) => Ok(Some(job.builds.load(Ordering::SeqCst))),
+        Err(_) => Ok(None),
     }
 }

@@ -1,31 +1,24 @@
 //! Twelve shares that four workers draw, who are held up at a gate.
 
-use crate::workers::waiting::Meeting;
+use crate::waiting::{TURNS, wait_for};
 use rj_workers::{Gate, Place, Shares, run_shares};
 use std::alloc::{AllocError, Global};
+use std::sync::atomic::{AtomicU64, Ordering};
 use std::test::Fail;
 use std::thread::Threads;
 
-// How many workers draw.
-const WORKERS: u32 = 4;
-
-// How many shares there are.
-const SHARES: u64 = 12;
-
-// Shares each of which makes its own number.
+// Shares that make nothing.
 #[derive(Drop)]
 struct Numbers {
     count: u64,
 }
 
 impl Shares for Numbers {
-    ghost use Rattle.std.specs.Prelude.{◌≡◌};
-
     ghost shares = { λ s. s.count };
 
-    type Done = u64;
+    type Done = ();
 
-    ghost makes = { λ s k done. done ≡ k };
+    ghost makes = { λ s k done. Unit {0} };
 
     fn count(&self) -> u64 {
         self.count
@@ -36,83 +29,67 @@ impl Shares for Numbers {
         Place::Piece(0, number)
     }
 
-    fn share(&self, alloc: Global, number: u64) -> Result<u64, AllocError> {
-        let (_shares, _alloc) = (self, alloc);
-        Ok(number)
+    fn share(&self, alloc: Global, number: u64) -> Result<(), AllocError> {
+        let (_shares, _alloc, _number) = (self, alloc, number);
+        Ok(())
     }
 }
 
-// What all shares made, in order, where this gate is passed.
-fn made<R: Threads + Sync, G: Gate + Sync>(
+// Holds who comes to a share until as many have come to shares as it says of this one.
+#[derive(Drop)]
+struct Holds {
+    until: [u64; 12],
+    came: AtomicU64,
+    in_vain: AtomicU64,
+}
+
+impl Gate for Holds {
+    fn pass(&self, place: Place) {
+        let least = match place {
+            Place::Piece(0, number) => self.until.as_slice().get(number as usize),
+            _ => None,
+        };
+        let Some(least) = least else {
+            return;
+        };
+        self.came.fetch_add(1, Ordering::SeqCst);
+        // (after the first who waited in vain nobody waits)
+        if self.in_vain.load(Ordering::SeqCst) == 0 && !wait_for(&self.came, *least, TURNS) {
+            self.in_vain.fetch_add(1, Ordering::SeqCst);
+        }
+    }
+}
+
+// Whether workers come to each share, and none of them waits in vain.
+fn are_shared<R: Threads + Sync>(
     rt: &R,
     alloc: Global,
-    gate: &G,
-) -> Result<Vec<u64>, AllocError> {
-    let shares = Numbers { count: SHARES };
-    let mut made = run_shares(rt, alloc, &shares, gate, WORKERS)?;
-    made.sort()?;
-    Ok(made)
-}
-
-// Holds each who comes until four have come in its round: the first four who come are one round, the next four another.
-#[derive(Drop)]
-struct Rounds {
-    meeting: Meeting,
-}
-
-impl Gate for Rounds {
-    fn pass(&self, place: Place) {
-        let _place = place;
-        let round = self.meeting.come() / 4;
-        self.meeting.wait(round.saturating_mul(4).saturating_add(4));
-    }
+    until: [u64; 12],
+) -> Result<bool, AllocError> {
+    let (came, in_vain) = (AtomicU64::new(0), AtomicU64::new(0));
+    let gate = Holds {
+        until,
+        came,
+        in_vain,
+    };
+    run_shares(rt, alloc, &Numbers { count: 12 }, &gate, 4)?;
+    let came = gate.came.load(Ordering::SeqCst);
+    Ok(came == 12 && gate.in_vain.load(Ordering::SeqCst) == 0)
 }
 
 // A worker that waits draws nothing meanwhile, so that a round is four workers at work at the same time. There are three: each
 // worker makes three shares, and none is left to the starting thread, which would wait in vain for others.
 #[test]
 fn each_worker_makes_three_shares(rt: HostRuntime) -> Result<(), Fail> {
-    let gate = Rounds {
-        meeting: Meeting::new(),
-    };
-    let made = made(&rt, rt.alloc(), &gate)?;
-    assert_eq!(rt;
-        gate.meeting.in_vain(),
-        0,
-        "a worker waited in vain for three others"
-    );
-    assert_eq!(rt; gate.meeting.count(), 12);
-    assert!(rt; made.iter().copied().eq(0..12));
+    let rounds = [4, 4, 4, 4, 8, 8, 8, 8, 12, 12, 12, 12];
+    assert!(rt; are_shared(&rt, rt.alloc(), rounds)?);
     Ok(())
 }
 
-// Holds who comes to the first share until all shares have been come to.
-#[derive(Drop)]
-struct FirstHeld {
-    meeting: Meeting,
-}
-
-impl Gate for FirstHeld {
-    fn pass(&self, place: Place) {
-        self.meeting.come();
-        if place == Place::Piece(0, 0) {
-            self.meeting.wait(12);
-        }
-    }
-}
-
-// While one worker is held at a share, the others make the remaining eleven.
+// While one worker is held at the first share, the others make the remaining eleven.
 #[test]
 fn others_make_the_rest(rt: HostRuntime) -> Result<(), Fail> {
-    let gate = FirstHeld {
-        meeting: Meeting::new(),
-    };
-    let made = made(&rt, rt.alloc(), &gate)?;
-    assert_eq!(rt;
-        gate.meeting.in_vain(),
-        0,
-        "a share waited in vain for the others"
-    );
-    assert!(rt; made.iter().copied().eq(0..12));
+    let first = [12, 0, 0, 0, 0, 0, 0, 0, 0, 0, 0, 0];
+    assert!(rt; are_shared(&rt, rt.alloc(), first)?);
     Ok(())
 }
