@@ -1,12 +1,6 @@
-//! Worked examples of the parts, of the join beside the plain one, of workers held up at a gate, and of a hash that counts.
+//! Stripes typed by hand, workers held up at a gate, a hash that counts, and calls that no program makes.
 
+mod calls;
 mod gates;
-mod hashed;
 mod joins;
-mod naming;
-mod once;
-mod parts;
-mod reports;
 mod stripes;
-mod tables;
-mod violations;

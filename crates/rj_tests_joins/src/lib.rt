@@ -7,8 +7,8 @@ mod divide;
 #[cfg(test)]
 mod engine;
 #[cfg(test)]
-mod listed;
-#[cfg(test)]
 mod merge;
 #[cfg(test)]
 mod shards;
+#[cfg(test)]
+mod tables;

@@ -1,4 +1,92 @@
-//! Merges of inputs that list their rows, and of texts.
+//! Texts of placed rows, merged by readers that signals break off, and that fail.
 
-mod lists;
-mod texts;
+use rj_csv_io::CountedWriter;
+use rj_merge::{
+    Copies, MergeInput, MergeOptions, MergeRefused, MergeTextsRefused, Patient, RowOrder,
+    merge_texts,
+};
+use std::alloc::Global;
+use std::io;
+use std::io::Read;
+use std::test::Fail;
+
+// A reader that a signal breaks off before each byte, and that may fail behind its text.
+#[derive(Drop)]
+struct Halting<'t> {
+    text: &'t [u8],
+    at: usize,
+    broken: bool,
+    fails: bool,
+}
+
+impl<'t> Read for Halting<'t> {
+    fn read(&mut self, buffer: &mut [u8]) -> io::Result<usize> {
+        if !self.broken {
+            self.broken = true;
+            return Err(io::Error::from(io::ErrorKind::Interrupted));
+        }
+        self.broken = false;
+        match (self.text.get(self.at), buffer.first_mut()) {
+            (Some(byte), Some(place)) => {
+                *place = *byte;
+                self.at = self.at.saturating_add(1);
+                Ok(1)
+            }
+            _ => {
+                if self.fails {
+                    return Err(io::Error::from(io::ErrorKind::Other));
+                }
+                Ok(0)
+            }
+        }
+    }
+}
+
+// An input that a patient reader of such a text reads, whose rows stand in no other one.
+fn input_of(text: &str, fails: bool) -> MergeInput<Patient<Halting<'_>>> {
+    let reader = Patient::new(Halting {
+        text: text.as_bytes(),
+        at: 0,
+        broken: false,
+        fails,
+    });
+    MergeInput {
+        reader,
+        copies: Copies::single(),
+    }
+}
+
+const FIRST: &str = "left_place,k,right_place,v\n0,\"a,b\",3,1\n2,x,1,\n5,lone,,7\n";
+
+const SECOND: &str =
+    "left_place,k,right_place,v\n0,y,5,\"line\nbreak\"\n,only right,4,\"say \"\"hi\"\"\"\n";
+
+const BOTH: &str = "k,v\n\"a,b\",1\ny,\"line\nbreak\"\nx,\nlone,7\nonly right,\"say \"\"hi\"\"\"\n";
+
+// The merge of two texts, of which the second one to be read may fail behind its text.
+fn merged(alloc: Global, fails: bool) -> Result<Vec<u8>, MergeTextsRefused> {
+    let Ok(inputs) = vec![in alloc; input_of(SECOND, false), input_of(FIRST, fails)] else {
+        return Err(MergeTextsRefused::Merge(MergeRefused::Memory));
+    };
+    let how = MergeOptions {
+        null: b"".as_slice(),
+        order: RowOrder::PairsFirst,
+        from: None,
+        to: None,
+    };
+    let mut output = CountedWriter::new(Vec::new(alloc));
+    match merge_texts(alloc, inputs, how, &mut output) {
+        Ok(()) => Ok(output.into_inner()),
+        Err(refused) => Err(refused),
+    }
+}
+
+#[test]
+fn patient_readers(rt: HostRuntime) -> Result<(), Fail> {
+    let whole = merged(rt.alloc(), false)?;
+    assert!(rt; whole.as_slice() == BOTH.as_bytes());
+    let refused = merged(rt.alloc(), true).map(|_| ());
+    let device = MergeTextsRefused::Merge(MergeRefused::ReadDevice(2));
+    assert_eq!(rt; refused, Err(device));
+    Ok(())
+}

@@ -3,89 +3,15 @@
 //! A gate lets go after its limit of turns, each of which yields, and the test then fails: so a join on one thread fails
 //! and doesn't hang.
 
-ghost use Rattle.std.specs.Prelude.{◌≡◌, true};
-ghost use Rattle.rj_condition.specs.Fits.{fits};
-
-use crate::engine::tables::{join_of, keys};
-use rj_columns::Table;
-use rj_condition::BoundJoin;
-use rj_engine::{Gate, Joined, Place, Settings, run_join};
+use crate::engine::joins::{LEFTS, RIGHTS, in_pieces, keys_joined};
+use rj_engine::{Gate, Place, Settings};
 use rj_radix::Plain;
-use std::alloc::Global;
-use std::sync::Wait;
 use std::sync::atomic::{AtomicU64, Ordering};
 use std::test::Fail;
 use std::thread;
-use std::thread::Threads;
-use std::time::Clock;
 
 /// How many turns a gate waits at most.
 const TURNS: u32 = 10_000_000;
-
-// Waits until a count has come so far. It says whether it did.
-fn wait_for(count: &AtomicU64, least: u64) -> bool {
-    for _ in 0..TURNS {
-        if count.load(Ordering::SeqCst) >= least {
-            return true;
-        }
-        thread::yield_now();
-    }
-    false
-}
-
-// The join of two tables by these settings; none where memory or a thread is refused.
-fn run<R: Threads + Wait + Clock + Sync, G: Gate + Sync>(
-    rt: &R,
-    alloc: Global,
-    left: &Table,
-    right: &Table,
-    join: &BoundJoin,
-    settings: &Settings,
-    gate: &G,
-) -> Option<Joined>
-    requires { fits join.now left.now.types right.now.types ≡ true }
-{
-    match run_join(rt, alloc, left, right, join, settings, &Plain, gate) {
-        Ok(joined) => Some(joined),
-        Err(_) => None,
-    }
-}
-
-// How many rows the join of two tables by their keys has; none where it is refused.
-fn rows_joined<R: Threads + Wait + Clock + Sync, G: Gate + Sync>(
-    rt: &R,
-    alloc: Global,
-    left: &Table,
-    right: &Table,
-    settings: Option<Settings>,
-    gate: &G,
-) -> Option<usize> {
-    let Some(join) = join_of(alloc, "JOIN USING (k)", left, right) else {
-        return None;
-    };
-    let Some(settings) = settings else {
-        return None;
-    };
-    match run(rt, alloc, left, right, &join, &settings, gate) {
-        Some(joined) => Some(joined.len()),
-        None => None,
-    }
-}
-
-// The same of two lists of keys.
-fn join_keys<R: Threads + Wait + Clock + Sync, G: Gate + Sync>(
-    rt: &R,
-    alloc: Global,
-    lefts: &[i64],
-    rights: &[i64],
-    settings: Option<Settings>,
-    gate: &G,
-) -> Result<Option<usize>, Fail> {
-    let left = keys(alloc, lefts)?;
-    let right = keys(alloc, rights)?;
-    let rows = rows_joined(rt, alloc, &left, &right, settings, gate);
-    Ok(rows)
-}
 
 // Counts who has come to a place, and holds others until so many have.
 #[derive(Drop)]
@@ -104,11 +30,20 @@ impl Meeting {
         }
     }
 
+    // Counts one who comes, and says how many came before.
+    fn come(&self) -> u64 {
+        self.came.fetch_add(1, Ordering::SeqCst)
+    }
+
     // Waits for the others, and counts a wait in vain.
     fn wait(&self) {
-        if !wait_for(&self.came, self.least) {
-            self.alone.fetch_add(1, Ordering::SeqCst);
+        for _ in 0..TURNS {
+            if self.count() >= self.least {
+                return;
+            }
+            thread::yield_now();
         }
+        self.alone.fetch_add(1, Ordering::SeqCst);
     }
 
     // How many have come.
@@ -116,25 +51,26 @@ impl Meeting {
         self.came.load(Ordering::SeqCst)
     }
 
-    // How many waited in vain.
-    fn in_vain(&self) -> u64 {
-        self.alone.load(Ordering::SeqCst)
+    // How many waited in vain, and how many have come.
+    fn told(&self) -> (u64, u64) {
+        (self.alone.load(Ordering::SeqCst), self.count())
     }
 }
 
 // What is drawn.
-#[derive(Clone, Copy, PartialEq, Eq)]
+#[derive(Clone, Copy)]
 enum Drawn {
     Stripe,
     Partition,
 }
 
-// What is drawn where a worker comes to a place, if it is either.
-fn drawn_at(place: Place) -> Option<Drawn> {
-    match place {
-        Place::Stripe(_) => Some(Drawn::Stripe),
-        Place::Partition(_) => Some(Drawn::Partition),
-        Place::Posted(_) | Place::Take(_) | Place::Piece(_, _) => None,
+impl Drawn {
+    // Whether a worker that comes to a place has drawn it.
+    fn is_at(self, place: Place) -> bool {
+        match (self, place) {
+            (Drawn::Stripe, Place::Stripe(_)) | (Drawn::Partition, Place::Partition(_)) => true,
+            _ => false,
+        }
     }
 }
 
@@ -145,22 +81,10 @@ struct FirstGate {
     meeting: Meeting,
 }
 
-impl FirstGate {
-    fn of(drawn: Drawn, least: u64) -> FirstGate {
-        FirstGate {
-            drawn,
-            meeting: Meeting::of(least),
-        }
-    }
-}
-
 impl Gate for FirstGate {
     fn pass(&self, place: Place) {
-        if drawn_at(place) == Some(self.drawn) {
-            let before = self.meeting.came.fetch_add(1, Ordering::SeqCst);
-            if before == 0 {
-                self.meeting.wait();
-            }
+        if self.drawn.is_at(place) && self.meeting.come() == 0 {
+            self.meeting.wait();
         }
     }
 }
@@ -168,30 +92,21 @@ impl Gate for FirstGate {
 // While one of two scanners is held at a stripe, the other draws the second one.
 #[test]
 fn stripe_gate_test(rt: HostRuntime) -> Result<(), Fail> {
-    let gate = FirstGate::of(Drawn::Stripe, 2);
+    let gate = FirstGate {
+        drawn: Drawn::Stripe,
+        meeting: Meeting::of(2),
+    };
     let settings = Settings::new(2, 4, 0, 1024, 1, 64, 1);
-    let rows = join_keys(
-        &rt,
-        rt.alloc(),
-        [1, 2, 3].as_slice(),
-        [3, 2, 2].as_slice(),
-        settings,
-        &gate,
-    )?;
-    assert_eq!(rt;
-        gate.meeting.in_vain(),
-        0,
-        "a stripe waited in vain for the other"
-    );
-    assert_eq!(rt; gate.meeting.count(), 2);
-    assert_eq!(rt; rows, Some(3));
+    let (lefts, rights) = ([1, 2, 3], [3, 2, 2]);
+    let rows = keys_joined(&rt, rt.alloc(), &lefts, &rights, settings, &Plain, &gate)?;
+    assert_eq!(rt; (gate.meeting.told(), rows), ((0, 2), Some(3)));
     Ok(())
 }
 
 // Holds the taker of partition 0 until a parcel was posted to it, and then for 1,000 turns more.
 #[derive(Drop)]
 struct QueueGate {
-    posted: AtomicU64,
+    posted: Meeting,
     meanwhile: AtomicU64,
 }
 
@@ -199,15 +114,14 @@ impl Gate for QueueGate {
     fn pass(&self, place: Place) {
         match place {
             Place::Posted(_) => {
-                self.posted.fetch_add(1, Ordering::SeqCst);
+                self.posted.come();
             }
             Place::Take(_) => {
-                wait_for(&self.posted, 1);
+                self.posted.wait();
                 for _ in 0..1000 {
                     thread::yield_now();
                 }
-                self.meanwhile
-                    .store(self.posted.load(Ordering::SeqCst), Ordering::SeqCst);
+                self.meanwhile.store(self.posted.count(), Ordering::SeqCst);
             }
             Place::Stripe(_) | Place::Partition(_) | Place::Piece(_, _) => {}
         }
@@ -218,48 +132,27 @@ impl Gate for QueueGate {
 #[test]
 fn queue_test(rt: HostRuntime) -> Result<(), Fail> {
     let gate = QueueGate {
-        posted: AtomicU64::new(0),
+        posted: Meeting::of(1),
         meanwhile: AtomicU64::new(0),
     };
     let settings = Settings::new(1, 0, 0, 1, 1, 1, 1);
-    let rows = join_keys(
-        &rt,
-        rt.alloc(),
-        [1, 2, 3].as_slice(),
-        [3, 2, 2].as_slice(),
-        settings,
-        &gate,
-    )?;
-    assert_eq!(rt;
-        gate.meanwhile.load(Ordering::SeqCst),
-        1,
-        "posted before the first take"
-    );
-    assert_eq!(rt; gate.posted.load(Ordering::SeqCst), 8);
-    assert_eq!(rt; rows, Some(3));
+    let (lefts, rights) = ([1, 2, 3], [3, 2, 2]);
+    let rows = keys_joined(&rt, rt.alloc(), &lefts, &rights, settings, &Plain, &gate)?;
+    let meanwhile = gate.meanwhile.load(Ordering::SeqCst);
+    assert_eq!(rt; (meanwhile, gate.posted.told(), rows), (1, (0, 8), Some(3)));
     Ok(())
 }
 
 // While one of two takers is held at a partition, the other draws the remaining three.
 #[test]
 fn drawn_partitions_gate(rt: HostRuntime) -> Result<(), Fail> {
-    let gate = FirstGate::of(Drawn::Partition, 4);
+    let gate = FirstGate {
+        drawn: Drawn::Partition,
+        meeting: Meeting::of(4),
+    };
     let settings = Settings::new(2, 2, 0, 1024, 1, 64, 1);
-    let rows = join_keys(
-        &rt,
-        rt.alloc(),
-        [-1, 0, 5].as_slice(),
-        [5].as_slice(),
-        settings,
-        &gate,
-    )?;
-    assert_eq!(rt;
-        gate.meeting.in_vain(),
-        0,
-        "a partition waited in vain for the others"
-    );
-    assert_eq!(rt; gate.meeting.count(), 4);
-    assert_eq!(rt; rows, Some(1));
+    let rows = keys_joined(&rt, rt.alloc(), &[-1, 0, 5], &[5], settings, &Plain, &gate)?;
+    assert_eq!(rt; (gate.meeting.told(), rows), ((0, 4), Some(1)));
     Ok(())
 }
 
@@ -271,11 +164,12 @@ struct PieceGate {
 
 impl Gate for PieceGate {
     fn pass(&self, place: Place) {
-        if place == Place::Piece(7, 1) {
-            self.pieces.came.fetch_add(1, Ordering::SeqCst);
-        }
-        if place == Place::Piece(7, 0) {
-            self.pieces.wait();
+        match place {
+            Place::Piece(7, 1) => {
+                self.pieces.come();
+            }
+            Place::Piece(7, 0) => self.pieces.wait(),
+            _ => {}
         }
     }
 }
@@ -286,24 +180,7 @@ fn piece_gate_test(rt: HostRuntime) -> Result<(), Fail> {
     let gate = PieceGate {
         pieces: Meeting::of(1),
     };
-    let settings = match Settings::new(2, 4, 0, 1024, 1, 64, 1) {
-        Some(settings) => settings.with_piece(4),
-        None => None,
-    };
-    let rows = join_keys(
-        &rt,
-        rt.alloc(),
-        [7, 7, 7, 7, 7, 7, 7, 7, 7, 7].as_slice(),
-        [7, 7, 7].as_slice(),
-        settings,
-        &gate,
-    )?;
-    assert_eq!(rt;
-        gate.pieces.in_vain(),
-        0,
-        "a piece waited in vain for the next"
-    );
-    assert_eq!(rt; gate.pieces.count(), 1);
-    assert_eq!(rt; rows, Some(30));
+    let rows = keys_joined(&rt, rt.alloc(), &LEFTS, &RIGHTS, in_pieces(), &Plain, &gate)?;
+    assert_eq!(rt; (gate.pieces.told(), rows), ((0, 1), Some(30)));
     Ok(())
 }

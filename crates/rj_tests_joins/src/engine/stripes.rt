@@ -1,10 +1,10 @@
-//! Where the stripes of a table begin and end, by what their senders delivered to the one partition that there is.
+//! The stripes of a table, as their senders delivered them.
 
 ghost use Rattle.std.specs.Prelude.{◌≡◌, ◌≤◌, ◌+◌, true, IfSome, length, slice_index_or};
 ghost use Rattle.rj_condition.specs.Fits.{fits};
 ghost use Rattle.rj_ledger.specs.Ledgers.{LedgerValue};
 
-use crate::engine::tables::{join_of, keys};
+use crate::tables::{first_keys, join_by_keys};
 use rj_columns::Table;
 use rj_condition::BoundJoin;
 use rj_engine::{Joined, Open, Settings, run_join};
@@ -54,51 +54,39 @@ fn are_delivered(joined: &Joined, stripes: &[&[u32]]) -> bool
 }
 
 // Whether the stripes of a table joined with itself are these.
-fn is_cut<R: Threads + Wait + Clock + Sync>(
+fn are_stripes<R: Threads + Wait + Clock + Sync>(
     rt: &R,
     alloc: Global,
     table: &Table,
     stripes: &[&[u32]],
-) -> bool
-    requires { length stripes.now ≤ 64 }
-{
-    let Some(join) = join_of(alloc, "JOIN USING (k)", table, table) else {
+) -> bool {
+    let Some(join) = join_by_keys(alloc, table, table) else {
         return false;
     };
+    if stripes.len() > 64 {
+        return false;
+    }
     match in_one_partition(rt, alloc, table, &join, stripes.len() as u32) {
         Some(joined) => are_delivered(&joined, stripes),
         None => false,
     }
 }
 
-// Whether the stripes of so many rows are these.
-fn are_stripes<R: Threads + Wait + Clock + Sync>(
-    rt: &R,
-    alloc: Global,
-    rows: i64,
-    stripes: &[&[u32]],
-) -> Result<bool, Fail>
-    requires { length stripes.now ≤ 64 }
-{
-    let mut numbers = Vec::new(alloc);
-    for number in 0..rows {
-        numbers.push(number)?;
-    }
-    let table = keys(alloc, &numbers)?;
-    Ok(is_cut(rt, alloc, &table, stripes))
-}
+// How many rows a table has, and its stripes.
+const CUTS: [(i64, &[&[u32]]); 3] = [
+    (5, &[&[0, 1], &[2, 3, 4]]),
+    (2, &[&[], &[0], &[1]]),
+    (0, &[&[], &[]]),
+];
 
-const FIVE: [&[u32]; 2] = [&[0, 1], &[2, 3, 4]];
-
-const TWO: [&[u32]; 3] = [&[], &[0], &[1]];
-
-const NONE: [&[u32]; 2] = [&[], &[]];
-
-// The stripes of 5 rows among two, of 2 rows among three and of no rows among two.
 #[test]
 fn stripe_cuts(rt: HostRuntime) -> Result<(), Fail> {
-    assert!(rt; are_stripes(&rt, rt.alloc(), 5, FIVE.as_slice())?);
-    assert!(rt; are_stripes(&rt, rt.alloc(), 2, TWO.as_slice())?);
-    assert!(rt; are_stripes(&rt, rt.alloc(), 0, NONE.as_slice())?);
+    for (rows, stripes) in CUTS {
+        let table = first_keys(rt.alloc(), rows)?;
+        assert!(rt;
+            are_stripes(&rt, rt.alloc(), &table, stripes),
+            "{rows} rows"
+        );
+    }
     Ok(())
 }
