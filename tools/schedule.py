@@ -68,12 +68,12 @@ def ends_of(below, costs, chains, jobs, lanes):
     return ends
 
 
-def jobs_of(below, costs, chains, lanes, plans):
-    """How many jobs each crate is to have: the best of so many plans, each a change of the best one before it."""
+def jobs_of(below, costs, chains, lanes, plans, most):
+    """How many jobs each crate is to have, `most` at most: the best of so many plans, each a change of the best one before it."""
     chance, best = random.Random(1), dict.fromkeys(below, 1)
     least = max(ends_of(below, costs, chains, best, lanes).values(), default=0)
     for _ in range(plans if len(below) > 1 else 0):
-        tried = {**best, chance.choice(list(below)): chance.randint(1, min(MOST_JOBS, lanes))}
+        tried = {**best, chance.choice(list(below)): chance.randint(1, min(most, lanes))}
         last = max(ends_of(below, costs, chains, tried, lanes).values())
         if last <= least:
             best, least = tried, last
@@ -84,13 +84,13 @@ class Planned:
     """Crates to be proved, and the jobs that each is to have. needs: the memory that each takes with one job; free: what there is. It tells how far it is, and about how long the rest
     takes at the pace so far."""
 
-    def __init__(self, names, needs, free, say, plans=PLANS):
+    def __init__(self, names, needs, free, say, plans=PLANS, most=MOST_JOBS):
         lines, recorded = repository.crates(), recorded_costs()
         self.lanes, self.needs, self.memory, self.say = repository.processors(), needs, 0.85 * free, say
         self.below = {name: {it for it in repository.below(lines, name) if it in names} for name in names}
         costs = {name: recorded.get(name, Cost(60)) for name in names}
         self.chains = behind(self.below, costs)
-        self.jobs = jobs_of(self.below, costs, self.chains, self.lanes, plans)
+        self.jobs = jobs_of(self.below, costs, self.chains, self.lanes, plans, most)
         self.ends = ends_of(self.below, costs, self.chains, self.jobs, self.lanes)
         self.total = max(self.ends.values(), default=0)
         self.start, self.ended, self.printing = time.monotonic(), [], threading.Lock()
