@@ -5,7 +5,7 @@ ghost use Rattle.rj_exchange.specs.Boxes.{AreOpenedInboxes, AreOpenedOutboxes, I
 use crate::exchange::passing::{post_all, take_lanes};
 use crate::waiting::TURNS;
 use rj_exchange::{Exchange, Inbox, Outbox};
-use rj_ledger::{Answer, Parcel, cut, replay};
+use rj_ledger::{Answer, Ledger, Parcel, cut, replay};
 use std::alloc::{AllocError, Global};
 use std::sync::Wait;
 use std::sync::atomic::{AtomicU32, Ordering};
@@ -113,46 +113,61 @@ fn cross<R: Threads + Wait + Sync>(
     taken
 }
 
-// Whether those of a sender among the parcels are what it posted to this partition, in its order.
-fn are_sent(
-    alloc: Global,
-    parcels: &[Parcel],
-    sender: u32,
-    partition: u32,
-) -> Result<bool, AllocError> {
-    let posted = twice(alloc, sender)?;
-    let wanted = posted.iter().filter(|parcel| parcel.partition == partition);
-    let found = parcels.iter().filter(|parcel| parcel.sender == sender);
-    let mut numbers = found.map(|parcel| parcel.number);
-    Ok(numbers.eq(wanted.map(|parcel| parcel.number)))
+// Whether so many parcels of a sender were taken backwards and then once more forwards, as over one lane.
+fn are_sent(parcels: &[Parcel], sender: u32, count: u32) -> bool {
+    let count = u64::from(count);
+    let mut found = 0u64;
+    for parcel in parcels {
+        if parcel.sender != sender {
+            continue;
+        }
+        let wanted = if found < count {
+            count - 1 - found
+        } else {
+            found - count
+        };
+        if parcel.number != wanted {
+            return false;
+        }
+        found = found.saturating_add(1);
+    }
+    found == 2 * count
+}
+
+// Each sender, and how many parcels it has for a partition.
+const SENT: [(u32, u32); 3] = [(0, 8), (1, 6), (2, 1)];
+
+// Whether the parcels are what three senders posted to a partition, those of each in its order.
+fn are_interleaved(parcels: &[Parcel]) -> bool {
+    let mut senders = SENT.iter();
+    parcels.len() == 2 * PLANNED
+        && senders.all(|(sender, count)| are_sent(parcels, *sender, *count))
 }
 
 #[test]
 fn boxes_in_threads(rt: HostRuntime) -> Result<(), Fail> {
     let taken = cross(&rt, rt.alloc(), 1)?;
-    for (partition, sender) in [(0, 0), (0, 1), (0, 2), (1, 0), (1, 1), (1, 2)] {
-        let Some(parcels) = taken.get(partition) else {
-            panic!(rt; "there are two inboxes")
-        };
-        assert_eq!(rt; parcels.len(), 2 * PLANNED);
-        assert!(rt; are_sent(rt.alloc(), parcels, sender, partition as u32)?);
-    }
+    assert!(rt; taken.iter().all(|parcels| are_interleaved(parcels)));
     Ok(())
 }
 
-// Whether a ledger is complete by these parcels, has delivered each sender's rows, and has refused the later copies.
+// Whether it is complete, and has delivered each sender's rows.
+fn has_delivered(ledger: &Ledger) -> bool
+    requires { length ledger.now.senders ≡ 3 }
+{
+    ledger.complete()
+        && ledger.delivered(0) == SQUARES
+        && ledger.delivered(1) == PRIMES
+        && ledger.delivered(2).is_empty()
+}
+
+// Whether a ledger delivers all by these parcels, and refuses the later copies.
 fn are_delivered(alloc: Global, parcels: Vec<Parcel>, partition: u32) -> Result<bool, AllocError> {
     let (answers, ledger) = replay(alloc, partition, 3, 1, parcels)?;
     let mut refused = answers
         .iter()
         .filter(|answer| matches!(**answer, Answer::Refused(_)));
-    Ok(
-        ledger.complete()
-            && ledger.delivered(0) == SQUARES
-            && ledger.delivered(1) == PRIMES
-            && ledger.delivered(2).is_empty()
-            && refused.count() == PLANNED,
-    )
+    Ok(refused.count() == PLANNED && has_delivered(&ledger))
 }
 
 #[test]

@@ -109,6 +109,26 @@ impl Job for Dealt {
     }
 }
 
+// Whether a run of it ends with its result.
+fn is_ended<R: Threads + Wait + Clock + Sync, G: Gate + Sync>(
+    rt: &R,
+    alloc: Global,
+    job: &Dealt,
+    gate: &G,
+    (lanes, capacity): (u32, u32),
+    retries: u32,
+) -> bool {
+    let settings = WorkerSettings {
+        workers: job.stripes,
+        partitions: 3,
+        block: 1,
+        lanes: lanes.clamp(1, 4),
+        capacity: capacity.clamp(1, 4096),
+        retries,
+    };
+    run_workers(rt, alloc, job, gate, settings).is_ok()
+}
+
 /// How often the three partitions are built by a run of so many workers with blocks of one row, where it ends with its result. The
 /// first `refused` scans are refused memory.
 pub fn builds<R: Threads + Wait + Clock + Sync, G: Gate + Sync>(
@@ -116,30 +136,19 @@ pub fn builds<R: Threads + Wait + Clock + Sync, G: Gate + Sync>(
     alloc: Global,
     gate: &G,
     workers: u32,
-    (lanes, capacity): (u32, u32),
+    queues: (u32, u32),
     (refused, retries): (u64, u32),
 ) -> Result<Option<u64>, AllocError> {
-    if workers < 1 || workers > 64 || lanes < 1 || lanes > 4 || capacity < 1 || capacity > 4096 {
-        return Ok(None);
-    }
-    let senders = deal(alloc, workers + workers)?;
+    let stripes = workers.clamp(1, 64);
     let job = Dealt {
-        senders,
-        stripes: workers,
+        senders: deal(alloc, stripes + stripes)?,
+        stripes,
         refused,
         scans: AtomicU64::new(0),
         builds: AtomicU64::new(0),
     };
-    let settings = WorkerSettings {
-        workers,
-        partitions: 3,
-        block: 1,
-        lanes,
-        capacity,
-        retries,
-    };
-    match run_workers(rt, alloc, &job, gate, settings) {
-        Ok(_) => Ok(Some(job.builds.load(Ordering::SeqCst))),
-        Err(_) => Ok(None),
+    if !is_ended(rt, alloc, &job, gate, queues, retries) {
+        return Ok(None);
     }
+    Ok(Some(job.builds.load(Ordering::SeqCst)))
 }
