@@ -8,6 +8,17 @@ use rj_condition::{BoundJoin, bind, parse};
 use std::alloc::{AllocError, Global};
 use std::test::Fail;
 
+/// A table of one column. It has a drop of its own, so that its table's isn't written out at each place where it is let go.
+pub struct Column {
+    pub table: Table,
+}
+
+impl Drop for Column {
+    fn drop(self) {
+        let Column { table: _ } = self;
+    }
+}
+
 /// The join of two tables by their keys; none where memory is refused.
 pub fn join_by_keys(alloc: Global, left: &Table, right: &Table) -> Option<BoundJoin>
     ensures { IfSome result (λ join. fits join left.now.types right.now.types ≡ true) }
@@ -34,19 +45,21 @@ fn push_key(builder: &mut TableBuilder, key: i64) -> Result<(), AllocError>
 }
 
 /// The column `k` with these keys.
-pub fn keys(alloc: Global, keys: &[i64]) -> Result<Table, Fail>
-    ensures { IfOk result (λ t. t.types ≡ kind.Int ∷ []) }
+pub fn keys(alloc: Global, keys: &[i64]) -> Result<Column, Fail>
+    ensures { IfOk result (λ c. c.table.types ≡ kind.Int ∷ []) }
 {
     let names = [b"k".as_slice()];
     let mut builder = TableBuilder::new(alloc, names.as_slice(), [ColumnType::Int].as_slice())?;
     for key in keys {
         push_key(&mut builder, *key)?;
     }
-    Ok(builder.finish())
+    Ok(Column {
+        table: builder.finish(),
+    })
 }
 
 /// The column `k` with so many keys, which count from 0.
-pub fn first_keys(alloc: Global, count: i64) -> Result<Table, Fail> {
+pub fn first_keys(alloc: Global, count: i64) -> Result<Column, Fail> {
     let mut numbers = Vec::new(alloc);
     for number in 0..count {
         numbers.push(number)?;

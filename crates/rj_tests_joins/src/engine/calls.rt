@@ -59,7 +59,7 @@ fn plain_joins_and_views(rt: HostRuntime) -> Result<(), Fail> {
     let left = keys(rt.alloc(), &[1, 2, 3])?;
     let right = keys(rt.alloc(), &[3, 2, 2])?;
     assert_eq!(rt;
-        counts_by_keys(rt.alloc(), &left, &right),
+        counts_by_keys(rt.alloc(), &left.table, &right.table),
         Some([1, 3, 3, 3])
     );
     Ok(())

@@ -57,33 +57,21 @@ impl Meeting {
     }
 }
 
-// What is drawn.
-#[derive(Clone, Copy)]
-enum Drawn {
-    Stripe,
-    Partition,
-}
-
-impl Drawn {
-    // Whether a worker that comes to a place has drawn it.
-    fn is_at(self, place: Place) -> bool {
-        match (self, place) {
-            (Drawn::Stripe, Place::Stripe(_)) | (Drawn::Partition, Place::Partition(_)) => true,
-            _ => false,
-        }
-    }
-}
-
 // Holds who comes first to a stripe, or to a partition, until so many of them have been come to.
 #[derive(Drop)]
 struct FirstGate {
-    drawn: Drawn,
+    is_of_stripes: bool,
     meeting: Meeting,
 }
 
 impl Gate for FirstGate {
     fn pass(&self, place: Place) {
-        if self.drawn.is_at(place) && self.meeting.come() == 0 {
+        let is_drawn = match place {
+            Place::Stripe(_) => self.is_of_stripes,
+            Place::Partition(_) => !self.is_of_stripes,
+            _ => false,
+        };
+        if is_drawn && self.meeting.come() == 0 {
             self.meeting.wait();
         }
     }
@@ -93,7 +81,7 @@ impl Gate for FirstGate {
 #[test]
 fn stripe_gate_test(rt: HostRuntime) -> Result<(), Fail> {
     let gate = FirstGate {
-        drawn: Drawn::Stripe,
+        is_of_stripes: true,
         meeting: Meeting::of(2),
     };
     let settings = Settings::new(2, 4, 0, 1024, 1, 64, 1);
@@ -123,7 +111,7 @@ impl Gate for QueueGate {
                 }
                 self.meanwhile.store(self.posted.count(), Ordering::SeqCst);
             }
-            Place::Stripe(_) | Place::Partition(_) | Place::Piece(_, _) => {}
+            _ => {}
         }
     }
 }
@@ -147,7 +135,7 @@ fn queue_test(rt: HostRuntime) -> Result<(), Fail> {
 #[test]
 fn drawn_partitions_gate(rt: HostRuntime) -> Result<(), Fail> {
     let gate = FirstGate {
-        drawn: Drawn::Partition,
+        is_of_stripes: false,
         meeting: Meeting::of(4),
     };
     let settings = Settings::new(2, 2, 0, 1024, 1, 64, 1);

@@ -82,9 +82,9 @@ const CUTS: [(i64, &[&[u32]]); 3] = [
 #[test]
 fn stripe_cuts(rt: HostRuntime) -> Result<(), Fail> {
     for (rows, stripes) in CUTS {
-        let table = first_keys(rt.alloc(), rows)?;
+        let column = first_keys(rt.alloc(), rows)?;
         assert!(rt;
-            are_stripes(&rt, rt.alloc(), &table, stripes),
+            are_stripes(&rt, rt.alloc(), &column.table, stripes),
             "{rows} rows"
         );
     }
