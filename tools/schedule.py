@@ -17,6 +17,8 @@ RECORD = repository.ROOT / "tools" / "build.seconds"
 Cost = namedtuple("Cost", ("seconds", "serial"), defaults=(0.43,))
 # How many jobs a check has at most, how many plans are tried, and what each job beyond the first adds to a check's memory.
 MOST_JOBS, PLANS, MORE_MEMORY = 4, 2000, 0.6
+# How much a check takes of the memory that the kit plans for it: most take a third, and the largest, that of a program, all of it alone.
+TAKEN = 0.5
 
 
 def recorded_costs():
@@ -81,12 +83,13 @@ def jobs_of(below, costs, chains, lanes, plans, most):
 
 
 class Planned:
-    """Crates to be proved, and the jobs that each is to have. needs: the memory that each takes with one job; free: what there is. It tells how far it is, and about how long the rest
+    """Crates to be proved, and the jobs that each is to have. needs: the memory that the kit plans for each with one job; free: what there is. It tells how far it is, and about how long the rest
     takes at the pace so far."""
 
     def __init__(self, names, needs, free, say, plans=PLANS, most=MOST_JOBS):
         lines, recorded = repository.crates(), recorded_costs()
-        self.lanes, self.needs, self.memory, self.say = repository.processors(), needs, 0.85 * free, say
+        self.lanes, self.memory, self.say = repository.processors(), 0.85 * free, say
+        self.needs = {name: TAKEN * needs[name] for name in needs}
         self.below = {name: {it for it in repository.below(lines, name) if it in names} for name in names}
         costs = {name: recorded.get(name, Cost(60)) for name in names}
         self.chains = behind(self.below, costs)
