@@ -83,8 +83,8 @@ def jobs_of(below, costs, chains, lanes, plans, most):
 
 
 class Planned:
-    """Crates to be proved, and the jobs that each is to have. needs: the memory that the kit plans for each with one job; free: what there is. It tells how far it is, and about how long the rest
-    takes at the pace so far."""
+    """Crates to be proved, and the jobs that each is to have. It tells how far it is, and about how long the rest takes at the pace so far.
+    needs: the memory that the kit plans for each with one job; free: what there is."""
 
     def __init__(self, names, needs, free, say, plans=PLANS, most=MOST_JOBS):
         lines, recorded = repository.crates(), recorded_costs()
