@@ -1,14 +1,14 @@
 //! Runs by the words of a command line over the bytes of two tables, which are lent to the run or given to it.
 
-ghost use Rattle.std.specs.Prelude.{◌<◌};
+ghost use Rattle.std.specs.Prelude.{◌<◌, ◌-◌, ◌^◌};
 
 use rj_command::{
     Fault, Open, Request, Side, Stats, Step, Violation, Watch, first_violation, read_line, run,
     run_owned,
 };
-use rj_csv_io::CountedWriter;
+use rj_csv_io::{CountedWriter, Output};
 use rj_engine::{Gate, Place};
-use std::alloc::{AllocError, Global};
+use std::alloc::Global;
 use std::sync::Wait;
 use std::sync::atomic::{AtomicU64, Ordering};
 use std::thread::Threads;
@@ -116,40 +116,28 @@ impl Watch for Seen {
     }
 }
 
-// What a join of the people and the cities writes, whose bytes are lent to it, and its counts.
-fn lent<R: Threads + Wait + Clock + Sync>(
+// Joins the people and the cities, whose bytes are lent or given.
+fn run_by<R: Threads + Wait + Clock + Sync, O: Output>(
     rt: &R,
     alloc: Global,
     request: &Request<'_>,
+    owned: bool,
     seen: &Seen,
-) -> Result<(Vec<u8>, Stats), Fault> {
-    let mut writer = CountedWriter::new(Vec::new(alloc));
-    let stats = run(rt, alloc, PEOPLE, CITIES, request, seen, &mut writer)?;
-    Ok((writer.into_inner(), stats))
-}
-
-fn tables(alloc: Global) -> Result<(Vec<u8>, Vec<u8>), AllocError> {
-    let left = PEOPLE.to_vec(alloc)?;
-    Ok((left, CITIES.to_vec(alloc)?))
-}
-
-// The same where the bytes are given to it.
-fn given<R: Threads + Wait + Clock + Sync>(
-    rt: &R,
-    alloc: Global,
-    (left, right): (Vec<u8>, Vec<u8>),
-    request: &Request<'_>,
-    seen: &Seen,
-) -> Result<(Vec<u8>, Stats), Fault> {
-    let mut writer = CountedWriter::new(Vec::new(alloc));
-    let stats = run_owned(rt, alloc, left, right, request, seen, &mut writer)?;
-    Ok((writer.into_inner(), stats))
+    writer: &mut O,
+) -> Result<Stats, Fault>
+    requires { O.count writer.old < 2 ^ 64 - 1 }
+{
+    if !owned {
+        return run(rt, alloc, PEOPLE, CITIES, request, seen, writer);
+    }
+    let (left, right) = (PEOPLE.to_vec(alloc)?, CITIES.to_vec(alloc)?);
+    run_owned(rt, alloc, left, right, request, seen, writer)
 }
 
 // A clause, an option, and whether the bytes of the tables are given to the run.
 type Asked<'a> = (&'a str, &'a str, bool);
 
-// The same of a run that is asked so.
+// What a run that is asked so writes, and its counts.
 fn joined<R: Threads + Wait + Clock + Sync>(
     rt: &R,
     alloc: Global,
@@ -158,11 +146,9 @@ fn joined<R: Threads + Wait + Clock + Sync>(
 ) -> Result<(Vec<u8>, Stats), Fault> {
     let words = words_of(asked.0, asked.1);
     let line = read_line(alloc, words.as_slice())?;
-    if asked.2 {
-        given(rt, alloc, tables(alloc)?, &line.request, seen)
-    } else {
-        lent(rt, alloc, &line.request, seen)
-    }
+    let mut writer = CountedWriter::new(Vec::new(alloc));
+    let stats = run_by(rt, alloc, &line.request, asked.2, seen, &mut writer)?;
+    Ok((writer.into_inner(), stats))
 }
 
 fn has_line(alloc: Global, fault: &Fault, line: &str) -> bool {
