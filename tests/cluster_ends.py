@@ -139,6 +139,26 @@ def run_output(on, tally):
         tally.check("cluster_ends: the result is a pipe", faults + [f"{it} was left behind" for it in cluster.left_behind(folder, known | {"pipe"})])
 
 
+def run_output_is_input(python, tally):
+    """A result in the file of a table is refused, by whatever name, before a scheduler is looked for, of which there is none."""
+    with harness.folder() as place:
+        folder = pathlib.Path(place)
+        words = write_tables(folder)
+        os.link(folder / "left.csv", folder / "linked.csv")
+        os.symlink("right.csv", folder / "symbolic.csv")
+        known = {it.name: (it.read_bytes(), it.is_symlink(), it.stat().st_ino) for it in folder.iterdir()}
+        by_links = [word.replace("/left.csv", "/linked.csv").replace("/right.csv", "/symbolic.csv") for word in words]
+        of_one = [word.replace("/right.csv", "/left.csv") for word in words]
+        cases = [("left", words, "left.csv"), ("left", words, folder / "linked.csv"), ("right", words, "./right.csv"), ("right", words, "symbolic.csv")]
+        cases += [("left", by_links, "left.csv"), ("right", by_links, "right.csv"), ("left", of_one, "left.csv")]
+        for number, (side, asked, output) in enumerate(cases):
+            ran = cluster.ended(begun(python, asked, folder, "--scheduler", "tcp://127.0.0.1:9", "--out", output))
+            faults = harness.differences(harness.Ran(ran.returncode, b"", ran.stderr), b"", f"radixjoin: E29 OutputIsInput {side}\n".encode(), 6)
+            found = {it.name: (it.read_bytes(), it.is_symlink(), it.stat().st_ino) for it in folder.iterdir()}
+            faults += [f"{it} is another one" for it in sorted({*known, *found}) if known.get(it) != found.get(it)]
+            tally.check(f"cluster_ends: the result is a table, {number}: {side} {output}", faults)
+
+
 # Joins a shard, and notes in the folder LOG how many do meanwhile.
 COUNTS = """#!/bin/sh
 case "$*" in *"=/dev/fd/"*) ;; *) exec "PROGRAM" "$@";; esac
@@ -242,6 +262,7 @@ def run_all(tally):
             run_output(on, tally)
             run_full(on, tally)
             run_without_dask(python, tally)
+            run_output_is_input(python, tally)
         finally:
             on.close()
     for count in (1, 2, 3):

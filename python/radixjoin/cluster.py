@@ -38,6 +38,7 @@ from .lists import lower, read_list, with_place
 from .local import local_cluster
 from .making import append, beginning, folder_beside, made, remove
 from .nulls import Texts, texts_of
+from .outputs import refuse_input
 from .packed import Run, give_back, pack, rows_of_part, rows_of_run, sizes_of, told_of
 from .placed import LEFT, RIGHT, SAMPLES, Index, Place, Shard, cut_places, sampled
 from .programs import ProgramNotFound, build, built
@@ -641,7 +642,9 @@ def cluster_of(asked: argparse.Namespace) -> Iterator[Cluster]:
 
 
 def run_in(asked: argparse.Namespace, cluster: contextlib.AbstractContextManager[Any]) -> None:
-    """Joins as asked by the processes of a cluster, in a scratch folder that is removed at the end."""
+    """Joins as asked by the processes of a cluster, in a scratch folder that is removed at the end. A result in the file of a table is
+    refused before anything is done."""
+    refuse_input(asked.out, asked.left, asked.right)
     folder = str(Path(asked.scratch or Path(asked.out).resolve().parent).resolve())
     with scratch_in(folder) as scratch, cluster as it:
         run(Job(asked, scratch), it, asked.ranges or it.tasks_at_once(), asked.merges)

@@ -16,6 +16,7 @@ from .columns import Column, Types
 from .faults import DeviceFault
 from .frames import FrameTable, frame_of, is_frame
 from .nulls import Nulls
+from .outputs import refuse_input
 from .process import Run
 from .rows import Rows
 from .tables import FileTable, RowsTable, Table, table_of_path
@@ -144,7 +145,8 @@ def join(
     `*` stands for all other columns.
 
     It gives a DataFrame where either side is one, with the dtypes that its columns had; else `Rows`, an iterator that reads
-    the rows as they are asked for. With `output`, a path, the result is written there as CSV, whole or not at all, and the path given.
+    the rows as they are asked for. With `output`, a path, the result is written there as CSV, whole or not at all, and the path given;
+    a file that is one of the tables is refused (E29) before anything is read.
 
     `strict` has files read by RFC 4180's grammar alone. `null` is the text that stands for null in files, read and written (the
     empty field unless given); `left_null` and `right_null` are those of one table, a text or up to four, and `out_null` is the one
@@ -162,6 +164,8 @@ def join(
     types = {"left": left_types, "right": right_types}
     _refuse_own(options)
     names = _names(options)
+    if output is not None:
+        refuse_input(output, left, right)
     asked = _Asked(left, right, text_of_clause, types, names, {**options, "workers": workers, "strict": strict, "output": output})
     if output is not None:
         return _to_file(asked, output)

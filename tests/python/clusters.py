@@ -73,6 +73,34 @@ def by_side(client, programs, folder):
     yield from telling.differs("files", sorted(os.listdir(folder)), ["alone.csv", "left.csv", "left.types", "right.csv"])
 
 
+def over_inputs(client, programs, folder):
+    """A result in the file of a table is refused, by whatever name, and the table stays."""
+    left, right, linked, symbolic = (folder / name for name in ("left.csv", "right.csv", "linked.csv", "symbolic.csv"))
+    left.write_text(LEFT)
+    right.write_text(RIGHT)
+    os.link(left, linked)
+    symbolic.symlink_to(right)
+    before = sorted(os.listdir(folder))
+    for side, one, other, output in (
+        ("left", left, right, left),
+        ("left", str(left), right, linked),
+        ("left", linked, right, str(left)),
+        ("right", left, right, right),
+        ("right", left, right, symbolic),
+        ("right", left, symbolic, right),
+        ("left", left, left, left),
+    ):
+        fault = telling.raised(cluster.join, client, one, other, CLAUSE, output=output, programs=programs, parts=2, **TYPES)
+        title = f"{one.__class__.__name__} {output}"
+        yield from telling.differs(title, (type(fault), str(fault)), (radixjoin.DeviceFault, f"radixjoin: E29 OutputIsInput {side}"))
+        after = sorted(os.listdir(folder)), left.read_text(), right.read_text(), os.path.samefile(left, linked), symbolic.is_symlink()
+        yield from telling.differs(f"{title}: files", after, (before, LEFT, RIGHT, True, True))
+    words = ["--programs", programs, "--left-types=int,text", "--right-types=int,text", f"--join={CLAUSE}", "--left=left.csv", "--right=right.csv", "--out=symbolic.csv"]
+    ran = subprocess.run([sys.executable, "-m", "radixjoin.cluster", *words], cwd=folder, capture_output=True, check=False)
+    yield from telling.differs("the command", (ran.returncode, ran.stdout, ran.stderr), (6, b"", b"radixjoin: E29 OutputIsInput right\n"))
+    yield from telling.differs("the command's files", (sorted(os.listdir(folder)), right.read_text(), symbolic.is_symlink()), (before, RIGHT, True))
+
+
 def command(programs, folder):
     """The module as a command."""
     (folder / "left.csv").write_text("id\n2\n1\n")
@@ -102,6 +130,8 @@ def main(programs):
             telling.attempt("radixjoin.cluster.join", joins, client, programs, pathlib.Path(name))
             with tempfile.TemporaryDirectory(prefix="radixjoin-test-left-") as other:
                 telling.attempt("radixjoin.cluster.join, null texts by side and types by name", by_side, client, programs, pathlib.Path(other))
+            with tempfile.TemporaryDirectory(prefix="radixjoin-test-over-") as other:
+                telling.attempt("radixjoin.cluster.join, a result in the file of a table", over_inputs, client, programs, pathlib.Path(other))
     with tempfile.TemporaryDirectory(prefix="radixjoin-test-") as name:
         telling.attempt("python -m radixjoin.cluster", command, programs, pathlib.Path(name))
 

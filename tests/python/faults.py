@@ -354,6 +354,54 @@ def outputs(folder):
     yield from telling.differs("no report", told.report, None)
 
 
+def unread():
+    """Rows that nobody may read."""
+    raise AssertionError("rows were read")
+    yield
+
+
+def cases_of_inputs(left, right, linked, symbolic):
+    """Results in the file of a table: the side that is told, the two tables, and the name of the result. `linked` is a hard link to the left
+    file, and `symbolic` a symbolic one to the right file."""
+    others = [lambda: unread(), *([lambda: pandas.DataFrame({"id": [1]})] if pandas is not None else [])]
+    yield from (("left", left, right, output) for output in (left, str(left), os.fsencode(left), left.parent / ".." / left.parent.name / left.name, linked))
+    yield from (("right", left, right, output) for output in (right, symbolic))
+    yield from (("left", left, left, left), ("left", linked, right, left), ("right", left, symbolic, right), ("left", left, right, f"/proc/self/cwd/{os.path.relpath(left)}"))
+    for mode in ("rb", "r+b"):
+        yield from (("left", open(left, mode), right, output) for output in (left, linked))
+        yield from (("right", left, open(right, mode), output) for output in (right, symbolic))
+        yield from (("left", open(left, mode), other(), linked) for other in others)
+        yield from (("right", other(), open(symbolic, mode), right) for other in others)
+    yield from (("left", table, other(), left) for table in (left, linked) for other in others)
+    yield from (("right", other(), table, right) for table in (right, symbolic) for other in others)
+
+
+def outputs_that_are_inputs(folder):
+    """A result in the file of a table is refused, whichever side and name it has, before a row is read or a program is started."""
+    left, right, linked, symbolic, started = (folder / name for name in ("left.csv", "right.csv", "linked.csv", "symbolic.csv", "started"))
+    left.write_text("id\n1\n")
+    right.write_text("id\n1\n2\n")
+    os.link(left, linked)
+    symbolic.symlink_to(right)
+    (folder / "notes").write_text(f'#!/bin/sh\ntouch "{started}"\nexec "{os.environ["RADIXJOIN"]}" "$@"\n')
+    (folder / "notes").chmod(0o755)
+    named = {"using": "id", "left_types": "int", "right_types": "int", "left_columns": ["id"], "right_columns": ["id"], "null": "~"}
+    before = sorted(os.listdir(folder)), left.read_bytes(), right.read_bytes(), os.stat(left).st_ino, os.stat(right).st_ino
+    for side, one, other, output in cases_of_inputs(left, right, linked, symbolic):
+        fault = telling.raised(radixjoin.join, one, other, output=output, program=folder / "notes", **named)
+        title = f"{side} {type(one).__name__} {type(other).__name__} {output}"
+        yield from telling.differs(title, (type(fault), str(fault)), (radixjoin.DeviceFault, f"radixjoin: E29 OutputIsInput {side}"))
+        yield from telling.differs(f"{title}: places", [getattr(fault, it, None) for it in ("status", "code", "name", "side")], [6, "E29", "OutputIsInput", side])
+        after = sorted(os.listdir(folder)), left.read_bytes(), right.read_bytes(), os.stat(left).st_ino, os.stat(right).st_ino
+        yield from telling.differs(f"{title}: files", after, before)
+        yield from (f"{title}: read from" for table in (one, other) if hasattr(table, "tell") and table.tell())
+    named.pop("null")
+    fault = telling.raised(radixjoin.join, "/dev/null", right, output="/dev/null", **named)
+    yield from telling.differs("a device as table and result", str(fault), "radixjoin: E1 NoHeader left")
+    gave = radixjoin.join(io.BytesIO(left.read_bytes()), right, output=left, **named)
+    yield from telling.differs("a file that was read before", (gave, left.read_text(), linked.read_text()), (left, "id\n1\n", "id\n1\n"))
+
+
 def explanations(_):
     """With `explain=True` a fault has the lines that the program told below its own."""
     fault = telling.raised(radixjoin.join, ROWS, ROWS, on="L.idd = R.id", explain=True)
@@ -367,7 +415,7 @@ def explanations(_):
 
 
 def main():
-    tests = [faults_of_each_status, refused_arguments, outputs, explanations, open_files, broken_off, killed, interrupted]
+    tests = [faults_of_each_status, refused_arguments, outputs, outputs_that_are_inputs, explanations, open_files, broken_off, killed, interrupted]
     for test in tests + ([dtypes_that_have_no_type] if pandas is not None else []):
         with tempfile.TemporaryDirectory(prefix="radixjoin-test-") as name:
             telling.attempt(test.__name__.replace("_", " "), test, pathlib.Path(name))
