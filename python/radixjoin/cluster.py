@@ -40,6 +40,7 @@ from .making import append, beginning, folder_beside, made, remove
 from .nulls import Texts, texts_of
 from .outputs import refuse_input
 from .packed import Run, give_back, pack, rows_of_part, rows_of_run, sizes_of, told_of
+from .pipes import open_streams
 from .placed import LEFT, RIGHT, SAMPLES, Index, Place, Shard, cut_places, sampled
 from .programs import ProgramNotFound, build, built
 from .spread import TABLE, Join, are_many, joins_of, length_of, limit_of, most_tables, next_length, runs_of
@@ -729,6 +730,7 @@ def ended_by(number: int, _: Any) -> None:
 
 def main() -> int:
     """The command line."""
+    open_streams()
     for number in (signal.SIGTERM, signal.SIGINT, signal.SIGHUP):
         # (what nohup starts goes on when its terminal is gone)
         if number != signal.SIGHUP or signal.getsignal(number) != signal.SIG_IGN:

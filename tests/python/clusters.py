@@ -4,12 +4,14 @@ usage: clusters.py FOLDER      the folder of the programs"""
 import logging
 import os
 import pathlib
+import signal
 import subprocess
 import sys
 import tempfile
 
 import telling
 from distributed import Client, LocalCluster
+from faults import CLOSED, without
 
 import radixjoin
 from radixjoin import cluster
@@ -18,6 +20,7 @@ LEFT = "id,name\n" + "".join(f"{number % 97},n{number}\n" for number in range(3_
 RIGHT = "id,city\n" + "".join(f"{number % 89},c{number}\n" for number in range(500))
 TYPES = {"left_types": "int,text", "right_types": ["int", str]}
 CLAUSE = "FULL JOIN USING (id)"
+SECONDS = 60
 
 
 def joins(client, programs, folder):
@@ -122,6 +125,31 @@ def command(programs, folder):
         yield from telling.differs(f"{more}", (ran.returncode, told in ran.stderr), (2, True))
 
 
+def command_without_streams(programs, folder):
+    """The module as a command, and a process of its own, that begin with standard streams closed, whose numbers other files get. The
+    fault of one whose standard error is closed is its status alone."""
+    (folder / "left.csv").write_text("id\n2\n1\n")
+    (folder / "right.csv").write_text("id\n1\n")
+    before = sorted(os.listdir(folder))
+    tables = ["--left", "left.csv", "--left-types", "int", "--right", "right.csv", "--right-types", "int", "--programs", str(programs), "--out", "out.csv"]
+    for number, streams in enumerate(CLOSED):
+        for clause, status, wanted in (("LEFT JOIN ON L.id = R.id", 0, b"id,id\n1,1\n2,\n"), ("LEFT JOIN ON L.id = R.no", 4, None))[: 2 - number % 2]:
+            words = [sys.executable, "-m", "radixjoin.cluster", *tables, "--join", clause]
+            with subprocess.Popen(without(streams, words), cwd=folder, stdin=subprocess.DEVNULL, stdout=subprocess.PIPE, stderr=subprocess.PIPE, start_new_session=True) as child:
+                try:
+                    stdout, stderr = child.communicate(timeout=SECONDS)
+                except subprocess.TimeoutExpired:
+                    os.killpg(child.pid, signal.SIGKILL)
+                    yield f"without {streams} {clause}: no end within {SECONDS} seconds"
+                    continue
+            told = b"" if status == 0 or 2 in streams else b"radixjoin: E13 UnknownColumn\n"
+            yield from telling.differs(f"without {streams} {clause}: how it ends", (child.returncode, stdout, stderr), (status, b"", told))
+            got = (folder / "out.csv").read_bytes() if (folder / "out.csv").exists() else None
+            yield from telling.differs(f"without {streams} {clause}: the bytes", got, wanted)
+            (folder / "out.csv").unlink(missing_ok=True)
+        yield from telling.differs(f"without {streams}: files", sorted(os.listdir(folder)), before)
+
+
 def main(programs):
     for name in ("asyncio", "tornado", "distributed"):
         logging.getLogger(name).setLevel(logging.CRITICAL)
@@ -134,6 +162,8 @@ def main(programs):
                 telling.attempt("radixjoin.cluster.join, a result in the file of a table", over_inputs, client, programs, pathlib.Path(other))
     with tempfile.TemporaryDirectory(prefix="radixjoin-test-") as name:
         telling.attempt("python -m radixjoin.cluster", command, programs, pathlib.Path(name))
+    with tempfile.TemporaryDirectory(prefix="radixjoin-test-") as name:
+        telling.attempt("python -m radixjoin.cluster without standard streams", command_without_streams, programs, pathlib.Path(name))
 
 
 if __name__ == "__main__":

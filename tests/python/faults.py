@@ -321,10 +321,72 @@ def of_streams(folder):
             for how in ({"stdin": file}, {"input": path.read_bytes()}):
                 ran = subprocess.run([sys.executable, "-c", code], cwd=folder, capture_output=True, check=False, **how)
                 yield from telling.differs(f"/dev/stdin {types} {how}", (ran.returncode, ran.stdout, ran.stderr), (0, b"{'id': 1}\n", b""))
+    code = "import radixjoin, sys; print(*radixjoin.join(sys.stdin.buffer, [{'id': 1}], using='id', left_types='int'))"
+    with open(path, "rb") as file:
+        for how in ({"stdin": file}, {"input": path.read_bytes()}):
+            ran = subprocess.run([sys.executable, "-c", code], cwd=folder, capture_output=True, check=False, **how)
+            yield from telling.differs(f"sys.stdin.buffer {how}", (ran.returncode, ran.stdout, ran.stderr), (0, b"{'id': 1}\n", b""))
     path.unlink()
     code = f"import radixjoin; radixjoin.join([{{'id': 1}}], [{{'id': 1}}], using='id', output='/dev/stdout')"
     ran = subprocess.run([sys.executable, "-c", code], cwd=folder, capture_output=True, check=False)
     yield from telling.differs("/dev/stdout", (ran.returncode, ran.stdout, ran.stderr), (0, b"id\n1\n", b""))
+
+
+# Joins in each way in which a table is handed to the program, and writes what they gave to a file.
+WITHOUT_STREAMS = """
+import contextlib, io, pathlib, subprocess, radixjoin
+from radixjoin.feeding import run_program
+
+ROWS, FEW, TEXT = [(number, "x" * 99) for number in range(2_000)], [(1, "b")], b"id,a\\n1,a\\n"
+named = {"using": "id", "left_columns": ["id", "a"], "right_columns": ["id", "b"], "null": "~", "left_types": "int,text", "right_types": "int,text"}
+told = [len(list(radixjoin.join(ROWS, iter(ROWS), **named))), radixjoin.stats(ROWS, ROWS, **named).pairs]
+with open("left.csv", "rb") as left, open("right.csv", "rb") as right:
+    for tables in ((left, FEW), (FEW, right), (left, right), (left, io.BytesIO(TEXT)), (io.BytesIO(TEXT), right), (io.BytesIO(TEXT), io.BytesIO(TEXT))):
+        told += list(radixjoin.join(*tables, **named))
+    radixjoin.join(io.BytesIO(TEXT), right, output="out.csv", **named)
+with contextlib.suppress(ImportError):
+    import pandas
+    frame = pandas.DataFrame(ROWS, columns=["id", "a"])
+    told.append(radixjoin.join(frame, frame, using="id").shape)
+try:
+    radixjoin.join(FEW, [(1, "x"), (1,)], **named)
+except radixjoin.InputFault as fault:
+    told.append(str(fault))
+with open("fed.csv", "wb") as output:
+    words = [radixjoin.programs.find(), "--left-types=int,text", "--right-types=int,text", "--join=JOIN USING (id)"]
+    inputs = [(f"--{side}=", (it for it in [TEXT])) for side in ("left", "right")]
+    ran = run_program(words, inputs, stdin=subprocess.DEVNULL, stdout=output)
+told += [ran.returncode, ran.stderr, pathlib.Path("out.csv").read_bytes(), pathlib.Path("fed.csv").read_bytes()]
+pathlib.Path("told").write_text(repr(told))
+"""
+CLOSES = {0: "<&-", 1: ">&-", 2: "2>&-"}
+CLOSED = [(0,), (1,), (2,), (0, 1), (0, 2), (1, 2), (0, 1, 2)]
+
+
+def without(streams, words):
+    """The words that start a command without some of the standard streams."""
+    return ["sh", "-c", f'exec "$@" {" ".join(map(CLOSES.get, streams))}', "sh", *words]
+
+
+def without_streams(folder):
+    """Joins in a process that began with some of its standard streams closed, whose numbers other files get."""
+    (folder / "left.csv").write_text("id,a\n1,a\n")
+    (folder / "right.csv").write_text("id,b\n1,b\n")
+    wanted = [2_000, 2_000, (1, "a", "b"), (1, "b", "b"), (1, "a", "b"), (1, "a", "a"), (1, "a", "b"), (1, "a", "a"), *([(2_000, 3)] if pandas is not None else [])]
+    wanted += ["radixjoin: E5 RaggedRow right row 2", 0, b"", b"id,a,b\n1,a,b\n", b"id,a,a\n1,a,a\n"]
+    for streams in ((), *CLOSED):
+        with contextlib.suppress(FileNotFoundError):
+            (folder / "told").unlink()
+        with subprocess.Popen(without(streams, [sys.executable, "-c", WITHOUT_STREAMS]), cwd=folder, stdin=subprocess.DEVNULL, stdout=subprocess.PIPE, stderr=subprocess.PIPE, start_new_session=True) as child:
+            try:
+                stdout, stderr = child.communicate(timeout=SECONDS)
+            except subprocess.TimeoutExpired:
+                os.killpg(child.pid, signal.SIGKILL)
+                yield f"without {streams}: no end within {SECONDS} seconds"
+                continue
+        yield from telling.differs(f"without {streams}: how it ends", (child.returncode, stdout, stderr), (0, b"", b""))
+        told = (folder / "told").read_text() if (folder / "told").exists() else None
+        yield from telling.differs(f"without {streams}", told, repr(wanted))
 
 
 def outputs(folder):
@@ -415,7 +477,7 @@ def explanations(_):
 
 
 def main():
-    tests = [faults_of_each_status, refused_arguments, outputs, outputs_that_are_inputs, explanations, open_files, broken_off, killed, interrupted]
+    tests = [faults_of_each_status, refused_arguments, outputs, outputs_that_are_inputs, without_streams, explanations, open_files, broken_off, killed, interrupted]
     for test in tests + ([dtypes_that_have_no_type] if pandas is not None else []):
         with tempfile.TemporaryDirectory(prefix="radixjoin-test-") as name:
             telling.attempt(test.__name__.replace("_", " "), test, pathlib.Path(name))
