@@ -47,11 +47,11 @@ def programs_in(folder, name, does, is_once=True, step=None, again=":"):
     return folder
 
 
-def begun(python, words, folder, *more):
+def begun(python, words, folder, *more, environment=None):
     """Starts the script."""
     words = [python, cluster.SCRIPT, *words, *([] if "--parts" in more else ["--parts", "3"]), *([] if "--out" in more else ["--out", "out.csv"]), *more]
     # (these tests may be run by nohup, which has the script go on when its terminal is gone)
-    how = {"stdin": subprocess.DEVNULL, "stdout": subprocess.DEVNULL, "stderr": subprocess.PIPE, "preexec_fn": lambda: signal.signal(signal.SIGHUP, signal.SIG_DFL)}
+    how = {"stdin": subprocess.DEVNULL, "stdout": subprocess.DEVNULL, "stderr": subprocess.PIPE, "env": environment, "preexec_fn": lambda: signal.signal(signal.SIGHUP, signal.SIG_DFL)}
     return subprocess.Popen([str(word) for word in words], cwd=folder, **how)
 
 
@@ -204,6 +204,20 @@ def run_without_dask(python, tally):
         tally.check("cluster_ends: no Dask", faults + [f"{it} was left behind" for it in cluster.left_behind(folder, known)])
 
 
+def run_without_programs(on, tally):
+    """Where the programs aren't in the folder that is given, or the variable names none, it is told by what they can be named."""
+    with harness.folder() as place:
+        folder = pathlib.Path(place).resolve()
+        words = write_tables(folder)
+        known = {it.name for it in folder.iterdir()}
+        for more, named in (["--programs", folder / "none"], f"{folder}/none/radixjoin"), ([], f"{folder}/nowhere"):
+            running = begun(on.python, words, folder, "--scheduler", on.address, *more, environment={**os.environ, "RADIXJOIN": f"{folder}/nowhere"})
+            ran = cluster.ended(running)
+            faults = [] if ran.returncode == 2 and ran.stderr.startswith(f"radixjoin-cluster: {named} is no program; ".encode()) else [f"{ran.returncode} {ran.stderr}"]
+            faults += [f"{it!r} isn't told" for it in (b"program=", b"--programs", b"RADIXJOIN") if it not in ran.stderr]
+            tally.check(f"cluster_ends: no program {named}", faults + [f"{it} was left behind" for it in cluster.left_behind(folder, known)])
+
+
 def run_on_disk(folder, words, size, option, merges, tally):
     """Joins with what is half made, or the result, on a disk of some KiB, merged in so many ranges. It gives how it ended."""
     place = folder / "disk"
@@ -263,6 +277,7 @@ def run_all(tally):
             run_full(on, tally)
             run_without_dask(python, tally)
             run_output_is_input(python, tally)
+            run_without_programs(on, tally)
         finally:
             on.close()
     for count in (1, 2, 3):
