@@ -47,11 +47,11 @@ def programs_in(folder, name, does, is_once=True, step=None, again=":"):
     return folder
 
 
-def begun(python, words, folder, *more):
+def begun(python, words, folder, *more, environment=None):
     """Starts the script."""
     words = [python, cluster.SCRIPT, *words, *([] if "--parts" in more else ["--parts", "3"]), *([] if "--out" in more else ["--out", "out.csv"]), *more]
     # (these tests may be run by nohup, which has the script go on when its terminal is gone)
-    how = {"stdin": subprocess.DEVNULL, "stdout": subprocess.DEVNULL, "stderr": subprocess.PIPE, "preexec_fn": lambda: signal.signal(signal.SIGHUP, signal.SIG_DFL)}
+    how = {"stdin": subprocess.DEVNULL, "stdout": subprocess.DEVNULL, "stderr": subprocess.PIPE, "env": environment, "preexec_fn": lambda: signal.signal(signal.SIGHUP, signal.SIG_DFL)}
     return subprocess.Popen([str(word) for word in words], cwd=folder, **how)
 
 
@@ -139,6 +139,26 @@ def run_output(on, tally):
         tally.check("cluster_ends: the result is a pipe", faults + [f"{it} was left behind" for it in cluster.left_behind(folder, known | {"pipe"})])
 
 
+def run_output_is_input(python, tally):
+    """A result in the file of a table is refused, by whatever name, before a scheduler is looked for, of which there is none."""
+    with harness.folder() as place:
+        folder = pathlib.Path(place)
+        words = write_tables(folder)
+        os.link(folder / "left.csv", folder / "linked.csv")
+        os.symlink("right.csv", folder / "symbolic.csv")
+        known = {it.name: (it.read_bytes(), it.is_symlink(), it.stat().st_ino) for it in folder.iterdir()}
+        by_links = [word.replace("/left.csv", "/linked.csv").replace("/right.csv", "/symbolic.csv") for word in words]
+        of_one = [word.replace("/right.csv", "/left.csv") for word in words]
+        cases = [("left", words, "left.csv"), ("left", words, folder / "linked.csv"), ("right", words, "./right.csv"), ("right", words, "symbolic.csv")]
+        cases += [("left", by_links, "left.csv"), ("right", by_links, "right.csv"), ("left", of_one, "left.csv")]
+        for number, (side, asked, output) in enumerate(cases):
+            ran = cluster.ended(begun(python, asked, folder, "--scheduler", "tcp://127.0.0.1:9", "--out", output))
+            faults = harness.differences(harness.Ran(ran.returncode, b"", ran.stderr), b"", f"radixjoin: E29 OutputIsInput {side}\n".encode(), 6)
+            found = {it.name: (it.read_bytes(), it.is_symlink(), it.stat().st_ino) for it in folder.iterdir()}
+            faults += [f"{it} is another one" for it in sorted({*known, *found}) if known.get(it) != found.get(it)]
+            tally.check(f"cluster_ends: the result is a table, {number}: {side} {output}", faults)
+
+
 # Joins a shard, and notes in the folder LOG how many do meanwhile.
 COUNTS = """#!/bin/sh
 case "$*" in *"=/dev/fd/"*) ;; *) exec "PROGRAM" "$@";; esac
@@ -182,6 +202,20 @@ def run_without_dask(python, tally):
         ran = harness.run([python, cluster.SCRIPT, *words, "--out", "out.csv"], folder, environment=how)
         faults = harness.differences(ran, b"", b"radixjoin-cluster: No module named 'distributed'\n", 1)
         tally.check("cluster_ends: no Dask", faults + [f"{it} was left behind" for it in cluster.left_behind(folder, known)])
+
+
+def run_without_programs(on, tally):
+    """Where the programs aren't in the folder that is given, or the variable names none, it is told by what they can be named."""
+    with harness.folder() as place:
+        folder = pathlib.Path(place).resolve()
+        words = write_tables(folder)
+        known = {it.name for it in folder.iterdir()}
+        for more, named in (["--programs", folder / "none"], f"{folder}/none/radixjoin"), ([], f"{folder}/nowhere"):
+            running = begun(on.python, words, folder, "--scheduler", on.address, *more, environment={**os.environ, "RADIXJOIN": f"{folder}/nowhere"})
+            ran = cluster.ended(running)
+            faults = [] if ran.returncode == 2 and ran.stderr.startswith(f"radixjoin-cluster: {named} is no program; ".encode()) else [f"{ran.returncode} {ran.stderr}"]
+            faults += [f"{it!r} isn't told" for it in (b"program=", b"--programs", b"RADIXJOIN") if it not in ran.stderr]
+            tally.check(f"cluster_ends: no program {named}", faults + [f"{it} was left behind" for it in cluster.left_behind(folder, known)])
 
 
 def run_on_disk(folder, words, size, option, merges, tally):
@@ -242,6 +276,8 @@ def run_all(tally):
             run_output(on, tally)
             run_full(on, tally)
             run_without_dask(python, tally)
+            run_output_is_input(python, tally)
+            run_without_programs(on, tally)
         finally:
             on.close()
     for count in (1, 2, 3):

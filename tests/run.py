@@ -31,6 +31,7 @@ PARTS = (
     "segments",
     "cluster",
     "cluster_ends",
+    "cluster_early",
     "cluster_lost",
     "cluster_killed",
     "cluster_merges",

@@ -11,6 +11,11 @@ _HOW = {"inner": "", "left": "LEFT ", "right": "RIGHT ", "outer": "FULL ", "full
 # What a clause begins with up to its names or condition: blanks, words, delimited names and signs.
 _TOKEN = re.compile(r'[ \t\n\r]*([A-Za-z][A-Za-z0-9_]*|"(?:[^"]|"")*"|.)', re.DOTALL)
 _MOST = 65_536
+# The word of a clause that says which rows it keeps.
+_KIND = re.compile(r"[ \t\n\r]*(?:NATURAL[ \t\n\r]+)?(?:(INNER|LEFT|RIGHT|FULL)(?:[ \t\n\r]+OUTER)?[ \t\n\r]+|CROSS[ \t\n\r]+)?JOIN\b", re.ASCII | re.IGNORECASE)
+# The kinds of rows that an option may ask for: those of pairs, which every join keeps, and lone ones, with the words that keep them.
+_OF_PAIRS = ("pairs", "matched-left")
+_LONE = {"lone-left": ("LEFT", "FULL"), "lone-right": ("RIGHT", "FULL")}
 
 
 def quoted(name: str) -> str:
@@ -41,6 +46,17 @@ def clause_of(clause: Optional[str], using: Union[str, Sequence[str], None], on:
     if not names or not all(isinstance(name, str) for name in names):
         raise ValueError("using= is a name, or a list of names")
     return f"{_HOW[how]}JOIN USING ({', '.join(map(quoted, names))})"
+
+
+def refuse_rows(rows: object, clause: str) -> None:
+    """Refuses to write rows of some kinds alone of which a clause keeps none. What is no kind, or no clause, is the program's to tell."""
+    found = _KIND.match(clause)
+    if not isinstance(rows, str) or not found:
+        return
+    kept = [*_OF_PAIRS, *(kind for kind, words in _LONE.items() if (found[1] or "").upper() in words)]
+    if all(kind in _LONE and kind not in kept for kind in rows.split(",")):
+        kinds = ", ".join(map(repr, kept))
+        raise ValueError(f"rows={rows!r} asks for rows that {found[0].strip()!r} doesn't keep: it has {kinds}; how='left' or 'outer' keeps lone left rows, and how='right' or 'outer' lone right ones")
 
 
 def given(clause: str) -> bytes:

@@ -27,10 +27,10 @@ import sys
 import tempfile
 import warnings
 from pathlib import Path
-from typing import TYPE_CHECKING, Any, Dict, Iterator, List, Optional, Sequence, Tuple, Union
+from typing import TYPE_CHECKING, Any, Dict, Iterator, List, Mapping, Optional, Sequence, Tuple, Union
 
-from .clauses import quoted
-from .columns import Types, text_of, word_of
+from .clauses import clause_of, given, refuse_rows
+from .columns import Types
 from .explained import of_cell, of_row, of_unread
 from .faults import Fault, fault_of
 from .feeding import FILES_OF_INPUT, Input, bytes_of, run_program
@@ -38,10 +38,13 @@ from .lists import lower, read_list, with_place
 from .local import local_cluster
 from .making import append, beginning, folder_beside, made, remove
 from .nulls import Texts, texts_of
+from .outputs import refuse_input
 from .packed import Run, give_back, pack, rows_of_part, rows_of_run, sizes_of, told_of
+from .pipes import open_streams
 from .placed import LEFT, RIGHT, SAMPLES, Index, Place, Shard, cut_places, sampled
-from .programs import ProgramNotFound, build, built
+from .programs import ProgramNotFound, encoded, find_all
 from .spread import TABLE, Join, are_many, joins_of, length_of, limit_of, most_tables, next_length, runs_of
+from .tables import PathTable
 from .tasks import FULL, Cluster, Told, first_fault, unwritten
 from .text import header_in
 
@@ -86,7 +89,7 @@ def parser() -> argparse.ArgumentParser:
     line.add_argument("--spread", type=int, metavar="BYTES", help="bytes of both tables above which a shard is joined in pieces of no more [default: twice the mean of all shards, no less than 16 MiB]")
     line.add_argument("--merges", type=int, metavar="N", help="ranges of the joined table, of about as many bytes each, that are merged side by side, 1 to 1024 [default: one for each task that the processes do at once, and no more than one for each 16 MiB]")
     line.add_argument("--scratch", metavar="FOLDER", help="folder for what is half made, which every process can write [default: that of --out]")
-    line.add_argument("--programs", metavar="FOLDER", help="folder of radixjoin, shards and merges [default: this tree's, or those on the PATH]")
+    line.add_argument("--programs", metavar="FOLDER", help="folder of radixjoin, shards and merges [default: that of the environment variable RADIXJOIN, this tree's, or those on the PATH]")
     line.add_argument("--memory", type=int, metavar="MIB", help="address space that each program may take, in MiB [default: no limit]")
     where = line.add_mutually_exclusive_group()
     where.add_argument("--scheduler", metavar="ADDRESS", help="scheduler of a Dask cluster, as tcp://node1:8786")
@@ -156,21 +159,11 @@ def beyond(asked: argparse.Namespace) -> List[Tuple[str, int, int]]:
     return [(name, least, most) for name, least, most, number in numbers if number is not None and not least <= number <= most]
 
 
-def program(folder: Optional[str], name: str) -> str:
-    """The path of one of the programs."""
-    return str(Path(folder).resolve() / name) if folder else os.path.abspath(built(name))
-
-
 class Job:
     """What every task has to know: the programs, the options, and the folder for what is half made."""
 
     def __init__(self, asked: argparse.Namespace, scratch: str) -> None:
-        try:
-            if not asked.programs:
-                build(PROGRAMS)
-            self.programs = {name: program(asked.programs, name) for name in PROGRAMS}
-        except ProgramNotFound as error:
-            raise Told(f"radixjoin-cluster: {error}", 2) from error
+        self.programs = find_all(PROGRAMS, asked.programs or None)
         self.files = {side: str(Path(getattr(asked, side)).resolve()) for side in SIDES}
         self.types = {side: getattr(asked, f"{side}_types") for side in SIDES}
         self.clause = asked.join
@@ -641,7 +634,9 @@ def cluster_of(asked: argparse.Namespace) -> Iterator[Cluster]:
 
 
 def run_in(asked: argparse.Namespace, cluster: contextlib.AbstractContextManager[Any]) -> None:
-    """Joins as asked by the processes of a cluster, in a scratch folder that is removed at the end."""
+    """Joins as asked by the processes of a cluster, in a scratch folder that is removed at the end. A result in the file of a table is
+    refused before anything is done."""
+    refuse_input(asked.out, asked.left, asked.right)
     folder = str(Path(asked.scratch or Path(asked.out).resolve().parent).resolve())
     with scratch_in(folder) as scratch, cluster as it:
         run(Job(asked, scratch), it, asked.ranges or it.tasks_at_once(), asked.merges)
@@ -684,19 +679,25 @@ def join(
     Raises:
         Fault: a program told a fault, as `radixjoin.join` raises it, or the result or the scratch folder can't be written
             (`DeviceFault`). There is no result then, and nothing is left behind.
+        TypeError, ValueError: as `radixjoin.join` raises them.
+        ProgramNotFound: there is no program, in `programs`, of the environment variable RADIXJOIN (beside which the others may
+            stand), in this tree or on the PATH.
         RuntimeError: a program was ended by a signal, or a process of the cluster ended, each time that a task was tried.
     """
     unknown = next((name for name in of_one_join if name not in OF_ONE_JOIN), None)
     if unknown is not None:
         raise TypeError(f"{unknown}= is no option of the join of a shard")
+    refuse_rows(of_one_join.get("rows"), clause_of(clause, None, None, False, "inner"))
+    refuse_input(output, left, right)
     each = {name: None if of_one_join.get(name) is None else str(of_one_join[name]) for name in OF_ONE_JOIN}
-    types = {"left_types": _types("left", left_types), "right_types": _types("right", right_types)}
+    files = {"left": os.fsdecode(left), "right": os.fsdecode(right), "out": os.fsdecode(output)}
+    folders = {"scratch": scratch and os.fsdecode(scratch), "programs": programs and os.fsdecode(programs)}
+    types = {f"{side}_types": _types(side, files[side], declared) for side, declared in zip(SIDES, (left_types, right_types))}
     nulls = {"null": null, "left_null": texts_of("left_null", left_null), "right_null": texts_of("right_null", right_null), "out_null": out_null}
-    where = {"left": left, "right": right, "out": output, "scratch": scratch, "programs": programs}
-    if strict not in (True, False, "full"):
+    if strict and strict not in (True, "full"):
         raise ValueError(f"strict={strict!r} is none of True, False and 'full'")
-    how = {"strict": "on" if strict is True else strict or None, "parts": parts, "ranges": ranges, "spread": spread, "merges": merges, "memory": memory, "progress": progress, "explain": explain}
-    asked = argparse.Namespace(join=clause, processes=1, **how, **where, **types, **nulls, **each)
+    how = {"strict": "full" if strict == "full" else "on" if strict else None, "parts": parts, "ranges": ranges, "spread": spread, "merges": merges, "memory": memory, "progress": progress, "explain": explain}
+    asked = argparse.Namespace(join=os.fsdecode(encoded(given(clause))), processes=1, **how, **files, **folders, **types, **nulls, **each)
     for name, least, most in beyond(asked):
         raise ValueError(f"{name}= is from {least} to {most}")
     try:
@@ -706,14 +707,11 @@ def join(
     return output
 
 
-def _types(side: str, types: Types) -> str:
-    """Types as an option has them."""
-    if types is None:
-        raise TypeError(f"{side}_types has to be given: a list, a text as 'int,text', or a mapping by name")
-    if not isinstance(types, str) and hasattr(types, "keys"):
-        entries = ((name if name == "*" else quoted(name), word_of(word)) for name, word in dict(types).items())
-        return ",".join(f"{name}={word}" for name, word in entries)
-    return text_of(side, types)
+def _types(side: str, path: str, types: Types) -> str:
+    """Types as an option has them. Of a mapping they are those of the columns of the file, whose names are read for that; what is no
+    file is told later."""
+    is_unread = isinstance(types, Mapping) and not os.path.isfile(path)
+    return PathTable(side, path, "text" if is_unread else types).types_given()
 
 
 def ended_by(number: int, _: Any) -> None:
@@ -726,6 +724,7 @@ def ended_by(number: int, _: Any) -> None:
 
 def main() -> int:
     """The command line."""
+    open_streams()
     for number in (signal.SIGTERM, signal.SIGINT, signal.SIGHUP):
         # (what nohup starts goes on when its terminal is gone)
         if number != signal.SIGHUP or signal.getsignal(number) != signal.SIG_IGN:
@@ -736,6 +735,9 @@ def main() -> int:
     except (Told, Fault) as fault:
         print(fault, file=sys.stderr)
         return fault.status
+    except ProgramNotFound as error:
+        print(f"radixjoin-cluster: {error}", file=sys.stderr)
+        return 2
     except (OSError, RuntimeError, ImportError) as error:
         # (of a module it is Dask that isn't there)
         print(f"radixjoin-cluster: {error}", file=sys.stderr)

@@ -8,6 +8,7 @@ import selectors
 import subprocess
 from typing import Any, Generator, List, Sequence, Tuple
 
+from .pipes import pipe
 from .programs import environment
 
 # What a program reads as one input: what stands before its name among the program's words, and its bytes, from one file at a time.
@@ -36,7 +37,7 @@ class _Feed:
         before, chunks = given
         self.chunks = stack.enter_context(contextlib.closing(chunks))
         self.chunk = memoryview(b"")
-        reads, writes = os.pipe()
+        reads, writes = pipe()
         self.reads = stack.enter_context(open(reads, "rb", buffering=0))
         self.writes = stack.enter_context(open(writes, "wb", buffering=0))
         os.set_blocking(writes, False)

@@ -11,11 +11,12 @@ from itertools import chain
 from typing import Any, Dict, FrozenSet, Iterator, List, Mapping, Optional, Sequence, Tuple, Union
 
 from . import programs, text
-from .clauses import clause_of, given, needs_names, result_columns
+from .clauses import clause_of, given, needs_names, refuse_rows, result_columns
 from .columns import Column, Types
 from .faults import DeviceFault
 from .frames import FrameTable, frame_of, is_frame
 from .nulls import Nulls
+from .outputs import refuse_input
 from .process import Run
 from .rows import Rows
 from .tables import FileTable, RowsTable, Table, table_of_path
@@ -87,13 +88,22 @@ class _Asked:
             table.close()
 
 
+def _is_path(table: Any) -> bool:
+    return isinstance(table, (str, bytes, os.PathLike))
+
+
+def _are_rows(table: Any) -> bool:
+    """Whether a table is neither a frame nor a file, and so rows, if anything."""
+    return not (is_frame(table) or _is_path(table) or hasattr(table, "read"))
+
+
 def _table(side: str, table: Any, types: Types, names: Any, watched: FrozenSet[str]) -> Table:
     """One side of a join, of whatever was given."""
     if is_frame(table):
         return FrameTable(side, table, types)
-    if isinstance(table, (str, bytes, os.PathLike)):
+    if _is_path(table):
         return table_of_path(side, table, types)
-    if hasattr(table, "read"):
+    if not _are_rows(table):
         return FileTable(side, table, types)
     if isinstance(table, Mapping) or not hasattr(table, "__iter__") or hasattr(table, "dtypes"):
         # (a frame that isn't pandas' gives its columns one by one)
@@ -101,11 +111,13 @@ def _table(side: str, table: Any, types: Types, names: Any, watched: FrozenSet[s
     return RowsTable(side, table, names, types, watched)
 
 
-def _names(options: Dict[str, Any]) -> Dict[str, Any]:
+def _names(left: Any, right: Any, options: Dict[str, Any]) -> Dict[str, Any]:
     """The names of the columns of rows, by side: `columns` is a list for both, or a pair of lists."""
     columns = options.get("columns")
     both: Tuple[Any, Any] = (None, None)
     if columns is not None and not isinstance(columns, str):
+        if not _are_rows(left) and not _are_rows(right):
+            raise ValueError(f"columns={columns!r} names the columns of rows, and neither table is rows: which columns are written columns='all', 'left' or 'right' says")
         del options["columns"]
         columns = list(columns)
         is_pair = len(columns) == 2 and not any(isinstance(it, str) for it in columns)
@@ -144,7 +156,8 @@ def join(
     `*` stands for all other columns.
 
     It gives a DataFrame where either side is one, with the dtypes that its columns had; else `Rows`, an iterator that reads
-    the rows as they are asked for. With `output`, a path, the result is written there as CSV, whole or not at all, and the path given.
+    the rows as they are asked for. With `output`, a path, the result is written there as CSV, whole or not at all, and the path given;
+    a file that is one of the tables is refused (E29) before anything is read.
 
     `strict` has files read by RFC 4180's grammar alone. `null` is the text that stands for null in files, read and written (the
     empty field unless given); `left_null` and `right_null` are those of one table, a text or up to four, and `out_null` is the one
@@ -161,7 +174,10 @@ def join(
     text_of_clause = clause_of(clause, using, on, natural, how)
     types = {"left": left_types, "right": right_types}
     _refuse_own(options)
-    names = _names(options)
+    names = _names(left, right, options)
+    refuse_rows(options.get("rows"), text_of_clause)
+    if output is not None:
+        refuse_input(output, left, right)
     asked = _Asked(left, right, text_of_clause, types, names, {**options, "workers": workers, "strict": strict, "output": output})
     if output is not None:
         return _to_file(asked, output)
@@ -181,7 +197,8 @@ def stats(left: Any, right: Any, clause: Optional[str] = None, **arguments: Any)
     own = {"workers": arguments.pop("workers", None), "strict": arguments.pop("strict", True), "output": None}
     report = {"report": arguments.pop("report", None)}
     _refuse_own(arguments)
-    names = _names(arguments)
+    names = _names(left, right, arguments)
+    refuse_rows(arguments.get("rows"), text_of_clause)
     asked = _Asked(left, right, text_of_clause, types, names, {**arguments, **report, **own})
     run = asked.run(subprocess.DEVNULL, ["--stats"])
     try:

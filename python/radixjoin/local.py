@@ -69,7 +69,10 @@ def local_cluster(count: int) -> Iterator[LocalCluster]:
     import dask
     from distributed import LocalCluster
 
+    from .keeping import Keeper
+
     with dask.config.set(_LATE), _Watch(count) as watch:
-        with LocalCluster(n_workers=count, threads_per_worker=1, memory_limit=0, dashboard_address=":0", silence_logs=50) as cluster:
+        how = {"threads_per_worker": 1, "memory_limit": 0, "dashboard_address": ":0", "silence_logs": 50}
+        with LocalCluster(n_workers=count, worker_class=Keeper, **how) as cluster:
             watch.cluster = cluster
             yield cluster

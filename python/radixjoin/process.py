@@ -10,6 +10,7 @@ import tempfile
 import threading
 from typing import IO, Any, BinaryIO, Iterator, List, Mapping, Optional, Sequence, Tuple, Union, cast
 
+from . import pipes
 from .faults import fault_of
 from .programs import encoded, environment
 from .tables import Table
@@ -20,7 +21,7 @@ _PIPE = 1 << 20
 
 def _pipe() -> Tuple[int, int]:
     """A pipe, with room for more than the usual 64 KiB where the system allows it."""
-    ends = os.pipe()
+    ends = pipes.pipe()
     with contextlib.suppress(OSError):
         fcntl.fcntl(ends[1], _SET_PIPE_SIZE, _PIPE)
     return ends
@@ -88,12 +89,15 @@ class Run:
         if path is not None:
             return path
         number = table.descriptor()
-        if number is not None:
-            lent.append(number)
-        else:
+        if number is None:
             number, writes = _pipe()
             given.append(number)
             self._feeder.feeds.append((table, writes))
+        elif number < pipes.LEAST:
+            number = pipes.above(number)
+            given.append(number)
+        else:
+            lent.append(number)
         return b"/dev/fd/%d" % number
 
     @property

@@ -7,13 +7,17 @@ import re
 import shutil
 import subprocess
 from pathlib import Path
-from typing import Dict, FrozenSet, Iterable, List, Set, Tuple, Union
+from typing import Dict, FrozenSet, Iterable, List, Sequence, Set, Tuple, Union
 
 # Of a checkout its own folder. Where the repository was installed, this is PREFIX/share/radixjoin.
 _ROOT = Path(__file__).resolve().parent.parent.parent
 
 # What was built, or found to be.
 _BUILT: Set[str] = set()
+
+# The variable of the environment that names the program `radixjoin`.
+NAMED = "RADIXJOIN"
+_HINT = f"program= names it (programs= or --programs the folder of all that join in shards), or the environment variable {NAMED}"
 
 
 class ProgramNotFound(FileNotFoundError):
@@ -31,7 +35,7 @@ def build(names: Tuple[str, ...]) -> None:
     if not _BUILT.issuperset(names) and is_checkout() and shutil.which("rt"):
         ran = subprocess.run([str(_ROOT / "tools" / "run-program"), "--build", *names], stdin=subprocess.DEVNULL, check=False)
         if ran.returncode:
-            raise ProgramNotFound("the programs could not be built")
+            raise ProgramNotFound(f"the programs could not be built; where there is one, {_HINT}")
         _BUILT.update(names)
 
 
@@ -47,7 +51,7 @@ def built(name: str) -> str:
     """The path of a program that is built in this tree, installed beside this package, or on the PATH."""
     found = next((str(it) for it in _places(name) if it.is_file()), shutil.which(name))
     if not found:
-        raise ProgramNotFound(f"the program {name} is neither built here nor on the PATH")
+        raise ProgramNotFound(f"the program {name} is neither built here nor on the PATH; {_HINT}")
     return found
 
 
@@ -60,14 +64,38 @@ def environment() -> Dict[str, str]:
 def find(program: Union[str, "os.PathLike[str]", None] = None) -> str:
     """The path of the program `radixjoin`: the one given, else that of the environment variable RADIXJOIN, else that of this
     tree, which is built on first use, else the installed one."""
-    named = os.fspath(program) if program is not None else os.environ.get("RADIXJOIN")
+    named = os.fspath(program) if program is not None else os.environ.get(NAMED)
     if not named:
         build(("radixjoin",))
         return built("radixjoin")
     found = shutil.which(named)
     if not found:
-        raise ProgramNotFound(f"{named} is no program")
+        raise ProgramNotFound(f"{named} is no program; {_HINT}")
     return found
+
+
+def find_all(names: Sequence[str], folder: Union[str, "os.PathLike[str]", None] = None) -> Dict[str, str]:
+    """The paths of `radixjoin` and the other programs of a join in shards: those of a folder that is given. Else the environment
+    variable RADIXJOIN names the one, beside which the others may stand; and what isn't found so is that of this tree, which is
+    built on first use, or the installed one."""
+    if folder is not None:
+        paths = {name: str(Path(os.fsdecode(folder)).resolve() / name) for name in names}
+        find(paths["radixjoin"])
+        return paths
+    paths = _named(names)
+    others = tuple(name for name in names if name not in paths)
+    if others:
+        build(others)
+    return {name: paths.get(name) or os.path.abspath(built(name)) for name in names}
+
+
+def _named(names: Sequence[str]) -> Dict[str, str]:
+    """The paths of the program that the environment variable RADIXJOIN names, if it does, and of those that stand beside it."""
+    if not os.environ.get(NAMED):
+        return {}
+    found = os.path.abspath(find())
+    beside = {name: os.path.join(os.path.dirname(found), name) for name in names}
+    return {**{name: path for name, path in beside.items() if shutil.which(path)}, "radixjoin": found}
 
 
 def options(program: str) -> FrozenSet[str]:

@@ -1,6 +1,7 @@
 """Results as rows."""
 from __future__ import annotations
 
+import threading
 from typing import Any, Callable, Dict, Iterator, List, Optional, Sequence, Tuple, Union
 
 from .columns import Column, reader_of
@@ -20,7 +21,9 @@ class Rows(Iterator[Row]):
     """The rows of a joined table, each read as it is asked for: tuples, or dicts where the rows that were joined were mappings.
 
     A cell is an int, a str, a decimal.Decimal, or None. `columns` are the names and `types` the program's types. Where not all
-    rows are read `close`, or the end of a `with` block, ends the program; so does the end of the iterator's own life."""
+    rows are read `close`, or the end of a `with` block, ends the program; so does the end of the iterator's own life. To ask for a
+    row after that, or after an error, is an error too: the iteration has an end where the rows have theirs, and nowhere else.
+    Threads may share it; each row is given to one of them."""
 
     def __init__(
         self, names: Sequence[str], columns: Sequence[Column], pieces: Iterator[List[str]], null: str, are_dicts: bool, close: Callable[[], None]
@@ -29,22 +32,48 @@ class Rows(Iterator[Row]):
         self.types = tuple(column.word for column in columns)
         self._close: Optional[Callable[[], None]] = close
         self._rows = _made([reader_of(column, null) for column in columns], pieces, self.columns if are_dicts else None)
+        self._one_at_a_time = threading.RLock()
+        # Whether all rows were given, and what ended them before, if it was an error.
+        self._are_all = False
+        self._why = ""
 
     def __iter__(self) -> "Rows":
         return self
 
     def __next__(self) -> Row:
-        try:
-            return next(self._rows)
-        except BaseException:
-            # (the end of the rows too)
-            self.close()
-            raise
+        """The next row.
+
+        Raises:
+            RuntimeError: the rows were closed before their end, in whichever thread; or the program was ended by a signal.
+        """
+        with self._one_at_a_time:
+            if self._is_closed():
+                raise self._closed()
+            try:
+                return next(self._rows)
+            except StopIteration:
+                self._are_all = True
+                self.close()
+                raise
+            except BaseException as error:
+                if self._is_closed() and isinstance(error, Exception):
+                    # (by another thread, while this one read)
+                    raise self._closed() from error
+                self._why = self._why or f": {type(error).__name__}: {error}"
+                self.close()
+                raise
+
+    def _is_closed(self) -> bool:
+        """Whether the rows were closed before their end."""
+        return self._close is None and not self._are_all
+
+    def _closed(self) -> RuntimeError:
+        """The error that there are no more rows, though these aren't all."""
+        return RuntimeError(f"the rows of this join were closed before their end{self._why}")
 
     def close(self) -> None:
-        """Ends the program, if it isn't at its end. There are no more rows then."""
+        """Ends the program, if it isn't at its end. Where not all rows were given it is an error to ask for one then."""
         close, self._close = self._close, None
-        self._rows = iter(())
         if close is not None:
             close()
 

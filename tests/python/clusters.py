@@ -4,12 +4,15 @@ usage: clusters.py FOLDER      the folder of the programs"""
 import logging
 import os
 import pathlib
+import signal
 import subprocess
 import sys
 import tempfile
+from unittest import mock
 
 import telling
 from distributed import Client, LocalCluster
+from faults import CLOSED, without
 
 import radixjoin
 from radixjoin import cluster
@@ -18,6 +21,7 @@ LEFT = "id,name\n" + "".join(f"{number % 97},n{number}\n" for number in range(3_
 RIGHT = "id,city\n" + "".join(f"{number % 89},c{number}\n" for number in range(500))
 TYPES = {"left_types": "int,text", "right_types": ["int", str]}
 CLAUSE = "FULL JOIN USING (id)"
+SECONDS = 60
 
 
 def joins(client, programs, folder):
@@ -73,6 +77,109 @@ def by_side(client, programs, folder):
     yield from telling.differs("files", sorted(os.listdir(folder)), ["alone.csv", "left.csv", "left.types", "right.csv"])
 
 
+def faulty_calls(folder):
+    """Arguments of a join of two files that `radixjoin.join` refuses too, or tells a fault of: what they are in place of those of a good
+    one, and whether both tell it by the same words."""
+    content = {"bad": "id,name\nx,ann\n", "empty": "", "twice": "id,id\n1,2\n", "quote": 'id,name\n1,"ann\n'}
+    for name, text in content.items():
+        (folder / f"{name}.csv").write_text(text)
+    (folder / "bad.types").write_bytes(b"int\nt\xffxt\n")
+    types = ("int,texts", ["int", 7], None, {"no": int, "*": "text"}, {"id": int}, {}, "no=int,*=text", "id=int", "@none", f"@{folder}/bad.types", "", [], 7)
+    yield from (({"left_types": it}, True) for it in types)
+    yield from (({"left": folder / f"{name}.csv"}, True) for name in ("none", "bad", "empty", "twice"))
+    yield from (({"left": folder / "quote.csv", "strict": it}, True) for it in (True, "full", "x"))
+    yield from (({"left": it}, True) for it in (folder, "/dev/null"))
+    yield from (({"left": it, "left_types": {"id": int, "*": str}}, True) for it in (folder, "/dev/null", folder / "none.csv", folder / "bad.csv"))
+    long = [f"JOIN ON L.id IN ({'1, ' * count}1)" for count in (30_000, 100_000)]
+    yield from (({"clause": it}, True) for it in ("JOIN USING (id", "JOIN USING (no)", "JOIN ON L.id = R.city", "", "x\0y", "JOIN ON L.name = '\ud800'", None, *long))
+    yield from (({"clause": clause, "rows": rows}, True) for clause, rows in (("JOIN USING (id)", "lone-left"), ("LEFT JOIN USING (id)", "lone-right"), (CLAUSE, "nonsense")))
+    yield from (({name: it}, True) for name, it in (("null", "a b"), ("null", "x" * 20), ("left_null", list("abcde")), ("right_null", []), ("right_null", [1]), ("out_null", "a b")))
+    yield {"out_null": "c8", "strict": True}, True
+    yield from (({name: it}, True) for name, it in (("workers", 0), ("workers", "x"), ("bits1", 11), ("order", "x"), ("hash", "x")))
+    yield {"explain": True, "clause": "LEFT JOIN USING (di)"}, True
+    yield from (({"output": it}, False) for it in (folder, folder / "none" / "out.csv", "/dev/full"))
+    yield from (({"output": it}, True) for it in (folder / "left.csv", folder / "right.csv"))
+    yield from (({"left": it}, False) for it in (7, None))
+    yield from (({"RADIXJOIN": it}, True) for it in ("nowhere", str(folder)))
+    yield {"program": str(folder)}, False
+
+
+def as_join_does(client, programs, folder):
+    """Each fault is raised as `radixjoin.join` raises it, and nothing is left."""
+    (folder / "left.csv").write_text(LEFT)
+    (folder / "right.csv").write_text(RIGHT)
+    good = {"left": folder / "left.csv", "right": folder / "right.csv", "clause": CLAUSE, "output": folder / "out.csv", "strict": False, **TYPES}
+    cases = list(faulty_calls(folder))
+    before = sorted(os.listdir(folder))
+    for case, is_same in cases:
+        named = {**good, **case}
+        alone, program = programs / "radixjoin", {"programs": programs}
+        if "RADIXJOIN" in named:
+            alone, program = None, {"programs": None}
+        elif "program" in named:
+            alone, program = named.pop("program"), {"programs": folder}
+        with mock.patch.dict(os.environ, {"RADIXJOIN": named.pop("RADIXJOIN", "unused")}):
+            tables = [named.pop(name) for name in ("left", "right", "clause")]
+            wanted = telling.raised(radixjoin.join, *tables, program=alone, **named)
+            error = telling.raised(cluster.join, client, *tables, parts=2, **program, **named)
+        yield from [] if isinstance(wanted, Exception) else [f"{str(case)[:99]}: radixjoin.join raises nothing"]
+        yield from telling.differs(f"{str(case)[:99]}", type(error), type(wanted))
+        yield from telling.differs(f"{str(case)[:99]}: code, status", *([getattr(it, name, None) for name in ("code", "status", "side")] for it in (error, wanted)))
+        yield from telling.differs(f"{str(case)[:99]}: words", str(error), str(wanted)) if is_same else []
+        yield from telling.differs(f"{str(case)[:99]}: files", sorted(os.listdir(folder)), before)
+
+
+def by_variable(client, programs, folder):
+    """The programs that the environment variable RADIXJOIN names: the one, and those beside it; else those of this tree or on the PATH. And
+    paths of bytes."""
+    left, right, out = folder / "left.csv", folder / "right.csv", folder / "out.csv"
+    left.write_text(LEFT)
+    right.write_text(RIGHT)
+    alone = radixjoin.join(left, right, CLAUSE, output=folder / "alone.csv", strict=False, program=programs / "radixjoin", **TYPES)
+    for place, names in (("all", ("radixjoin", "shards", "merges")), ("one", ("radixjoin",))):
+        (folder / place).mkdir()
+        for name in names:
+            (folder / place / name).write_text(f'#!/bin/sh\ntouch "{folder}/{place}.{name}"\nexec "{programs}/{name}" "$@"\n')
+            (folder / place / name).chmod(0o755)
+        path = {"PATH": f"{programs}:{os.environ['PATH']}"} if place == "one" else {}
+        with mock.patch.dict(os.environ, {"RADIXJOIN": str(folder / place / "radixjoin"), **path}):
+            cluster.join(client, left, right, CLAUSE, output=out, parts=2, ranges=2, **TYPES)
+        yield from telling.differs(f"{place}: the bytes", out.read_bytes() == alone.read_bytes(), True)
+        out.unlink()
+        started = sorted(it.suffix[1:] for it in folder.glob(f"{place}.*"))
+        yield from telling.differs(f"{place}: the programs that ran", started, sorted(names))
+    gave = cluster.join(client, os.fsencode(left), str(right), CLAUSE, output=os.fsencode(out), programs=os.fsencode(programs), parts=2, **TYPES)
+    yield from telling.differs("paths of bytes", (gave, out.read_bytes() == alone.read_bytes()), (os.fsencode(out), True))
+
+
+def over_inputs(client, programs, folder):
+    """A result in the file of a table is refused, by whatever name, and the table stays."""
+    left, right, linked, symbolic = (folder / name for name in ("left.csv", "right.csv", "linked.csv", "symbolic.csv"))
+    left.write_text(LEFT)
+    right.write_text(RIGHT)
+    os.link(left, linked)
+    symbolic.symlink_to(right)
+    before = sorted(os.listdir(folder))
+    for side, one, other, output in (
+        ("left", left, right, left),
+        ("left", str(left), right, linked),
+        ("left", linked, right, str(left)),
+        ("right", left, right, right),
+        ("right", left, right, symbolic),
+        ("right", left, symbolic, right),
+        ("left", left, left, left),
+    ):
+        fault = telling.raised(cluster.join, client, one, other, CLAUSE, output=output, programs=programs, parts=2, **TYPES)
+        title = f"{one.__class__.__name__} {output}"
+        yield from telling.differs(title, (type(fault), str(fault)), (radixjoin.DeviceFault, f"radixjoin: E29 OutputIsInput {side}"))
+        after = sorted(os.listdir(folder)), left.read_text(), right.read_text(), os.path.samefile(left, linked), symbolic.is_symlink()
+        yield from telling.differs(f"{title}: files", after, (before, LEFT, RIGHT, True, True))
+    words = ["--programs", programs, "--left-types=int,text", "--right-types=int,text", f"--join={CLAUSE}", "--left=left.csv", "--right=right.csv", "--out=symbolic.csv"]
+    ran = subprocess.run([sys.executable, "-m", "radixjoin.cluster", *words], cwd=folder, capture_output=True, check=False)
+    yield from telling.differs("the command", (ran.returncode, ran.stdout, ran.stderr), (6, b"", b"radixjoin: E29 OutputIsInput right\n"))
+    yield from telling.differs("the command's files", (sorted(os.listdir(folder)), right.read_text(), symbolic.is_symlink()), (before, RIGHT, True))
+
+
 def command(programs, folder):
     """The module as a command."""
     (folder / "left.csv").write_text("id\n2\n1\n")
@@ -94,6 +201,31 @@ def command(programs, folder):
         yield from telling.differs(f"{more}", (ran.returncode, told in ran.stderr), (2, True))
 
 
+def command_without_streams(programs, folder):
+    """The module as a command, and a process of its own, that begin with standard streams closed, whose numbers other files get. The
+    fault of one whose standard error is closed is its status alone."""
+    (folder / "left.csv").write_text("id\n2\n1\n")
+    (folder / "right.csv").write_text("id\n1\n")
+    before = sorted(os.listdir(folder))
+    tables = ["--left", "left.csv", "--left-types", "int", "--right", "right.csv", "--right-types", "int", "--programs", str(programs), "--out", "out.csv"]
+    for number, streams in enumerate(CLOSED):
+        for clause, status, wanted in (("LEFT JOIN ON L.id = R.id", 0, b"id,id\n1,1\n2,\n"), ("LEFT JOIN ON L.id = R.no", 4, None))[: 2 - number % 2]:
+            words = [sys.executable, "-m", "radixjoin.cluster", *tables, "--join", clause]
+            with subprocess.Popen(without(streams, words), cwd=folder, stdin=subprocess.DEVNULL, stdout=subprocess.PIPE, stderr=subprocess.PIPE, start_new_session=True) as child:
+                try:
+                    stdout, stderr = child.communicate(timeout=SECONDS)
+                except subprocess.TimeoutExpired:
+                    os.killpg(child.pid, signal.SIGKILL)
+                    yield f"without {streams} {clause}: no end within {SECONDS} seconds"
+                    continue
+            told = b"" if status == 0 or 2 in streams else b"radixjoin: E13 UnknownColumn\n"
+            yield from telling.differs(f"without {streams} {clause}: how it ends", (child.returncode, stdout, stderr), (status, b"", told))
+            got = (folder / "out.csv").read_bytes() if (folder / "out.csv").exists() else None
+            yield from telling.differs(f"without {streams} {clause}: the bytes", got, wanted)
+            (folder / "out.csv").unlink(missing_ok=True)
+        yield from telling.differs(f"without {streams}: files", sorted(os.listdir(folder)), before)
+
+
 def main(programs):
     for name in ("asyncio", "tornado", "distributed"):
         logging.getLogger(name).setLevel(logging.CRITICAL)
@@ -102,8 +234,15 @@ def main(programs):
             telling.attempt("radixjoin.cluster.join", joins, client, programs, pathlib.Path(name))
             with tempfile.TemporaryDirectory(prefix="radixjoin-test-left-") as other:
                 telling.attempt("radixjoin.cluster.join, null texts by side and types by name", by_side, client, programs, pathlib.Path(other))
+            for test in (as_join_does, by_variable):
+                with tempfile.TemporaryDirectory(prefix="radixjoin-test-") as other:
+                    telling.attempt(f"radixjoin.cluster.join, {test.__name__.replace('_', ' ')}", test, client, programs, pathlib.Path(other))
+            with tempfile.TemporaryDirectory(prefix="radixjoin-test-over-") as other:
+                telling.attempt("radixjoin.cluster.join, a result in the file of a table", over_inputs, client, programs, pathlib.Path(other))
     with tempfile.TemporaryDirectory(prefix="radixjoin-test-") as name:
         telling.attempt("python -m radixjoin.cluster", command, programs, pathlib.Path(name))
+    with tempfile.TemporaryDirectory(prefix="radixjoin-test-") as name:
+        telling.attempt("python -m radixjoin.cluster without standard streams", command_without_streams, programs, pathlib.Path(name))
 
 
 if __name__ == "__main__":
