@@ -1,7 +1,7 @@
 //! Segments of tables.
 
 ghost use Rattle.std.specs.Prelude.{◌≡◌, ◌<◌, ◌^◌, Some, length, slice_get, All};
-ghost use Rattle.rj_columns.specs.Columns.{IsColumnOf};
+ghost use Rattle.rj_columns.specs.Columns.{AreColumns, IsColumnOf, segment_of};
 ghost use Rattle.rj_columns.specs.Contents.{content_of, IsInLimits};
 ghost use Rattle.rj_columns.specs.Tables.{FitsAt, FitsTypes, cell_of};
 
@@ -13,10 +13,18 @@ use std::marker::Model;
 pub(crate) const SEGMENT_ROWS: usize = 65536;
 
 /// Some rows of a table that follow one another, with columns of their own: a table without names.
-#[derive(Drop)]
 pub(crate) struct Segment {
     pub(crate) columns: Vec<Column>,
     pub(crate) rows: u64,
+}
+
+impl Drop for Segment {
+    fn drop(self) {
+        let Segment {
+            columns: _columns,
+            rows: _rows,
+        } = self;
+    }
 }
 
 impl Model for Segment {
@@ -32,6 +40,15 @@ impl Model for Segment {
 }
 
 impl Segment {
+    // Its columns, and how many rows they have.
+    pub(crate) fn into_parts(self) -> (Vec<Column>, u64)
+        ensures of { segment_of result.0.items result.1 ≡ self }
+        ensures are { AreColumns result.0.items 0 result.1 }
+    {
+        let Segment { columns, rows } = self;
+        (columns, rows)
+    }
+
     // How many rows it has.
     #[inline]
     pub(crate) fn rows(&self) -> u64

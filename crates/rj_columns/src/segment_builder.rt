@@ -140,7 +140,7 @@ impl SegmentBuilder {
     pub(crate) fn of(segment: Segment) -> SegmentBuilder
         ensures { result ≡ record { table = segment; row = [] } }
     {
-        let Segment { columns, rows } = segment;
+        let (columns, rows) = segment.into_parts();
         SegmentBuilder {
             columns,
             rows,

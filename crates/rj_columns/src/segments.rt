@@ -20,12 +20,21 @@ pub(crate) struct Placed {
 }
 
 /// Segments, one after another.
-#[derive(Drop)]
 pub(crate) struct Segments {
     placed: Vec<Placed>,
     // For each row whose number is a multiple of `HINTED` a segment that begins at that row or before it.
     hints: Vec<usize>,
     rows: u64,
+}
+
+impl Drop for Segments {
+    fn drop(self) {
+        let Segments {
+            placed: _placed,
+            hints: _hints,
+            rows: _rows,
+        } = self;
+    }
 }
 
 impl Model for Segments {
@@ -108,7 +117,12 @@ impl Segments {
     pub(crate) fn into_placed(self) -> Vec<Placed>
         ensures { map (λ p. p.segment) result.items ≡ self }
     {
-        self.placed
+        let Segments {
+            placed,
+            hints: _hints,
+            rows: _rows,
+        } = self;
+        placed
     }
 
     // The segment that has a row: it is the one of the hint, or one of the few behind it.
