@@ -40,6 +40,47 @@ fn cell_line(
     format!(in alloc; "  line {line} of the file, column {name}: {value} is no {kind}\n")
 }
 
+// The header of a text, and one of its rows.
+#[derive(Drop)]
+struct HeaderAndRow {
+    header: Row,
+    row: Row,
+}
+
+// Both, where the text has them.
+fn header_and_row(
+    alloc: Global,
+    text: &[u8],
+    row: u64,
+) -> Result<Option<HeaderAndRow>, AllocError> {
+    let Some(header) = find_row(alloc, text, 0)? else {
+        return Ok(None);
+    };
+    match find_row(alloc, text, row)? {
+        Some(row) => Ok(Some(HeaderAndRow { header, row })),
+        None => Ok(None),
+    }
+}
+
+// What is told of a cell in a row at hand.
+fn lines_of_cell(
+    alloc: Global,
+    inputs: &Inputs<'_, '_>,
+    side: Side,
+    found: &HeaderAndRow,
+    column: u64,
+) -> Result<String, AllocError> {
+    let Some(kind) = kind_at(alloc, inputs, side, &found.header, column)? else {
+        return Ok(String::new(alloc));
+    };
+    let name = field_at(alloc, &found.header.record, column)?;
+    let value = field_at(alloc, &found.row.record, column)?;
+    match (name, value) {
+        (Some(name), Some(value)) => cell_line(alloc, &found.row, name, value, kind),
+        _ => Ok(String::new(alloc)),
+    }
+}
+
 /// What is told of a cell that isn't of its column's type: the line of its row, the column's name, the cell and the type.
 ///
 /// # Errors
@@ -53,18 +94,9 @@ pub(crate) fn cell_lines(
     column: u64,
 ) -> Result<String, AllocError> {
     let quoted = inputs.quoted_text(alloc, side)?;
-    let text = text_of(&quoted, inputs.file(side));
-    let (Some(header), Some(row)) = (find_row(alloc, text, 0)?, find_row(alloc, text, row)?) else {
-        return Ok(String::new(alloc));
-    };
-    let Some(kind) = kind_at(alloc, inputs, side, &header, column)? else {
-        return Ok(String::new(alloc));
-    };
-    let name = field_at(alloc, &header.record, column)?;
-    let value = field_at(alloc, &row.record, column)?;
-    match (name, value) {
-        (Some(name), Some(value)) => cell_line(alloc, &row, name, value, kind),
-        _ => Ok(String::new(alloc)),
+    match header_and_row(alloc, text_of(&quoted, inputs.file(side)), row)? {
+        Some(found) => lines_of_cell(alloc, inputs, side, &found, column),
+        None => Ok(String::new(alloc)),
     }
 }
 
@@ -80,10 +112,10 @@ pub(crate) fn ragged_lines(
     row: u64,
 ) -> Result<String, AllocError> {
     let quoted = inputs.quoted_text(alloc, side)?;
-    let text = text_of(&quoted, inputs.file(side));
-    let (Some(header), Some(row)) = (find_row(alloc, text, 0)?, find_row(alloc, text, row)?) else {
+    let Some(found) = header_and_row(alloc, text_of(&quoted, inputs.file(side)), row)? else {
         return Ok(String::new(alloc));
     };
-    let (line, fields, names) = (row.line, row.record.columns(), header.record.columns());
+    let (line, names) = (found.row.line, found.header.record.columns());
+    let fields = found.row.record.columns();
     format!(in alloc; "  line {line} of the file: {fields} fields under {names} names\n")
 }

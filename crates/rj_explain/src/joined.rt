@@ -84,6 +84,26 @@ fn null_text_line(
     )
 }
 
+// What is told of such a cell, by the columns of both tables.
+fn lines_of_null_text(
+    alloc: Global,
+    inputs: &Inputs<'_, '_>,
+    columns: &BothColumns,
+    row: u64,
+    column: u64,
+) -> Result<String, AllocError> {
+    match names_of_result(alloc, inputs, columns)? {
+        Some(names) => null_text_line(
+            alloc,
+            names.as_slice(),
+            inputs.request.out_null,
+            row,
+            column,
+        ),
+        None => Ok(String::new(alloc)),
+    }
+}
+
 /// What is told of a cell of the result whose text is the one that is written for null: its row, the name of its column, counted
 /// from 1, and the text.
 ///
@@ -96,17 +116,8 @@ pub(crate) fn null_text_lines(
     row: u64,
     column: u64,
 ) -> Result<String, AllocError> {
-    let Some(columns) = columns_of_both(alloc, inputs)? else {
-        return Ok(String::new(alloc));
-    };
-    match names_of_result(alloc, inputs, &columns)? {
-        Some(names) => null_text_line(
-            alloc,
-            names.as_slice(),
-            inputs.request.out_null,
-            row,
-            column,
-        ),
+    match columns_of_both(alloc, inputs)? {
+        Some(columns) => lines_of_null_text(alloc, inputs, &columns, row, column),
         None => Ok(String::new(alloc)),
     }
 }
@@ -120,17 +131,27 @@ fn keys_on(alloc: Global, join: &BoundJoin, side: Side) -> Result<Vec<usize>, Al
     }
 }
 
-// The same of the join that is asked for, if it is one.
+// The same of the join that is asked for, by the columns of both tables.
+fn keys_of_join(
+    alloc: Global,
+    inputs: &Inputs<'_, '_>,
+    columns: &BothColumns,
+    side: Side,
+) -> Result<Vec<usize>, AllocError> {
+    match join_of(alloc, inputs.request.clause, &columns.left, &columns.right)? {
+        Some(join) => keys_on(alloc, &join, side),
+        None => Ok(Vec::new(alloc)),
+    }
+}
+
+// The same, if both tables have columns.
 fn key_columns(
     alloc: Global,
     inputs: &Inputs<'_, '_>,
     side: Side,
 ) -> Result<Vec<usize>, AllocError> {
-    let Some(columns) = columns_of_both(alloc, inputs)? else {
-        return Ok(Vec::new(alloc));
-    };
-    match join_of(alloc, inputs.request.clause, &columns.left, &columns.right)? {
-        Some(join) => keys_on(alloc, &join, side),
+    match columns_of_both(alloc, inputs)? {
+        Some(columns) => keys_of_join(alloc, inputs, &columns, side),
         None => Ok(Vec::new(alloc)),
     }
 }
