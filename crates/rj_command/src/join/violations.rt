@@ -1,10 +1,14 @@
 //! By what the joined table of two files isn't as expected.
 
-ghost use Rattle.std.specs.Prelude.{◌≢◌, IfErr, IfOk};
+ghost use Rattle.std.specs.Prelude.{◌≡◌, ◌≢◌, IfErr, IfOk, MatchOption, true};
+ghost use Rattle.rj_condition.specs.Fits.{fits};
+ghost use Rattle.rj_engine.specs.Results.{joined_of};
+ghost use Rattle.rj_engine.specs.Violations.{IsViolation};
+ghost use Rattle.rj_command.specs.Expected.{IsExpected};
 ghost use Rattle.rj_command.specs.Operands.{IsFirstFault};
 ghost use Rattle.rj_command.specs.Violations.{HasViolation};
 
-use crate::join::operands::read_operands;
+use crate::join::operands::{Operands, read_operands};
 use rj_engine::{Gate, Open, Violation, run_join};
 use rj_fault::Fault;
 use rj_line::Request;
@@ -13,6 +17,30 @@ use std::alloc::Global;
 use std::sync::Wait;
 use std::thread::Threads;
 use std::time::Clock;
+
+// By what the joined table of two tables isn't as the request expects.
+fn violation_of<R: Threads + Wait + Clock + Sync, G: Gate + Sync>(
+    rt: &R,
+    alloc: Global,
+    operands: &Operands,
+    request: &Request<'_>,
+    gate: &G,
+) -> Result<Option<Violation>, Fault>
+    requires bound { fits operands.now.join operands.now.left.types operands.now.right.types ≡ true }
+    ensures told { IfOk result (λ found. MatchOption found
+        (IsExpected request.now operands.now.join operands.now.left operands.now.right)
+        (IsViolation request.now.expectation (joined_of operands.now.join operands.now.left operands.now.right))) }
+    ensures memory { IfErr result (λ f. f ≡ Fault.Memory) }
+{
+    let (left, right, join) = (&operands.left, &operands.right, &operands.join);
+    let settings = &request.settings;
+    let joined = run_join(rt, alloc, left, right, join, settings, &Plain, gate)?;
+    let expectation = &request.expectation;
+    match rj_engine::first_violation(alloc, left, right, join, &joined, expectation) {
+        Ok(found) => Ok(found),
+        Err(_) => Err(Fault::Memory),
+    }
+}
 
 /// By what the joined table of the tables that the two files' bytes denote isn't as the request expects: how many rows it has, or
 /// the first row that is in more kept pairs than one; none where it is as expected. The join is made, and nothing is written.
@@ -33,12 +61,5 @@ pub fn first_violation<R: Threads + Wait + Clock + Sync, G: Gate + Sync>(
     ensures fault { IfErr result (λ f. f ≢ Fault.Memory → IsFirstFault left.now right.now request.now f) }
 {
     let operands = read_operands(rt, alloc, left, right, request, &Open)?;
-    let (left, right, join) = (&operands.left, &operands.right, &operands.join);
-    let settings = &request.settings;
-    let joined = run_join(rt, alloc, left, right, join, settings, &Plain, gate)?;
-    let expectation = &request.expectation;
-    match rj_engine::first_violation(alloc, left, right, join, &joined, expectation) {
-        Ok(found) => Ok(found),
-        Err(_) => Err(Fault::Memory),
-    }
+    violation_of(rt, alloc, &operands, request, gate)
 }
