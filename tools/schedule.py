@@ -53,15 +53,21 @@ def next_of(left, below, proved, chains):
     return max((it for it in left if below[it] <= proved), key=chains.get, default=None)
 
 
+def jobs_now(name, left, jobs, chains, idle):
+    """How many jobs a crate is begun with: those that it is to have, or fewer where no more lanes are free. The one that most others wait for has its
+    jobs all the same, since what runs beside it ends sooner."""
+    return jobs[name] if chains[name] >= max(map(chains.get, left)) else min(jobs[name], idle)
+
+
 def ends_of(below, costs, chains, jobs, lanes):
-    """When each crate ends, where each has so many jobs, or fewer where no more lanes are free."""
+    """When each crate ends, where each is begun with so many jobs."""
     now, left, running, ends = 0.0, set(below), [], {}
     while left or running:
         idle = lanes - sum(count for _, _, count in running)
-        name = next_of(left, below, ends.keys(), chains) if idle else None
+        name = next_of(left, below, ends.keys(), chains) if idle > 0 else None
         if name:
+            count = jobs_now(name, left, jobs, chains, idle)
             left.remove(name)
-            count = min(jobs[name], idle)
             running.append((now + elapsed(costs[name], count), name, count))
         else:
             now, name, _ = first = min(running)
@@ -114,10 +120,10 @@ class Planned:
             while left or running:
                 idle = self.lanes - sum(jobs for _, jobs in running.values())
                 taken = sum(self.needs[name] * (1 + MORE_MEMORY * (jobs - 1)) for name, jobs in running.values())
-                name = next_of(left, self.below, proved, self.chains) if idle else None
+                name = next_of(left, self.below, proved, self.chains) if idle > 0 else None
                 if name and (not running or taken + self.needs[name] <= self.memory):
+                    jobs = jobs_now(name, left, self.jobs, self.chains, idle)
                     left.remove(name)
-                    jobs = min(self.jobs[name], idle)
                     running[pool.submit(work, name, jobs)] = name, jobs
                     continue
                 for it in wait(running, return_when=FIRST_COMPLETED).done:
