@@ -3,6 +3,7 @@ files that they are said to stand in, options and crates; that numbers which sev
 sizes as the sources have them; and that types of one name are told apart."""
 import re
 import subprocess
+import sys
 
 import harness
 
@@ -10,7 +11,7 @@ import harness
 PLACES = ("", "crates/", "crates/*/", "crates/*/edits/", "crates/*/must-fail/", "crates/*/proofs/", "docs/", "tests/", "tests/oracle/", "bench/", "tools/", "examples/")
 SUFFIXES = ("antt", "rt", "py", "toml", "md", "c", "rs", "sh", "edit", "txt", "tried", "fish", "bash", "1")
 # Pages whose code is what a user types, and no name of the repository's.
-FOR_USERS = ("docs/faults.md", "docs/recipes.md", "README.md", "CHANGELOG.md", "docs/python.md")
+FOR_USERS = ("docs/faults.md", "docs/recipes.md", "README.md", "CHANGELOG.md", "docs/python.md", "docs/options.md")
 # Words in code letters that stand for a text, a place or a thing outside the repository.
 OTHERS = {"NAME", "CRATE", "FOLDER", "PREFIX"}
 # Options in the documents that are none of this repository: those of `rt`, and those that stand for any.
@@ -342,9 +343,19 @@ def agreement_faults(what, pattern, pages):
         yield f"{what}: {', '.join(f'{page} tells {sorted(found)}' for page, found in told.items())}"
 
 
+def index_faults(text):
+    """Where docs/index.md isn't what `tools/index` prints."""
+    ran = subprocess.run([sys.executable, harness.ROOT / "tools" / "index"], capture_output=True, check=False)
+    wanted = ran.stdout.decode().splitlines()
+    if ran.returncode:
+        yield ran.stderr.decode().strip()
+    elif wanted != text.splitlines():
+        yield "it isn't what tools/index prints: tools/index > docs/index.md"
+
+
 def check_agreement(tally, files):
     """What several places tell of one thing."""
-    docs = {name: (harness.ROOT / "docs" / f"{name}.md").read_text() for name in ("specification", "architecture", "changing", "proved", "DECISIONS")}
+    docs = {name: (harness.ROOT / "docs" / f"{name}.md").read_text() for name in ("specification", "architecture", "changing", "proved", "DECISIONS", "index")}
     tally.check("docs/specification.md: definitions", list(definition_faults(docs["specification"])))
     tally.check("docs/specification.md: limits", list(limit_faults(docs["specification"])))
     tally.check("docs/specification.md: what merges tells", list(ending_faults(docs["specification"])))
@@ -353,11 +364,14 @@ def check_agreement(tally, files):
     tally.check("docs/architecture.md: types of one name", list(type_faults(docs["architecture"], files)))
     tally.check("docs/changing.md: files of names", list(place_faults(docs["changing"])))
     tally.check("docs/proved.md: libraries", list(library_faults(docs["proved"])))
+    tally.check("docs/index.md: what tools/index prints", list(index_faults(docs["index"])))
     tally.check("docs/DECISIONS.md: numbers", list(number_faults(docs["DECISIONS"])))
-    tally.check("the kit", list(agreement_faults("the kit", r"rattle-kit-\w+ logic \w+", ("README.md", "docs/proved.md"))))
-    pages = ("README.md", "docs/faults.md", "docs/cluster.md", "man/radixjoin.1")
+    pages = ("README.md", "CONTRIBUTING.md", "docs/proved.md")
+    tally.check("the kit", list(agreement_faults("the kit", r"rattle-kit-\w+", pages)))
+    tally.check("the kit's logic", list(agreement_faults("the kit", r"rattle-kit-\w+ logic \w+", pages[1:])))
+    pages = ("README.md", "docs/options.md", "docs/faults.md", "docs/cluster.md", "man/radixjoin.1")
     tally.check("memory", list(agreement_faults("memory", MEMORY, pages)))
-    for page in ("README.md", "docs/faults.md", "man/radixjoin.1"):
+    for page in ("docs/options.md", "docs/faults.md", "man/radixjoin.1"):
         tally.check(f"{page}: limits", list(untold_limits(page)))
     for page in sorted({figure[0] for figure in FIGURES}):
         tally.check(f"{page}: sizes", list(figure_faults(page)))
@@ -369,7 +383,7 @@ def run_all(tally):
     words, options = known_words(files), known_options(files)
     for page in sorted(name for name in files if name.endswith(".md")):
         text = (harness.ROOT / page).read_text()
-        prose = re.sub(r"^ {4}.*$", "", text, flags=re.MULTILINE)
+        prose = re.sub(r"^ {4}.*$|^```(?:.|\n)*?^```$", "", text, flags=re.MULTILINE)
         tally.check(f"{page}: links", list(link_faults(page, prose)))
         if page not in FOR_USERS[:2]:
             tally.check(f"{page}: paths", list(path_faults(page, prose, files)))
