@@ -67,6 +67,8 @@ FIGURES = (
     ("docs/specification.md", rf"another text of 1 to ({NUMBER}) bytes", 1, "rj_line/src/choosing.rt", "LONGEST_SUFFIX"),
     ("docs/specification.md", rf"would have more than ({NUMBER}) bytes before it is like no other", 1, "rj_engine/src/naming.rt", "MAX_NAME"),
 )
+# How many decisions docs/DECISIONS.md may have.
+MOST_DECISIONS = 60
 # What is said of memory, wherever it is said.
 MEMORY = r"about\s+(\w+)\s+times\s+the\s+size\s+of\s+(?:the|its)\s+two\s+(?:files|parts)"
 
@@ -265,7 +267,7 @@ def value_of(file, constant):
 
 def figure_faults(page):
     """Where a page tells another size than the sources have."""
-    text = (harness.ROOT / page).read_text()
+    text = " ".join((harness.ROOT / page).read_text().split())
     for _, pattern, unit, file, constant in (figure for figure in FIGURES if figure[0] == page):
         told = [number_of(number) * unit for number in re.findall(pattern, text)]
         if set(told) != {value_of(file, constant)}:
@@ -327,12 +329,13 @@ def ending_faults(text):
 
 
 def number_faults(text):
-    """The numbers of decisions that stand twice, or not in order in their section."""
-    for section in text.split("\n## ")[1:]:
-        numbers = [int(number) for number in re.findall(r"^(\d+)\. ", section, re.MULTILINE)]
-        yield from (f"{late} stands behind {early}" for early, late in zip(numbers, numbers[1:]) if late < early)
-    numbers = re.findall(r"^(\d+)\. ", text, re.MULTILINE)
+    """The numbers of decisions that stand twice; decisions without a number, or more of them than a reader can take."""
+    entries = re.findall(r"^- (.*)", text, re.MULTILINE)
+    numbers = [found[1] for found in (re.match(r"\*\*(\d+)\*\* ", entry) for entry in entries) if found]
     yield from (f"{number} stands twice" for number in sorted(set(numbers), key=int) if numbers.count(number) > 1)
+    yield from (f"it has no number: {entry}" for entry in entries if not re.match(r"\*\*\d+\*\* ", entry))
+    if len(entries) > MOST_DECISIONS:
+        yield f"{len(entries)} are more than {MOST_DECISIONS}"
 
 
 def agreement_faults(what, pattern, pages):
