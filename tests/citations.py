@@ -198,7 +198,7 @@ def unnamed_faults(files):
 
 def place_faults(text):
     """Of `name`, `name` in `FILE`: the names that stand nowhere in the file. A file is in `crates/`, or one of the crate named last."""
-    crates, crate = harness.ROOT / "crates", ""
+    crates, crate, text = harness.ROOT / "crates", "", " ".join(text.split())
     for found in re.finditer(r"((?:`\w+`(?:, with |, | and )?)+) in `([\w/]+\.(?:antt|rt))`|`(rj_\w+)", text):
         names, file, named = found.groups()
         crate = named or (file.split("/")[0] if (crates / file).exists() else crate)
