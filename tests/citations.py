@@ -1,6 +1,6 @@
 """Checks that what the documents cite exists: links and their anchors, paths and lines, the names of calls, definitions and tests and the
 files that they are said to stand in, options and crates; that numbers which several places tell are the same, those of limits and
-sizes as the sources have them; and that types of one name are told apart."""
+sizes as the sources have them; that types of one name are told apart; and that lines and cells of tables fit a screen."""
 import re
 import subprocess
 import sys
@@ -67,6 +67,9 @@ FIGURES = (
     ("docs/specification.md", rf"another text of 1 to ({NUMBER}) bytes", 1, "rj_line/src/choosing.rt", "LONGEST_SUFFIX"),
     ("docs/specification.md", rf"would have more than ({NUMBER}) bytes before it is like no other", 1, "rj_engine/src/naming.rt", "MAX_NAME"),
 )
+# The columns of a line and the words of a table's cell that a page may have, and the pages that aren't laid out so yet.
+MOST_COLUMNS, MOST_WORDS = 100, 25
+WIDE = ("docs/architecture.md", "docs/cluster.md", "docs/faults.md", "docs/proved.md", "docs/python.md", "docs/specification.md")
 # How many decisions docs/DECISIONS.md may have.
 MOST_DECISIONS = 60
 # What is said of memory, wherever it is said.
@@ -346,6 +349,16 @@ def agreement_faults(what, pattern, pages):
         yield f"{what}: {', '.join(f'{page} tells {sorted(found)}' for page, found in told.items())}"
 
 
+def layout_faults(text):
+    """The lines of a page that are too long, and the cells of its tables that have too many words."""
+    for number, line in enumerate(text.splitlines(), 1):
+        if len(line) > MOST_COLUMNS:
+            yield f"line {number} has {len(line)} columns"
+        words = max(len(cell.split()) for cell in re.split(r"(?<!\\)\|", line)) if line.startswith("|") else 0
+        if words > MOST_WORDS:
+            yield f"a cell of line {number} has {words} words"
+
+
 def index_faults(text):
     """Where docs/index.md isn't what `tools/index` prints."""
     ran = subprocess.run([sys.executable, harness.ROOT / "tools" / "index"], capture_output=True, check=False)
@@ -393,6 +406,8 @@ def run_all(tally):
         if page not in FOR_USERS:
             tally.check(f"{page}: names", list(name_faults(prose, words)))
         tally.check(f"{page}: options", list(option_faults(prose, options)))
+        if page not in WIDE:
+            tally.check(f"{page}: lines", list(layout_faults(text)))
         crates = set(re.findall(r"\brj_\w+", text)) - set(listed_crates())
         tally.check(f"{page}: crates", [f"there is no crate {name}" for name in sorted(crates)])
     check_agreement(tally, files)

@@ -208,11 +208,13 @@ def check_joins(tally):
             tally.check(f"{page}, {joined}", faults)
 
 
-def check_no_prompts(tally):
-    """No prompt stands in examples that can be pasted."""
+def check_pasted(tally):
+    """What can be pasted has no prompts, and each of its blocks is a command or what one prints, so that none is left out."""
     for page in PASTED:
-        lines = [line for line in (harness.ROOT / page).read_text().splitlines() if re.match(r" *[$>] ", line)]
-        tally.check(f"{page}, prompts", [f"a prompt stands in {line}" for line in lines])
+        lines = (harness.ROOT / page).read_text().splitlines()
+        faults = [f"a prompt stands in {line}" for line in lines if re.match(r" *[$>] ", line)]
+        faults += [f"no test runs the block {line}" for line in lines if line.startswith("```") and line not in ("```sh", "```text", "```")]
+        tally.check(f"{page}, blocks", faults)
 
 
 def check_faults_are_told(tally):
@@ -238,5 +240,5 @@ def run_all(tally):
             if section.commands:
                 check_section(section, tally)
     check_joins(tally)
-    check_no_prompts(tally)
+    check_pasted(tally)
     check_faults_are_told(tally)
