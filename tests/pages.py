@@ -13,7 +13,6 @@ import glob
 import os
 import pathlib
 import re
-import shlex
 import shutil
 import subprocess
 
@@ -185,27 +184,26 @@ def check_section(section, tally):
             tally.check(name, faults_of(section, folder, environment))
 
 
-def joins_of(page):
-    """The joins in the tables of a page, by a clause alone or by options, each with the rows that it writes, or the error that it is."""
-    text = (harness.ROOT / page).read_text()
-    for joined, wanted in re.findall(r"^\|.*?`([^`]*JOIN[^`]*)` \|.*?(\d+|E\d+) \|$", text, re.MULTILINE):
-        yield joined, shlex.split(joined) if joined.startswith("--") else ["--join", joined], wanted
+def check_cheat_sheet(tally):
+    """Runs each line of README's cheat sheet behind the block above it, as a shell gets them, and counts the rows."""
+    section = next(section for section in sections_of("README.md") if section.title == "Cheat sheet")
+    lines = re.findall(r"^\| [^|]+ \| `(.*)` \| (\d+|E\d+) \|$", "\n".join(section.text), re.MULTILINE)
+    tally.check("README.md, lines of the cheat sheet", [] if len(lines) >= 8 else [f"it has {len(lines)}"])
+    with place_for(section) as (folder, environment):
+        for line, wanted in lines:
+            got = printed_by([*section.commands, (line, [])], folder, environment)[-1]
+            is_right = got[0].startswith(f"radixjoin: {wanted} ") if wanted.startswith("E") else len(got) - 1 == int(wanted)
+            tally.check(f"README.md, {line}", [] if is_right else [f"{harness.shorten(got)}, and not {wanted}"])
 
 
-def check_joins(tally):
-    """Runs each join of a page's tables over the two files of examples/, and counts the rows."""
-    for page in ("README.md", "docs/options.md"):
-        found = list(joins_of(page))
-        tally.check(f"{page}, joins", [] if len(found) >= 8 else [f"it has {len(found)} joins"])
-        for joined, options, wanted in found:
-            words = ["--left", "people.csv", "--left-types", "int,text,int", "--right", "cities.csv", "--right-types", "int,text", *options]
-            ran = harness.run([harness.program("radixjoin"), *words], harness.ROOT / "examples")
-            if wanted.startswith("E"):
-                faults = [] if ran.stderr.startswith(f"radixjoin: {wanted} ".encode()) else [f"{ran.stderr}, and not {wanted}"]
-            else:
-                rows = ran.stdout.count(b"\n") - 1
-                faults = harness.differences(ran, None) + ([] if rows == int(wanted) else [f"{rows} rows, and not {wanted}"])
-            tally.check(f"{page}, {joined}", faults)
+def check_clauses(tally):
+    """Runs each clause of the table of clauses over the two files of examples/, and counts the rows."""
+    page = (harness.ROOT / "docs" / "options.md").read_text()
+    for clause, wanted in re.findall(r"^\| `(.*?JOIN.*?)` \|.*\| (\d+) \|$", page, re.MULTILINE):
+        words = ["--left", "people.csv", "--left-types", "int,text,int", "--right", "cities.csv", "--right-types", "int,text", "--join", clause]
+        ran = harness.run([harness.program("radixjoin"), *words], harness.ROOT / "examples")
+        rows = ran.stdout.count(b"\n") - 1
+        tally.check(f"docs/options.md, {clause}", harness.differences(ran, None) + ([] if rows == int(wanted) else [f"{rows} rows, and not {wanted}"]))
 
 
 def check_pasted(tally):
@@ -234,11 +232,12 @@ def check_faults_are_told(tally):
 
 
 def run_all(tally):
-    """The examples of every page, the tables of joins, and that the page on faults has each fault."""
+    """The examples of every page, the cheat sheet, the table of clauses, and that the page on faults has each fault."""
     for page in (*PAGES, *MANUALS):
         for section in sections_of(page):
             if section.commands:
                 check_section(section, tally)
-    check_joins(tally)
+    check_cheat_sheet(tally)
+    check_clauses(tally)
     check_pasted(tally)
     check_faults_are_told(tally)
