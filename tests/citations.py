@@ -1,8 +1,9 @@
 """Checks that what the documents cite exists: links and their anchors, paths and lines, the names of calls, definitions and tests and the
 files that they are said to stand in, options and crates; that numbers which several places tell are the same, those of limits and
-sizes as the sources have them; and that types of one name are told apart."""
+sizes as the sources have them; that types of one name are told apart; and that lines and cells of tables fit a screen."""
 import re
 import subprocess
+import sys
 
 import harness
 
@@ -10,7 +11,7 @@ import harness
 PLACES = ("", "crates/", "crates/*/", "crates/*/edits/", "crates/*/must-fail/", "crates/*/proofs/", "docs/", "tests/", "tests/oracle/", "bench/", "tools/", "examples/")
 SUFFIXES = ("antt", "rt", "py", "toml", "md", "c", "rs", "sh", "edit", "txt", "tried", "fish", "bash", "1")
 # Pages whose code is what a user types, and no name of the repository's.
-FOR_USERS = ("docs/faults.md", "docs/recipes.md", "README.md", "CHANGELOG.md", "docs/python.md")
+FOR_USERS = ("docs/faults.md", "docs/recipes.md", "README.md", "CHANGELOG.md", "docs/python.md", "docs/options.md")
 # Words in code letters that stand for a text, a place or a thing outside the repository.
 OTHERS = {"NAME", "CRATE", "FOLDER", "PREFIX"}
 # Options in the documents that are none of this repository: those of `rt`, and those that stand for any.
@@ -66,6 +67,11 @@ FIGURES = (
     ("docs/specification.md", rf"another text of 1 to ({NUMBER}) bytes", 1, "rj_line/src/choosing.rt", "LONGEST_SUFFIX"),
     ("docs/specification.md", rf"would have more than ({NUMBER}) bytes before it is like no other", 1, "rj_engine/src/naming.rt", "MAX_NAME"),
 )
+# The columns of a line and the words of a table's cell that a page may have, and the pages that aren't laid out so yet.
+MOST_COLUMNS, MOST_WORDS = 100, 25
+WIDE = ("docs/architecture.md", "docs/cluster.md", "docs/faults.md", "docs/proved.md", "docs/python.md", "docs/specification.md")
+# How many decisions docs/DECISIONS.md may have.
+MOST_DECISIONS = 60
 # What is said of memory, wherever it is said.
 MEMORY = r"about\s+(\w+)\s+times\s+the\s+size\s+of\s+(?:the|its)\s+two\s+(?:files|parts)"
 
@@ -195,7 +201,7 @@ def unnamed_faults(files):
 
 def place_faults(text):
     """Of `name`, `name` in `FILE`: the names that stand nowhere in the file. A file is in `crates/`, or one of the crate named last."""
-    crates, crate = harness.ROOT / "crates", ""
+    crates, crate, text = harness.ROOT / "crates", "", " ".join(text.split())
     for found in re.finditer(r"((?:`\w+`(?:, with |, | and )?)+) in `([\w/]+\.(?:antt|rt))`|`(rj_\w+)", text):
         names, file, named = found.groups()
         crate = named or (file.split("/")[0] if (crates / file).exists() else crate)
@@ -264,7 +270,7 @@ def value_of(file, constant):
 
 def figure_faults(page):
     """Where a page tells another size than the sources have."""
-    text = (harness.ROOT / page).read_text()
+    text = " ".join((harness.ROOT / page).read_text().split())
     for _, pattern, unit, file, constant in (figure for figure in FIGURES if figure[0] == page):
         told = [number_of(number) * unit for number in re.findall(pattern, text)]
         if set(told) != {value_of(file, constant)}:
@@ -326,12 +332,13 @@ def ending_faults(text):
 
 
 def number_faults(text):
-    """The numbers of decisions that stand twice, or not in order in their section."""
-    for section in text.split("\n## ")[1:]:
-        numbers = [int(number) for number in re.findall(r"^(\d+)\. ", section, re.MULTILINE)]
-        yield from (f"{late} stands behind {early}" for early, late in zip(numbers, numbers[1:]) if late < early)
-    numbers = re.findall(r"^(\d+)\. ", text, re.MULTILINE)
+    """The numbers of decisions that stand twice; decisions without a number, or more of them than a reader can take."""
+    entries = re.findall(r"^- (.*)", text, re.MULTILINE)
+    numbers = [found[1] for found in (re.match(r"\*\*(\d+)\*\* ", entry) for entry in entries) if found]
     yield from (f"{number} stands twice" for number in sorted(set(numbers), key=int) if numbers.count(number) > 1)
+    yield from (f"it has no number: {entry}" for entry in entries if not re.match(r"\*\*\d+\*\* ", entry))
+    if len(entries) > MOST_DECISIONS:
+        yield f"{len(entries)} are more than {MOST_DECISIONS}"
 
 
 def agreement_faults(what, pattern, pages):
@@ -342,9 +349,29 @@ def agreement_faults(what, pattern, pages):
         yield f"{what}: {', '.join(f'{page} tells {sorted(found)}' for page, found in told.items())}"
 
 
+def layout_faults(text):
+    """The lines of a page that are too long, and the cells of its tables that have too many words."""
+    for number, line in enumerate(text.splitlines(), 1):
+        if len(line) > MOST_COLUMNS:
+            yield f"line {number} has {len(line)} columns"
+        words = max(len(cell.split()) for cell in re.split(r"(?<!\\)\|", line)) if line.startswith("|") else 0
+        if words > MOST_WORDS:
+            yield f"a cell of line {number} has {words} words"
+
+
+def index_faults(text):
+    """Where docs/index.md isn't what `tools/index` prints."""
+    ran = subprocess.run([sys.executable, harness.ROOT / "tools" / "index"], capture_output=True, check=False)
+    wanted = ran.stdout.decode().splitlines()
+    if ran.returncode:
+        yield ran.stderr.decode().strip()
+    elif wanted != text.splitlines():
+        yield "it isn't what tools/index prints: tools/index > docs/index.md"
+
+
 def check_agreement(tally, files):
     """What several places tell of one thing."""
-    docs = {name: (harness.ROOT / "docs" / f"{name}.md").read_text() for name in ("specification", "architecture", "changing", "proved", "DECISIONS")}
+    docs = {name: (harness.ROOT / "docs" / f"{name}.md").read_text() for name in ("specification", "architecture", "changing", "proved", "DECISIONS", "index")}
     tally.check("docs/specification.md: definitions", list(definition_faults(docs["specification"])))
     tally.check("docs/specification.md: limits", list(limit_faults(docs["specification"])))
     tally.check("docs/specification.md: what merges tells", list(ending_faults(docs["specification"])))
@@ -353,11 +380,14 @@ def check_agreement(tally, files):
     tally.check("docs/architecture.md: types of one name", list(type_faults(docs["architecture"], files)))
     tally.check("docs/changing.md: files of names", list(place_faults(docs["changing"])))
     tally.check("docs/proved.md: libraries", list(library_faults(docs["proved"])))
+    tally.check("docs/index.md: what tools/index prints", list(index_faults(docs["index"])))
     tally.check("docs/DECISIONS.md: numbers", list(number_faults(docs["DECISIONS"])))
-    tally.check("the kit", list(agreement_faults("the kit", r"rattle-kit-\w+ logic \w+", ("README.md", "docs/proved.md"))))
-    pages = ("README.md", "docs/faults.md", "docs/cluster.md", "man/radixjoin.1")
+    pages = ("README.md", "CONTRIBUTING.md", "docs/proved.md")
+    tally.check("the kit", list(agreement_faults("the kit", r"rattle-kit-\w+", pages)))
+    tally.check("the kit's logic", list(agreement_faults("the kit", r"rattle-kit-\w+ logic \w+", pages[1:])))
+    pages = ("README.md", "docs/options.md", "docs/faults.md", "docs/cluster.md", "man/radixjoin.1")
     tally.check("memory", list(agreement_faults("memory", MEMORY, pages)))
-    for page in ("README.md", "docs/faults.md", "man/radixjoin.1"):
+    for page in ("docs/options.md", "docs/faults.md", "man/radixjoin.1"):
         tally.check(f"{page}: limits", list(untold_limits(page)))
     for page in sorted({figure[0] for figure in FIGURES}):
         tally.check(f"{page}: sizes", list(figure_faults(page)))
@@ -369,13 +399,15 @@ def run_all(tally):
     words, options = known_words(files), known_options(files)
     for page in sorted(name for name in files if name.endswith(".md")):
         text = (harness.ROOT / page).read_text()
-        prose = re.sub(r"^ {4}.*$", "", text, flags=re.MULTILINE)
+        prose = re.sub(r"^ {4}.*$|^```(?:.|\n)*?^```$", "", text, flags=re.MULTILINE)
         tally.check(f"{page}: links", list(link_faults(page, prose)))
         if page not in FOR_USERS[:2]:
             tally.check(f"{page}: paths", list(path_faults(page, prose, files)))
         if page not in FOR_USERS:
             tally.check(f"{page}: names", list(name_faults(prose, words)))
         tally.check(f"{page}: options", list(option_faults(prose, options)))
+        if page not in WIDE:
+            tally.check(f"{page}: lines", list(layout_faults(text)))
         crates = set(re.findall(r"\brj_\w+", text)) - set(listed_crates())
         tally.check(f"{page}: crates", [f"there is no crate {name}" for name in sorted(crates)])
     check_agreement(tally, files)

@@ -1,9 +1,12 @@
-"""Runs the examples of the pages for users: README.md, docs/faults.md, docs/recipes.md and the man pages.
+"""Runs the examples of the pages for users: README.md, docs/options.md, docs/faults.md, docs/recipes.md and the man pages.
 
-An example is a session: an indented block of lines `$ COMMAND`, each with what it prints below it. A line `> ..` goes on with
-the command, and a line `..` of what is printed stands for any lines. The sessions of one section go on in one folder, which has
-the examples of the repository, and find the built programs on the PATH. A section's line `Needs: a, b.` names the tools that it
-runs beside those that any system has; where one isn't installed the section is skipped, which is told.
+An example has one of two forms. A block ```sh can be pasted: a shell gets it as it stands, and the block ```text behind it is
+what it prints, nothing where there is none. A session is an indented block of lines `$ COMMAND`, each with what it prints below
+it, where a line `> ..` goes on with the command. In both a line `..` of what is printed stands for any lines.
+
+The examples of one section go on in one folder, which has the examples of the repository, and find the built programs on the
+PATH. A section's line `Needs: a, b.` names the tools that it runs beside those that any system has; where one isn't installed
+the section is skipped, which is told.
 """
 import contextlib
 import glob
@@ -15,7 +18,9 @@ import subprocess
 
 import harness
 
-PAGES = ("README.md", "docs/faults.md", "docs/recipes.md")
+PAGES = ("README.md", "docs/options.md", "docs/faults.md", "docs/recipes.md")
+# Those whose examples can be pasted, so that no prompt stands before a command.
+PASTED = ("README.md", "docs/options.md", "docs/recipes.md")
 MANUALS = ("man/radixjoin.1", "man/arrivals.1", "man/shards.1", "man/merges.1")
 PROGRAMS = ("radixjoin", "arrivals", "shards", "merges")
 SECONDS = 60
@@ -37,20 +42,39 @@ class Section:
 
 def sections_of(page):
     """The sections of a page."""
-    found = [Section(page, "its head")]
+    found, kind, block = [Section(page, "its head")], None, []
     in_session = False
     for line in (harness.ROOT / page).read_text().splitlines():
         found[-1].text.append(line)
-        if line.startswith("## ") or line.startswith(".Sh "):
-            found.append(Section(page, line.split(" ", 1)[1]))
-        needs = re.fullmatch(r"Needs: (.*)\.", line)
-        if needs:
-            found[-1].needs = re.findall(r"[\w-]+", needs[1])
-        inside = line[4:] if line.startswith("    ") else line if page in MANUALS and not line.startswith(".") else None
-        in_session = inside is not None and (in_session or inside.startswith("$ "))
-        if in_session:
-            add_line(found[-1].commands, inside.replace(r"\e", "\\") if page in MANUALS else inside)
+        if line.startswith("```"):
+            add_block(found[-1].commands, kind, block)
+            kind, block = (line[3:], []) if kind is None else (None, [])
+        elif kind is not None:
+            block.append(line)
+        else:
+            begin_section(found, page, line)
+            inside = line[4:] if line.startswith("    ") else line if page in MANUALS and not line.startswith(".") else None
+            in_session = inside is not None and (in_session or inside.startswith("$ "))
+            if in_session:
+                add_line(found[-1].commands, inside.replace(r"\e", "\\") if page in MANUALS else inside)
     return found
+
+
+def begin_section(found, page, line):
+    """Begins a section at a line that is its title, and takes what it needs from a line that names it."""
+    if line.startswith("## ") or line.startswith(".Sh "):
+        found.append(Section(page, line.split(" ", 1)[1]))
+    needs = re.fullmatch(r"Needs: (.*)\.", line)
+    if needs:
+        found[-1].needs = re.findall(r"[\w-]+", needs[1])
+
+
+def add_block(commands, kind, lines):
+    """Adds a block that has ended to the commands: a command, or what the last one prints."""
+    if kind == "sh":
+        commands.append(("\n".join(lines), []))
+    elif kind == "text" and commands:
+        commands[-1][1].extend(lines)
 
 
 def add_line(commands, line):
@@ -153,20 +177,42 @@ def is_skipped(section, name):
 
 
 def check_section(section, tally):
-    """Runs a section's sessions in a new folder, or tells that they are skipped."""
+    """Runs a section's examples in a new folder, or tells that they are skipped."""
     name = f"{section.page}, {section.title}"
     if not is_skipped(section, name):
         with place_for(section) as (folder, environment):
             tally.check(name, faults_of(section, folder, environment))
 
 
+def check_cheat_sheet(tally):
+    """Runs each line of README's cheat sheet behind the block above it, as a shell gets them, and counts the rows."""
+    section = next(section for section in sections_of("README.md") if section.title == "Cheat sheet")
+    lines = re.findall(r"^\| [^|]+ \| `(.*)` \| (\d+|E\d+) \|$", "\n".join(section.text), re.MULTILINE)
+    tally.check("README.md, lines of the cheat sheet", [] if len(lines) >= 8 else [f"it has {len(lines)}"])
+    with place_for(section) as (folder, environment):
+        for line, wanted in lines:
+            got = printed_by([*section.commands, (line, [])], folder, environment)[-1]
+            is_right = f"radixjoin: {wanted} " in "".join(got[:1]) if wanted.startswith("E") else len(got) - 1 == int(wanted)
+            tally.check(f"README.md, {line}", [] if is_right else [f"{harness.shorten(got)}, and not {wanted}"])
+
+
 def check_clauses(tally):
-    """Runs each clause of README's table of clauses over the two files of examples/, and counts the rows."""
-    for clause, wanted in re.findall(r"^\| `(.*?JOIN.*?)` \|.*\| (\d+) \|$", (harness.ROOT / "README.md").read_text(), re.MULTILINE):
+    """Runs each clause of the table of clauses over the two files of examples/, and counts the rows."""
+    page = (harness.ROOT / "docs" / "options.md").read_text()
+    for clause, wanted in re.findall(r"^\| `(.*?JOIN.*?)` \|.*\| (\d+) \|$", page, re.MULTILINE):
         words = ["--left", "people.csv", "--left-types", "int,text,int", "--right", "cities.csv", "--right-types", "int,text", "--join", clause]
         ran = harness.run([harness.program("radixjoin"), *words], harness.ROOT / "examples")
         rows = ran.stdout.count(b"\n") - 1
-        tally.check(f"README.md, {clause}", harness.differences(ran, None) + ([] if rows == int(wanted) else [f"{rows} rows, and not {wanted}"]))
+        tally.check(f"docs/options.md, {clause}", harness.differences(ran, None) + ([] if rows == int(wanted) else [f"{rows} rows, and not {wanted}"]))
+
+
+def check_pasted(tally):
+    """What can be pasted has no prompts, and each of its blocks is a command or what one prints, so that none is left out."""
+    for page in PASTED:
+        lines = (harness.ROOT / page).read_text().splitlines()
+        faults = [f"a prompt stands in {line}" for line in lines if re.match(r" *[$>] ", line)]
+        faults += [f"no test runs the block {line}" for line in lines if line.startswith("```") and line not in ("```sh", "```text", "```")]
+        tally.check(f"{page}, blocks", faults)
 
 
 def check_faults_are_told(tally):
@@ -186,10 +232,12 @@ def check_faults_are_told(tally):
 
 
 def run_all(tally):
-    """The sessions of every page, README's table of clauses, and that the page on faults has each fault."""
+    """The examples of every page, the cheat sheet, the table of clauses, and that the page on faults has each fault."""
     for page in (*PAGES, *MANUALS):
         for section in sections_of(page):
             if section.commands:
                 check_section(section, tally)
+    check_cheat_sheet(tally)
     check_clauses(tally)
+    check_pasted(tally)
     check_faults_are_told(tally)

@@ -1,10 +1,10 @@
 """Runs each recipe of docs/recipes.md on files as other programs write them: with a byte order mark, with CRLF, and with cells that
 have line breaks, or all of these. What docs/faults.md says of finding and mending is run on files of the first two kinds.
 
-The sessions are those of the pages; their files are changed as soon as they are there: those of examples/, and each that a command
+The examples are those of the pages; their files are changed as soon as they are there: those of examples/, and each that a line
 `printf .. > NAME` makes. What is printed has to be what the page has, with the cells changed that were changed in a file.
 
-usage: recipes.py WAY FILE NULL ..       changes a file, but for the texts NULL, and prints what was changed (the sessions call it so)"""
+usage: recipes.py WAY FILE NULL ..       changes a file, but for the texts NULL, and prints what was changed (the examples call it so)"""
 import csv
 import io
 import pathlib
@@ -31,7 +31,7 @@ KEPT = ".changed"
 
 def nulls_of(section):
     """The texts that stand for null in a section's files."""
-    return {"NULL", *re.findall(r"null[ =]'?([^' ]+)", "\n".join(command for command, _ in section.commands))}
+    return {"NULL", *re.findall(r"null[ =]'?([^'\s]+)", "\n".join(command for command, _ in section.commands))}
 
 
 def with_longer_cells(text, way, nulls):
@@ -59,10 +59,12 @@ def change_file(file, way, nulls):
 
 
 def change(command, way, nulls):
-    """A command that makes a file, and then changes it; any other command as it is."""
-    made = re.fullmatch(r"printf '.*' > (\w+\.[ct]sv)", command)
-    words = [sys.executable, __file__, way, made[1], *sorted(nulls)] if made else []
-    return f"{command}\n{shlex.join(words)} >> {KEPT}" if made else command
+    """A command that changes each file as soon as one of its lines has made it."""
+
+    def changed(made):
+        return f"{made[0]}\n{shlex.join([sys.executable, __file__, way, made[1], *sorted(nulls)])} >> {KEPT}"
+
+    return re.sub(r"^printf '.*' > (\w+\.[ct]sv)$", changed, command, flags=re.MULTILINE)
 
 
 def records(lines):
