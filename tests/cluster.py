@@ -84,8 +84,7 @@ def run_example(cluster, case, files, tally):
         known = {it.name for it in folder.iterdir()}
         wanted = harness.run([harness.program("radixjoin"), *words], folder)
         ran = ended(started(cluster, words, folder, "--parts", "3"))
-        if ran.stderr == NO_KEY:
-            wanted = harness.Ran(4, b"", NO_KEY)
+        wanted = harness.Ran(4, b"", NO_KEY) if ran.stderr == NO_KEY else shards.told_first(words, folder, wanted)
         tally.check(f"cluster: {case['name']}", faults_of_run(ran, folder, known, wanted))
     return ran.stderr == NO_KEY
 

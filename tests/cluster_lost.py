@@ -24,8 +24,7 @@ NONE_LEFT = b"radixjoin-cluster: no process was there for 4 seconds: each was en
 
 
 def of_script(told):
-    """The lines of standard error that are the script's: Dask's processes tell what they load, and what others left behind, and its bar
-    is a line feed for each step."""
+    """The lines of standard error that are the script's: Dask's processes tell what they load, and what others left behind."""
     return b"".join(line for line in told.splitlines(keepends=True) if line.startswith(b"radixjoin"))
 
 

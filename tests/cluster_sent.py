@@ -45,7 +45,9 @@ class Cluster(tasks.Cluster):
     the first tasks of a kind."""
 
     def __init__(self, client, before=None, shows_progress=False):
-        super().__init__(Notes(client), shows_progress)
+        super().__init__(Notes(client), False)
+        # (also where standard error is no terminal)
+        self.shows_progress = shows_progress
         self.before = before or {}
         self.kinds = {}
 
@@ -72,10 +74,14 @@ def write_tables(folder):
 WAYS = ([], ["--spread", "400", "--merges", "3"], ["--strict", "--left-null", "none", "--out-null", "~"])
 
 
+def alone(words):
+    """Those of the words that `radixjoin` takes too."""
+    return [word for word in words if word not in ("--parts", "2", "--spread", "400", "--merges", "3")]
+
+
 def joined(client, folder, words, before=None, shows_progress=False):
     """A join on a cluster of processes: how it differs from `radixjoin`'s own, and what was noted."""
-    alone = [word for word in words if word not in ("--parts", "2", "--spread", "400", "--merges", "3")]
-    wanted = harness.run([harness.program("radixjoin"), *alone], folder)
+    wanted = harness.run([harness.program("radixjoin"), *alone(words)], folder)
     on = Cluster(client, before, shows_progress)
     ran = shards.joined(words, folder, 2, cluster=lambda _: on)
     return harness.differences(ran, wanted.stdout, wanted.stderr, wanted.status), on.kinds

@@ -34,6 +34,7 @@ PARTS = (
     "cluster_early",
     "cluster_lost",
     "cluster_killed",
+    "cluster_manners",
     "cluster_merges",
     "cluster_pieces",
     "cluster_random",

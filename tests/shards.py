@@ -6,6 +6,7 @@ import csv
 import io
 import pathlib
 import random
+import re
 import subprocess
 import sys
 import tomllib
@@ -14,6 +15,10 @@ import examples
 import harness
 
 NO_KEY = "shards: the clause has no key, so that its tables can't be divided"
+# The header of a file with what stands before it: as the library `csv` reads it, and by RFC 4180's grammar.
+FIELD = rb'(?:"(?:[^"]|"")*(?:"|\Z))?[^,\r\n]*'
+RECORD = re.compile(rb"(?:\xef\xbb\xbf)?[\r\n]*" + FIELD + rb"(?:," + FIELD + rb")*(?:\r\n|\r|\n)?")
+LINE = re.compile(rb'(?:[^"\n]|"[^"]*(?:"|\Z))*\n?')
 
 
 sys.path.append(str(harness.ROOT / "python"))
@@ -59,6 +64,22 @@ def placed_in(words, folder):
     return [str(folder / word) if word in ("left.csv", "right.csv") else word for word in words]
 
 
+def told_first(words, folder, wanted):
+    """What `radixjoin` tells of files with the headers of these and no rows, which is told before their rows are looked at; else what it
+    told or wrote of the whole."""
+    if wanted.status == 0:
+        return wanted
+    words = list(map(str, words))
+    header = LINE if any(word.startswith("--strict") for word in words) else RECORD
+    with harness.folder() as place:
+        for name in ("left.csv", "right.csv"):
+            if (folder / name).is_file():
+                pathlib.Path(place, name).write_bytes(header.match((folder / name).read_bytes())[0])
+            words = [word.replace(f"{folder}/{name}", f"{place}/{name}") for word in words]
+        ran = harness.run([harness.program("radixjoin"), *words], place)
+    return ran if ran.status else wanted
+
+
 def faults_of(words, folder, parts, ranges, wanted):
     """How the joined parts differ from what `radixjoin` wrote, merged in as many ranges as the files are divided in. A clause without a
     key is refused."""
@@ -66,6 +87,7 @@ def faults_of(words, folder, parts, ranges, wanted):
     if ran.stderr == NO_KEY.encode() + b"\n":
         # (before the rows are read)
         return [] if ran.status == 4 and wanted.status in (0, 3) else [f"refused for want of a key, where radixjoin ends by {wanted.status}"]
+    wanted = told_first(words, folder, wanted)
     return harness.differences(ran, wanted.stdout, wanted.stderr, wanted.status)
 
 

@@ -116,7 +116,7 @@ def run_refused(tally):
         both(folder, words, tally, "a name that is taken, and one that stands twice")
         words = words_for(folder, b"k,left_place\n1,x\n", other, ("int,int", "int,int"), "JOIN USING (q)", [])
         ran = shards.joined([*words, "--parts", "2"], folder, 1)
-        tally.check("shards_further: a fault before a name that is taken", harness.differences(ran, b"", b"radixjoin: E6 BadInteger left row 1 column 2\n", 3))
+        tally.check("shards_further: a fault before a name that is taken", harness.differences(ran, b"", b"radixjoin: E13 UnknownColumn\n", 4))
         (folder / "left.csv").unlink()
         os.mkfifo(folder / "left.csv")
         ran = shards.joined([*words, "--parts", "2"], folder, 1)

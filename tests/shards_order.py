@@ -1,6 +1,6 @@
 """The order of faults in shards: random runs in which several things are wrong at once (files, null texts of either side and of the
-result, types by position, by name and from files, the clause, strict reading) tell the fault that `radixjoin` tells, or write what
-it writes.
+result, types by position, by name and from files, the clause, strict reading) tell the fault that `radixjoin` tells of the headers alone,
+or else of the whole, or write what it writes.
 
 usage: shards_order.py [RUNS [FIRST]]
 

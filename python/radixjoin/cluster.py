@@ -27,7 +27,7 @@ import sys
 import tempfile
 import warnings
 from pathlib import Path
-from typing import TYPE_CHECKING, Any, Dict, Iterator, List, Mapping, Optional, Sequence, Tuple, Union
+from typing import TYPE_CHECKING, Any, Dict, Iterator, List, Mapping, NoReturn, Optional, Sequence, Tuple, Union
 
 from .clauses import clause_of, given, refuse_rows
 from .columns import Types
@@ -45,7 +45,7 @@ from .placed import LEFT, RIGHT, SAMPLES, Index, Place, Shard, cut_places, sampl
 from .programs import ProgramNotFound, encoded, find_all
 from .spread import TABLE, Join, are_many, joins_of, length_of, limit_of, most_tables, next_length, runs_of
 from .tables import PathTable
-from .tasks import FULL, Cluster, Told, first_fault, unwritten
+from .tasks import FULL, Cluster, Told, answer, first_fault, unwritten
 from .text import header_in
 
 if TYPE_CHECKING:
@@ -70,9 +70,19 @@ DASHES = "\0"
 AMBIGUOUS = re.compile(r"radixjoin: E28 AmbiguousNull row (\d+) column (\d+)")
 
 
-def parser() -> argparse.ArgumentParser:
-    """What reads a command line, and has its help."""
-    line = argparse.ArgumentParser(prog="radixjoin-cluster", description=__doc__, formatter_class=argparse.RawDescriptionHelpFormatter, allow_abbrev=False)
+class Parser(argparse.ArgumentParser):
+    """What reads a command line. It tells a fault of it in one line."""
+
+    def error(self, message: str) -> NoReturn:
+        self.exit(2, f"{self.prog}: {message}\n")
+
+
+def parser() -> Parser:
+    """What reads the command line, and has its help."""
+    from . import __version__
+
+    line = Parser(prog="radixjoin-cluster", description=__doc__, formatter_class=argparse.RawDescriptionHelpFormatter, allow_abbrev=False)
+    line.add_argument("-V", "--version", action="version", version=f"radixjoin-cluster {__version__}")
     for side in SIDES:
         line.add_argument(f"--{side}", required=True, metavar="FILE", help=f"CSV file of the {side} table, which every process can read")
     for side in SIDES:
@@ -83,18 +93,18 @@ def parser() -> argparse.ArgumentParser:
         line.add_argument(f"--{side}-null", action="append", metavar="TEXT", help=f"text of a {side} field that is null; up to four by giving it again [default: as --null]")
     line.add_argument("--out-null", metavar="TEXT", help="text that is written for null [default: as --null]")
     line.add_argument("--strict", nargs="?", const="on", choices=("on", "full"), help="refuse files that aren't of RFC 4180's grammar; full: also those whose last line has no end")
-    line.add_argument("--out", required=True, metavar="FILE", help="file of the joined table; it is there when the whole table is")
+    line.add_argument("--output", "--out", dest="out", required=True, metavar="FILE", help="file of the joined table; it is there when the whole table is")
     line.add_argument("--parts", type=int, default=16, metavar="N", help="shards that the tables are divided into, 1 to 1024 [default: 16]")
     line.add_argument("--ranges", type=int, metavar="N", help="ranges of a file that are divided side by side [default: one for each task that the processes do at once]")
     line.add_argument("--spread", type=int, metavar="BYTES", help="bytes of both tables above which a shard is joined in pieces of no more [default: twice the mean of all shards, no less than 16 MiB]")
     line.add_argument("--merges", type=int, metavar="N", help="ranges of the joined table, of about as many bytes each, that are merged side by side, 1 to 1024 [default: one for each task that the processes do at once, and no more than one for each 16 MiB]")
-    line.add_argument("--scratch", metavar="FOLDER", help="folder for what is half made, which every process can write [default: that of --out]")
+    line.add_argument("--scratch", metavar="FOLDER", help="folder for what is half made, which every process can write [default: that of --output]")
     line.add_argument("--programs", metavar="FOLDER", help="folder of radixjoin, shards and merges [default: that of the environment variable RADIXJOIN, this tree's, or those on the PATH]")
     line.add_argument("--memory", type=int, metavar="MIB", help="address space that each program may take, in MiB [default: no limit]")
     where = line.add_mutually_exclusive_group()
     where.add_argument("--scheduler", metavar="ADDRESS", help="scheduler of a Dask cluster, as tcp://node1:8786")
     where.add_argument("--processes", type=int, default=1, metavar="N", help="processes of this machine that work side by side [default: 1]")
-    line.add_argument("--progress", action="store_true", help="show how many tasks are done, by Dask's own bar")
+    line.add_argument("--progress", action="store_true", help="show on a terminal which step is done, and how many of its tasks")
     line.add_argument("--explain", action="store_true", help="tell behind the line of a fault where it is, and what stands there")
     for option in OF_ONE_JOIN:
         line.add_argument(f"--{option}", metavar="X", help=f"as radixjoin's --{option}, for the join of each shard")
@@ -111,9 +121,13 @@ def read_line(words: Sequence[str]) -> argparse.Namespace:
     for option in given:
         if given.count(option) > 1 and option not in SEVERAL:
             line.error(f"{option} can be given once")
+    if {"--output", "--out"} <= set(given):
+        line.error("--out is --output, which can be given once")
     for side in SIDES:
         if getattr(asked, side) == "-":
             line.error(f"--{side}: standard input can't be divided, give a file")
+    if asked.out == "-":
+        line.error("--output: the result can't be standard output, give a file")
     for name, least, most in beyond(asked):
         line.error(f"--{name} is from {least} to {most}")
     for option, only in OF_WHOLE_TABLES.items():
@@ -199,7 +213,7 @@ class Job:
             if line.endswith(": E20 WriteDevice"):
                 raise unwritten(writes or self.folder())
             side = re.fullmatch(r"radixjoin: E19 ReadDevice (left|right)", line) if self.explain and name == "shards" else None
-            raise Told(line, ran.returncode, ran.stdout or b"", of_unread(self.files[side[1]]) if side else more)
+            raise Told(line, ran.returncode, of_unread(self.files[side[1]]) if side else more)
         return ran.stdout
 
     def folder(self) -> str:
@@ -211,10 +225,10 @@ class Job:
         words = [f"--{side}-types={types[side]}" for side in SIDES]
         return [*words, f"--join={self.clause}", *self.null, f"--out-null={self.out_null}", *self.one_join]
 
-    def division(self, side: str) -> List[str]:
-        """The words for `shards` that don't depend on the range."""
+    def division(self, side: str, parts: int) -> List[str]:
+        """The words for `shards` that don't depend on the range, for so many parts."""
         tables = [word for it in SIDES for word in (f"--{it}={self.files[it]}", f"--{it}-types={self.types[it]}")]
-        return [f"--side={side}", *tables, f"--join={self.clause}", *self.null, *self.strict, *self.explain, f"--parts={self.parts}"]
+        return [f"--side={side}", *tables, f"--join={self.clause}", *self.null, *self.strict, *self.explain, f"--parts={parts}"]
 
     def place(self, name: str) -> str:
         """The path of something that is made in the scratch folder."""
@@ -264,7 +278,7 @@ def scratch_in(folder: str) -> Iterator[str]:
 
 
 @contextlib.contextmanager
-def output_of(job: Job) -> Iterator[None]:
+def output_of(job: Job) -> Iterator[Job]:
     """Sees that the result can be written, before anything is done for it. At the end what is half made of it is removed."""
     try:
         if os.path.isdir(job.out):
@@ -277,7 +291,7 @@ def output_of(job: Job) -> Iterator[None]:
     except OSError as error:
         raise unwritten(job.out, error.strerror) from None
     try:
-        yield
+        yield job
     finally:
         for name in glob.glob(f"{glob.escape(job.half)}*"):
             remove(name)
@@ -285,7 +299,7 @@ def output_of(job: Job) -> Iterator[None]:
 
 def cuts_of(job: Job, side: str, count: int) -> List[Tuple[int, Optional[int]]]:
     """The ranges of a side's file: so many or fewer, each from one byte to another, cut where records end."""
-    printed = job.run("shards", [*job.division(side), "--cuts", str(count)]).decode().split()
+    printed = job.run("shards", [*job.division(side, job.parts), "--cuts", str(count)]).decode().split()
     places = [0, *map(int, printed)]
     return list(zip(places, [*places[1:], None]))
 
@@ -306,7 +320,7 @@ def divide(job: Job, side: str, number: int, start: int, end: Optional[int]) -> 
         with made(path) as new, folder_beside(new) as folder:
             upto = ["--to", str(end)] if end is not None else []
             # (by its name in the scratch folder, where the program runs: by its path that folder would be made anew when all is over)
-            told = counts_in(job.run("shards", [*job.division(side), "--from", str(start), *upto, "--out", os.path.basename(folder)]))
+            told = counts_in(job.run("shards", [*job.division(side, job.parts), "--from", str(start), *upto, "--out", os.path.basename(folder)]))
             pack(folder, job.parts, told, new)
     return told_of(path, job.parts)[0], sizes_of(path, job.parts)
 
@@ -449,19 +463,13 @@ def counted_on(line: str, before: int) -> str:
 
 
 def first_fault_of_file(job: Job, side: str, ranges: Sequence[Tuple[int, Optional[int]]], answers: Sequence[Any]) -> None:
-    """Raises the first fault of a side's own file among the answers of its ranges, its row counted through the whole file.
-
-    What else a range tells is looked at later: a clause that can't be bound, or the other file. Such a range's own rows have
-    no fault, and `shards` told how many there are."""
+    """Raises the first fault of a side's file among the answers of its ranges, its row counted through the whole file."""
     before = 0
     for it, (start, end) in zip(answers, ranges):
         if isinstance(it, Told):
-            if it.is_of(side) or not it.printed:
-                more = of_row(it.line, names_in(job.files[side]), start, end) if job.explain and not it.more else it.more
-                raise Told(counted_on(it.line, before), it.status, more=more)
-            before += counts_in(it.printed)[0]
-        else:
-            before += it[0]
+            more = of_row(it.line, names_in(job.files[side]), start, end) if job.explain and not it.more else it.more
+            raise Told(counted_on(it.line, before), it.status, more)
+        before += it[0]
 
 
 def names_in(file: str) -> List[str]:
@@ -490,40 +498,48 @@ def refuse_line(job: Job) -> Optional[Told]:
     return None
 
 
-def refuse_pipes(job: Job) -> None:
-    """Refuses files that can be read once only."""
+def refuse_files(job: Job) -> None:
+    """Refuses files that can't be read, or once only."""
     for side in SIDES:
-        with contextlib.suppress(OSError):
+        try:
             if stat.S_ISFIFO(os.stat(job.files[side]).st_mode):
                 raise Told(f"radixjoin-cluster: the {side} file is a pipe, which can't be divided: give a file", 2)
+            names_in(job.files[side])
+        except OSError:
+            raise Told(f"radixjoin: E19 ReadDevice {side}", 6, of_unread(job.files[side]) if job.explain else "") from None
 
 
-def ranges_of(job: Job, cluster: Any, count: int) -> Dict[str, List[Tuple[int, Optional[int]]]]:
-    """The ranges of both files, where these can be read and the null texts are lawful."""
+def refuse(job: Job) -> None:
+    """Tells what is wrong beside the rows, before there are processes for these: what `radixjoin` tells of two files of these headers that
+    have no rows, and what keeps a join from being done in shards. It is told by `shards`, which divides no bytes of each file."""
     bad_null = refuse_line(job)
-    refuse_pipes(job)
-    cuts = cluster.answers([(cuts_of, job, side, count) for side in SIDES])
-    first_fault([*cuts, bad_null])
-    return dict(zip(SIDES, cuts))
-
-
-def divided(job: Job, cluster: Any, count: int) -> Tuple[Dict[str, int], Dict[str, List[int]]]:
-    """Divides both files. It gives how many ranges each has, and how many bytes its rows have in each shard."""
-    ranges = ranges_of(job, cluster, count)
-    tasks = {side: [(divide, job, side, number, *it) for number, it in enumerate(ranges[side])] for side in SIDES}
-    answers = cluster.answers([*tasks["left"], *tasks["right"]])
-    of_side = {"left": answers[: len(ranges["left"])], "right": answers[len(ranges["left"]) :]}
+    refuse_files(job)
+    first_fault([bad_null])
     try:
         for side in SIDES:
-            first_fault_of_file(job, side, ranges[side], of_side[side])
-        first_fault(answers)
+            job.run("shards", [*job.division(side, 1), "--from=1", "--to=1", "--out=."])
     except Told as told:
         repeated = re.fullmatch(r"radixjoin: E3 RepeatedName (left|right) column (\d+)", told.line)
         if repeated and int(repeated[2]) > len(names_in(job.files[repeated[1]])):
             # (the column of places, which stands behind all of the file)
             refuse_taken_names(job)
+        if job.explain:
+            told.more = told.more or of_row(told.line, [], 0, None)
         raise
     refuse_taken_names(job)
+    job.clear("*.csv")
+
+
+def divided(job: Job, cluster: Any, count: int) -> Tuple[Dict[str, int], Dict[str, List[int]]]:
+    """Divides both files. It gives how many ranges each has, and how many bytes its rows have in each shard."""
+    cuts = cluster.answers([(cuts_of, job, side, count) for side in SIDES])
+    first_fault(cuts)
+    ranges = dict(zip(SIDES, cuts))
+    tasks = {side: [(divide, job, side, number, *it) for number, it in enumerate(ranges[side])] for side in SIDES}
+    answers = cluster.answers([*tasks["left"], *tasks["right"]])
+    of_side = {"left": answers[: len(ranges["left"])], "right": answers[len(ranges["left"]) :]}
+    for side in SIDES:
+        first_fault_of_file(job, side, ranges[side], of_side[side])
     sizes = {side: [sum(of_part) for of_part in zip(*(sizes for _, sizes in of_side[side]))] for side in SIDES}
     return {side: len(ranges[side]) for side in SIDES}, sizes
 
@@ -601,20 +617,19 @@ def ranges_of_merge(cluster: Any, joins: int, size: int) -> int:
 
 def run(job: Job, cluster: Any, count: int, merges: Optional[int]) -> None:
     """Divides, joins and merges, in as many ranges as are given."""
-    with output_of(job):
-        ranges, sizes = divided(job, cluster, count)
-        joins = joins_of_shards(job, cluster, ranges, sizes)
-        refuse_many(joins, job.parts, FILES_OF_INPUT if merges and merges > 1 else 1)
-        joined = cluster.answers([(join_shard, job, one, ranges) for one in joins])
-        first_fault(joined)
-        job.clear("left-*", "right-*")
-        joins = [one.without_runs() for one in joins]
-        ambiguous = [one for one, (has_cell, _) in zip(joins, joined) if has_cell]
-        if ambiguous:
-            refuse_ambiguous(job, cluster, joins, ambiguous)
-        samples = [it for _, samples in joined for it in samples]
-        merges = merges or ranges_of_merge(cluster, len(joins), sum(size for _, size in samples))
-        merge_all(job, cluster, joins, cut_places(samples, merges))
+    ranges, sizes = divided(job, cluster, count)
+    joins = joins_of_shards(job, cluster, ranges, sizes)
+    refuse_many(joins, job.parts, FILES_OF_INPUT if merges and merges > 1 else 1)
+    joined = cluster.answers([(join_shard, job, one, ranges) for one in joins])
+    first_fault(joined)
+    job.clear("left-*", "right-*")
+    joins = [one.without_runs() for one in joins]
+    ambiguous = [one for one, (has_cell, _) in zip(joins, joined) if has_cell]
+    if ambiguous:
+        refuse_ambiguous(job, cluster, joins, ambiguous)
+    samples = [it for _, samples in joined for it in samples]
+    merges = merges or ranges_of_merge(cluster, len(joins), sum(size for _, size in samples))
+    merge_all(job, cluster, joins, cut_places(samples, merges))
 
 
 @contextlib.contextmanager
@@ -634,12 +649,14 @@ def cluster_of(asked: argparse.Namespace) -> Iterator[Cluster]:
 
 
 def run_in(asked: argparse.Namespace, cluster: contextlib.AbstractContextManager[Any]) -> None:
-    """Joins as asked by the processes of a cluster, in a scratch folder that is removed at the end. A result in the file of a table is
-    refused before anything is done."""
+    """Joins as asked by the processes of a cluster, in a scratch folder that is removed at the end. What can be refused without the rows
+    is refused before the cluster is there."""
     refuse_input(asked.out, asked.left, asked.right)
     folder = str(Path(asked.scratch or Path(asked.out).resolve().parent).resolve())
-    with scratch_in(folder) as scratch, cluster as it:
-        run(Job(asked, scratch), it, asked.ranges or it.tasks_at_once(), asked.merges)
+    with scratch_in(folder) as scratch, output_of(Job(asked, scratch)) as job:
+        first_fault([answer(refuse, job)])
+        with cluster as it:
+            run(job, it, asked.ranges or it.tasks_at_once(), asked.merges)
 
 
 def join(

@@ -1,8 +1,9 @@
 """Tasks that the processes of a Dask cluster run: how they are sent, and what each gives or tells."""
 from __future__ import annotations
 
+import contextlib
 import errno
-import re
+import itertools
 import sys
 from typing import TYPE_CHECKING, Any, Callable, Dict, List, Sequence, Tuple
 
@@ -13,25 +14,34 @@ if TYPE_CHECKING:
 
 # What the system tells where there is no room, which no second try changes.
 FULL = (errno.ENOSPC, errno.EDQUOT, errno.EROFS)
+# What is shown of a step, by the name of its tasks' function.
+STEPS = {
+    "cuts_of": "looking for cuts",
+    "divide": "dividing",
+    "cut_side": "cutting large shards",
+    "join_shard": "joining",
+    "ambiguous_cell": "looking for a cell",
+    "count_before": "counting rows",
+    "cut_tables": "cutting the joined shards",
+    "merge_shards": "merging",
+    "merge_range": "merging",
+    "put_together": "putting the result together",
+}
+# What is written in the place of a line that is shown.
+_CLEARED = f"\r{' ' * 72}\r"
 
 
 class Told(Exception):
-    """A fault that a program told: the line that it printed, its exit status, what it had printed on standard output, and what it
-    told below the line."""
+    """A fault that a program told: the line that it printed, its exit status, and what it told below the line."""
 
-    def __init__(self, line: str, status: int, printed: bytes = b"", more: str = "") -> None:
-        super().__init__(line, status, printed, more)
+    def __init__(self, line: str, status: int, more: str = "") -> None:
+        super().__init__(line, status, more)
         self.line = line
         self.status = status
-        self.printed = printed
         self.more = more
 
     def __str__(self) -> str:
         return f"{self.line}\n{self.more}" if self.more else self.line
-
-    def is_of(self, side: str) -> bool:
-        """Whether it is a fault of a side's file."""
-        return re.match(rf"radixjoin: \w+ \w+ {side}\b", self.line) is not None
 
 
 def unwritten(path: str, why: str = "it can't be written, or there is no room") -> Told:
@@ -58,12 +68,29 @@ def answered(path: str, task: bytes) -> bytes:
     return packed(answer(function, job_in(path), *words))
 
 
+def _show(step: str, futures: Sequence[Any]) -> None:
+    """Shows on the terminal how many tasks of a step are done, until all are."""
+    from distributed import as_completed
+
+    try:
+        for done, _ in enumerate(itertools.chain([None], as_completed(futures))):
+            _put(f"{_CLEARED}radixjoin-cluster: {step}, {done} of {len(futures)} tasks")
+    finally:
+        _put(_CLEARED)
+
+
+def _put(text: str) -> None:
+    """Writes on the terminal, if it is still there."""
+    with contextlib.suppress(OSError):
+        print(text, end="", file=sys.stderr, flush=True)
+
+
 class Cluster:
     """The processes that tasks are sent to."""
 
     def __init__(self, client: Client, shows_progress: bool) -> None:
         self.client = client
-        self.shows_progress = shows_progress
+        self.shows_progress = shows_progress and sys.stderr is not None and sys.stderr.isatty()
         # The files that were written for the processes, and the name of the package in each.
         self.sent: Dict[str, str] = {}
 
@@ -74,10 +101,7 @@ class Cluster:
         # (what Dask waits for and shows it asks of the client that is current, which may be another one in a script of several)
         with self.client.as_current():
             if self.shows_progress:
-                from distributed import progress
-
-                progress(futures, notebook=False)
-                print(file=sys.stderr)
+                _show(STEPS[tasks[0][0].__name__], futures)
             return [unpacked(it) for it in self._gathered(futures)]
 
     def _sent(self, job: Any) -> Tuple[str, str]:
