@@ -1,5 +1,6 @@
 mod OperandFacts
 mod RunFacts
+mod PreparedFacts
 pub mod TextFacts
 mod ApartFacts
 mod BackFacts
