@@ -1,5 +1,7 @@
 mod OperandFacts
 mod RunFacts
+mod PreparedFacts
+mod ExpectedFacts
 pub mod TextFacts
 mod ApartFacts
 mod BackFacts

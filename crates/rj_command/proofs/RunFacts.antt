@@ -18,7 +18,7 @@ use Rattle.rj_csv_io.specs.declared.refused.ReadRefused.TheVariants as read
 use Rattle.rj_command.specs.Operands.{AreOperands, IsFirstFault, IsJoinFault, bind_fault, in_clause, in_left, in_right, parse_fault, unbound, unread}
 use Rattle.rj_command.specs.Sides.{IsStrictFault, IsTableFaultBy, fault_below, has_lawful_nulls, header_records, is_no_header, nulls_of, of_records, of_text, records_in_lines, side_records, stands, strict_fault, told, told_first, types_of}
 use Rattle.rj_fault.specs.Faults.{read_fault}
-use Rattle.rj_command.specs.Runs.{IsRunFault, IsUnwritten, WritesJoined, WritesTables, chosen_text, hash_value}
+use Rattle.rj_command.specs.Runs.{CanBeWritten, HasJoined, IsJoined, IsReady, IsRunFault, IsUnwritten, WritesJoined, WritesTables, chosen_text, hash_value}
 use Rattle.rj_fault.specs.declared.fault.Fault.{Fault}
 use Rattle.rj_fault.specs.declared.fault.Fault.TheVariants as fault
 use Rattle.rj_fault.specs.declared.fault.Side.{Side}
@@ -31,15 +31,33 @@ use Rattle.rj_command.specs.declared.join.stats.Stats.{Stats}
 use Rattle.rj_strict.specs.declared.fault.StrictFault.{StrictFault}
 use Rattle.rj_strict.specs.declared.fault.StrictFault.TheVariants as strict
 
+-- what can be written of the operands' joined table is the text of that of the bytes
+pub joined_of_ready : (left right : List ℕ) (q : Request) (o : Operands) (stats : Stats) → AreOperands left right q o.left o.right o.join
+    → (j : IsReady (hash_value q.hash) q o stats) → IsJoined left right q stats (chosen_text q j.names o.join o.left o.right)
+joined_of_ready left right q o stats operands j = record {
+  l = o.left;
+  r = o.right;
+  join = o.join;
+  operands = operands;
+  counts = j.counted;
+  expected = j.expected;
+  told_apart = j.told_apart;
+  names = j.names;
+  named = j.named;
+  shown = refl;
+}
+
 -- what was written of the operands was written of the bytes
 pub joined_of_operands : (left right : List ℕ) (q : Request) (o : Operands) (before after : Option (List ℕ)) (result : Result Stats Fault)
     → AreOperands left right q o.left o.right o.join
     → IfOk result (WritesTables (hash_value q.hash) q o before after) → IfOk result (WritesJoined left right q before after)
 joined_of_operands left right q o before after result operands =
-    let text = λ (names : List (List ℕ)). chosen_text q names o.join o.left o.right in
-    IfOk-weaker result _ _ (λ stats h.
-    let names = h.3.0 in
-    (text names, record { l = o.left; r = o.right; join = o.join; operands = operands; counts = h.0; expected = h.1; told_apart = h.2; names = names; named = h.3.1; shown = refl }, h.3.2))
+    IfOk-weaker result _ _ (λ stats h. (chosen_text q h.0.names o.join o.left o.right, joined_of_ready left right q o stats operands h.0, h.1))
+
+-- what can be written of the operands can be written of the bytes
+pub has_joined : (left right : List ℕ) (q : Request) (o : Operands) → AreOperands left right q o.left o.right o.join
+    → CanBeWritten (hash_value q.hash) q o → HasJoined left right q
+has_joined left right q o operands h = (h.0, chosen_text q h.1.names o.join o.left o.right, joined_of_ready left right q o h.0 operands h.1)
 
 -- the first fault of the operands is one of a run
 pub of_operands : (left right : List ℕ) (q : Request) (result : Result Stats Fault) (f : Fault) → result ≡ Err f → (f ≢ fault.Memory → IsFirstFault left right q f) → IfErr result (IsRunFault left right q)

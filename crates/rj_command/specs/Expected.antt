@@ -1,5 +1,6 @@
 -- Joined tables that aren't as expected.
-use Rattle.std.specs.Prelude.{◌≡◌}
+use Rattle.std.specs.Prelude.{◌≡◌, Bool, true, false, Result, Ok, Err}
+use Rattle.std.specs.declared.alloc.AllocError.{AllocError}
 use Rattle.rj_columns.specs.Tables.{TableValue}
 use Rattle.rj_condition.specs.declared.bound.BoundJoin.{BoundJoin}
 use Rattle.rj_engine.specs.Expected.{IsAsExpected}
@@ -15,3 +16,9 @@ IsExpected q join l r = IsAsExpected q.expectation (joined_of join l r)
 -- it isn't, and this fault tells it
 abbrev pub IsUnexpected : Request → BoundJoin → TableValue → TableValue → Fault → Type 0
 IsUnexpected q join l r f = (f ≡ fault.NotAsExpected) × (IsExpected q join l r → ⊥)
+
+-- what is told of a joined table, by whether it was found to be as expected, or that it couldn't be found out
+abbrev pub refusal_of : Result Bool AllocError → Result (Unit {0}) Fault
+refusal_of (Ok true) = Ok tt
+refusal_of (Ok false) = Err fault.NotAsExpected
+refusal_of (Err e) = Err fault.Memory

@@ -86,12 +86,22 @@ pub record IsCounted (value : List Content → ℕ) (q : Request) (l r : TableVa
   pub tells_pieces : stats.tells_pieces ≡ q.tells_pieces
   pub report : IsReported q join l r stats.report
 
--- the text of what is chosen of the operands' joined table was written behind what the writer had been told, and this is counted of it
+-- the operands' joined table can be written: its columns have names, it is as expected, its nulls can be told from its cells, and this is
+-- counted of it
+pub record IsReady (value : List Content → ℕ) (q : Request) (o : Operands) (stats : Stats) : Type 0 where
+  pub counted : IsCounted value q o.left o.right o.join stats
+  pub expected : IsExpected q o.join o.left o.right
+  pub told_apart : IsToldApart q.strict q.out_null.now (chosen_view q.choice o.join o.left o.right).cells
+  pub names : List (List ℕ)
+  pub named : AreNames q o.join o.left o.right names
+
+-- something is counted of it
+abbrev pub CanBeWritten : (List Content → ℕ) → Request → Operands → Type 0
+CanBeWritten value q o = (stats : Stats) × IsReady value q o stats
+
+-- the text of what is chosen of it was written behind what the writer had been told
 abbrev pub WritesTables : (List Content → ℕ) → Request → Operands → Option (List ℕ) → Option (List ℕ) → Stats → Type 0
-WritesTables value q o before after stats =
-    IsCounted value q o.left o.right o.join stats × IsExpected q o.join o.left o.right
-    × IsToldApart q.strict q.out_null.now (chosen_view q.choice o.join o.left o.right).cells
-    × ((names : List (List ℕ)) × AreNames q o.join o.left o.right names × Appends before after (chosen_text q names o.join o.left o.right))
+WritesTables value q o before after stats = (j : IsReady value q o stats) × Appends before after (chosen_text q j.names o.join o.left o.right)
 
 -- a column that is chosen is to be renamed and has no free name, and this fault tells the first one
 abbrev pub IsNameFault : Request → BoundJoin → TableValue → TableValue → Fault → Type 0
@@ -127,6 +137,11 @@ pub record IsJoined (left right : List ℕ) (q : Request) (stats : Stats) (text 
 abbrev pub WritesJoined : List ℕ → List ℕ → Request → Option (List ℕ) → Option (List ℕ) → Stats → Type 0
 WritesJoined left right q before after stats = (text : List ℕ) × IsJoined left right q stats text × Appends before after text
 
+-- there is such a text: the bytes denote two tables and the clause a join of them, and the joined table has names, is as expected, and its
+-- nulls can be told from its cells
+abbrev pub HasJoined : List ℕ → List ℕ → Request → Type 0
+HasJoined left right q = (stats : Stats) × (text : List ℕ) × IsJoined left right q stats text
+
 -- the bytes denote two tables, of whose joined table this is told
 pub record IsFirstResultFault (left right : List ℕ) (q : Request) (f : Fault) : Type 0 where
   pub l : TableValue
@@ -138,7 +153,3 @@ pub record IsFirstResultFault (left right : List ℕ) (q : Request) (f : Fault) 
 -- the fault of a run: but for want of memory and a failed writer, it is the first one of the operands, or of their joined table
 abbrev pub IsRunFault : List ℕ → List ℕ → Request → Fault → Type 0
 IsRunFault left right q f = f ≢ fault.Memory → f ≢ fault.WriteDevice → IsFirstFault left right q f ⊎ IsFirstResultFault left right q f
-
--- the bytes denote two tables, and the clause a join of them
-abbrev pub HasOperands : List ℕ → List ℕ → Request → Type 0
-HasOperands left right q = (l r : TableValue) × (join : BoundJoin) × AreOperands left right q l r join

@@ -3,7 +3,7 @@ use Rattle.std.specs.Prelude.{◌≡◌, ◌⊎◌, ℕ, List, Option, Some, Non
 use Rattle.clap.specs.Values.{kind_of}
 use Rattle.clap.specs.declared.error.Error.{Error}
 use Rattle.clap.specs.declared.error.kind.ErrorKind.{ErrorKind}
-use Rattle.clap.specs.declared.error.kind.ErrorKind.TheVariants.{DisplayHelp, DisplayVersion}
+use Rattle.clap.specs.declared.error.kind.ErrorKind.TheVariants.{DisplayHelp, DisplayVersion, OutOfMemory}
 use Rattle.rj_csv_io.specs.declared.refused.ReadRefused.{ReadRefused}
 use Rattle.rj_csv_io.specs.declared.refused.ReadRefused.TheVariants as read
 use Rattle.rj_csv_io.specs.declared.write.WriteRefused.{WriteRefused}
@@ -95,6 +95,14 @@ status_of fault.NotAsExpected = 7
 abbrev pub clap_error_of : Fault → Option Error
 clap_error_of (fault.CommandLine e) = Some e
 clap_error_of _ = None
+
+-- the fault of an error of `clap`'s: want of memory exactly where it is of that kind
+abbrev pub fault_by : ErrorKind → Error → Fault
+fault_by OutOfMemory e = fault.Memory
+fault_by _ e = fault.CommandLine e
+
+abbrev pub clap_fault : Error → Fault
+clap_fault e = fault_by (kind_of e) e
 
 -- the fault is want of memory, or that the writer failed
 abbrev pub IsOfWriting : Fault → Type 0

@@ -1,12 +1,13 @@
 //! Telling why a program ended without its output.
 
-ghost use Rattle.std.specs.Prelude.{◌≡◌, ◌⊎◌, ℕ, Option, Some, false, true};
+ghost use Rattle.std.specs.Prelude.{◌≡◌, ◌⊎◌, ℕ, Option, Some, false, is_ok, true};
 ghost use Rattle.std.specs.Option.{option_copied};
 ghost use Rattle.clap.specs.declared.error.Error.{Error};
 ghost use Rattle.rj_fault.specs.Faults.{IsAskedFor};
 
 use clap::Error;
 use std::fmt::Display;
+use std::io;
 
 /// Why a program ended without its output. Its text is the line that is printed, without its line end.
 pub trait ExitReason: Display + Drop {
@@ -40,14 +41,20 @@ fn tell_line<T: ExitReason>(rt: &impl Eprint, reason: &T) -> u8
     reason.status()
 }
 
-// The exit status behind what `clap` tells, which could be printed or not: help and the version that couldn't be printed end as a
+// The exit status behind what `clap` tells, by what printing it answered: help and the version that couldn't be printed end as a
 // failed write, which is told.
-fn status_by_clap<T: ExitReason>(rt: &impl Eprint, reason: &T, error: &Error, printed: bool) -> u8
-    ensures printed { printed ≡ true → result ≡ T.exit reason.now }
-    ensures unprinted { printed ≡ false → IsAskedFor (Some error.now) → result ≡ T.exit T.unwritten }
+fn status_by_clap<T: ExitReason>(
+    rt: &impl Eprint,
+    reason: &T,
+    error: &Error,
+    printed: io::Result<()>,
+) -> u8
+    ensures printed { is_ok printed ≡ true → result ≡ T.exit reason.now }
+    ensures unprinted { is_ok printed ≡ false → IsAskedFor (Some error.now) → result ≡ T.exit T.unwritten }
+    ensures refused { (IsAskedFor (Some error.now) → ⊥) → result ≡ T.exit reason.now }
     ensures either { (result ≡ T.exit reason.now) ⊎ (IsAskedFor (Some error.now) × (result ≡ T.exit T.unwritten)) }
 {
-    if printed || error.use_stderr() {
+    if printed.is_ok() || error.use_stderr() {
         return reason.status();
     }
     tell_line(rt, &T::failed_write())
@@ -59,8 +66,7 @@ pub fn tell<R: Print + Eprint, T: ExitReason>(rt: &R, reason: &T) -> u8
     ensures { (result ≡ T.exit reason.now) ⊎ (IsAskedFor (T.of_clap reason.now) × (result ≡ T.exit T.unwritten)) }
 {
     if let Some(error) = reason.by_clap() {
-        let printed = error.print(rt).is_ok();
-        return status_by_clap(rt, reason, error, printed);
+        return status_by_clap(rt, reason, error, error.print(rt));
     }
     tell_line(rt, reason)
 }

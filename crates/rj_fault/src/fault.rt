@@ -4,6 +4,7 @@ ghost use Rattle.std.specs.Prelude.{◌≡◌, Some};
 ghost use Rattle.rj_fault.specs.Faults.{side_text, status_of};
 
 use crate::exit_reason::ExitReason;
+use clap::error::ErrorKind;
 use rj_condition::Word;
 use rj_csv_io::WriteRefused;
 use std::alloc::AllocError;
@@ -161,6 +162,19 @@ impl From<AllocError> for Fault {
 
     fn from(_error: AllocError) -> Fault {
         Fault::Memory
+    }
+}
+
+impl From<clap::Error> for Fault {
+    ghost use Rattle.rj_fault.specs.Faults.{clap_fault};
+
+    ghost from_gives = { λ e f. f ≡ clap_fault e };
+
+    fn from(error: clap::Error) -> Fault {
+        match error.kind() {
+            ErrorKind::OutOfMemory => Fault::Memory,
+            _ => Fault::CommandLine(error),
+        }
     }
 }
 

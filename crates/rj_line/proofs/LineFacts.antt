@@ -1,11 +1,15 @@
 -- Which fault of the command line a bad type list is, and too many null texts.
-use Rattle.std.proofs.Common.{◌≡◌, ◌≢◌, ◌<◌, ◌≤◌, ◌∷◌, arith, ℕ, Bool, true, false, List, [], length, Option, Some, ap, sym, subst, true≢false, codes}
-use Rattle.clap.specs.Words.{Text, fault_of}
+use Rattle.std.proofs.Common.{◌≡◌, ◌≢◌, ◌∙◌, ◌⊎◌, ◌<◌, ◌≤◌, ◌∷◌, arith, ℕ, Bool, true, false, List, [], length, Option, Some, ap, inl, inr, refl, sym, subst, true≢false, codes}
+use Rattle.clap.specs.Words.{IsAmong, Text, fault_of, kind_of}
+use Rattle.clap.specs.declared.error.Error.{Error}
+use Rattle.clap.specs.declared.error.kind.ErrorKind.{ErrorKind}
+use Rattle.clap.specs.declared.error.kind.ErrorKind.TheVariants as kind
+use Rattle.rj_fault.specs.Faults.{clap_fault, fault_by}
 use Rattle.rj_fault.specs.declared.fault.Fault.{Fault}
 use Rattle.rj_fault.specs.declared.fault.Fault.TheVariants as fault
 use Rattle.rj_fault.specs.declared.fault.Side.TheVariants as side
 use Rattle.rj_line.specs.Choices.{IsChoiceFault}
-use Rattle.rj_line.specs.Line.{AreTablesGiven, GiveTypes, IsLineFault, IsRequestFault, nulls_or, word_of, words_of}
+use Rattle.rj_line.specs.Line.{AreTablesGiven, GiveTypes, IsLineFault, IsParseError, IsRequestFault, nulls_or, word_of, words_of}
 use Rattle.rj_line.specs.Options.{OptionWords, line_app}
 use Rattle.rj_types.specs.Lists.{IsTypeList}
 use Rattle.rj_types.specs.declared.entry.TypeEntry.{TypeEntry}
@@ -63,3 +67,20 @@ pub line_fault : (words : List Text) (h : OptionWords) (f : Fault) → fault_of 
 line_fault words h (fault.CommandLine e) accepted told = absurd told.1
 line_fault words h fault.Memory accepted told = tt
 line_fault words h f accepted told = (h, accepted, told)
+
+abbrev is_want_of_memory : ErrorKind → Bool
+is_want_of_memory kind.OutOfMemory = true
+is_want_of_memory _ = false
+
+fault_of_kind : (words : List Text) (e : Error) (k : ErrorKind) → kind_of e ≡ k
+    → (k ≡ kind.OutOfMemory) ⊎ ((h : OptionWords) × IsAmong k (fault_of (line_app h) words)) → IsLineFault words (fault_by k e)
+fault_of_kind words e kind.OutOfMemory is told = tt
+fault_of_kind words e k is (inl memory) = absurd (true≢false (sym (ap is_want_of_memory memory)))
+fault_of_kind words e k is (inr told) = (
+  λ memory. true≢false (sym (ap is_want_of_memory memory) ∙ ap is_want_of_memory is),
+  (told.0, subst (λ j. IsAmong j (fault_of (line_app told.0) words)) (sym is) told.1),
+)
+
+-- the fault that an error of `clap`'s is told as is one of the line
+pub clap_line_fault : (words : List Text) (e : Error) → IsParseError words e → IsLineFault words (clap_fault e)
+clap_line_fault words e told = fault_of_kind words e (kind_of e) refl told

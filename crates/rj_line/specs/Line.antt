@@ -1,8 +1,10 @@
 -- What the words of the command line say.
-use Rattle.std.specs.Prelude.{◌≡◌, ◌≤◌, ◌<◌, ◌⊎◌, Bool, true, false, ℕ, List, [], ◌∷◌, length, Option, Some, None, option_map, codes, is_some, unwrap_or, pos}
+use Rattle.std.specs.Prelude.{◌≡◌, ◌≢◌, ◌≤◌, ◌<◌, ◌⊎◌, Bool, true, false, ℕ, List, [], ◌∷◌, length, Option, Some, None, option_map, codes, is_some, unwrap_or, pos}
 use Rattle.std.specs.Str.{bytes_eq}
 use Rattle.std.specs.Str.Parse.{IsNumeral, signed_digits_value, without_leading_sign}
 use Rattle.clap.specs.Words.{IsAmong, IsSignedIn, Text, all_of, fault_of, first_of, first_value, found_of, kind_of, matched_of, matches_of, raw_values}
+use Rattle.clap.specs.declared.error.Error.{Error}
+use Rattle.clap.specs.declared.error.kind.ErrorKind.TheVariants.{OutOfMemory}
 use Rattle.clap.specs.declared.parser.matches.ArgMatches.{ArgMatches}
 use Rattle.clap.specs.declared.parser.matches.Found.{Found}
 use Rattle.rj_csv_io.specs.Typed.{null_texts}
@@ -171,9 +173,14 @@ IsRequestFault word texts (fault.TooManyNulls side.Right) =
 IsRequestFault word texts fault.Memory = Unit {0}
 IsRequestFault word texts f = AreTablesGiven word texts × IsChoiceFault word f
 
--- a fault of `clap`'s; or where it has none to tell, one of the values; or want of memory
+-- an error of `clap`'s: want of memory, or one of a kind that it may tell of the words
+abbrev pub IsParseError : List Text → Error → Type 0
+IsParseError words e = (kind_of e ≡ OutOfMemory) ⊎ ((h : OptionWords) × IsAmong (kind_of e) (fault_of (line_app h) words))
+
+-- an error of `clap`'s of a kind that it may tell of the words, and no want of memory; or where it has none to tell, a fault of the values;
+-- or want of memory
 abbrev pub IsLineFault : List Text → Fault → Type 0
-IsLineFault words (fault.CommandLine e) = (h : OptionWords) × IsAmong (kind_of e) (fault_of (line_app h) words)
+IsLineFault words (fault.CommandLine e) = (kind_of e ≢ OutOfMemory) × ((h : OptionWords) × IsAmong (kind_of e) (fault_of (line_app h) words))
 IsLineFault words fault.Memory = Unit {0}
 IsLineFault words f = (h : OptionWords) × (fault_of (line_app h) words ≡ []) × IsRequestFault (word_of h words) (words_of h words) f
 

@@ -1,9 +1,9 @@
 //! Reading the words of the command line.
 
-ghost use Rattle.std.specs.Prelude.{◌≡◌, ◌≢◌, ◌⊎◌, ◌-◌, ◌^◌, IfOk, IfErr, Some, codes, is_some, map, true};
-ghost use Rattle.clap.specs.Words.{first_value, found_of, kind_of};
+ghost use Rattle.std.specs.Prelude.{◌≡◌, ◌-◌, ◌^◌, IfOk, IfErr, Some, codes, is_some, map, true};
+ghost use Rattle.clap.specs.Words.{first_value, found_of};
 ghost use Rattle.rj_line.specs.Named.{IsNameOf, IsNamedOr};
-ghost use Rattle.rj_line.specs.Line.{AreNumbersIn, AreSettings, HasValues, IsLineFault, IsLineOf, IsNumberIn, IsNumberOr, IsParseOf, IsRequestFault, IsRequestOf, IsStrictName, IsStrictness, hash_name, is_true, texts_found};
+ghost use Rattle.rj_line.specs.Line.{AreNumbersIn, AreSettings, HasValues, IsLineFault, IsLineOf, IsNumberIn, IsNumberOr, IsParseError, IsParseOf, IsRequestFault, IsRequestOf, IsStrictName, IsStrictness, hash_name, is_true, texts_found};
 
 use crate::choosing::choice_of;
 use crate::expecting::{expectation_of, number_of};
@@ -11,7 +11,6 @@ use crate::nulls::read_nulls;
 use crate::options::line_command;
 use crate::request::{Hash, Request, Strictness};
 use crate::types::read_types;
-use clap::error::ErrorKind;
 use clap::{ArgMatches, Error};
 use rj_fault::{Fault, Side};
 use rj_settings::Settings;
@@ -38,30 +37,15 @@ pub struct Line<'a> {
     pub progress: bool,
 }
 
-// The fault of an error of `clap`'s.
-fn fault_of_error(error: Error) -> Fault
-    ensures memory { kind_of error ≡ ErrorKind.OutOfMemory → result ≡ Fault.Memory }
-    ensures line { kind_of error ≢ ErrorKind.OutOfMemory → result ≡ Fault.CommandLine error }
-    ensures told { (result ≡ Fault.Memory) ⊎ (result ≡ Fault.CommandLine error) }
-{
-    if error.kind() == ErrorKind::OutOfMemory {
-        Fault::Memory
-    } else {
-        Fault::CommandLine(error)
-    }
-}
-
 // The matches of the words.
-fn parse_words<'a>(alloc: Global, words: &'a [&'a str]) -> Result<ArgMatches<'a>, Fault>
+fn parse_words<'a>(alloc: Global, words: &'a [&'a str]) -> Result<ArgMatches<'a>, Error>
     ensures ok { IfOk result (IsParseOf (map (λ w. w.now) words.entry.now)) }
-    ensures fault { IfErr result (IsLineFault (map (λ w. w.now) words.entry.now)) }
+    ensures error { IfErr result (IsParseError (map (λ w. w.now) words.entry.now)) }
 {
-    let Ok(command) = line_command(alloc) else {
-        return Err(Fault::Memory);
-    };
+    let command = line_command(alloc)?;
     match command.try_get_matches_from(words) {
         Ok(matches) => Ok(matches),
-        Err(error) => Err(fault_of_error(error)),
+        Err(error) => Err(error),
     }
 }
 
@@ -171,7 +155,8 @@ fn request_of<'a>(alloc: Global, matches: &ArgMatches<'a>) -> Result<Request<'a>
 ///
 /// # Errors
 ///
-/// A line that `clap` refuses, or that asks for help or the version, is `Fault::CommandLine`; a bad type list is told
+/// A line that `clap` refuses, or that asks for help or the version, is `Fault::CommandLine`, and one that it has no memory for
+/// `Fault::Memory`; a bad type list is told
 /// after that, the left one before the right one, and then more than four null texts on the left, and on the right, then a bad
 /// list of kinds of rows, then `MatchedLeftColumns`, and then a bad suffix. `Fault::Memory` comes only where a growth was refused.
 pub fn read_line<'a>(alloc: Global, words: &'a [&'a str]) -> Result<Line<'a>, Fault>

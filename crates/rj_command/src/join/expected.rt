@@ -3,13 +3,24 @@
 ghost use Rattle.std.specs.Prelude.{◌≡◌, ◌⊎◌, IfErr, OnOk};
 ghost use Rattle.rj_engine.specs.Expected.{IsAsExpected};
 ghost use Rattle.rj_engine.specs.Results.{joined_of};
-ghost use Rattle.rj_command.specs.Expected.{IsUnexpected};
+ghost use Rattle.rj_command.specs.Expected.{IsUnexpected, refusal_of};
 
 use crate::join::operands::Operands;
 use rj_engine::{Joined, is_as_expected};
 use rj_fault::Fault;
 use rj_line::Request;
-use std::alloc::Global;
+use std::alloc::{AllocError, Global};
+
+// The refusal of a joined table, by whether it is as expected, or that this couldn't be found out.
+fn refusal(is_expected: Result<bool, AllocError>) -> Result<(), Fault>
+    ensures { result ≡ refusal_of is_expected }
+{
+    match is_expected {
+        Ok(true) => Ok(()),
+        Ok(false) => Err(Fault::NotAsExpected),
+        Err(_) => Err(Fault::Memory),
+    }
+}
 
 /// Refuses a joined table that isn't as expected.
 ///
@@ -27,16 +38,12 @@ pub(crate) fn refuse_unexpected(
     ensures fault { IfErr result (λ f. (f ≡ Fault.Memory) ⊎ IsUnexpected request.now operands.now.join operands.now.left operands.now.right f) }
 {
     let expectation = &request.expectation;
-    match is_as_expected(
+    refusal(is_as_expected(
         alloc,
         &operands.left,
         &operands.right,
         &operands.join,
         joined,
         expectation,
-    ) {
-        Ok(true) => Ok(()),
-        Ok(false) => Err(Fault::NotAsExpected),
-        Err(_) => Err(Fault::Memory),
-    }
+    ))
 }

@@ -2,8 +2,6 @@ use Rattle.std.proofs.Common.{◌≡◌, ◌∙◌, ap, refl, sym, subst, inl, i
 use Rattle.clap.specs.Words.{App, IsAmong, Text, all_of, fault_of, first_of, found_of, kind_of, is_simple, is_simple_and_free, matches_of}
 use Rattle.clap.proofs.OnLiterals.{clap_on_literals}
 use Rattle.clap.proofs.WalkLemmas.{first_value-rows, raw_values-rows}
-use Rattle.rj_line.specs.Line.{IsLineFault}
-use Rattle.rj_fault.specs.declared.fault.Fault.TheVariants as fault
 use Rattle.rj_line.specs.Options.{OptionWords, line_app, option_rules}
 use Rattle.std.specs.List.{list_all}
 use Rattle.rj_line.proofs.ChainFacts.{are_distinct, fits_option, wanted_given}
@@ -24,18 +22,18 @@ free : (h : OptionWords) → is_simple_and_free (line_app h) ≡ true
 unfolding clap_on_literals
 free h = refl
 
-pub returns-in-Ok-try_get_matches_from-clause-ok : goal.returns-in-Ok-try_get_matches_from-clause-ok
-returns-in-Ok-try_get_matches_from-clause-ok c =
-    let command = c.in-Ok.ensures in
+pub returns-in-Ok-clause-ok : goal.returns-in-Ok-clause-ok
+returns-in-Ok-clause-ok c =
+    let command = c.in_ok-command.ensures in
     let h = command.option_words in
     let words : List Text = map (λ (w : Bor Text). w.now) c.args.words.now in
-    let m = c.in-Ok-try_get_matches_from.matches in
-    let got = c.in-Ok-try_get_matches_from.ensures in
+    let m = c.in-Ok.matches in
+    let got = c.in-Ok.ensures in
     let rows = (got.matches (ap is_simple command.app ∙ simple h)).0 ∙ ap (λ (a : App). matches_of a words) command.app in
     let fits : list_all fits_option (option_rules h) ≡ true = refl in
     let distinct : are_distinct (option_rules h) ≡ true = refl in
-    let given = wanted_given command.start c.in-Ok.command (option_rules h) m command.bare command.chain fits distinct in
-    let number = number_given command.start c.in-Ok.command (option_rules h) m command.bare command.chain fits distinct in
+    let given = wanted_given command.start c.in_ok-command.command (option_rules h) m command.bare command.chain fits distinct in
+    let number = number_given command.start c.in_ok-command.command (option_rules h) m command.bare command.chain fits distinct in
     record {
       option_words = h;
       accepted = ap (λ (a : App). fault_of a words) (sym command.app) ∙ got.kinds (ap is_simple_and_free command.app ∙ free h);
@@ -57,25 +55,21 @@ returns-in-Ok-try_get_matches_from-clause-ok c =
           retries = number 17 0 3 (lit< tt) refl got.parsed;
           piece = number 18 1 1048576 (lit< tt) refl got.parsed;
         };
-        expect = name_given command.start c.in-Ok.command (option_rules h) m command.bare command.chain fits distinct matching_name (matching.OneToOne ∷ matching.ManyToOne ∷ matching.OneToMany ∷ []) h.matchings h.are_matchings 26 (lit< tt) refl refl got.parsed;
+        expect = name_given command.start c.in_ok-command.command (option_rules h) m command.bare command.chain fits distinct matching_name (matching.OneToOne ∷ matching.ManyToOne ∷ matching.OneToMany ∷ []) h.matchings h.are_matchings 26 (lit< tt) refl refl got.parsed;
         most_rows = number 27 0 4294967295 (lit< tt) refl got.parsed;
-        hash = name_given command.start c.in-Ok.command (option_rules h) m command.bare command.chain fits distinct hash_name (hash.Plain ∷ hash.Mixed ∷ []) h.hashes h.are_hashes 12 (lit< tt) refl refl got.parsed;
-        order = name_given command.start c.in-Ok.command (option_rules h) m command.bare command.chain fits distinct order_name (order.PairsFirst ∷ order.LeftFirst ∷ []) h.orders h.are_orders 22 (lit< tt) refl refl got.parsed;
-        columns = name_given command.start c.in-Ok.command (option_rules h) m command.bare command.chain fits distinct columns_name (columns.All ∷ columns.Left ∷ columns.Right ∷ []) h.sides h.are_sides 24 (lit< tt) refl refl got.parsed;
-        strict = strict_given command.start c.in-Ok.command (option_rules h) m command.bare command.chain fits distinct 9 (lit< tt) h refl refl got.parsed;
+        hash = name_given command.start c.in_ok-command.command (option_rules h) m command.bare command.chain fits distinct hash_name (hash.Plain ∷ hash.Mixed ∷ []) h.hashes h.are_hashes 12 (lit< tt) refl refl got.parsed;
+        order = name_given command.start c.in_ok-command.command (option_rules h) m command.bare command.chain fits distinct order_name (order.PairsFirst ∷ order.LeftFirst ∷ []) h.orders h.are_orders 22 (lit< tt) refl refl got.parsed;
+        columns = name_given command.start c.in_ok-command.command (option_rules h) m command.bare command.chain fits distinct columns_name (columns.All ∷ columns.Left ∷ columns.Right ∷ []) h.sides h.are_sides 24 (lit< tt) refl refl got.parsed;
+        strict = strict_given command.start c.in_ok-command.command (option_rules h) m command.bare command.chain fits distinct 9 (lit< tt) h refl refl got.parsed;
       };
     }
 
-pub returns-in-Err-clause-fault : goal.returns-in-Err-clause-fault
-returns-in-Err-clause-fault c =
-    let command = c.in-Ok.ensures in
+pub returns-in-Err-clause-error : goal.returns-in-Err-clause-error
+returns-in-Err-clause-error c =
+    let command = c.in_ok-command.ensures in
     let h = command.option_words in
     let words : List Text = map (λ (w : Bor Text). w.now) c.args.words.now in
-    let memory : c.fault_of_error.result ≡ fault.Memory → IsLineFault words c.fault_of_error.result = λ is. subst (IsLineFault words) (sym is) tt in
     elim (c.in-Err.ensures.kinds (ap is_simple_and_free command.app ∙ free h)) [
-      | inl refused ↦ memory (c.fault_of_error.ensures.memory refused)
-      | inr among ↦ elim c.fault_of_error.ensures.told [
-        | inl is ↦ memory is
-        | inr is ↦ subst (IsLineFault words) (sym is) (h, subst (λ (a : App). IsAmong (kind_of c.in-Err.error) (fault_of a words)) command.app among)
-      ]
+      | inl memory ↦ inl memory
+      | inr among ↦ inr (h, subst (λ (a : App). IsAmong (kind_of c.in-Err.error) (fault_of a words)) command.app among)
     ]

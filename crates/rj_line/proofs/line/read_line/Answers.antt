@@ -1,7 +1,10 @@
-use Rattle.std.proofs.Common.{◌≡◌, ◌∙◌, ap, subst, sym, List, Option, codes, map, Bor}
+use Rattle.std.proofs.Common.{◌≡◌, ◌∙◌, ap, subst, sym, Err, IfErr, List, Option, Result, codes, map, Bor}
+use Rattle.std.proofs.lemmas.Result.{err_from_is_err_and}
 use Rattle.clap.specs.Words.{Text, first_value, found_of}
-use Rattle.rj_line.specs.Line.{IsRequestFault, IsRequestOf, is_true, texts_found, word_of, words_of}
-use Rattle.rj_line.proofs.LineFacts.{line_fault}
+use Rattle.rj_fault.specs.declared.fault.Fault.{Fault}
+use Rattle.rj_line.specs.declared.line.Line.{Line}
+use Rattle.rj_line.specs.Line.{IsLineFault, IsRequestFault, IsRequestOf, is_true, texts_found, word_of, words_of}
+use Rattle.rj_line.proofs.LineFacts.{clap_line_fault, line_fault}
 use Rattle.rj_line.proofs.line.read_line.Goals as goal
 
 -- what holds of the values that a parse found holds of those that the words give
@@ -39,3 +42,9 @@ returns-in-Err-clause-fault c =
     line_fault words parse.option_words c.in-Err.fault parse.accepted
     (by_words (λ word texts. IsRequestFault word texts c.in-Err.fault) (first_value found) (word_of parse.option_words words)
     (texts_found found) (words_of parse.option_words words) parse.values parse.texts c.in-Err.ensures.fault)
+
+pub returns-in_err-matches-clause-fault : goal.returns-in_err-matches-clause-fault
+returns-in_err-matches-clause-fault c =
+    let words : List Text = map (λ (w : Bor Text). w.now) c.args.words.now in
+    let told = err_from_is_err_and c.from_residual.result c.from_residual.ensures.1 in
+    subst (λ (r : Result Line Fault). IfErr r (IsLineFault words)) (sym (told.1 ∙ ap Err told.2)) (clap_line_fault words c.in_err-matches.field-0.0 c.in_err-matches.ensures.error)

@@ -1,4 +1,4 @@
-use Rattle.rj_command.proofs.RunFacts.{joined_of_operands, no_other}
+use Rattle.rj_command.proofs.RunFacts.{has_joined, joined_of_operands, no_other}
 use Rattle.rj_command.proofs.join.running.run.Goals as goal
 
 pub returns-clause-joined : goal.returns-clause-joined
@@ -9,5 +9,4 @@ returns-clause-fault g c = no_other c.args.left.now c.args.right.now c.args.requ
 
 pub returns-clause-failed : goal.returns-clause-failed
 returns-clause-failed g c = λ failed.
-    let operands = c.in_ok-operands.operands in
-    (operands.left, operands.right, operands.join, c.in_ok-operands.ensures.operands)
+    has_joined c.args.left.now c.args.right.now c.args.request.now c.in_ok-operands.operands c.in_ok-operands.ensures.operands (c.write_by_hash.ensures.failed failed)

@@ -1,5 +1,5 @@
 use Rattle.std.proofs.Common.{rules}
-use Rattle.rj_command.proofs.RunFacts.{joined_of_operands, no_other, of_operands}
+use Rattle.rj_command.proofs.RunFacts.{has_joined, joined_of_operands, no_other, of_operands}
 use Rattle.rj_command.proofs.join.running.run_owned.Goals as goal
 
 pub returns-clause-joined : goal.returns-clause-joined
@@ -10,8 +10,7 @@ returns-clause-fault g c = no_other c.args.left.items c.args.right.items c.args.
 
 pub returns-clause-failed : goal.returns-clause-failed
 returns-clause-failed g c = λ failed.
-    let operands = c.in_ok-operands.operands in
-    (operands.left, operands.right, operands.join, c.in_ok-operands.ensures.operands)
+    has_joined c.args.left.items c.args.right.items c.args.request.now c.in_ok-operands.operands c.in_ok-operands.ensures.operands (c.write_by_hash.ensures.failed failed)
 
 pub returns-in_err-operands-clause-fault : goal.returns-in_err-operands-clause-fault
 returns-in_err-operands-clause-fault g c = of_operands c.args.left.items c.args.right.items c.args.request.now c.from_residual.result c.in_err-operands.field-0.0 (search rules) c.in_err-operands.ensures.fault

@@ -10,6 +10,7 @@ use Rattle.rj_fault.specs.Faults.{write_fault}
 use Rattle.rj_engine.specs.Cells.{ViewValue, name_of}
 use Rattle.rj_engine.specs.Chosen.{chosen_columns}
 use Rattle.rj_engine.specs.Shown.{shown_view}
+use Rattle.rj_command.proofs.PreparedFacts.{ready_of}
 use Rattle.rj_command.proofs.join.running.write_joined.Goals as goal
 
 pub write_shown-requires-clause-header : goal.write_shown-requires-clause-header
@@ -39,7 +40,12 @@ returns-clause-ok g c =
     let text =
     ap (λ header. table_text null header (shown_view p.shown l r p.joined.members).cells) header ∙ ap (λ (v : ViewValue). table_text null names v.cells) made.shown in
     let Writes : List ℕ → Type 0 = λ t. Appends (g.O.Output.told c.args.writer.now) (g.O.Output.told c.write_shown.new.writer) t in
-    (made.counted, made.expected, made.told_apart, (names, made.named, subst Writes text c.in_ok-write_shown.ensures.ok))
+    (ready_of _ _ _ p made, subst Writes text c.in_ok-write_shown.ensures.ok)
+
+pub returns-in_err-write_shown-clause-failed : goal.returns-in_err-write_shown-clause-failed
+returns-in_err-write_shown-clause-failed g c = λ failed.
+    let p = c.in_ok-prepared.prepared in
+    (p.stats, ready_of _ _ _ p c.in_ok-prepared.ensures.prepared)
 
 pub returns-in_err-write_shown-clause-kept : goal.returns-in_err-write_shown-clause-kept
 returns-in_err-write_shown-clause-kept g c = λ other. c.in_err-write_shown.ensures.kept (λ same.
