@@ -1,1 +1,4 @@
+pub mod InputFacts
+pub mod NameFacts
 pub mod PlaceFacts
+pub mod ShownFacts

@@ -1,8 +1,16 @@
 //! Rows and cells that can't be read.
 
+ghost use Rattle.std.specs.Prelude.{◌≡◌, ◌-◌, ◌⊎◌, IfOk, MatchOption, length, slice_get, string_bytes};
+ghost use Rattle.rj_csv_io.specs.Pieces.{names_in};
+ghost use Rattle.rj_types.specs.Columns as columns;
+ghost use Rattle.rj_explain.specs.Explained.{IsCellTold, IsRaggedTold, types_of};
+ghost use Rattle.rj_explain.specs.Lines as lines;
+ghost use Rattle.rj_explain.specs.Lines.{cell_of_row};
+ghost use Rattle.rj_explain.specs.Places.{HasNoRow, IsRow};
+
 use crate::inputs::{Inputs, text_of};
 use crate::row::{Row, field_at, find_row};
-use crate::shown::{Shown, TypeWord};
+use crate::shown::{Shown, Wanted};
 use rj_columns::ColumnType;
 use rj_fault::Side;
 use rj_types::types_under;
@@ -15,7 +23,9 @@ fn kind_at(
     side: Side,
     header: &Row,
     column: u64,
-) -> Result<Option<ColumnType>, AllocError> {
+) -> Result<Option<ColumnType>, AllocError>
+    ensures { IfOk result (λ o. o ≡ slice_get (columns.types_under (types_of side inputs.now) (names_in header.now.record)) (column - 1)) }
+{
     let names = header.record.names(alloc)?;
     let kinds = types_under(alloc, inputs.types(side), names.as_slice())?;
     match kinds.get((column as usize).saturating_sub(1)) {
@@ -27,32 +37,41 @@ fn kind_at(
 // The line that tells a cell, and that it isn't what its column's type asks for.
 fn cell_line(
     alloc: Global,
-    row: &Row,
+    line: u64,
     name: &[u8],
     value: &[u8],
     kind: ColumnType,
-) -> Result<String, AllocError> {
-    let (line, name, value) = (row.line, Shown { bytes: name }, Shown { bytes: value });
-    if kind == ColumnType::Text {
-        return format!(in alloc; "  line {line} of the file, column {name}: {value} is no UTF-8\n");
-    }
-    let kind = TypeWord { kind };
-    format!(in alloc; "  line {line} of the file, column {name}: {value} is no {kind}\n")
+) -> Result<String, AllocError>
+    ensures { IfOk result (λ s. string_bytes s ≡ lines.cell_line line name.now value.now kind) }
+{
+    let (name, value, wanted) = (
+        Shown { bytes: name },
+        Shown { bytes: value },
+        Wanted { kind },
+    );
+    format!(in alloc; "  line {line} of the file, column {name}: {value} is no {wanted}\n")
 }
 
 // The header of a text, and one of its rows.
 #[derive(Drop)]
-struct HeaderAndRow {
-    header: Row,
-    row: Row,
+pub(crate) struct HeaderAndRow {
+    pub(crate) header: Row,
+    pub(crate) row: Row,
 }
 
-// Both, where the text has them.
-fn header_and_row(
+/// Both, where the text has them.
+///
+/// # Errors
+///
+/// It fails only where memory is refused.
+pub(crate) fn header_and_row(
     alloc: Global,
     text: &[u8],
     row: u64,
-) -> Result<Option<HeaderAndRow>, AllocError> {
+) -> Result<Option<HeaderAndRow>, AllocError>
+    ensures { IfOk result (λ o. MatchOption o (HasNoRow text.now 0 ⊎ HasNoRow text.now row)
+        (λ b. IsRow text.now 0 b.header.line (names_in b.header.record) × IsRow text.now row b.row.line (names_in b.row.record))) }
+{
     let Some(header) = find_row(alloc, text, 0)? else {
         return Ok(None);
     };
@@ -69,15 +88,19 @@ fn lines_of_cell(
     side: Side,
     found: &HeaderAndRow,
     column: u64,
-) -> Result<String, AllocError> {
+) -> Result<String, AllocError>
+    ensures { IfOk result (λ s. string_bytes s
+        ≡ cell_of_row (types_of side inputs.now) column found.now.row.line (names_in found.now.header.record) (names_in found.now.row.record)) }
+{
     let Some(kind) = kind_at(alloc, inputs, side, &found.header, column)? else {
         return Ok(String::new(alloc));
     };
-    let name = field_at(alloc, &found.header.record, column)?;
-    let value = field_at(alloc, &found.row.record, column)?;
-    match (name, value) {
-        (Some(name), Some(value)) => cell_line(alloc, &found.row, name, value, kind),
-        _ => Ok(String::new(alloc)),
+    let Some(name) = field_at(alloc, &found.header.record, column)? else {
+        return Ok(String::new(alloc));
+    };
+    match field_at(alloc, &found.row.record, column)? {
+        Some(value) => cell_line(alloc, found.row.line, name, value, kind),
+        None => Ok(String::new(alloc)),
     }
 }
 
@@ -92,12 +115,24 @@ pub(crate) fn cell_lines(
     side: Side,
     row: u64,
     column: u64,
-) -> Result<String, AllocError> {
+) -> Result<String, AllocError>
+    ensures { IfOk result (λ s. IsCellTold side row column inputs.now (string_bytes s)) }
+{
     let quoted = inputs.quoted_text(alloc, side)?;
     match header_and_row(alloc, text_of(&quoted, inputs.file(side)), row)? {
         Some(found) => lines_of_cell(alloc, inputs, side, &found, column),
         None => Ok(String::new(alloc)),
     }
+}
+
+// The line that tells both lengths.
+fn ragged_line(alloc: Global, found: &HeaderAndRow) -> Result<String, AllocError>
+    ensures { IfOk result (λ s. string_bytes s
+        ≡ lines.ragged_line found.now.row.line (length (names_in found.now.row.record)) (length (names_in found.now.header.record))) }
+{
+    let (line, names) = (found.row.line, found.header.record.columns());
+    let fields = found.row.record.columns();
+    format!(in alloc; "  line {line} of the file: {fields} fields under {names} names\n")
 }
 
 /// What is told of a row whose length isn't the header's: its line, and both lengths.
@@ -110,12 +145,12 @@ pub(crate) fn ragged_lines(
     inputs: &Inputs<'_, '_>,
     side: Side,
     row: u64,
-) -> Result<String, AllocError> {
+) -> Result<String, AllocError>
+    ensures { IfOk result (λ s. IsRaggedTold side row inputs.now (string_bytes s)) }
+{
     let quoted = inputs.quoted_text(alloc, side)?;
-    let Some(found) = header_and_row(alloc, text_of(&quoted, inputs.file(side)), row)? else {
-        return Ok(String::new(alloc));
-    };
-    let (line, names) = (found.row.line, found.header.record.columns());
-    let fields = found.row.record.columns();
-    format!(in alloc; "  line {line} of the file: {fields} fields under {names} names\n")
+    match header_and_row(alloc, text_of(&quoted, inputs.file(side)), row)? {
+        Some(found) => ragged_line(alloc, &found),
+        None => Ok(String::new(alloc)),
+    }
 }

@@ -1,11 +1,19 @@
 //! Names of a clause that can't be taken.
 
+ghost use Rattle.std.specs.Prelude.{◌≡◌, ◌⊎◌, ◌∷◌, [], ◌++◌, codes, IfOk, MatchOption, None, Ok, string_bytes};
+ghost use Rattle.std.specs.Option.{option_copied};
+ghost use Rattle.rj_fault.specs.Faults.{side_text};
+ghost use Rattle.rj_fault.specs.declared.fault.Side.TheVariants as sides;
+ghost use Rattle.rj_explain.specs.Explained.{AreColumns, IsNameTold, IsRefusalTold, IsToldOfName, columns_in};
+ghost use Rattle.rj_explain.specs.Lines.{clause_line};
+ghost use Rattle.rj_explain.specs.Shown.{meant_text, names_text};
+
 use crate::inputs::Inputs;
 use crate::names::{Meant, NamesOf, nearest};
 use crate::shown::Shown;
 use rj_columns::Table;
-use rj_condition::{BindRefused, RefusedColumn, refused_column};
-use rj_csv_io::{Header, ReadRefused, without_bom};
+use rj_condition::{BindRefused, Name, RefusedColumn, Word, refused_column};
+use rj_csv_io::ReadRefused;
 use rj_fault::Side;
 use rj_types::types_under;
 use std::alloc::{AllocError, Global};
@@ -18,8 +26,10 @@ pub(crate) fn columns_of(
     alloc: Global,
     inputs: &Inputs<'_, '_>,
     side: Side,
-) -> Result<Option<Table>, AllocError> {
-    let Some(header) = Header::of(alloc, without_bom(inputs.file(side)))? else {
+) -> Result<Option<Table>, AllocError>
+    ensures { IfOk result (λ o. AreColumns side inputs.now o) }
+{
+    let Some(header) = inputs.header(alloc, side)? else {
         return Ok(None);
     };
     let names = header.names(alloc)?;
@@ -31,85 +41,6 @@ pub(crate) fn columns_of(
     }
 }
 
-// The table that a qualifier names, upper and lower case being one, if it names one.
-fn side_of(qualifier: &str) -> Option<Side> {
-    match qualifier {
-        "L" | "l" => Some(Side::Left),
-        "R" | "r" => Some(Side::Right),
-        _ => None,
-    }
-}
-
-// What is told of a name that neither table has.
-fn unknown_anywhere(
-    alloc: Global,
-    found: &RefusedColumn,
-    left: &Table,
-    right: &Table,
-) -> Result<String, AllocError> {
-    let wanted = found.name.as_str();
-    let meant = match nearest(alloc, wanted, left)? {
-        Some(name) => Some(name),
-        None => nearest(alloc, wanted, right)?,
-    };
-    let (at, meant) = (found.at, Meant { name: meant });
-    let wanted = Shown {
-        bytes: wanted.as_bytes(),
-    };
-    let (left, right) = (NamesOf { table: left }, NamesOf { table: right });
-    format!(in alloc;
-        "  {wanted} at byte {at} of the clause; left has {left}; right has {right}{meant}\n"
-    )
-}
-
-// What is told of a name that the table of its qualifier doesn't have.
-fn unknown_in(
-    alloc: Global,
-    found: &RefusedColumn,
-    side: Side,
-    table: &Table,
-) -> Result<String, AllocError> {
-    let wanted = found.name.as_str();
-    let meant = Meant {
-        name: nearest(alloc, wanted, table)?,
-    };
-    let (at, names) = (found.at, NamesOf { table });
-    let wanted = Shown {
-        bytes: wanted.as_bytes(),
-    };
-    format!(in alloc; "  {wanted} at byte {at} of the clause; {side} has {names}{meant}\n")
-}
-
-// What is told of a name that can't be found.
-fn unknown(
-    alloc: Global,
-    found: &RefusedColumn,
-    left: &Table,
-    right: &Table,
-) -> Result<String, AllocError> {
-    let Some(qualifier) = &found.qualifier else {
-        return unknown_anywhere(alloc, found, left, right);
-    };
-    match side_of(qualifier.as_str()) {
-        Some(Side::Left) => unknown_in(alloc, found, Side::Left, left),
-        Some(Side::Right) => unknown_in(alloc, found, Side::Right, right),
-        None => {
-            let at = found.at;
-            let (name, qualifier) = (
-                Shown {
-                    bytes: found.name.as_str().as_bytes(),
-                },
-                Shown {
-                    bytes: qualifier.as_str().as_bytes(),
-                },
-            );
-            format!(in alloc;
-                "  {name} at byte {at} of the clause stands behind {qualifier}, which is neither L nor R\n"
-            )
-        }
-    }
-}
-
 /// The columns of both sides' files, each as a table without rows.
 #[derive(Drop)]
 pub(crate) struct BothColumns {
@@ -117,11 +48,24 @@ pub(crate) struct BothColumns {
     pub(crate) right: Table,
 }
 
+impl BothColumns {
+    // Those of a side.
+    fn of(&self, side: Side) -> &Table {
+        match side {
+            Side::Left => &self.left,
+            Side::Right => &self.right,
+        }
+    }
+}
+
 /// Those of both sides, if both files have some.
 pub(crate) fn columns_of_both(
     alloc: Global,
     inputs: &Inputs<'_, '_>,
-) -> Result<Option<BothColumns>, AllocError> {
+) -> Result<Option<BothColumns>, AllocError>
+    ensures { IfOk result (λ o. MatchOption o (AreColumns sides.Left inputs.now None ⊎ AreColumns sides.Right inputs.now None)
+        (λ c. (columns_in sides.Left inputs.now ≡ Ok c.left) × (columns_in sides.Right inputs.now ≡ Ok c.right))) }
+{
     let Some(left) = columns_of(alloc, inputs, Side::Left)? else {
         return Ok(None);
     };
@@ -131,28 +75,199 @@ pub(crate) fn columns_of_both(
     }
 }
 
-// What is told of a name that can't be taken.
-fn refused_line(
-    alloc: Global,
-    found: &RefusedColumn,
-    columns: &BothColumns,
-) -> Result<String, AllocError> {
+// What is told of a name: the byte at which it begins, and these words.
+fn name_line(alloc: Global, found: &RefusedColumn, words: &str) -> Result<String, AllocError>
+    ensures { IfOk result (λ s. string_bytes s ≡ clause_line found.now words.now) }
+{
     let at = found.at;
     let name = Shown {
         bytes: found.name.as_str().as_bytes(),
     };
-    match found.refused {
-        BindRefused::UnknownColumn => unknown(alloc, found, &columns.left, &columns.right),
-        BindRefused::AmbiguousColumn => {
-            format!(in alloc;
-                "  {name} at byte {at} of the clause; both tables have it: write L. or R. before it\n"
-            )
-        }
-        BindRefused::RepeatedUsing => {
-            format!(in alloc; "  {name} at byte {at} of the clause; the column is named before\n")
-        }
-        BindRefused::TypeMismatch | BindRefused::Memory => Ok(String::new(alloc)),
+    format!(in alloc; "  {name} at byte {at} of the clause{words}")
+}
+
+// What is said of a name that neither table has.
+fn words_of_both(
+    alloc: Global,
+    columns: &BothColumns,
+    meant: Option<&str>,
+) -> Result<String, AllocError>
+    ensures { IfOk result (λ s. string_bytes s ≡ codes "; left has " ++ (names_text columns.now.left.names
+        ++ (codes "; right has " ++ (names_text columns.now.right.names ++ (meant_text (option_copied meant.entry) ++ 10 ∷ []))))) }
+{
+    let (left, right, meant) = (
+        NamesOf {
+            table: &columns.left,
+        },
+        NamesOf {
+            table: &columns.right,
+        },
+        Meant { name: meant },
+    );
+    format!(in alloc; "; left has {left}; right has {right}{meant}\n")
+}
+
+// What is said of a name that a side's table doesn't have, beside the names that it has.
+fn words_of_side(
+    alloc: Global,
+    side: Side,
+    has: &str,
+    table: &Table,
+    meant: Option<&str>,
+) -> Result<String, AllocError>
+    ensures { IfOk result (λ s. string_bytes s ≡ codes "; " ++ (side_text side ++ (codes " " ++ (has.now
+        ++ (codes " " ++ (names_text table.now.names ++ (meant_text (option_copied meant.entry) ++ 10 ∷ []))))))) }
+{
+    let (names, meant) = (NamesOf { table }, Meant { name: meant });
+    format!(in alloc; "; {side} {has} {names}{meant}\n")
+}
+
+// What is said of a name behind a qualifier that is no table's name. One that differs from it by its case is delimited.
+fn words_of_no_table(alloc: Global, qualifier: &str) -> Result<String, AllocError> {
+    let why = if qualifier.eq_ignore_ascii_case("L") || qualifier.eq_ignore_ascii_case("R") {
+        ": between double quotes a name matches exactly"
+    } else {
+        ""
+    };
+    let qualifier = Shown {
+        bytes: qualifier.as_bytes(),
+    };
+    format!(in alloc; " stands behind {qualifier}, which is neither L nor R{why}\n")
+}
+
+// The table that a qualifier names: where it isn't delimited, upper and lower case are one.
+fn side_of(qualifier: &str, delimited: bool) -> Option<Side> {
+    match qualifier {
+        "L" => Some(Side::Left),
+        "R" => Some(Side::Right),
+        "l" if !delimited => Some(Side::Left),
+        "r" if !delimited => Some(Side::Right),
+        _ => None,
     }
+}
+
+// Whether a delimited name and a point stand before a byte of a clause.
+fn is_behind_delimited(clause: &str, at: u64) -> bool {
+    let Some((before, _)) = clause.split_at_checked(at as usize) else {
+        return false;
+    };
+    match before.trim_ascii_end().strip_suffix('.') {
+        Some(qualifier) => qualifier.trim_ascii_end().ends_with('"'),
+        None => false,
+    }
+}
+
+// What is said of a name behind a qualifier that can't be found.
+fn words_of_qualified(
+    alloc: Global,
+    clause: &str,
+    found: &RefusedColumn,
+    qualifier: &str,
+    columns: &BothColumns,
+) -> Result<String, AllocError> {
+    let delimited = is_behind_delimited(clause, found.at);
+    let Some(side) = side_of(qualifier, delimited) else {
+        return words_of_no_table(alloc, qualifier);
+    };
+    let table = columns.of(side);
+    let meant = nearest(alloc, found.name.as_str(), table)?;
+    words_of_side(alloc, side, "has", table, meant)
+}
+
+// Whether a delimited name begins at a byte of a clause.
+fn is_delimited_at(clause: &str, at: u64) -> bool {
+    match clause.as_bytes().get(at as usize) {
+        Some(byte) => *byte == b'"',
+        None => false,
+    }
+}
+
+// Whether a table has a column that a name means.
+fn has_column(table: &Table, name: &Name) -> bool {
+    for column in 0..table.columns() {
+        if name.means(table.name(column).as_bytes()) {
+            return true;
+        }
+    }
+    false
+}
+
+// The side whose table lacks a column that the other one has.
+fn lacking_side(columns: &BothColumns, name: &Name) -> Option<Side> {
+    match (
+        has_column(&columns.left, name),
+        has_column(&columns.right, name),
+    ) {
+        (true, false) => Some(Side::Right),
+        (false, true) => Some(Side::Left),
+        _ => None,
+    }
+}
+
+// What is said of a name without a qualifier that can't be found: in USING one table may have it.
+fn words_of_bare(
+    alloc: Global,
+    clause: &str,
+    found: &RefusedColumn,
+    columns: &BothColumns,
+) -> Result<String, AllocError> {
+    let name = Name {
+        text: Word::new(alloc, found.name.as_str())?,
+        delimited: is_delimited_at(clause, found.at),
+    };
+    let wanted = found.name.as_str();
+    if let Some(side) = lacking_side(columns, &name) {
+        let table = columns.of(side);
+        let meant = nearest(alloc, wanted, table)?;
+        return words_of_side(alloc, side, "lacks it, and has", table, meant);
+    }
+    let meant = match nearest(alloc, wanted, &columns.left)? {
+        Some(name) => Some(name),
+        None => nearest(alloc, wanted, &columns.right)?,
+    };
+    words_of_both(alloc, columns, meant)
+}
+
+// What is said of a name that can't be found.
+fn words_of_unknown(
+    alloc: Global,
+    clause: &str,
+    found: &RefusedColumn,
+    columns: &BothColumns,
+) -> Result<String, AllocError> {
+    match &found.qualifier {
+        Some(qualifier) => words_of_qualified(alloc, clause, found, qualifier.as_str(), columns),
+        None => words_of_bare(alloc, clause, found, columns),
+    }
+}
+
+// What is said of a name that can't be taken.
+fn words_of(
+    alloc: Global,
+    clause: &str,
+    found: &RefusedColumn,
+    columns: &BothColumns,
+) -> Result<String, AllocError> {
+    let words = match found.refused {
+        BindRefused::UnknownColumn => return words_of_unknown(alloc, clause, found, columns),
+        BindRefused::AmbiguousColumn => "; both tables have it: write L. or R. before it\n",
+        BindRefused::RepeatedUsing => "; the column is named before\n",
+        BindRefused::TypeMismatch | BindRefused::Memory => "\n",
+    };
+    String::from_str(alloc, words)
+}
+
+// What is told of a name that can't be taken: the byte at which it begins, and what is said of it.
+fn refused_line(
+    alloc: Global,
+    clause: &str,
+    found: &RefusedColumn,
+    columns: &BothColumns,
+) -> Result<String, AllocError>
+    ensures { IfOk result (λ s. IsToldOfName found.now (string_bytes s)) }
+{
+    let words = words_of(alloc, clause, found, columns)?;
+    name_line(alloc, found, words.as_str())
 }
 
 // What is told of the first name of a clause that can't be taken, if there is one.
@@ -160,12 +275,14 @@ fn first_refused_line(
     alloc: Global,
     clause: &str,
     columns: &BothColumns,
-) -> Result<String, AllocError> {
+) -> Result<String, AllocError>
+    ensures { IfOk result (λ s. IsRefusalTold clause.now (string_bytes s) columns.now.left columns.now.right) }
+{
     if clause.len() > LONGEST {
         return Ok(String::new(alloc));
     }
     match refused_column(alloc, clause, &columns.left, &columns.right)? {
-        Some(found) => refused_line(alloc, &found, columns),
+        Some(found) => refused_line(alloc, clause, &found, columns),
         None => Ok(String::new(alloc)),
     }
 }
@@ -175,7 +292,9 @@ fn first_refused_line(
 /// # Errors
 ///
 /// It fails only where memory is refused.
-pub(crate) fn name_lines(alloc: Global, inputs: &Inputs<'_, '_>) -> Result<String, AllocError> {
+pub(crate) fn name_lines(alloc: Global, inputs: &Inputs<'_, '_>) -> Result<String, AllocError>
+    ensures { IfOk result (λ s. IsNameTold inputs.now (string_bytes s)) }
+{
     match columns_of_both(alloc, inputs)? {
         Some(columns) => first_refused_line(alloc, inputs.request.clause, &columns),
         None => Ok(String::new(alloc)),

@@ -1,5 +1,8 @@
 //! The lines that explain a fault.
 
+ghost use Rattle.std.specs.Prelude.{IfOk, string_bytes};
+ghost use Rattle.rj_explain.specs.Explained.{IsExplained, IsStrictExplained};
+
 use crate::cells::{cell_lines, ragged_lines};
 use crate::clause::name_lines;
 use crate::headers::{bad_name_lines, repeated_name_lines, type_count_lines, type_name_lines};
@@ -8,52 +11,46 @@ use crate::joined::null_text_lines;
 use crate::mismatch::mismatch_lines;
 use crate::strict::grammar_lines;
 use crate::syntax::syntax_lines;
-use rj_fault::{Fault, Side};
+use rj_fault::Fault;
 use std::alloc::{AllocError, Global};
 
-// What is told of a fault of RFC 4180's grammar, or none where it is no such fault.
-fn grammar_place(fault: &Fault) -> Option<(Side, u64, u64, &'static str)> {
+// Why a text isn't of RFC 4180's grammar.
+const NOT_CLOSED: &str = "no quote closes the field that one opens here";
+
+const BEHIND_QUOTE: &str = "more than a comma or a line end stands behind the closing quote";
+
+const QUOTE_WITHIN: &str = "a quote stands within a field that doesn't begin with one";
+
+const NO_LINE_FEED: &str = "no line feed follows the carriage return behind the field";
+
+const EMPTY: &str = "it is empty, under more than one name";
+
+const CUT_SHORT: &str = "it has no line end";
+
+// The lines of a fault of RFC 4180's grammar; of others there are none.
+fn explain_grammar(
+    alloc: Global,
+    fault: &Fault,
+    inputs: &Inputs<'_, '_>,
+) -> Result<String, AllocError>
+    ensures { IfOk result (λ s. IsStrictExplained fault.now inputs.now (string_bytes s)) }
+{
     match *fault {
         Fault::OpenQuote(side, row, column) => {
-            Some((
-                side,
-                row,
-                column,
-                "no quote closes the field that one opens here",
-            ))
+            grammar_lines(alloc, inputs, side, row, column, NOT_CLOSED)
         }
         Fault::AfterQuote(side, row, column) => {
-            Some((
-                side,
-                row,
-                column,
-                "more than a comma or a line end stands behind the closing quote",
-            ))
+            grammar_lines(alloc, inputs, side, row, column, BEHIND_QUOTE)
         }
         Fault::BareQuote(side, row, column) => {
-            Some((
-                side,
-                row,
-                column,
-                "a quote stands within a field that doesn't begin with one",
-            ))
+            grammar_lines(alloc, inputs, side, row, column, QUOTE_WITHIN)
         }
         Fault::BareReturn(side, row, column) => {
-            Some((
-                side,
-                row,
-                column,
-                "no line feed follows the carriage return behind the field",
-            ))
+            grammar_lines(alloc, inputs, side, row, column, NO_LINE_FEED)
         }
-        Fault::EmptyLine(side, row) => Some((
-            side,
-            row,
-            0,
-            "it is empty, under more than one name",
-        )),
-        Fault::CutShort(side, row) => Some((side, row, 0, "it has no line end")),
-        _ => None,
+        Fault::EmptyLine(side, row) => grammar_lines(alloc, inputs, side, row, 0, EMPTY),
+        Fault::CutShort(side, row) => grammar_lines(alloc, inputs, side, row, 0, CUT_SHORT),
+        _ => Ok(String::new(alloc)),
     }
 }
 
@@ -63,14 +60,9 @@ fn grammar_place(fault: &Fault) -> Option<(Side, u64, u64, &'static str)> {
 /// # Errors
 ///
 /// It fails only where memory is refused.
-pub fn explain(
-    alloc: Global,
-    fault: &Fault,
-    inputs: &Inputs<'_, '_>,
-) -> Result<String, AllocError> {
-    if let Some((side, row, column, why)) = grammar_place(fault) {
-        return grammar_lines(alloc, inputs, side, row, column, why);
-    }
+pub fn explain(alloc: Global, fault: &Fault, inputs: &Inputs<'_, '_>) -> Result<String, AllocError>
+    ensures { IfOk result (λ s. IsExplained fault.now inputs.now (string_bytes s)) }
+{
     match *fault {
         Fault::BadName(side, column) => bad_name_lines(alloc, inputs, side, column),
         Fault::RepeatedName(side, column) => repeated_name_lines(alloc, inputs, side, column),
@@ -83,9 +75,8 @@ pub fn explain(
         Fault::TypeMismatch => mismatch_lines(alloc, inputs),
         Fault::AmbiguousNull(row, column) => null_text_lines(alloc, inputs, row, column),
         Fault::RaggedRow(side, row) => ragged_lines(alloc, inputs, side, row),
-        Fault::BadInteger(side, row, column) | Fault::BadText(side, row, column) => {
-            cell_lines(alloc, inputs, side, row, column)
-        }
-        _ => Ok(String::new(alloc)),
+        Fault::BadInteger(side, row, column) => cell_lines(alloc, inputs, side, row, column),
+        Fault::BadText(side, row, column) => cell_lines(alloc, inputs, side, row, column),
+        _ => explain_grammar(alloc, fault, inputs),
     }
 }

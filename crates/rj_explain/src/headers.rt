@@ -1,25 +1,32 @@
 //! Names of a header, and type lists that don't fit it.
 
+ghost use Rattle.std.specs.Prelude.{◌≡◌, ◌<◌, IfOk, IfSome, length, map, string_bytes};
+ghost use Rattle.std.specs.List.{position_from};
+ghost use Rattle.std.specs.Option.{option_copied};
+ghost use Rattle.std.specs.Str.{str_eq_ignore_ascii_case};
+ghost use Rattle.rj_csv_io.specs.Pieces.{names_in};
+ghost use Rattle.rj_explain.specs.Explained.{IsCountTold, IsTypeCountTold, IsTypeNameTold, file_of, header_names};
+ghost use Rattle.rj_explain.specs.Lines as lines;
+ghost use Rattle.rj_explain.specs.Lines.{repeated_at, repeated_told};
+ghost use Rattle.rj_explain.specs.Places.{at_column};
+
 use crate::inputs::Inputs;
+use crate::names::before_name;
 use crate::row::field_at;
 use crate::shown::Shown;
-use rj_csv_io::{Header, without_bom};
+use rj_csv_io::Header;
 use rj_fault::Side;
 use rj_types::{Label, TypeEntry, types_under};
 use std::alloc::{AllocError, Global};
 
-// The name at a column of a side's header, counted from 1, in the words of a line.
-fn name_line(
-    alloc: Global,
-    header: &Header,
-    column: u64,
-    before: &str,
-    behind: &str,
-) -> Result<String, AllocError> {
-    match field_at(alloc, header, column)? {
+// The line that tells a name that no column may have, and its length in bytes.
+fn name_line(alloc: Global, name: Option<&[u8]>) -> Result<String, AllocError>
+    ensures { IfOk result (λ s. string_bytes s ≡ lines.name_line (option_copied name.entry)) }
+{
+    match name {
         Some(bytes) => {
             let (name, size) = (Shown { bytes }, bytes.len());
-            format!(in alloc; "  {before}{name}{behind}, of {size} bytes\n")
+            format!(in alloc; "  the name is {name}, of {size} bytes\n")
         }
         None => Ok(String::new(alloc)),
     }
@@ -35,21 +42,56 @@ pub(crate) fn bad_name_lines(
     inputs: &Inputs<'_, '_>,
     side: Side,
     column: u64,
-) -> Result<String, AllocError> {
-    match Header::of(alloc, without_bom(inputs.file(side)))? {
-        Some(header) => name_line(alloc, &header, column, "the name is ", ""),
+) -> Result<String, AllocError>
+    ensures { IfOk result (λ s. string_bytes s ≡ lines.name_line (at_column column (header_names (file_of side inputs.now)))) }
+{
+    match inputs.header(alloc, side)? {
+        Some(header) => name_line(alloc, field_at(alloc, &header, column)?),
         None => Ok(String::new(alloc)),
     }
 }
 
-// The first column, counted from 1, whose name is this one, upper and lower case being one.
-fn first_named(names: &[&[u8]], name: &[u8]) -> u64 {
+// Whether two names are one, upper and lower case being one.
+fn are_alike(name: &[u8], other: &[u8]) -> bool
+    ensures { result ≡ str_eq_ignore_ascii_case name.now other.now }
+{
+    name.eq_ignore_ascii_case(other)
+}
+
+// The first of these names that is like this one.
+fn first_named(names: &[&[u8]], name: &[u8]) -> Option<usize>
+    ensures place { result ≡ position_from (str_eq_ignore_ascii_case name.now) 0 (map (λ n. n.now) names.now) }
+    ensures within { IfSome result (λ i. i < length names.now) }
+{
     for i in 0..names.len() {
-        if names[i].eq_ignore_ascii_case(name) {
-            return i as u64 + 1;
+        if are_alike(name, names[i]) {
+            return Some(i);
         }
     }
-    names.len() as u64
+    None
+}
+
+// The line that tells a name that stands twice, the column of the first one and its spelling.
+fn repeated_line(alloc: Global, names: &[&[u8]], name: &[u8]) -> Result<String, AllocError>
+    ensures { IfOk result (λ s. string_bytes s ≡ repeated_at (map (λ n. n.now) names.now) name.now
+        (position_from (str_eq_ignore_ascii_case name.now) 0 (map (λ n. n.now) names.now))) }
+{
+    let Some(i) = first_named(names, name) else {
+        return Ok(String::new(alloc));
+    };
+    let (name, first, other) = (Shown { bytes: name }, i + 1, Shown { bytes: names[i] });
+    format!(in alloc; "  {name} is the name of column {first} too, {other}\n")
+}
+
+// What is told of the name at a column, if there is one.
+fn lines_of_repeated(alloc: Global, header: &Header, column: u64) -> Result<String, AllocError>
+    ensures { IfOk result (λ s. string_bytes s ≡ repeated_told (names_in header.now) (at_column column (names_in header.now))) }
+{
+    let Some(name) = field_at(alloc, header, column)? else {
+        return Ok(String::new(alloc));
+    };
+    let names = header.names(alloc)?;
+    repeated_line(alloc, names.as_slice(), name)
 }
 
 /// What is told of a name that stands twice: both spellings, and the column of the first.
@@ -62,20 +104,13 @@ pub(crate) fn repeated_name_lines(
     inputs: &Inputs<'_, '_>,
     side: Side,
     column: u64,
-) -> Result<String, AllocError> {
-    let Some(header) = Header::of(alloc, without_bom(inputs.file(side)))? else {
-        return Ok(String::new(alloc));
-    };
-    let Some(name) = field_at(alloc, &header, column)? else {
-        return Ok(String::new(alloc));
-    };
-    let names = header.names(alloc)?;
-    let first = first_named(names.as_slice(), name);
-    let Some(other) = field_at(alloc, &header, first)? else {
-        return Ok(String::new(alloc));
-    };
-    let (name, other) = (Shown { bytes: name }, Shown { bytes: other });
-    format!(in alloc; "  {name} is the name of column {first} too, {other}\n")
+) -> Result<String, AllocError>
+    ensures { IfOk result (λ s. string_bytes s ≡ repeated_told (header_names (file_of side inputs.now)) (at_column column (header_names (file_of side inputs.now)))) }
+{
+    match inputs.header(alloc, side)? {
+        Some(header) => lines_of_repeated(alloc, &header, column),
+        None => Ok(String::new(alloc)),
+    }
 }
 
 fn are_places(entries: &[TypeEntry]) -> bool {
@@ -122,6 +157,41 @@ fn separator_line(alloc: Global, names: &[&[u8]]) -> Result<String, AllocError> 
     )
 }
 
+// The line that tells how many names and types there are, and the first name without a type.
+fn count_line(
+    alloc: Global,
+    names: usize,
+    types: usize,
+    untyped: Option<&[u8]>,
+    separator: &str,
+) -> Result<String, AllocError>
+    ensures { IfOk result (λ s. string_bytes s ≡ lines.count_line names types (option_copied untyped.entry) separator.now) }
+{
+    match untyped {
+        Some(bytes) => {
+            let name = Shown { bytes };
+            format!(in alloc;
+                "  {names} names, {types} types; the first without a type is {name}\n{separator}"
+            )
+        }
+        None => format!(in alloc; "  {names} names, {types} types\n{separator}"),
+    }
+}
+
+// What is told of these names and these entries of a list.
+fn lines_of_count(
+    alloc: Global,
+    entries: &[TypeEntry],
+    names: &[&[u8]],
+) -> Result<String, AllocError>
+    ensures { IfOk result (λ s. IsCountTold entries.now (map (λ n. n.now) names.now) (string_bytes s)) }
+{
+    let types = types_under(alloc, entries, names)?.len();
+    let separator = separator_line(alloc, names)?;
+    let untyped = first_untyped(alloc, entries, names)?;
+    count_line(alloc, names.len(), types, untyped, separator.as_str())
+}
+
 /// What is told of a header that has more or fewer names than there are types: both counts, and the first name without a type.
 ///
 /// # Errors
@@ -131,24 +201,28 @@ pub(crate) fn type_count_lines(
     alloc: Global,
     inputs: &Inputs<'_, '_>,
     side: Side,
-) -> Result<String, AllocError> {
-    let Some(header) = Header::of(alloc, without_bom(inputs.file(side)))? else {
+) -> Result<String, AllocError>
+    ensures { IfOk result (λ s. IsTypeCountTold side inputs.now (string_bytes s)) }
+{
+    let Some(header) = inputs.header(alloc, side)? else {
         return Ok(String::new(alloc));
     };
     let names = header.names(alloc)?;
-    let entries = inputs.types(side);
-    let kinds = types_under(alloc, entries, names.as_slice())?;
-    let (count, types) = (names.len(), kinds.len());
-    let separator = separator_line(alloc, names.as_slice())?;
-    match first_untyped(alloc, entries, names.as_slice())? {
-        Some(bytes) => {
-            let name = Shown { bytes };
-            format!(in alloc;
-                "  {count} names, {types} types; the first without a type is {name}\n{separator}"
-            )
-        }
-        None => format!(in alloc; "  {count} names, {types} types\n{separator}"),
+    lines_of_count(alloc, inputs.types(side), names.as_slice())
+}
+
+// The line that tells names.
+fn names_line(alloc: Global, names: &[&[u8]]) -> Result<String, AllocError>
+    ensures { IfOk result (λ s. string_bytes s ≡ lines.names_line (map (λ n. n.now) names.now)) }
+{
+    let mut list = String::from_str(alloc, "  the header has ")?;
+    for i in 0..names.len() {
+        let (before, name) = (before_name(i), Shown { bytes: names[i] });
+        let more = format!(in alloc; "{before}{name}")?;
+        list.push_str(more.as_str())?;
     }
+    list.push_str("\n")?;
+    Ok(list)
 }
 
 /// What is told of a name in a type list that means no column of the header: the names that the header has.
@@ -160,17 +234,12 @@ pub(crate) fn type_name_lines(
     alloc: Global,
     inputs: &Inputs<'_, '_>,
     side: Side,
-) -> Result<String, AllocError> {
-    let Some(header) = Header::of(alloc, without_bom(inputs.file(side)))? else {
+) -> Result<String, AllocError>
+    ensures { IfOk result (λ s. IsTypeNameTold side inputs.now (string_bytes s)) }
+{
+    let Some(header) = inputs.header(alloc, side)? else {
         return Ok(String::new(alloc));
     };
     let names = header.names(alloc)?;
-    let mut list = String::from_str(alloc, "  the header has")?;
-    for i in 0..names.len() {
-        let (name, sign) = (Shown { bytes: names[i] }, if i == 0 { "" } else { "," });
-        let more = format!(in alloc; "{sign} {name}")?;
-        list.push_str(more.as_str())?;
-    }
-    list.push_str("\n")?;
-    Ok(list)
+    names_line(alloc, names.as_slice())
 }

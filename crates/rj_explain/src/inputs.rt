@@ -1,6 +1,11 @@
 //! What a run had read when its fault was found.
 
-use rj_csv_io::without_bom;
+ghost use Rattle.std.specs.Prelude.{◌≡◌, IfOk};
+ghost use Rattle.csv.specs.Reading.{strip_bom};
+ghost use Rattle.rj_explain.specs.Explained as explained;
+ghost use Rattle.rj_explain.specs.Explained.{IsQuotedText, IsReadText, file_of, header_names, names_of, text_in, types_of};
+
+use rj_csv_io::{Header as Names, without_bom};
 use rj_fault::Side;
 use rj_line::{Request, Strictness};
 use rj_strict::{Header, above_fault, check, quote_empty_lines};
@@ -20,7 +25,9 @@ pub struct Inputs<'a, 'r> {
 
 impl<'a, 'r> Inputs<'a, 'r> {
     /// The bytes of a side's file.
-    pub(crate) fn file(&self, side: Side) -> &'a [u8] {
+    pub(crate) fn file(&self, side: Side) -> &'a [u8]
+        ensures { result.now ≡ file_of side self.now }
+    {
         match side {
             Side::Left => self.left,
             Side::Right => self.right,
@@ -28,7 +35,9 @@ impl<'a, 'r> Inputs<'a, 'r> {
     }
 
     /// What is known of the types of a side's columns.
-    pub(crate) fn types(&self, side: Side) -> &'a [TypeEntry] {
+    pub(crate) fn types(&self, side: Side) -> &'a [TypeEntry]
+        ensures { result.now ≡ types_of side self.now }
+    {
         match side {
             Side::Left => self.request.left_types.as_slice(),
             Side::Right => self.request.right_types.as_slice(),
@@ -36,11 +45,24 @@ impl<'a, 'r> Inputs<'a, 'r> {
     }
 
     /// Whether the last line of a file has to have its end.
-    pub(crate) fn is_full(&self) -> bool {
+    pub(crate) fn is_full(&self) -> bool
+        ensures { result ≡ explained.is_full self.now.request.now.strict }
+    {
         match self.request.strict {
             Strictness::Full => true,
             Strictness::Off | Strictness::On => false,
         }
+    }
+
+    /// The header of a side's file, if it has one.
+    ///
+    /// # Errors
+    ///
+    /// It fails only where memory is refused.
+    pub(crate) fn header(&self, alloc: Global, side: Side) -> Result<Option<Names>, AllocError>
+        ensures { IfOk result (λ o. names_of o ≡ header_names (file_of side self.now)) }
+    {
+        Names::of(alloc, without_bom(self.file(side)))
     }
 
     /// The text of a side as its records are read, where that isn't the file's own: read strictly, an empty line is a record.
@@ -52,28 +74,30 @@ impl<'a, 'r> Inputs<'a, 'r> {
         &self,
         alloc: Global,
         side: Side,
-    ) -> Result<Option<Vec<u8>>, AllocError> {
+    ) -> Result<Option<Vec<u8>>, AllocError>
+        ensures { IfOk result (λ o. IsReadText self.now.request.now.strict (file_of side self.now) (text_in o (file_of side self.now))) }
+    {
         match self.request.strict {
             Strictness::Off => Ok(None),
-            Strictness::On | Strictness::Full => quoted_lines(alloc, self.file(side)),
+            Strictness::On | Strictness::Full => Ok(Some(quoted_lines(alloc, self.file(side))?)),
         }
     }
 }
 
 // The lines of a text above the place where it stops being of the grammar, with `""` in each empty one.
-fn quoted_lines(alloc: Global, text: &[u8]) -> Result<Option<Vec<u8>>, AllocError> {
-    let above = match check(text, Header::First, false) {
-        Ok(()) => text,
-        Err(fault) => above_fault(text, Header::First, fault),
-    };
-    if check(above, Header::First, false).is_err() {
-        return Ok(None);
+fn quoted_lines(alloc: Global, text: &[u8]) -> Result<Vec<u8>, AllocError>
+    ensures { IfOk result (λ v. IsQuotedText text.now (strip_bom v.items)) }
+{
+    match check(text, Header::First, false) {
+        Ok(()) => quote_empty_lines(alloc, text),
+        Err(fault) => quote_empty_lines(alloc, above_fault(text, Header::First, fault)),
     }
-    Ok(Some(quote_empty_lines(alloc, above)?))
 }
 
 /// The text of a side's records, of which this is the one with its empty lines quoted, if it is another one.
-pub(crate) fn text_of<'t>(quoted: &'t Option<Vec<u8>>, file: &'t [u8]) -> &'t [u8] {
+pub(crate) fn text_of<'t>(quoted: &'t Option<Vec<u8>>, file: &'t [u8]) -> &'t [u8]
+    ensures { result.now ≡ text_in quoted.now file.now }
+{
     match quoted {
         Some(text) => without_bom(text.as_slice()),
         None => without_bom(file),

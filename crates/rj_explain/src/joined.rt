@@ -1,11 +1,16 @@
 //! Columns of the result, and rows that are in more pairs than is expected.
 
-ghost use Rattle.std.specs.Prelude.{◌≡◌, IfOk, IfSome, true};
+ghost use Rattle.std.specs.Prelude.{◌≡◌, ◌-◌, IfOk, IfSome, List, Ok, ℕ, map, slice_get, string_bytes, true};
 ghost use Rattle.rj_condition.specs.Fits.{fits};
+ghost use Rattle.rj_engine.specs.Chosen as chosen;
+ghost use Rattle.rj_engine.specs.Naming as naming;
+ghost use Rattle.rj_explain.specs.Explained.{AreNamesWritten, IsCellOfResultTold, IsJoinOf, IsNullTold, IsPairedTold};
+ghost use Rattle.rj_explain.specs.Lines as lines;
 
+use crate::cells::{HeaderAndRow, header_and_row};
 use crate::clause::{BothColumns, columns_of_both};
 use crate::inputs::{Inputs, text_of};
-use crate::row::{Row, field_at, find_row};
+use crate::row::field_at;
 use crate::shown::Shown;
 use rj_columns::Table;
 use rj_condition::{BoundJoin, bind, parse, split};
@@ -21,7 +26,8 @@ fn join_of(
     left: &Table,
     right: &Table,
 ) -> Result<Option<BoundJoin>, AllocError>
-    ensures { IfOk result (λ o. IfSome o (λ join. fits join left.now.types right.now.types ≡ true)) }
+    ensures fits { IfOk result (λ o. IfSome o (λ join. fits join left.now.types right.now.types ≡ true)) }
+    ensures asked { IfOk result (λ o. IfSome o (IsJoinOf clause.now left.now right.now)) }
 {
     let Ok(clause) = parse(alloc, clause) else {
         return Ok(None);
@@ -40,6 +46,8 @@ fn names_of(
     request: &Request<'_>,
 ) -> Result<Option<Vec<String>>, AllocError>
     requires { fits join.now columns.now.left.types columns.now.right.types ≡ true }
+    ensures { IfOk result (λ o. IfSome o (λ v. naming.written_names request.now.choice.repeated
+        (chosen.chosen_header request.now.choice join.now columns.now.left columns.now.right) ≡ Ok (map string_bytes v.items))) }
 {
     let own = chosen_header(alloc, &columns.left, &columns.right, join, &request.choice)?;
     match written_names(alloc, own.as_slice(), request.choice.repeated) {
@@ -53,7 +61,9 @@ fn names_of_result(
     alloc: Global,
     inputs: &Inputs<'_, '_>,
     columns: &BothColumns,
-) -> Result<Option<Vec<String>>, AllocError> {
+) -> Result<Option<Vec<String>>, AllocError>
+    ensures { IfOk result (λ o. IfSome o (λ v. AreNamesWritten inputs.now.request.now columns.now.left columns.now.right (map string_bytes v.items))) }
+{
     match join_of(alloc, inputs.request.clause, &columns.left, &columns.right)? {
         Some(join) => names_of(alloc, columns, &join, inputs.request),
         None => Ok(None),
@@ -67,7 +77,9 @@ fn null_text_line(
     null: &str,
     row: u64,
     column: u64,
-) -> Result<String, AllocError> {
+) -> Result<String, AllocError>
+    ensures { IfOk result (λ s. string_bytes s ≡ lines.null_line row (slice_get (map string_bytes names.now) (column - 1)) null.now) }
+{
     let Some(name) = names.get((column as usize).saturating_sub(1)) else {
         return Ok(String::new(alloc));
     };
@@ -91,7 +103,9 @@ fn lines_of_null_text(
     columns: &BothColumns,
     row: u64,
     column: u64,
-) -> Result<String, AllocError> {
+) -> Result<String, AllocError>
+    ensures { IfOk result (λ s. IsCellOfResultTold inputs.now.request.now row column (string_bytes s) columns.now.left columns.now.right) }
+{
     match names_of_result(alloc, inputs, columns)? {
         Some(names) => null_text_line(
             alloc,
@@ -115,7 +129,9 @@ pub(crate) fn null_text_lines(
     inputs: &Inputs<'_, '_>,
     row: u64,
     column: u64,
-) -> Result<String, AllocError> {
+) -> Result<String, AllocError>
+    ensures { IfOk result (λ s. IsNullTold row column inputs.now (string_bytes s)) }
+{
     match columns_of_both(alloc, inputs)? {
         Some(columns) => lines_of_null_text(alloc, inputs, &columns, row, column),
         None => Ok(String::new(alloc)),
@@ -159,16 +175,15 @@ fn key_columns(
 // The names of these columns, counted from 0, and what stands under each in a row.
 fn fields_text(
     alloc: Global,
-    header: &Row,
-    row: &Row,
+    found: &HeaderAndRow,
     columns: &[usize],
 ) -> Result<String, AllocError> {
     let mut text = String::new(alloc);
     for column in columns {
         let at = (*column as u64).saturating_add(1);
         let (Some(name), Some(value)) = (
-            field_at(alloc, &header.record, at)?,
-            field_at(alloc, &row.record, at)?,
+            field_at(alloc, &found.header.record, at)?,
+            field_at(alloc, &found.row.record, at)?,
         ) else {
             continue;
         };
@@ -180,24 +195,35 @@ fn fields_text(
     Ok(text)
 }
 
-// The line that tells a row of a text that is in so many kept pairs.
-fn row_line(
+// The line that tells a row that is in so many kept pairs, and what stands in its key.
+fn paired_line(
     alloc: Global,
-    text: &[u8],
+    side: Side,
+    row: u64,
+    pairs: u64,
+    line: u64,
+    key: &str,
+) -> Result<String, AllocError>
+    ensures { IfOk result (λ s. string_bytes s ≡ lines.row_line side row pairs line key.now) }
+{
+    format!(in alloc;
+        "  {side} row {row}, line {line} of the file, is in {pairs} kept pairs{key}\n"
+    )
+}
+
+// What is told of a row at hand, whose key stands in these columns.
+fn lines_of_paired(
+    alloc: Global,
+    found: &HeaderAndRow,
     columns: &[usize],
     side: Side,
     row: u64,
     pairs: u64,
-) -> Result<String, AllocError> {
-    let (Some(header), Some(found)) = (find_row(alloc, text, 0)?, find_row(alloc, text, row)?)
-    else {
-        return Ok(String::new(alloc));
-    };
-    let line = found.line;
-    let fields = fields_text(alloc, &header, &found, columns)?;
-    format!(in alloc;
-        "  {side} row {row}, line {line} of the file, is in {pairs} kept pairs{fields}\n"
-    )
+) -> Result<String, AllocError>
+    ensures { IfOk result (λ s. (key : List ℕ) × (string_bytes s ≡ lines.row_line side row pairs found.now.row.line key)) }
+{
+    let key = fields_text(alloc, found, columns)?;
+    paired_line(alloc, side, row, pairs, found.row.line, key.as_str())
 }
 
 /// What is told of a row of a side's table, counted from 1, that is in so many kept pairs: the line of the file on which it
@@ -212,9 +238,13 @@ pub fn explain_row(
     side: Side,
     row: u64,
     pairs: u64,
-) -> Result<String, AllocError> {
+) -> Result<String, AllocError>
+    ensures { IfOk result (λ s. IsPairedTold side row pairs inputs.now (string_bytes s)) }
+{
     let columns = key_columns(alloc, inputs, side)?;
     let quoted = inputs.quoted_text(alloc, side)?;
-    let text = text_of(&quoted, inputs.file(side));
-    row_line(alloc, text, columns.as_slice(), side, row, pairs)
+    match header_and_row(alloc, text_of(&quoted, inputs.file(side)), row)? {
+        Some(found) => lines_of_paired(alloc, &found, columns.as_slice(), side, row, pairs),
+        None => Ok(String::new(alloc)),
+    }
 }

@@ -1,7 +1,8 @@
 //! What stands where a join ended by a fault: the lines that `--explain` adds to the fault's own line.
 //!
-//! A line is a function of the fault and of what was read. The places in it, lines of a file, columns, names and bytes of a
-//! clause, are those of the definitions in `specs/`; its words are only tested.
+//! A line is a function of the fault and of what was read. The definitions in `specs/` say what it tells: the lines of a file, the
+//! columns, names and fields, the bytes of a clause, and the words round them. What is said of a name that can't be found, of a text
+//! that is no clause and of an entry of a type list that is none is only tested.
 #![tactic(auto)]
 
 mod cells;

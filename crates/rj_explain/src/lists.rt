@@ -1,5 +1,10 @@
 //! Texts that are no type list.
 
+ghost use Rattle.std.specs.Prelude.{◌≡◌, IfOk, IfSome, string_bytes};
+ghost use Rattle.rj_fault.specs.declared.fault.Fault.TheVariants as faults;
+ghost use Rattle.rj_explain.specs.Listed.{AreWordsTold, IsListTold, IsNoList};
+ghost use Rattle.rj_explain.specs.Lines as lines;
+
 use crate::shown::Shown;
 use rj_fault::{Fault, Side};
 use rj_types::read_list;
@@ -21,7 +26,9 @@ fn entry_len(list: &[u8]) -> usize {
 }
 
 // The first entry that is none by itself.
-fn bad_entry(alloc: Global, list: &str) -> Result<Option<&str>, AllocError> {
+fn bad_entry(alloc: Global, list: &str) -> Result<Option<&str>, AllocError>
+    ensures { IfOk result (λ o. IfSome o (λ entry. IsNoList entry.now)) }
+{
     let mut left = list;
     for _turn in 0..list.len() + 1 {
         let Some((entry, behind)) = left.split_at_checked(entry_len(left.as_bytes())) else {
@@ -72,20 +79,26 @@ fn why_no_entry(entry: &str) -> &'static str {
     }
 }
 
+// The line that tells an entry, and what it has to be.
+fn entry_line(alloc: Global, entry: &str, why: &str) -> Result<String, AllocError>
+    ensures { IfOk result (λ s. string_bytes s ≡ lines.entry_line entry.now why.now) }
+{
+    let entry = Shown {
+        bytes: entry.as_bytes(),
+    };
+    format!(in alloc; "  {entry}: {why}\n")
+}
+
 /// What is told of a text that is no type list: the first entry that is none, and what it has to be.
 ///
 /// # Errors
 ///
 /// It fails only where memory is refused.
-pub fn explain_list(alloc: Global, list: &str) -> Result<String, AllocError> {
+pub fn explain_list(alloc: Global, list: &str) -> Result<String, AllocError>
+    ensures { IfOk result (λ s. IsListTold (string_bytes s)) }
+{
     match bad_entry(alloc, list)? {
-        Some(entry) => {
-            let why = why_no_entry(entry);
-            let entry = Shown {
-                bytes: entry.as_bytes(),
-            };
-            format!(in alloc; "  {entry}: {why}\n")
-        }
+        Some(entry) => entry_line(alloc, entry, why_no_entry(entry)),
         None => format!(in alloc;
             "  a name stands before each type or before none, and * before one at most\n"
         ),
@@ -111,6 +124,24 @@ fn list_of<'w>(words: &[&'w str], option: &str) -> Option<&'w str> {
     None
 }
 
+// The side whose type list is none, if that is the fault.
+fn side_of_list(fault: &Fault) -> Option<Side>
+    ensures { IfSome result (λ side. fault.now ≡ faults.BadTypeList side) }
+{
+    match fault {
+        Fault::BadTypeList(side) => Some(*side),
+        _ => None,
+    }
+}
+
+// The option of a side's types.
+fn types_option(side: Side) -> &'static str {
+    match side {
+        Side::Left => "--left-types",
+        Side::Right => "--right-types",
+    }
+}
+
 /// What is told of a fault of the command line that these words are: of a list of types that is none. Of other faults there is no
 /// more to say.
 ///
@@ -121,13 +152,13 @@ pub fn explain_words(
     alloc: Global,
     words: &[&str],
     fault: &Fault,
-) -> Result<Option<String>, AllocError> {
-    let option = match fault {
-        Fault::BadTypeList(Side::Left) => "--left-types",
-        Fault::BadTypeList(Side::Right) => "--right-types",
-        _ => return Ok(None),
+) -> Result<Option<String>, AllocError>
+    ensures { IfOk result (λ o. IfSome o (λ s. AreWordsTold fault.now (string_bytes s))) }
+{
+    let Some(side) = side_of_list(fault) else {
+        return Ok(None);
     };
-    match list_of(words, option) {
+    match list_of(words, types_option(side)) {
         Some(list) => Ok(Some(explain_list(alloc, list)?)),
         None => Ok(None),
     }

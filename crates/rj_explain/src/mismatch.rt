@@ -1,5 +1,8 @@
 //! Operands of a clause that can't be compared.
 
+ghost use Rattle.std.specs.Prelude.{IfOk, string_bytes};
+ghost use Rattle.rj_explain.specs.Explained.{IsApartTold, IsMismatchTold, IsToldOfPair};
+
 use crate::clause::{BothColumns, columns_of_both};
 use crate::inputs::Inputs;
 use crate::shown::{Shown, ShownText, TypeWord};
@@ -86,24 +89,31 @@ impl fmt::Display for Typed<'_> {
     }
 }
 
+// The text of an operand with its type.
+fn typed_text(
+    alloc: Global,
+    operand: &BoundOperand,
+    columns: &BothColumns,
+) -> Result<String, AllocError> {
+    let typed = Typed {
+        operand,
+        left: &columns.left,
+        right: &columns.right,
+    };
+    format!(in alloc; "{typed}")
+}
+
 // The line that tells of two operands that can't be compared.
 fn mismatch_line(
     alloc: Global,
     found: &Mismatch,
     columns: &BothColumns,
-) -> Result<String, AllocError> {
-    let (at, left, right) = (found.at, &columns.left, &columns.right);
-    let (operand, other) = (&found.first, &found.second);
-    let first = Typed {
-        operand,
-        left,
-        right,
-    };
-    let second = Typed {
-        operand: other,
-        left,
-        right,
-    };
+) -> Result<String, AllocError>
+    ensures { IfOk result (λ s. IsToldOfPair found.now (string_bytes s)) }
+{
+    let at = found.at;
+    let first = typed_text(alloc, &found.first, columns)?;
+    let second = typed_text(alloc, &found.second, columns)?;
     format!(in alloc; "  {first}, {second}, at byte {at} of the clause\n")
 }
 
@@ -112,7 +122,9 @@ fn first_mismatch_line(
     alloc: Global,
     clause: &str,
     columns: &BothColumns,
-) -> Result<String, AllocError> {
+) -> Result<String, AllocError>
+    ensures { IfOk result (λ s. IsApartTold clause.now (string_bytes s) columns.now.left columns.now.right) }
+{
     if clause.len() > LONGEST {
         return Ok(String::new(alloc));
     }
@@ -128,7 +140,9 @@ fn first_mismatch_line(
 /// # Errors
 ///
 /// It fails only where memory is refused.
-pub(crate) fn mismatch_lines(alloc: Global, inputs: &Inputs<'_, '_>) -> Result<String, AllocError> {
+pub(crate) fn mismatch_lines(alloc: Global, inputs: &Inputs<'_, '_>) -> Result<String, AllocError>
+    ensures { IfOk result (λ s. IsMismatchTold inputs.now (string_bytes s)) }
+{
     match columns_of_both(alloc, inputs)? {
         Some(columns) => first_mismatch_line(alloc, inputs.request.clause, &columns),
         None => Ok(String::new(alloc)),

@@ -1,5 +1,11 @@
 //! Names of columns: those that a header has, and the one that was perhaps meant.
 
+ghost use Rattle.std.specs.Prelude.{◌≡◌, ◌≤◌, ◌==◌, [], if◌then◌else◌, codes, IfOk, IfSome, Some, length, take};
+ghost use Rattle.std.specs.Fmt.{WritesOnOk};
+ghost use Rattle.std.specs.Option.{option_copied};
+ghost use Rattle.rj_explain.specs.Names.{AreEdits, IsNear, lowered};
+ghost use Rattle.rj_explain.specs.Shown.{listed, meant_text, names_text};
+
 use crate::shown::Shown;
 use rj_columns::Table;
 use std::alloc::{AllocError, Global};
@@ -9,6 +15,25 @@ use strsim::damerau_levenshtein;
 // How many names are listed.
 const MOST: usize = 20;
 
+/// What stands before a name in a list.
+pub(crate) fn before_name(column: usize) -> &'static str
+    ensures { result.now ≡ (if column == 0 then [] else codes ", ") }
+{
+    if column == 0 { "" } else { ", " }
+}
+
+// Writes the first names of a table's columns, with commas between.
+fn write_names<W: fmt::Write>(f: &mut fmt::Formatter<W>, table: &Table, count: usize) -> fmt::Result
+    requires { count ≤ length table.now.types }
+    ensures { WritesOnOk W.write_str_gives f.old result (listed (take count table.now.names)) f.new }
+{
+    for column in 0..count {
+        let (before, name) = (before_name(column), table.name(column));
+        write!(f, "{before}{name}")?;
+    }
+    Ok(())
+}
+
 /// The names of a table's columns, with commas between; of more than 20 the first ones, and how many more there are.
 #[derive(Clone, Copy)]
 pub(crate) struct NamesOf<'t> {
@@ -16,26 +41,27 @@ pub(crate) struct NamesOf<'t> {
 }
 
 impl fmt::Display for NamesOf<'_> {
+    ghost output = { λ n. Some (names_text n.table.now.names) };
+
     fn fmt<W: fmt::Write>(&self, f: &mut fmt::Formatter<W>) -> fmt::Result {
-        for column in 0..self.table.columns() {
-            if column == MOST {
-                let more = self.table.columns() - MOST;
-                return write!(f, " and {more} more");
-            }
-            if column > 0 {
-                f.write_str(", ")?;
-            }
-            f.write_str(self.table.name(column))?;
+        let columns = self.table.columns();
+        if columns <= MOST {
+            return write_names(f, self.table, columns);
         }
-        Ok(())
+        let more = columns - MOST;
+        write_names(f, self.table, MOST)?;
+        write!(f, " and {more} more")
     }
 }
 
 // How many edits lead from one name to another, upper and lower case being one.
-fn distance(alloc: Global, from: &str, to: &str) -> Result<usize, AllocError> {
+fn distance(alloc: Global, from: &str, to: &str) -> Result<usize, AllocError>
+    ensures { IfOk result (λ count. AreEdits (lowered from.now) (lowered to.now) count) }
+{
     let from = from.to_ascii_lowercase(alloc)?;
     let to = to.to_ascii_lowercase(alloc)?;
-    damerau_levenshtein(alloc, from.as_str(), to.as_str())
+    let count = damerau_levenshtein(alloc, from.as_str(), to.as_str())?;
+    Ok(count)
 }
 
 /// The name of a table that is nearest to another one: at most two edits away, and half as many as the other one has bytes.
@@ -47,7 +73,9 @@ pub(crate) fn nearest<'t>(
     alloc: Global,
     wanted: &str,
     table: &'t Table,
-) -> Result<Option<&'t str>, AllocError> {
+) -> Result<Option<&'t str>, AllocError>
+    ensures { IfOk result (λ o. IfSome o (λ name. IsNear wanted.now name.now)) }
+{
     let mut found = None;
     let mut least = (wanted.len() / 2).min(2) + 1;
     for column in 0..table.columns() {
@@ -66,6 +94,8 @@ pub(crate) struct Meant<'t> {
 }
 
 impl fmt::Display for Meant<'_> {
+    ghost output = { λ m. Some (meant_text (option_copied m.name)) };
+
     fn fmt<W: fmt::Write>(&self, f: &mut fmt::Formatter<W>) -> fmt::Result {
         match self.name {
             Some(name) => {
@@ -74,7 +104,7 @@ impl fmt::Display for Meant<'_> {
                 };
                 write!(f, "; did you mean {name}?")
             }
-            None => Ok(()),
+            None => f.write_str(""),
         }
     }
 }

@@ -1,5 +1,12 @@
 //! How bytes of a file and types are shown.
 
+ghost use Rattle.std.specs.Prelude.{◌≡◌, false, true, MatchOption, Some, take};
+ghost use Rattle.std.specs.Fmt.{WritesOnOk};
+ghost use Rattle.std.specs.List.{flat_map};
+ghost use Rattle.std.specs.Str.{chars};
+ghost use Rattle.rj_explain.specs.Shown as spec;
+ghost use Rattle.rj_explain.specs.Shown.{byte_text, is_text, literal, literal_char, more_text, shown, shown_byte, shown_bytes, shown_char, type_word, wanted_word};
+
 use rj_columns::ColumnType;
 use std::{fmt, str};
 
@@ -14,62 +21,156 @@ pub struct Shown<'a> {
     pub bytes: &'a [u8],
 }
 
-fn show_byte<W: fmt::Write>(f: &mut fmt::Formatter<W>, byte: u8) -> fmt::Result {
+// Writes a byte by its two hexadecimal digits.
+fn write_byte<W: fmt::Write>(f: &mut fmt::Formatter<W>, byte: u8) -> fmt::Result
+    ensures { WritesOnOk W.write_str_gives f.old result (byte_text byte) f.new }
+{
     write!(f, "\\x{byte:02X}")
 }
 
-// The bytes of a text that fit, and how many are left. A quote is one that is written twice.
-fn show_text<W: fmt::Write>(
-    f: &mut fmt::Formatter<W>,
-    text: &str,
-    quote: Option<char>,
-) -> Result<usize, fmt::Error> {
-    let mut left = text.len();
-    for c in text.chars() {
-        if text.len().saturating_sub(left) + c.len_utf8() > MOST {
-            return Ok(left);
-        }
-        left = left.saturating_sub(c.len_utf8());
-        if quote == Some(c) {
-            write!(f, "{c}")?;
-        }
-        if c.is_ascii_control() {
-            show_byte(f, c as u8)?;
-        } else {
-            write!(f, "{c}")?;
-        }
+// Writes a character as it is shown.
+#[tactic(auto, unfolding(crate::specs::Shown::shown_char))]
+fn write_character<W: fmt::Write>(f: &mut fmt::Formatter<W>, character: char) -> fmt::Result
+    ensures { WritesOnOk W.write_str_gives f.old result (shown_char character) f.new }
+{
+    let code = character as u32;
+    if code < 32 || code == 127 {
+        return write_byte(f, code as u8);
     }
-    Ok(left)
+    write!(f, "{character}")
 }
 
-// Bytes that are no text, as far as they fit, and how many are left.
-fn show_bytes<W: fmt::Write>(f: &mut fmt::Formatter<W>, bytes: &[u8]) -> Result<usize, fmt::Error> {
-    for (i, byte) in bytes.iter().enumerate() {
-        if i == MOST {
-            return Ok(bytes.len() - MOST);
-        }
-        if byte.is_ascii() && !byte.is_ascii_control() {
-            let c = *byte as char;
-            write!(f, "{c}")?;
-        } else {
-            show_byte(f, *byte)?;
-        }
+// Writes the characters of a text as they are shown.
+fn write_characters<W: fmt::Write>(f: &mut fmt::Formatter<W>, text: &str) -> fmt::Result
+    ensures { WritesOnOk W.write_str_gives f.old result (flat_map shown_char (chars text.now)) f.new }
+{
+    for character in text.chars() {
+        write_character(f, character)?;
     }
-    Ok(0)
+    Ok(())
+}
+
+// Writes a character of a text literal.
+#[tactic(auto, unfolding(crate::specs::Shown::literal_char))]
+fn write_quoted<W: fmt::Write>(f: &mut fmt::Formatter<W>, character: char) -> fmt::Result
+    ensures { WritesOnOk W.write_str_gives f.old result (literal_char character) f.new }
+{
+    if character == '\'' {
+        return f.write_str("''");
+    }
+    write_character(f, character)
+}
+
+// Writes the characters of a text literal.
+fn write_literal<W: fmt::Write>(f: &mut fmt::Formatter<W>, text: &str) -> fmt::Result
+    ensures { WritesOnOk W.write_str_gives f.old result (flat_map literal_char (chars text.now)) f.new }
+{
+    for character in text.chars() {
+        write_quoted(f, character)?;
+    }
+    Ok(())
+}
+
+// Writes a byte of what is no text.
+#[tactic(auto, unfolding(crate::specs::Shown::shown_byte))]
+fn write_loose_byte<W: fmt::Write>(f: &mut fmt::Formatter<W>, byte: u8) -> fmt::Result
+    ensures { WritesOnOk W.write_str_gives f.old result (shown_byte byte) f.new }
+{
+    if byte < 32 || byte > 126 {
+        return write_byte(f, byte);
+    }
+    let character = byte as char;
+    write!(f, "{character}")
+}
+
+// Writes bytes that are no text.
+fn write_loose_bytes<W: fmt::Write>(f: &mut fmt::Formatter<W>, bytes: &[u8]) -> fmt::Result
+    ensures { WritesOnOk W.write_str_gives f.old result (flat_map shown_byte bytes.now) f.new }
+{
+    for byte in bytes {
+        write_loose_byte(f, *byte)?;
+    }
+    Ok(())
+}
+
+// Writes how many bytes stand behind what is shown, where there are any.
+fn write_more<W: fmt::Write>(f: &mut fmt::Formatter<W>, count: usize) -> fmt::Result
+    ensures { WritesOnOk W.write_str_gives f.old result (more_text count) f.new }
+{
+    if count == 0 {
+        return f.write_str("");
+    }
+    write!(f, " and {count} more bytes")
+}
+
+// The characters of a text that end within the first bytes.
+#[tactic(auto, using(crate::proofs::ShownFacts::whole_shown))]
+fn shown_part(text: &str) -> &str
+    ensures { result.now ≡ spec.shown_part text.now }
+{
+    if text.len() <= MOST {
+        return text;
+    }
+    let head = &text.as_bytes()[..MOST];
+    match str::from_utf8(head) {
+        Ok(whole) => whole,
+        Err(error) => match str::from_utf8(&head[..error.valid_up_to()]) {
+            Ok(part) => part,
+            Err(_) => unreachable!(),
+        },
+    }
+}
+
+// The first bytes.
+fn first_bytes(bytes: &[u8]) -> &[u8]
+    ensures { result.now ≡ take 60 bytes.now }
+{
+    if bytes.len() <= MOST {
+        return bytes;
+    }
+    &bytes[..MOST]
+}
+
+// The text that these bytes are, if they are UTF-8.
+fn text_in(bytes: &[u8]) -> Option<&str>
+    ensures { MatchOption result (is_text bytes.now ≡ false) (λ text. (text.now ≡ bytes.now) × (is_text bytes.now ≡ true)) }
+{
+    match str::from_utf8(bytes) {
+        Ok(text) => Some(text),
+        Err(_) => None,
+    }
+}
+
+// Writes a text between double quotes.
+fn write_shown_text<W: fmt::Write>(f: &mut fmt::Formatter<W>, text: &str) -> fmt::Result
+    ensures { WritesOnOk W.write_str_gives f.old result (spec.shown_text text.now) f.new }
+{
+    let part = shown_part(text);
+    f.write_str("\"")?;
+    write_characters(f, part)?;
+    f.write_str("\"")?;
+    write_more(f, text.len().saturating_sub(part.len()))
+}
+
+// Writes bytes that are no text between double quotes.
+fn write_shown_bytes<W: fmt::Write>(f: &mut fmt::Formatter<W>, bytes: &[u8]) -> fmt::Result
+    ensures { WritesOnOk W.write_str_gives f.old result (shown_bytes bytes.now) f.new }
+{
+    f.write_str("\"")?;
+    write_loose_bytes(f, first_bytes(bytes))?;
+    f.write_str("\"")?;
+    write_more(f, bytes.len().saturating_sub(MOST))
 }
 
 impl fmt::Display for Shown<'_> {
+    ghost output = { λ s. Some (shown s.bytes.now) };
+
+    #[tactic(auto, unfolding(crate::specs::Shown::shown))]
     fn fmt<W: fmt::Write>(&self, f: &mut fmt::Formatter<W>) -> fmt::Result {
-        f.write_str("\"")?;
-        let left = match str::from_utf8(self.bytes) {
-            Ok(text) => show_text(f, text, None)?,
-            Err(_) => show_bytes(f, self.bytes)?,
-        };
-        f.write_str("\"")?;
-        if left > 0 {
-            write!(f, " and {left} more bytes")?;
+        match text_in(self.bytes) {
+            Some(text) => write_shown_text(f, text),
+            None => write_shown_bytes(f, self.bytes),
         }
-        Ok(())
     }
 }
 
@@ -81,14 +182,15 @@ pub(crate) struct ShownText<'a> {
 }
 
 impl fmt::Display for ShownText<'_> {
+    ghost output = { λ s. Some (literal s.text.now) };
+
+    #[tactic(auto, unfolding(crate::specs::Shown::literal))]
     fn fmt<W: fmt::Write>(&self, f: &mut fmt::Formatter<W>) -> fmt::Result {
+        let part = shown_part(self.text);
         f.write_str("'")?;
-        let left = show_text(f, self.text, Some('\''))?;
+        write_literal(f, part)?;
         f.write_str("'")?;
-        if left > 0 {
-            write!(f, " and {left} more bytes")?;
-        }
-        Ok(())
+        write_more(f, self.text.len().saturating_sub(part.len()))
     }
 }
 
@@ -99,6 +201,8 @@ pub(crate) struct TypeWord {
 }
 
 impl fmt::Display for TypeWord {
+    ghost output = { λ w. Some (type_word w.kind) };
+
     fn fmt<W: fmt::Write>(&self, f: &mut fmt::Formatter<W>) -> fmt::Result {
         match self.kind {
             ColumnType::Int => f.write_str("int"),
@@ -107,6 +211,24 @@ impl fmt::Display for TypeWord {
                 write!(f, "num({precision},{scale})")
             }
             ColumnType::Text => f.write_str("text"),
+        }
+    }
+}
+
+/// What a cell has to be by the type of its column: the type's word, or UTF-8 for a text.
+#[derive(Clone, Copy)]
+pub(crate) struct Wanted {
+    pub(crate) kind: ColumnType,
+}
+
+impl fmt::Display for Wanted {
+    ghost output = { λ w. Some (wanted_word w.kind) };
+
+    fn fmt<W: fmt::Write>(&self, f: &mut fmt::Formatter<W>) -> fmt::Result {
+        let word = TypeWord { kind: self.kind };
+        match self.kind {
+            ColumnType::Int | ColumnType::Num(_) => write!(f, "{word}"),
+            ColumnType::Text => f.write_str("UTF-8"),
         }
     }
 }

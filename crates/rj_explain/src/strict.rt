@@ -1,12 +1,15 @@
 //! Places where a text stops being of RFC 4180's grammar.
 
-ghost use Rattle.std.specs.Prelude.{◌≡◌, ◌+◌, ◌==◌, IfNone, IfOk, IfSome, List};
+ghost use Rattle.std.specs.Prelude.{◌≡◌, ◌+◌, ◌==◌, IfNone, IfOk, IfSome, IsSome, List, None, string_bytes};
 ghost use Rattle.std.specs.List.{count_by};
+ghost use Rattle.std.specs.Option.{option_copied};
 ghost use Rattle.rj_strict.specs.Faults.{AreAbove, HasFault, row_at};
 ghost use Rattle.rj_strict.specs.Grammar.{Derives, File, Line, lines_text};
 ghost use Rattle.rj_strict.specs.Reading.{body_of};
 ghost use Rattle.rj_strict.specs.declared.fault.StrictFault.{StrictFault};
 ghost use Rattle.rj_strict.specs.declared.header.Header.TheVariants.{First};
+ghost use Rattle.rj_explain.specs.Explained.{IsGrammarTold, IsStrictTold, column_name, names_of};
+ghost use Rattle.rj_explain.specs.Lines as lines;
 ghost use Rattle.rj_explain.specs.Strict.{IsFaultLine};
 
 use crate::inputs::Inputs;
@@ -21,8 +24,12 @@ use std::alloc::{AllocError, Global};
 /// The line, counted from 1, on which the row begins where a text stops being of the grammar, or none exactly where the text is of
 /// the grammar.
 pub fn line_of_fault(text: &[u8], full: bool) -> Option<u64>
+    // What is answered is so.
     ensures none { IfNone result ((file : File) × Derives First full (body_of First text.now) file) }
     ensures line { IfSome result (IsFaultLine full text.now) }
+    // What is so is answered.
+    ensures each_file { (file : File) → Derives First full (body_of First text.now) file → result ≡ None }
+    ensures each_fault { (fault : StrictFault) → HasFault First full (body_of First text.now) fault → IsSome result }
 {
     match check(text, Header::First, full) {
         Ok(()) => None,
@@ -33,24 +40,52 @@ pub fn line_of_fault(text: &[u8], full: bool) -> Option<u64>
     }
 }
 
-// What is told of a place in a row: its line, and the name of its column, where it is in a row under a header.
-fn place(
+// The name of a column of a row, which is under the header where its number isn't 0.
+fn name_in_row<'h>(
     alloc: Global,
-    text: &[u8],
-    line: u64,
+    header: &'h Option<Names>,
     row: u64,
     column: u64,
-) -> Result<String, AllocError> {
-    let header = match Names::of(alloc, without_bom(text))? {
-        Some(header) if row > 0 => header,
-        _ => return format!(in alloc; "line {line} of the file"),
-    };
-    match field_at(alloc, &header, column)? {
+) -> Result<Option<&'h [u8]>, AllocError>
+    ensures { IfOk result (λ o. option_copied o ≡ column_name (names_of header.now) row column) }
+{
+    match header {
+        Some(header) if row > 0 => field_at(alloc, header, column),
+        _ => Ok(None),
+    }
+}
+
+// The line that tells such a place, and why it is one.
+fn grammar_line(
+    alloc: Global,
+    line: u64,
+    name: Option<&[u8]>,
+    why: &str,
+) -> Result<String, AllocError>
+    ensures { IfOk result (λ s. string_bytes s ≡ lines.grammar_line line (option_copied name.entry) why.now) }
+{
+    match name {
         Some(bytes) => {
             let name = Shown { bytes };
-            format!(in alloc; "line {line} of the file, column {name}")
+            format!(in alloc; "  line {line} of the file, column {name}: {why}\n")
         }
-        None => format!(in alloc; "line {line} of the file"),
+        None => format!(in alloc; "  line {line} of the file: {why}\n"),
+    }
+}
+
+// What is told of a text by the name of the column where it stops being of the grammar.
+fn lines_of_place(
+    alloc: Global,
+    text: &[u8],
+    full: bool,
+    name: Option<&[u8]>,
+    why: &str,
+) -> Result<String, AllocError>
+    ensures { IfOk result (λ s. IsGrammarTold full text.now (option_copied name.entry) why.now (string_bytes s)) }
+{
+    match line_of_fault(text, full) {
+        Some(line) => grammar_line(alloc, line, name, why),
+        None => Ok(String::new(alloc)),
     }
 }
 
@@ -67,13 +102,10 @@ pub(crate) fn grammar_lines(
     row: u64,
     column: u64,
     why: &str,
-) -> Result<String, AllocError> {
-    let text = inputs.file(side);
-    match line_of_fault(text, inputs.is_full()) {
-        Some(line) => {
-            let place = place(alloc, text, line, row, column)?;
-            format!(in alloc; "  {place}: {why}\n")
-        }
-        None => Ok(String::new(alloc)),
-    }
+) -> Result<String, AllocError>
+    ensures { IfOk result (λ s. IsStrictTold side row column why.now inputs.now (string_bytes s)) }
+{
+    let header = inputs.header(alloc, side)?;
+    let name = name_in_row(alloc, &header, row, column)?;
+    lines_of_place(alloc, inputs.file(side), inputs.is_full(), name, why)
 }

@@ -1,4 +1,4 @@
-use Rattle.std.proofs.Common.{◌-◌, List, ℕ, arith, drop, subst}
+use Rattle.std.proofs.Common.{List, ℕ, arith, subst}
 use Rattle.rj_explain.specs.Places.{EndsFirst}
 use Rattle.rj_explain.proofs.PlaceFacts.{no-row, rest-drop, stands-first, stands-more}
 use Rattle.rj_explain.proofs.places.place_of_row.Goals as goal

@@ -1,0 +1,228 @@
+-- What is told of each fault, by what was read. The words are those of `Lines`; that nothing is told says that there is no such place.
+use Rattle.std.specs.Prelude.{ℕ, ◌≡◌, ◌<◌, ◌⊎◌, ◌-◌, ◌==◌, Bool, false, true, List, [], ◌∷◌, codes, length, Option, None, Some, Result, Ok, Err, if◌then◌else◌, slice_get}
+use Rattle.std.specs.declared.alloc.Global.{Global}
+use Rattle.std.specs.declared.vec.Vec.{Vec}
+use Rattle.csv.specs.Reading.{default_config, records, strip_bom}
+use Rattle.rj_columns.specs.Names.{empty_table}
+use Rattle.rj_columns.specs.Tables.{TableValue}
+use Rattle.rj_columns.specs.declared.refused.BuildRefused.{BuildRefused}
+use Rattle.rj_condition.specs.Bound.{bound}
+use Rattle.rj_condition.specs.Clauses.{HasClause}
+use Rattle.rj_condition.specs.Mismatches.{HasNoMismatch, IsMismatch}
+use Rattle.rj_condition.specs.Refusals.{IsRefusedColumn, IsTaken}
+use Rattle.rj_condition.specs.declared.bound.BoundJoin.{BoundJoin}
+use Rattle.rj_condition.specs.declared.mismatches.Mismatch.{Mismatch}
+use Rattle.rj_condition.specs.declared.refusals.RefusedColumn.{RefusedColumn}
+use Rattle.rj_condition.specs.declared.tree.Clause.{Clause}
+use Rattle.rj_csv_io.specs.Pieces.{names_in}
+use Rattle.rj_csv_io.specs.declared.pieces.Header.{Header}
+use Rattle.rj_engine.specs.Chosen.{chosen_header}
+use Rattle.rj_engine.specs.Naming.{written_names}
+use Rattle.rj_fault.specs.declared.fault.Fault.{Fault}
+use Rattle.rj_fault.specs.declared.fault.Fault.TheVariants as fault
+use Rattle.rj_fault.specs.declared.fault.Side.{Side}
+use Rattle.rj_fault.specs.declared.fault.Side.TheVariants as side
+use Rattle.rj_line.specs.declared.request.Request.{Request}
+use Rattle.rj_line.specs.declared.request.Strictness.{Strictness}
+use Rattle.rj_line.specs.declared.request.Strictness.TheVariants as strictness
+use Rattle.rj_strict.specs.Faults.{AreAbove, HasFault, row_at}
+use Rattle.rj_strict.specs.Grammar.{Derives, File, file_text}
+use Rattle.rj_strict.specs.Reading.{body_of, quoted}
+use Rattle.rj_strict.specs.declared.fault.StrictFault.{StrictFault}
+use Rattle.rj_strict.specs.declared.header.Header.TheVariants.{First}
+use Rattle.rj_types.specs.Columns.{types_under}
+use Rattle.rj_types.specs.declared.entry.TypeEntry.{TypeEntry}
+use Rattle.rj_explain.specs.declared.inputs.Inputs.{Inputs}
+use Rattle.rj_explain.specs.Lines.{cell_of_row, clause_line, count_line, grammar_line, mismatch_line, name_line, names_line, null_line, ragged_line, repeated_told, row_line}
+use Rattle.rj_explain.specs.Places.{HasNoRow, IsRow, at_column}
+use Rattle.rj_explain.specs.Strict.{IsFaultLine}
+
+-- a side's file, and what is known of the types of its columns
+abbrev pub file_of : Side → Inputs → List ℕ
+file_of side.Left inputs = inputs.left.now
+file_of side.Right inputs = inputs.right.now
+
+abbrev pub types_of : Side → Inputs → List TypeEntry
+types_of side.Left inputs = inputs.request.now.left_types.items
+types_of side.Right inputs = inputs.request.now.right_types.items
+
+-- the last line of a file has to have its end
+abbrev pub is_full : Strictness → Bool
+is_full strictness.Off = false
+is_full strictness.On = false
+is_full strictness.Full = true
+
+-- the names of a file's header
+abbrev pub first_record : List (List (List ℕ)) → List (List ℕ)
+first_record [] = []
+first_record (r ∷ rest) = r
+
+abbrev pub header_names : List ℕ → List (List ℕ)
+header_names file = first_record (records default_config (strip_bom file))
+
+abbrev pub names_of : Option Header → List (List ℕ)
+names_of None = []
+names_of (Some header) = names_in header
+
+-- Both counts of names and types. Which name has no type, and what is said of separators, no definition says.
+abbrev pub IsCountTold : List TypeEntry → List (List ℕ) → List ℕ → Type 0
+IsCountTold entries names lines =
+    (untyped : Option (List ℕ)) × (separator : List ℕ) × (lines ≡ count_line (length names) (length (types_under entries names)) untyped separator)
+
+abbrev pub IsTypeCountTold : Side → Inputs → List ℕ → Type 0
+IsTypeCountTold s inputs lines =
+    ((header_names (file_of s inputs) ≡ []) × (lines ≡ [])) ⊎ IsCountTold (types_of s inputs) (header_names (file_of s inputs)) lines
+
+-- the names of a header
+abbrev pub IsTypeNameTold : Side → Inputs → List ℕ → Type 0
+IsTypeNameTold s inputs lines =
+    ((header_names (file_of s inputs) ≡ []) × (lines ≡ [])) ⊎ (lines ≡ names_line (header_names (file_of s inputs)))
+
+-- the file that stands in a text, or what stands above the place where it stops being one
+abbrev pub IsReadStrictly : List ℕ → File → Type 0
+IsReadStrictly text file =
+    Derives First false (body_of First text) file
+    ⊎ ((f : StrictFault) × HasFault First false (body_of First text) f × AreAbove First (body_of First text) (row_at f) file.lines × (file.rest ≡ None))
+
+-- the same with its empty lines quoted, in which they are rows
+abbrev pub IsQuotedText : List ℕ → List ℕ → Type 0
+IsQuotedText text read = (file : File) × IsReadStrictly text file × (read ≡ file_text (quoted file))
+
+-- the text of which a file's records are read
+abbrev pub IsReadText : Strictness → List ℕ → List ℕ → Type 0
+IsReadText strictness.Off file text = text ≡ strip_bom file
+IsReadText strictness.On file text = IsQuotedText file text
+IsReadText strictness.Full file text = IsQuotedText file text
+
+-- a text of its own, or that of the file
+abbrev pub text_in : Option (Vec ℕ Global) → List ℕ → List ℕ
+text_in None file = strip_bom file
+text_in (Some own) file = strip_bom own.items
+
+-- what is told of a row, by the line of the text on which it begins, the names of the header and its fields
+abbrev pub IsRowTold : List ℕ → ℕ → (ℕ → List (List ℕ) → List (List ℕ) → Type 0) → List ℕ → Type 0
+IsRowTold text row tells lines =
+    ((HasNoRow text 0 ⊎ HasNoRow text row) × (lines ≡ []))
+    ⊎ ((above line : ℕ) × (names fields : List (List ℕ)) × IsRow text 0 above names × IsRow text row line fields × tells line names fields)
+
+abbrev pub IsToldOfRow : Side → ℕ → (ℕ → List (List ℕ) → List (List ℕ) → Type 0) → Inputs → List ℕ → Type 0
+IsToldOfRow s row tells inputs lines =
+    (text : List ℕ) × IsReadText inputs.request.now.strict (file_of s inputs) text × IsRowTold text row tells lines
+
+-- a cell that isn't of its column's type
+abbrev pub IsCellTold : Side → ℕ → ℕ → Inputs → List ℕ → Type 0
+IsCellTold s row column inputs lines =
+    IsToldOfRow s row (λ line names fields. lines ≡ cell_of_row (types_of s inputs) column line names fields) inputs lines
+
+-- a row whose length isn't the header's
+abbrev pub IsRaggedTold : Side → ℕ → Inputs → List ℕ → Type 0
+IsRaggedTold s row inputs lines =
+    IsToldOfRow s row (λ line names fields. lines ≡ ragged_line line (length fields) (length names)) inputs lines
+
+-- a row that is in so many kept pairs, and what stands in its key
+abbrev pub IsPairedTold : Side → ℕ → ℕ → Inputs → List ℕ → Type 0
+IsPairedTold s row pairs inputs lines =
+    IsToldOfRow s row (λ line names fields. (key : List ℕ) × (lines ≡ row_line s row pairs line key)) inputs lines
+
+-- the name of a column of a row under the header
+abbrev pub column_name : List (List ℕ) → ℕ → ℕ → Option (List ℕ)
+column_name names row column = if row == 0 then None else at_column column names
+
+-- what is told of the place where a text stops being of the grammar
+abbrev pub IsGrammarTold : Bool → List ℕ → Option (List ℕ) → List ℕ → List ℕ → Type 0
+IsGrammarTold full text name why lines =
+    (((file : File) × Derives First full (body_of First text) file) × (lines ≡ []))
+    ⊎ ((line : ℕ) × IsFaultLine full text line × (lines ≡ grammar_line line name why))
+
+abbrev pub IsStrictTold : Side → ℕ → ℕ → List ℕ → Inputs → List ℕ → Type 0
+IsStrictTold s row column why inputs lines =
+    IsGrammarTold (is_full inputs.request.now.strict) (file_of s inputs) (column_name (header_names (file_of s inputs)) row column) why lines
+
+-- the table without rows whose columns are those of a side's file
+abbrev pub columns_in : Side → Inputs → Result TableValue BuildRefused
+columns_in s inputs = empty_table (header_names (file_of s inputs)) (types_under (types_of s inputs) (header_names (file_of s inputs)))
+
+abbrev pub AreColumns : Side → Inputs → Option TableValue → Type 0
+AreColumns s inputs None = (header_names (file_of s inputs) ≡ []) ⊎ ((e : BuildRefused) × (columns_in s inputs ≡ Err e))
+AreColumns s inputs (Some table) = columns_in s inputs ≡ Ok table
+
+-- what is told over the columns of both sides
+abbrev pub IsToldOfColumns : Inputs → (TableValue → TableValue → Type 0) → List ℕ → Type 0
+IsToldOfColumns inputs tells lines =
+    ((AreColumns side.Left inputs None ⊎ AreColumns side.Right inputs None) × (lines ≡ []))
+    ⊎ ((left right : TableValue) × (columns_in side.Left inputs ≡ Ok left) × (columns_in side.Right inputs ≡ Ok right) × tells left right)
+
+-- a name of the clause and its byte, and more of it
+abbrev pub IsToldOfName : RefusedColumn → List ℕ → Type 0
+IsToldOfName found lines = (more : List ℕ) × (lines ≡ clause_line found more)
+
+-- what is told of the first name of a clause that can't be taken
+abbrev pub IsRefusalTold : List ℕ → List ℕ → TableValue → TableValue → Type 0
+IsRefusalTold clause lines left right =
+    (((65536 < length clause) ⊎ IsTaken clause left.names right.names) × (lines ≡ []))
+    ⊎ ((name : RefusedColumn) × IsRefusedColumn clause left.names right.names name × IsToldOfName name lines)
+
+abbrev pub IsNameTold : Inputs → List ℕ → Type 0
+IsNameTold inputs lines = IsToldOfColumns inputs (IsRefusalTold inputs.request.now.clause.now lines) lines
+
+-- what is told of the first comparison that can't be made
+abbrev pub IsToldOfPair : Mismatch → List ℕ → Type 0
+IsToldOfPair pair lines = (first second : List ℕ) × (lines ≡ mismatch_line first second pair.at)
+
+abbrev pub IsApartTold : List ℕ → List ℕ → TableValue → TableValue → Type 0
+IsApartTold clause lines left right =
+    (((65536 < length clause) ⊎ HasNoMismatch clause left right) × (lines ≡ []))
+    ⊎ ((pair : Mismatch) × IsMismatch clause left right pair × IsToldOfPair pair lines)
+
+abbrev pub IsMismatchTold : Inputs → List ℕ → Type 0
+IsMismatchTold inputs lines = IsToldOfColumns inputs (IsApartTold inputs.request.now.clause.now lines) lines
+
+-- the join that a clause asks of two tables
+abbrev pub IsJoinOf : List ℕ → TableValue → TableValue → BoundJoin → Type 0
+IsJoinOf clause left right join = (c : Clause) × HasClause clause c × (bound c left right ≡ Ok join)
+
+-- the names under which the columns that are chosen of it are written
+pub record AreNamesWritten (request : Request) (left right : TableValue) (names : List (List ℕ)) : Type 0 where
+  pub join : BoundJoin
+  pub asked : IsJoinOf request.clause.now left right join
+  pub written : written_names request.choice.repeated (chosen_header request.choice join left right) ≡ Ok names
+
+-- what is told of a cell of the result that would be read as null
+abbrev pub IsCellOfResultTold : Request → ℕ → ℕ → List ℕ → TableValue → TableValue → Type 0
+IsCellOfResultTold request row column lines left right =
+    (lines ≡ [])
+    ⊎ ((names : List (List ℕ)) × AreNamesWritten request left right names × (lines ≡ null_line row (slice_get names (column - 1)) request.out_null.now))
+
+abbrev pub IsNullTold : ℕ → ℕ → Inputs → List ℕ → Type 0
+IsNullTold row column inputs lines = IsToldOfColumns inputs (IsCellOfResultTold inputs.request.now row column lines) lines
+
+-- what is told of a fault of the grammar
+abbrev pub IsStrictExplained : Fault → Inputs → List ℕ → Type 0
+IsStrictExplained (fault.OpenQuote s row column) inputs lines = IsStrictTold s row column (codes "no quote closes the field that one opens here") inputs lines
+IsStrictExplained (fault.AfterQuote s row column) inputs lines =
+    IsStrictTold s row column (codes "more than a comma or a line end stands behind the closing quote") inputs lines
+IsStrictExplained (fault.BareQuote s row column) inputs lines =
+    IsStrictTold s row column (codes "a quote stands within a field that doesn't begin with one") inputs lines
+IsStrictExplained (fault.BareReturn s row column) inputs lines =
+    IsStrictTold s row column (codes "no line feed follows the carriage return behind the field") inputs lines
+IsStrictExplained (fault.EmptyLine s row) inputs lines = IsStrictTold s row 0 (codes "it is empty, under more than one name") inputs lines
+IsStrictExplained (fault.CutShort s row) inputs lines = IsStrictTold s row 0 (codes "it has no line end") inputs lines
+IsStrictExplained _ inputs lines = lines ≡ []
+
+-- What is told of a fault. Of E11 no definition says it.
+abbrev pub IsExplained : Fault → Inputs → List ℕ → Type 0
+IsExplained (fault.BadName s column) inputs lines = lines ≡ name_line (at_column column (header_names (file_of s inputs)))
+IsExplained (fault.RepeatedName s column) inputs lines =
+    lines ≡ repeated_told (header_names (file_of s inputs)) (at_column column (header_names (file_of s inputs)))
+IsExplained (fault.RaggedRow s row) inputs lines = IsRaggedTold s row inputs lines
+IsExplained (fault.BadInteger s row column) inputs lines = IsCellTold s row column inputs lines
+IsExplained (fault.BadText s row column) inputs lines = IsCellTold s row column inputs lines
+IsExplained fault.UnknownColumn inputs lines = IsNameTold inputs lines
+IsExplained fault.AmbiguousColumn inputs lines = IsNameTold inputs lines
+IsExplained fault.RepeatedUsing inputs lines = IsNameTold inputs lines
+IsExplained fault.TypeMismatch inputs lines = IsMismatchTold inputs lines
+IsExplained (fault.TypeCount s) inputs lines = IsTypeCountTold s inputs lines
+IsExplained (fault.TypeName s name) inputs lines = IsTypeNameTold s inputs lines
+IsExplained (fault.Syntax byte) inputs lines = Unit {0}
+IsExplained (fault.AmbiguousNull row column) inputs lines = IsNullTold row column inputs lines
+IsExplained f inputs lines = IsStrictExplained f inputs lines
