@@ -44,17 +44,17 @@ pub enum Failure {
     ReadDevice(String),
     #[error("merges: E20 WriteDevice")]
     WriteDevice,
-    #[error("merges: E21 NoPlaces {0}")]
+    #[error("merges: E32 NoPlaces {0}")]
     NoPlaces(String),
-    #[error("merges: E22 OtherHeader {0}")]
+    #[error("merges: E33 OtherHeader {0}")]
     OtherHeader(String),
-    #[error("merges: E23 BadPlace {0} row {1}")]
+    #[error("merges: E34 BadPlace {0} row {1}")]
     BadPlace(String, u64),
-    #[error("merges: E24 NoPlace {0} row {1}")]
+    #[error("merges: E35 NoPlace {0} row {1}")]
     NoPlace(String, u64),
-    #[error("merges: E25 NotInOrder {0} row {1}")]
+    #[error("merges: E36 NotInOrder {0} row {1}")]
     NotInOrder(String, u64),
-    #[error("merges: E26 RepeatedPlace {0}")]
+    #[error("merges: E37 RepeatedPlace {0}")]
     RepeatedPlace(At),
 }
 
