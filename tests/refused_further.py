@@ -74,7 +74,7 @@ RUNS = [
     Run("a merge to a full device", ["0.csv", "1.csv"], MERGED, b"", b"merges: E20 WriteDevice\n", 6, program="merges", is_full=True),
     Run("a merge of rows in two files each", ["--copies=2x2,2x2", "0.csv", "1.csv"], MERGED, b'a\nx\n"z\n"\n', program="merges"),
     Run("a merge of a missing file", ["0.csv", "none.csv", "1.csv"], MERGED, b"", b"merges: E19 ReadDevice none.csv\n", 6, program="merges"),
-    Run("a merge of another header", ["0.csv", "2.csv"], OTHERS, b"", b"merges: E22 OtherHeader 2.csv\n", 3, program="merges"),
+    Run("a merge of another header", ["0.csv", "2.csv"], OTHERS, b"", b"merges: E42 OtherHeader 2.csv\n", 3, program="merges"),
 ]
 
 

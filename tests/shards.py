@@ -222,6 +222,8 @@ LINES = (
     ({"strict": "yes"}, 2, b"possible values: on, full"),
     ({"strict": "off"}, 2, b"possible values: on, full"),
     ({"left": "none.csv", "null": "no null"}, 6, b"radixjoin: E19 ReadDevice left\n"),
+    ({"right-null": "no null", "left-types": "int,int"}, 3, b"radixjoin: E10 BadNull\n"),
+    ({"side": "right", "left-null": "1", "right-types": "int"}, 3, b"radixjoin: E10 BadNull\n"),
 )
 
 # What is told with `--explain`: the words that are others, the status, and all that is told.
@@ -230,6 +232,8 @@ EXPLAINED = (
     ({"join": "JOIN ON L.k = R.b"}, 4, b"radixjoin: E15 TypeMismatch\n  L.k is int, R.b is text, at byte 8 of the clause\n"),
     ({"join": "JOIN ON L.k"}, 4, b"radixjoin: E11 Syntax byte 11\n  found the end, wanted a comparison or NOT or IS or IN or BETWEEN\n  JOIN ON L.k\n             ^\n"),
     ({"left-types": "int"}, 3, b'radixjoin: E4 TypeCount left\n  2 names, 1 types; the first without a type is "a"\n'),
+    ({"join": "JOIN ON k = 1"}, 4, b'radixjoin: E14 AmbiguousColumn\n  "k" at byte 8 of the clause; both tables have it: write L. or R. before it\n'),
+    ({"join": "JOIN USING (k, K)"}, 4, b'radixjoin: E16 RepeatedUsing\n  "K" at byte 15 of the clause; the column is named before\n'),
     ({"right-types": "k=int,c=text"}, 3, b'radixjoin: E27 TypeName right "c"\n  the header has "k", "b"\n'),
     ({"left-types": "int,string"}, 2, b'radixjoin: bad type list left\n  "string": a type is int, num(p,s) or text, and a name before it stands before =\n'),
     ({"left-types": "int,int"}, 3, b"radixjoin: E6 BadInteger left row 1 column 2\n"),
@@ -238,16 +242,18 @@ EXPLAINED = (
 )
 
 
+# What the parts of the small file are: the mixed hash of 1 is odd, those of 2 and 3 are even.
+PARTS = {"0000.csv": 'k,a,left_place\n2,,1\n,z,2\n3,w,3\n', "0001.csv": 'k,a,left_place\n1,"x\ny",0\n'}
+
+
 def run_shards_alone(tally):
     """What `shards` writes of a small file, and tells of its command line."""
     with harness.folder() as name:
         folder = pathlib.Path(name)
         ran = harness.run([harness.program("shards"), *division(folder)], folder)
         faults = harness.differences(ran, b"rows 4 header 15\n")
-        # (the mixed hash of 1 is odd, those of 2 and 3 are even)
-        wanted = {"0000.csv": 'k,a,left_place\n2,,1\n,z,2\n3,w,3\n', "0001.csv": 'k,a,left_place\n1,"x\ny",0\n'}
-        got = {it.name: it.read_text() for it in sorted((folder / "parts").glob("*"))}
-        tally.check("shards: a small file", faults + ([] if got == wanted else [f"{got}, and not {wanted}"]))
+        got = parts_in(folder)
+        tally.check("shards: a small file", faults + ([] if got == PARTS else [f"{got}, and not {PARTS}"]))
         for more, status, told in LINES:
             ran = harness.run([harness.program("shards"), *division(folder, **more)], folder)
             faults = harness.differences(ran, None, None, status) + ([] if told in ran.stderr else [harness.shorten(ran.stderr)])
@@ -255,6 +261,47 @@ def run_shards_alone(tally):
         for more, status, told in EXPLAINED:
             ran = harness.run([harness.program("shards"), *division(folder, **more), "--explain"], folder)
             tally.check(f"shards: {more}, explained", harness.differences(ran, None, told, status))
+
+
+def parts_in(folder):
+    """The text of each part, by its name."""
+    return {it.name: it.read_text() for it in sorted((folder / "parts").glob("*"))}
+
+
+def run_over_others(tally):
+    """Files that are longer than the parts, in the folder of these, are replaced: nothing of them stays."""
+    with harness.folder() as name:
+        folder = pathlib.Path(name)
+        (folder / "parts").mkdir()
+        for number in range(3):
+            (folder / "parts" / f"{number:04}.csv").write_text("k,a,left_place\n" + "9,of an earlier run,9\n" * 99)
+        others = parts_in(folder)["0002.csv"]
+        ran = harness.run([harness.program("shards"), *division(folder)], folder)
+        faults = harness.differences(ran, b"rows 4 header 15\n")
+        got = parts_in(folder)
+        wanted = {**PARTS, "0002.csv": others}
+        tally.check("shards: over longer files", faults + ([] if got == wanted else [f"{got}, and not {wanted}"]))
+
+
+# How a file begins, and how it is read: places count from the range's first byte, whatever stands before its first row.
+BEGINNINGS = (("", None), ("\ufeff", None), ("", "on"), ("\ufeff", "full"))
+
+
+def run_places(tally):
+    """The place of a row is its number in the range, counted from the range's first byte."""
+    for mark, strict in BEGINNINGS:
+        with harness.folder() as name:
+            folder = pathlib.Path(name)
+            words = division(folder, parts="1", strict=strict)
+            text = f'{mark}k,a\n1,"x\ny"\n2,u\n3,v\n'
+            (folder / "left.csv").write_text(text)
+            second = len(text.partition("2,u")[0].encode())
+            for begin, rows in ((0, ('1,"x\ny"', "2,u", "3,v")), (second, ("2,u", "3,v"))):
+                ran = harness.run([harness.program("shards"), *words, f"--from={begin}"], folder)
+                faults = harness.differences(ran, f"rows {len(rows)} header 15\n".encode())
+                got = parts_in(folder)
+                wanted = {"0000.csv": "k,a,left_place\n" + "".join(f"{row},{begin + at}\n" for at, row in enumerate(rows))}
+                tally.check(f"shards: places from {begin}, {mark!r}, strict {strict}", faults + ([] if got == wanted else [f"{got}, and not {wanted}"]))
 
 
 def run_in_bounds(tally):
@@ -281,4 +328,6 @@ def run_all(tally):
     for row in (1, 3, 50_000):
         run_fault(row, tally)
     run_shards_alone(tally)
+    run_over_others(tally)
+    run_places(tally)
     run_in_bounds(tally)

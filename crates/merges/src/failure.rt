@@ -44,17 +44,17 @@ pub enum Failure {
     ReadDevice(String),
     #[error("merges: E20 WriteDevice")]
     WriteDevice,
-    #[error("merges: E21 NoPlaces {0}")]
+    #[error("merges: E41 NoPlaces {0}")]
     NoPlaces(String),
-    #[error("merges: E22 OtherHeader {0}")]
+    #[error("merges: E42 OtherHeader {0}")]
     OtherHeader(String),
-    #[error("merges: E23 BadPlace {0} row {1}")]
+    #[error("merges: E43 BadPlace {0} row {1}")]
     BadPlace(String, u64),
-    #[error("merges: E24 NoPlace {0} row {1}")]
+    #[error("merges: E44 NoPlace {0} row {1}")]
     NoPlace(String, u64),
-    #[error("merges: E25 NotInOrder {0} row {1}")]
+    #[error("merges: E45 NotInOrder {0} row {1}")]
     NotInOrder(String, u64),
-    #[error("merges: E26 RepeatedPlace {0}")]
+    #[error("merges: E46 RepeatedPlace {0}")]
     RepeatedPlace(At),
 }
 

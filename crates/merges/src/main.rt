@@ -12,7 +12,7 @@ use crate::failure::Failure;
 use clap::{Arg, ArgAction, ArgMatches, Command, value_parser};
 use rj_csv_io::{CountedWriter, is_lawful_null};
 use rj_fault::{VERSION, read_words, tell, texts_of};
-use rj_merge::{Copies, MergeInput, MergeOptions, Patient, Place, RowOrder, merge_texts};
+use rj_merge::{Copies, MergeOptions, Opener, Place, RowOrder, merge_named};
 use std::alloc::{AllocError, Global};
 use std::env::Env;
 use std::fs::{self, Files};
@@ -103,33 +103,18 @@ fn options_of<'n>(matches: &ArgMatches<'_>, null: &'n str) -> MergeOptions<'n> {
     }
 }
 
-// Opens the files, in order, each with its copies.
-fn open_files<R: Files + AllocGlobal>(
-    rt: &R,
-    files: &[&str],
-    copies: &[Copies],
-) -> Result<Vec<MergeInput<Patient<R::File>>>, Failure>
-where
-    R::File: Drop,
-    requires { length copies.now ≡ length files.now }
-{
-    let mut inputs = Vec::new(rt.alloc());
-    for i in 0..files.len() {
-        let name = files[i];
-        let file = match fs::open(rt, name) {
-            Ok(file) => file,
-            Err(error) if error.kind() == io::ErrorKind::OutOfMemory => return Err(Failure::Memory),
-            Err(_) => return Err(Failure::ReadDevice(String::from_str(rt.alloc(), name)?)),
-        };
-        let input = MergeInput {
-            reader: Patient::new(file),
-            copies: copies[i],
-        };
-        if inputs.push(input).is_err() {
-            return Err(Failure::Memory);
-        }
+// The files of the command line.
+#[derive(Drop)]
+struct Disk<'r, R: Files> {
+    rt: &'r R,
+}
+
+impl<'r, R: Files> Opener for Disk<'r, R> {
+    type Reader = R::File;
+
+    fn open(&self, name: &str) -> io::Result<R::File> {
+        fs::open(self.rt, name)
     }
-    Ok(inputs)
 }
 
 // Merges the files, and puts the merge on standard output.
@@ -140,29 +125,23 @@ fn merge_files<R: Files + AllocGlobal + Print>(
     files: &[&str],
     copies: &[Copies],
 ) -> Result<(), Failure>
-where
-    R::File: Drop,
     requires { length copies.now ≡ length files.now }
 {
     if !is_lawful_null(null) {
         return Err(Failure::BadNull);
     }
-    let inputs = open_files(rt, files, copies)?;
-    if inputs.is_empty() || u32::try_from(inputs.len()).is_err() {
+    if files.is_empty() || u32::try_from(files.len()).is_err() {
         return Err(Failure::FileCount);
     }
     let mut output = CountedWriter::new(io::writer(rt));
-    match merge_texts(rt.alloc(), inputs, how, &mut output) {
+    match merge_named(rt.alloc(), &Disk { rt }, files, copies, how, &mut output) {
         Ok(()) => Ok(()),
         Err(refused) => Err(Failure::of(rt.alloc(), files, refused)),
     }
 }
 
 // Reads the words after the program's name, and merges.
-fn read_and_merge<R: Files + AllocGlobal + Print>(rt: &R, words: &[&str]) -> Result<(), Failure>
-where
-    R::File: Drop,
-{
+fn read_and_merge<R: Files + AllocGlobal + Print>(rt: &R, words: &[&str]) -> Result<(), Failure> {
     let command = line_command(rt.alloc())?;
     let matches = match command.try_get_matches_from(words) {
         Ok(matches) => matches,
@@ -184,10 +163,7 @@ where
 }
 
 // Reads the command line, and merges.
-fn run<R: Env + Files + AllocGlobal + Print>(rt: &R) -> Result<(), Failure>
-where
-    R::File: Drop,
-{
+fn run<R: Env + Files + AllocGlobal + Print>(rt: &R) -> Result<(), Failure> {
     let Some(words) = read_words(rt)? else {
         return Err(Failure::NotText);
     };

@@ -11,3 +11,4 @@ pub mod RangeFacts
 pub mod BlockFacts
 pub mod BrokenFacts
 pub mod StrictFacts
+pub mod NullFacts

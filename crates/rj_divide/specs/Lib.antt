@@ -6,3 +6,4 @@ pub mod Underway
 pub mod Headers
 pub mod Ranges
 pub mod Blocks
+pub mod Stored

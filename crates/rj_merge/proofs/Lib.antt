@@ -18,3 +18,5 @@ pub mod RangeFacts
 pub mod CutFacts
 pub mod RangeLaws
 pub mod MergedFacts
+pub mod ToldFacts
+pub mod NamedFacts

@@ -1,5 +1,5 @@
 -- The rows of a merge that were put on an output so far.
-use Rattle.std.proofs.Common.{◌≡◌, ℕ, List, [], ◌∷◌, ◌++◌, Option, None, Some, All, Vec, Box, Global, Result, Err, refl, sym, ap, subst, ◌∙◌, append-nil, IsPermutation}
+use Rattle.std.proofs.Common.{◌≡◌, ℕ, Bool, List, [], ◌∷◌, ◌++◌, Option, None, Some, All, Vec, Box, Global, Result, Err, refl, sym, ap, subst, ◌∙◌, append-nil, IsPermutation}
 use Rattle.std.specs.Prelude.{◌≢◌, false, IfErr}
 use Rattle.std.proofs.lemmas.Bool.{false≢true}
 use Rattle.csv.specs.declared.writer.Writer.{Writer}
@@ -16,7 +16,7 @@ use Rattle.rj_merge.specs.declared.refused.MergeTextsRefused.{MergeTextsRefused}
 use Rattle.rj_merge.specs.declared.refused.MergeTextsRefused.TheVariants as texts_refused
 use Rattle.rj_merge.specs.MergedTexts.{IsTold, records_text}
 use Rattle.rj_merge.specs.Merging.{AllTell, faults_of_heads, faults_of_inputs, rows_of_heads, rows_of_inputs}
-use Rattle.rj_merge.specs.Sources.{Reading, is_outside}
+use Rattle.rj_merge.specs.Sources.{Reading, TellsAmong, is_outside}
 use Rattle.rj_merge.specs.Steps.{GaveAll, GaveSoFar, IsStep, stage_of}
 use Rattle.rj_merge.proofs.StepFacts.{gave_more}
 use Rattle.rj_merge.proofs.WrittenFacts.{no_records, records-more, told-none}
@@ -30,6 +30,16 @@ not_memory {T} r h e is out =
     let merge : texts_refused.Merge e ≡ texts_refused.Merge refused.Memory = only (λ q. cc q) in
     let same : e ≡ refused.Memory = cc in
     false≢true (sym out ∙ ap is_outside same)
+
+-- and it tells no input
+pub only_memory : {T : Type 0} (r : Result T MergeTextsRefused) → IfErr r (λ x. x ≢ texts_refused.WriteDevice → x ≡ texts_refused.Merge refused.Memory) → (e : MergeRefused)
+    → r ≡ Err (texts_refused.Merge e) → (numbers : ℕ → Bool) → TellsAmong numbers e
+only_memory {T} r h e is numbers =
+    let P : Result T MergeTextsRefused → Type 0 = λ r. IfErr r (λ x. x ≢ texts_refused.WriteDevice → x ≡ texts_refused.Merge refused.Memory) in
+    let only = subst P is h in
+    let merge : texts_refused.Merge e ≡ texts_refused.Merge refused.Memory = only (λ q. cc q) in
+    let same : refused.Memory ≡ e = cc in
+    subst (TellsAmong numbers) same tt
 
 -- the place of the row that an input gave last
 abbrev pub source_last : {R : Type 0} → Box (TextSource R) Global → Option Place

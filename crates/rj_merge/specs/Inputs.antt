@@ -1,5 +1,5 @@
 -- What texts of placed rows give as the inputs of a merge.
-use Rattle.std.specs.Prelude.{◌≡◌, ℕ, ◌+◌, false, List, [], ◌∷◌, map, if◌then◌else◌, Option, None, Some, Box}
+use Rattle.std.specs.Prelude.{◌≡◌, ℕ, ◌+◌, ◌&&◌, nat_le, Bool, false, List, [], ◌∷◌, map, if◌then◌else◌, Option, None, Some, Box}
 use Rattle.std.specs.Cmp.Lexicographic.{pointwise}
 use Rattle.std.specs.List.{flat_map}
 use Rattle.std.specs.Option.{option_to_list}
@@ -38,6 +38,10 @@ copies_of inputs = map (λ i. i.copies) inputs
 abbrev pub own_copies : {R : Type 0} → TextSource R → Copies
 own_copies s = s.copies
 
+-- the number of an input whose header was read
+abbrev pub own_number : {R : Type 0} → TextSource R → ℕ
+own_number s = s.input
+
 -- an input whose header was read tells the bytes of its text
 abbrev pub input_tells : {R : Type 0} → (R → Option (List ℕ)) → TextSource R → Type 0
 input_tells known s = s.ended ≡ false → IsBetween known s.reader.value
@@ -55,11 +59,18 @@ input_reading known s = reading_within s.how (records_reading known s)
 abbrev pub boxed_copies : {R : Type 0} → Box (TextSource R) Global → Copies
 boxed_copies b = own_copies b.value
 
+abbrev pub boxed_number : {R : Type 0} → Box (TextSource R) Global → ℕ
+boxed_number b = own_number b.value
+
 abbrev pub boxed_tells : {R : Type 0} → (R → Option (List ℕ)) → Box (TextSource R) Global → Type 0
 boxed_tells known b = input_tells known b.value
 
 abbrev pub boxed_reading : {R : Type 0} → (R → Option (List ℕ)) → Box (TextSource R) Global → Reading (List (List ℕ))
 boxed_reading known b = input_reading known b.value
+
+-- the numbers of so many inputs
+abbrev pub is_input : ℕ → ℕ → Bool
+is_input count number = nat_le 1 number && nat_le number count
 
 -- no rows, and this fault
 abbrev pub only_fault : MergeRefused → Reading (List (List ℕ))

@@ -10,3 +10,4 @@ pub mod Headers
 pub mod Inputs
 pub mod MergedTexts
 pub mod Patience
+pub mod Named

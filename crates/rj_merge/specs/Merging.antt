@@ -1,5 +1,5 @@
 -- What a merge still has to give.
-use Rattle.std.specs.Prelude.{◌≡◌, ◌⊎◌, List, ◌∷◌, ◌++◌, false, Option, None, Some, map, All, Contains}
+use Rattle.std.specs.Prelude.{◌≡◌, ◌⊎◌, ℕ, Bool, true, false, List, ◌∷◌, ◌++◌, Option, None, Some, map, All, Contains}
 use Rattle.std.specs.List.{flat_map}
 use Rattle.std.specs.List.Sorted.{IsPermutation}
 use Rattle.std.specs.Option.{option_to_list}
@@ -36,6 +36,10 @@ module _ {T S : Type 0} where
   -- each input tells what it will give
   abbrev pub AllTell : (S → Type 0) → List (Head T S) → Type 0
   AllTell tells heads = All (λ h. tells h.source) heads
+
+  -- the numbers of their inputs are among these
+  abbrev pub AreAmong : (S → ℕ) → (ℕ → Bool) → List (Head T S) → Type 0
+  AreAmong number numbers heads = All (λ h. numbers (number h.source) ≡ true) heads
 
   -- all rows that heads and their inputs still have
   abbrev pub rows_of_heads : (S → Copies) → (S → Reading T) → List (Head T S) → List (Copied T)

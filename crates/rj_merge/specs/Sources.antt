@@ -1,5 +1,5 @@
 -- What an input of a merge gives.
-use Rattle.std.specs.Prelude.{◌≡◌, Bool, true, false, List, [], ◌∷◌, Option, None, Some, Result, Ok, Err}
+use Rattle.std.specs.Prelude.{◌≡◌, ℕ, Bool, true, false, List, [], ◌∷◌, Option, None, Some, IfSome, Result, Ok, Err}
 use Rattle.rj_merge.specs.declared.place.Placed.{Placed}
 use Rattle.rj_merge.specs.declared.refused.MergeRefused.{MergeRefused}
 use Rattle.rj_merge.specs.declared.refused.MergeRefused.TheVariants as refused
@@ -21,6 +21,27 @@ is_outside (refused.BadPlace input row) = false
 is_outside (refused.NoPlace input row) = false
 is_outside (refused.NotInOrder input row) = false
 is_outside (refused.RepeatedPlace place) = false
+
+-- the number of the input that a fault tells, if it tells one
+abbrev pub told_input : MergeRefused → Option ℕ
+told_input refused.Memory = None
+told_input (refused.ReadDevice input) = Some input
+told_input (refused.NoHeader input) = Some input
+told_input (refused.NoPlaces input) = Some input
+told_input (refused.OtherHeader input) = Some input
+told_input (refused.RaggedRow input row) = Some input
+told_input (refused.BadPlace input row) = Some input
+told_input (refused.NoPlace input row) = Some input
+told_input (refused.NotInOrder input row) = Some input
+told_input (refused.RepeatedPlace place) = None
+
+-- a fault tells no input but that of this number
+abbrev pub TellsOf : ℕ → MergeRefused → Type 0
+TellsOf number e = IfSome (told_input e) (λ input. input ≡ number)
+
+-- a fault tells no input but one of these numbers
+abbrev pub TellsAmong : (ℕ → Bool) → MergeRefused → Type 0
+TellsAmong numbers e = IfSome (told_input e) (λ input. numbers input ≡ true)
 
 -- what is given next of a reading: its first row, its end, or its fault behind all rows
 abbrev pub Gives : {T : Type 0} → Reading T → Result (Option (Placed T)) MergeRefused → Reading T → Type 0

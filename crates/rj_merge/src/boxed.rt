@@ -15,6 +15,8 @@ impl<S: Source> Source for Box<S> {
 
     ghost last = { λ b. S.last b.value };
 
+    ghost number = { λ b. S.number b.value };
+
     ghost copies = { λ b. S.copies b.value };
 
     fn copies(&self) -> Copies {

@@ -3,10 +3,10 @@
 ghost use Rattle.std.specs.Prelude.{◌≡◌, ◌+◌, ◌∷◌, [], None, Some, false, true, Ok, Err, IfOk, IfErr, IfSome, OnOk, MatchBool, if◌then◌else◌, IsTrue};
 ghost use Rattle.csv.specs.Records.{fields_of};
 ghost use Rattle.rj_csv_io.specs.Remaining.{IsBetween, records_remaining};
-ghost use Rattle.rj_merge.specs.Inputs.{input_reading, input_tells, own_copies, records_reading};
+ghost use Rattle.rj_merge.specs.Inputs.{input_reading, input_tells, own_copies, own_number, records_reading};
 ghost use Rattle.rj_merge.specs.Places.{IsAbove};
 ghost use Rattle.rj_merge.specs.Ranges.{reading_within};
-ghost use Rattle.rj_merge.specs.Sources.{is_outside};
+ghost use Rattle.rj_merge.specs.Sources.{TellsOf, is_outside};
 ghost use Rattle.rj_merge.specs.Texts.{others, read_row, read_rows};
 
 use crate::columns::Columns;
@@ -28,6 +28,7 @@ pub(crate) fn next_record<R: Read>(
     fields: &mut ByteRecord,
 ) -> Result<bool, MergeRefused>
     ensures fault { IfErr result (λ e. is_outside e ≡ true) }
+    ensures input { IfErr result (TellsOf input) }
     ensures next { IfOk result (λ found. IsBetween R.remaining reader.old → MatchBool found
         ((records_remaining R.remaining reader.old ≡ fields_of fields.new ∷ records_remaining R.remaining reader.new) × IsBetween R.remaining reader.new)
         (records_remaining R.remaining reader.old ≡ [])) }
@@ -54,6 +55,7 @@ fn place_of_row(
         ≡ Ok record { place = p; row = others columns (fields_of fields.now) }) }
     ensures rises { IfOk result (λ p. IsAbove before p) }
     ensures fault { IfErr result (λ e. read_row how.entry columns input row before (fields_of fields.now) ≡ Err e) }
+    ensures input { IfErr result (TellsOf input) }
 {
     if fields.len() != columns.width {
         return Err(MergeRefused::RaggedRow(input, row));
@@ -96,6 +98,7 @@ impl<'n, R: Read + Drop> TextSource<'n, R> {
         copies: Copies,
     ) -> TextSource<'n, R>
         ensures copies { result.copies ≡ copies }
+        ensures number { result.input ≡ input }
         ensures tells { IsBetween R.remaining reader.value → input_tells R.remaining result }
         ensures reading { input_reading R.remaining result
             ≡ reading_within how.entry (read_rows how.entry columns input 0 None (records_remaining R.remaining reader.value)) }
@@ -120,6 +123,8 @@ impl<'n, R: Read + Drop> TextSource<'n, R> {
         ensures how { OnOk result (self.new.how ≡ self.old.how) }
         ensures columns { OnOk result (self.new.columns ≡ self.old.columns) }
         ensures copies { OnOk result (self.new.copies ≡ self.old.copies) }
+        ensures number { OnOk result (self.new.input ≡ self.old.input) }
+        ensures input { IfErr result (TellsOf self.old.input) }
         ensures some { IfOk result (λ o. IfSome o (λ p. input_tells R.remaining self.old
             → ((records_reading R.remaining self.old).rows
             ≡ record { place = p; row = others self.old.columns (fields_of fields.new) } ∷ (records_reading R.remaining self.new).rows)
@@ -180,6 +185,8 @@ impl<'n, R: Read + Drop> Source for TextSource<'n, R> {
     ghost reading = { input_reading R.remaining };
 
     ghost last = { λ s. s.last };
+
+    ghost number = { own_number };
 
     ghost copies = { own_copies };
 

@@ -1,14 +1,14 @@
 //! Merging inputs.
 
-ghost use Rattle.std.specs.Prelude.{◌≡◌, ◌++◌, ◌∷◌, false, [], None, Some, Ok, IfOk, IfErr, IfNone, IfSome, OnOk, Option, All, Contains};
+ghost use Rattle.std.specs.Prelude.{◌≡◌, ◌++◌, ◌∷◌, ℕ, Bool, true, false, [], None, Some, Ok, IfOk, IfErr, IfNone, IfSome, OnOk, Option, All, Contains};
 ghost use Rattle.std.specs.Option.{option_to_list};
 ghost use Rattle.std.specs.List.Sorted.{IsPermutation};
 ghost use Rattle.std.specs.BinaryHeap.{IsHeap, KeepsHeap, heap_items};
 ghost use Rattle.rj_merge.specs.declared.place.Place.{Place};
 ghost use Rattle.rj_merge.specs.Copies.{copied};
-ghost use Rattle.rj_merge.specs.Merging.{AllTell, AreAbove, AreHeads, AreNewest, AreNotBelow, IsFaultOf, Passes, faults_of_heads, faults_of_inputs, head_order, rows_of_heads, rows_of_inputs};
+ghost use Rattle.rj_merge.specs.Merging.{AllTell, AreAbove, AreAmong, AreHeads, AreNewest, AreNotBelow, IsFaultOf, Passes, faults_of_heads, faults_of_inputs, head_order, rows_of_heads, rows_of_inputs};
 ghost use Rattle.rj_merge.specs.Places.{IsAbove, IsNotBelow};
-ghost use Rattle.rj_merge.specs.Sources.{is_outside};
+ghost use Rattle.rj_merge.specs.Sources.{TellsAmong, TellsOf, is_outside};
 ghost use Rattle.rj_merge.specs.Steps.{IsStep, stage_of};
 
 use crate::head::Head;
@@ -33,6 +33,7 @@ fn with_spare<S: Source>(source: S, spare: Option<S::Row>) -> S
     ensures reading { S.reading result ≡ S.reading source }
     ensures last { S.last result ≡ S.last source }
     ensures copies { S.copies result ≡ S.copies source }
+    ensures number { S.number result ≡ S.number source }
 {
     let mut source = source;
     if let Some(row) = spare {
@@ -57,6 +58,8 @@ fn put_next<S: Source>(
         → IsPermutation (option_to_list (S.reading source).fault ++ faults_of_heads S.reading (heap_items heads.old))
         (faults_of_heads S.reading (heap_items heads.new))) }
     ensures fault { IfErr result (λ e. is_outside e ≡ false → S.tells source → (S.reading source).fault ≡ Some e) }
+    ensures among { OnOk result ((numbers : ℕ → Bool) → numbers (S.number source) ≡ true → AreAmong S.number numbers (heap_items heads.old) → AreAmong S.number numbers (heap_items heads.new)) }
+    ensures input { IfErr result (TellsOf (S.number source)) }
 {
     let mut source = source;
     let next = match source.next() {
@@ -111,6 +114,8 @@ fn take_place<S: Source>(
         → IsPermutation (faults_of_heads S.reading (first ∷ heap_items heads.old)) (faults_of_heads S.reading (heap_items heads.new))) }
     ensures fault { IfErr result (λ e. is_outside e ≡ false → AllTell S.tells (first ∷ heap_items heads.old)
         → IsFaultOf (rows_of_heads S.copies S.reading (first ∷ heap_items heads.old)) (faults_of_heads S.reading (first ∷ heap_items heads.old)) e) }
+    ensures among { OnOk result ((numbers : ℕ → Bool) → AreAmong S.number numbers (first ∷ heap_items heads.old) → AreAmong S.number numbers (heap_items heads.new)) }
+    ensures input { IfErr result (λ e. (numbers : ℕ → Bool) → AreAmong S.number numbers (first ∷ heap_items heads.old) → TellsAmong numbers e) }
 {
     let Head { next, source } = first;
     let mut needed = source.copies().needed(next.place);
@@ -165,6 +170,9 @@ impl<S: Source> Merge<S> {
             → IsPermutation (option_to_list (S.reading source).fault ++ faults_of_heads S.reading (heap_items self.old.heads))
             (faults_of_heads S.reading (heap_items self.new.heads))) }
         ensures fault { IfErr result (λ e. is_outside e ≡ false → S.tells source → (S.reading source).fault ≡ Some e) }
+        ensures among { OnOk result ((numbers : ℕ → Bool) → numbers (S.number source) ≡ true
+            → AreAmong S.number numbers (heap_items self.old.heads) → AreAmong S.number numbers (heap_items self.new.heads)) }
+        ensures input { IfErr result (TellsOf (S.number source)) }
     {
         put_next(&mut self.heads, source)
     }
@@ -183,6 +191,8 @@ impl<S: Source> Merge<S> {
         ensures faults { IfOk result (λ m. All S.tells inputs.items
             → IsPermutation (faults_of_inputs S.reading inputs.items) (faults_of_heads S.reading (heap_items m.heads))) }
         ensures fault { IfErr result (λ e. is_outside e ≡ false → All S.tells inputs.items → Contains (faults_of_inputs S.reading inputs.items) e) }
+        ensures among { IfOk result (λ m. (numbers : ℕ → Bool) → All (λ s. numbers (S.number s) ≡ true) inputs.items → AreAmong S.number numbers (heap_items m.heads)) }
+        ensures input { IfErr result (λ e. (numbers : ℕ → Bool) → All (λ s. numbers (S.number s) ≡ true) inputs.items → TellsAmong numbers e) }
     {
         let mut inputs = inputs;
         let mut merge = Merge::new(alloc);
@@ -222,6 +232,8 @@ impl<S: Source> Merge<S> {
             → (rows_of_heads S.copies S.reading (heap_items self.new.heads) ≡ []) × (faults_of_heads S.reading (heap_items self.new.heads) ≡ []) }
         ensures fault { IfErr result (λ e. is_outside e ≡ false → AllTell S.tells (heap_items self.old.heads)
             → IsFaultOf (rows_of_heads S.copies S.reading (heap_items self.old.heads)) (faults_of_heads S.reading (heap_items self.old.heads)) e) }
+        ensures among { OnOk result ((numbers : ℕ → Bool) → AreAmong S.number numbers (heap_items self.old.heads) → AreAmong S.number numbers (heap_items self.new.heads)) }
+        ensures input { IfErr result (λ e. (numbers : ℕ → Bool) → AreAmong S.number numbers (heap_items self.old.heads) → TellsAmong numbers e) }
     {
         'places: for _turn in 0..u64::MAX {
             let Some(head) = self.heads.pop() else {

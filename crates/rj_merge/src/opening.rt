@@ -1,12 +1,12 @@
 //! Opening the texts that are merged.
 
-ghost use Rattle.std.specs.Prelude.{◌≡◌, ◌<◌, ◌^◌, ◌∷◌, [], false, List, ℕ, None, Some, All, Contains, IfOk, IfErr, map, vec_len};
+ghost use Rattle.std.specs.Prelude.{◌≡◌, ◌<◌, ◌^◌, ◌∷◌, [], true, false, List, ℕ, None, Some, All, Contains, IfOk, IfErr, map, vec_len};
 ghost use Rattle.csv.specs.Records.{fields_of};
 ghost use Rattle.rj_csv_io.specs.Cuts.{records_in};
 ghost use Rattle.rj_csv_io.specs.Remaining.{IsBetween, records_remaining};
 ghost use Rattle.rj_merge.specs.Headers.{place_columns};
-ghost use Rattle.rj_merge.specs.Inputs.{ForTexts, copies_of, faults_of_readings, first_header, first_record, header_fault, header_fault_of, input_reading, input_tells, own_copies, reading_of, readings};
-ghost use Rattle.rj_merge.specs.Sources.{is_outside};
+ghost use Rattle.rj_merge.specs.Inputs.{ForTexts, copies_of, faults_of_readings, first_header, first_record, header_fault, header_fault_of, input_reading, input_tells, is_input, own_copies, own_number, reading_of, readings};
+ghost use Rattle.rj_merge.specs.Sources.{TellsAmong, TellsOf, is_outside};
 
 use crate::copies::MergeInput;
 use crate::header::{SharedHeader, are_same, columns_of};
@@ -41,6 +41,7 @@ fn begin<R: Read + Drop>(alloc: Global, input: u32, source: R) -> Result<Begun<R
         → IsBetween R.remaining b.reader.value × (records_in text ≡ fields_of b.header ∷ records_remaining R.remaining b.reader.value)) }
     ensures fault { IfErr result (λ e. is_outside e ≡ false → (text : List ℕ) → R.remaining source ≡ Some text
         → (e ≡ MergeRefused.NoHeader input) × (records_in text ≡ [])) }
+    ensures input { IfErr result (TellsOf input) }
 {
     let mut reader = open_reader(alloc, source);
     let mut header = ByteRecord::new(alloc);
@@ -79,6 +80,8 @@ fn open_first<'n, R: Read + Drop>(
         → header_fault_of (first_record (records_in text)) 1 text ≡ None) }
     ensures unheaded { IfErr result (λ e. is_outside e ≡ false → (text : List ℕ) → R.remaining first.reader ≡ Some text
         → header_fault_of (first_record (records_in text)) 1 text ≡ Some e) }
+    ensures number { IfOk result (λ f. f.source.input ≡ 1) }
+    ensures told { IfErr result (TellsOf 1) }
 {
     let MergeInput {
         reader: text,
@@ -117,6 +120,8 @@ fn open_next<'n, R: Read + Drop>(
         → header_fault_of (fields_of first.now.names) input text ≡ None) }
     ensures unheaded { IfErr result (λ e. is_outside e ≡ false → (text : List ℕ) → R.remaining next.reader ≡ Some text
         → header_fault_of (fields_of first.now.names) input text ≡ Some e) }
+    ensures number { IfOk result (λ s. s.input ≡ input) }
+    ensures told { IfErr result (TellsOf input) }
 {
     let MergeInput {
         reader: text,
@@ -160,6 +165,8 @@ pub(crate) fn open_all<'n, R: Read + Drop>(
         → ForTexts R.remaining inputs.items (λ texts. Contains (faults_of_readings (readings how.entry texts)) e)) }
     ensures headers { IfOk result (λ _. ForTexts R.remaining inputs.items (λ texts. header_fault texts ≡ None)) }
     ensures first { IfErr result (λ e. is_outside e ≡ false → ForTexts R.remaining inputs.items (λ texts. header_fault texts ≡ Some e)) }
+    ensures numbers { IfOk result (λ o. All (λ s. is_input (vec_len inputs) (own_number s) ≡ true) o.sources.items) }
+    ensures told { IfErr result (TellsAmong (is_input (vec_len inputs))) }
 {
     let mut left = inputs.into_iter();
     let Some(first) = left.next() else {

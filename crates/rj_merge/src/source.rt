@@ -1,8 +1,8 @@
 //! What gives rows in order.
 
-ghost use Rattle.std.specs.Prelude.{◌≡◌, Option, IfOk, IfSome, OnOk, Some};
+ghost use Rattle.std.specs.Prelude.{◌≡◌, ℕ, Option, IfErr, IfOk, IfSome, OnOk, Some};
 ghost use Rattle.rj_merge.specs.Places.{IsAbove};
-ghost use Rattle.rj_merge.specs.Sources.{Gives, Reading};
+ghost use Rattle.rj_merge.specs.Sources.{Gives, Reading, TellsOf};
 ghost use Rattle.rj_merge.specs.declared.copies.Copies.{Copies};
 ghost use Rattle.rj_merge.specs.declared.place.Place.{Place};
 
@@ -24,6 +24,9 @@ pub trait Source: Drop {
     // The place of the row that it gave last.
     ghost last: { Self → Option Place };
 
+    // By which number its faults tell it.
+    ghost number: { Self → ℕ };
+
     // In how many inputs its lone rows stand.
     ghost copies: { Self → Copies };
 
@@ -40,7 +43,9 @@ pub trait Source: Drop {
         ensures tells { OnOk result (tells self.old → tells self.new) }
         ensures gives { tells self.old → Gives (reading self.old) result (reading self.new) }
         ensures rises { IfOk result (λ o. IfSome o (λ r. IsAbove (last self.old) r.place × (last self.new ≡ Some r.place))) }
-        ensures copies { OnOk result (copies self.new ≡ copies self.old) };
+        ensures copies { OnOk result (copies self.new ≡ copies self.old) }
+        ensures number { OnOk result (number self.new ≡ number self.old) }
+        ensures input { IfErr result (TellsOf (number self.old)) };
 
     /// Takes back a row that isn't needed any more, of this input or of another one of the merge, so that a later row can
     /// stand where it stood. What the input gives stays the same.
@@ -49,5 +54,6 @@ pub trait Source: Drop {
         ensures reading { reading self.new ≡ reading self.old }
         ensures last { last self.new ≡ last self.old }
         ensures copies { copies self.new ≡ copies self.old }
+        ensures number { number self.new ≡ number self.old }
     {}
 }

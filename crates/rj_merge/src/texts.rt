@@ -1,6 +1,6 @@
 //! Texts of placed rows merged into one text.
 
-ghost use Rattle.std.specs.Prelude.{◌≡◌, ◌≢◌, ◌<◌, ◌+◌, ◌-◌, ◌^◌, ◌++◌, [], List, ℕ, Err, All, IfOk, OnOk, map, vec_len};
+ghost use Rattle.std.specs.Prelude.{◌≡◌, ◌≢◌, ◌<◌, ◌+◌, ◌-◌, ◌^◌, ◌++◌, [], true, Bool, List, ℕ, Err, All, IfOk, OnOk, map, vec_len};
 ghost use Rattle.std.specs.Box.{box_value};
 ghost use Rattle.std.specs.Io.KnownBytes.{Appends};
 ghost use Rattle.csv.specs.Records.{fields_of};
@@ -9,9 +9,10 @@ ghost use Rattle.rj_csv_io.specs.Written.{HasWritten};
 ghost use Rattle.rj_merge.specs.declared.place.Placed.{Placed};
 ghost use Rattle.rj_merge.specs.declared.refused.MergeRefused.{MergeRefused};
 ghost use Rattle.rj_merge.specs.Copies.{copied_rows};
-ghost use Rattle.rj_merge.specs.Inputs.{ForTexts, boxed_copies, boxed_reading, boxed_tells, copies_of};
+ghost use Rattle.rj_merge.specs.Inputs.{ForTexts, boxed_copies, boxed_number, boxed_reading, boxed_tells, copies_of, is_input};
 ghost use Rattle.rj_merge.specs.MergedTexts.{GotMerge, HaveNoFault, HeedsHeaders, IsFaultOfTexts, IsRefusedBy, head_rows, records_text};
 ghost use Rattle.rj_merge.specs.Merging.{IsFaultOf, faults_of_inputs, lists_of_inputs};
+ghost use Rattle.rj_merge.specs.Sources.{TellsAmong};
 ghost use Rattle.rj_merge.specs.Texts.{others};
 ghost use Rattle.rj_merge.specs.Wholes.{IsMergeOf};
 
@@ -65,6 +66,8 @@ fn put_rows<'n, R: Read + Drop, O: Output>(
     ensures fault { (e : MergeRefused) → IsRefusedBy result e → All (boxed_tells R.remaining) sources.entry.items
         → IsFaultOf (copied_rows (lists_of_inputs boxed_copies (boxed_reading R.remaining) sources.entry.items))
         (faults_of_inputs (boxed_reading R.remaining) sources.entry.items) e }
+    ensures input { (e : MergeRefused) → result ≡ Err (MergeTextsRefused.Merge e) → (numbers : ℕ → Bool)
+        → All (λ b. numbers (boxed_number b) ≡ true) sources.entry.items → TellsAmong numbers e }
     ensures device { result ≡ Err MergeTextsRefused.WriteDevice → O.count output.new ≡ O.count output.old + 1 }
     ensures kept { result ≢ Err MergeTextsRefused.WriteDevice → O.count output.new ≡ O.count output.old }
 {
@@ -139,6 +142,7 @@ pub fn merge_texts<R: Read + Drop, O: Output>(
     ensures fault { (e : MergeRefused) → IsRefusedBy result e
         → ForTexts R.remaining inputs.items (λ texts. IsFaultOfTexts how.entry (copies_of inputs.items) texts e) }
     ensures first { ForTexts R.remaining inputs.items (HeedsHeaders result) }
+    ensures input { (e : MergeRefused) → result ≡ Err (MergeTextsRefused.Merge e) → TellsAmong (is_input (vec_len inputs)) e }
     ensures device { result ≡ Err MergeTextsRefused.WriteDevice → O.count output.new ≡ O.count output.old + 1 }
     ensures kept { result ≢ Err MergeTextsRefused.WriteDevice → O.count output.new ≡ O.count output.old }
 {

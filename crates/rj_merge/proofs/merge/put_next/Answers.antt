@@ -1,4 +1,4 @@
-use Rattle.std.proofs.Common.{◌≡◌, Some}
+use Rattle.std.proofs.Common.{◌≡◌, Some, true, subst, sym}
 use Rattle.rj_merge.proofs.HeadFacts.{faults_put, holds_put, rows_put}
 use Rattle.rj_merge.specs.Places.{IsNotBelow}
 use Rattle.rj_merge.proofs.merge.put_next.Goals as goal
@@ -16,6 +16,10 @@ returns-clause-above g c = λ given low all.
 pub returns-clause-tells : goal.returns-clause-tells
 returns-clause-tells g c = λ here all.
     holds_put (λ h. g.S.Source.tells h.source) _ _ _ c.in-Ok.ensures.permutation (c.in-Ok-Some.ensures.tells here) all
+
+pub returns-clause-among : goal.returns-clause-among
+returns-clause-among g c = λ numbers here all.
+    holds_put (λ h. numbers (g.S.Source.number h.source) ≡ true) _ _ _ c.in-Ok.ensures.permutation (subst (λ n. numbers n ≡ true) (sym c.in-Ok-Some.ensures.number) here) all
 
 pub returns-clause-rows : goal.returns-clause-rows
 returns-clause-rows g c = λ here.

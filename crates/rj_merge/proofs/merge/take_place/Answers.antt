@@ -1,14 +1,15 @@
-use Rattle.std.proofs.Common.{◌≡◌, ◌+◌, ◌<◌, ◌∷◌, ◌∙◌, Some, refl, sym, ap, subst, inl, inr, arith, min}
+use Rattle.std.proofs.Common.{◌≡◌, ◌+◌, ◌<◌, ◌∷◌, ◌∙◌, Some, true, refl, sym, ap, subst, inl, inr, arith, min}
 use Rattle.std.specs.List.Sorted.{IsPermutation}
 use Rattle.std.specs.Option.{option_to_list}
 use Rattle.std.specs.BinaryHeap.{heap_items}
 use Rattle.std.proofs.lemmas.List.Elements.{All-head, All-tail}
 use Rattle.std.proofs.lemmas.List.Sorted.{Contains-permutation, IsPermutation-refl, IsPermutation-sym, IsPermutation-trans}
 use Rattle.rj_merge.specs.Copies.{needed}
-use Rattle.rj_merge.specs.Merging.{AllTell, Passes, faults_of_heads, rows_of_heads}
+use Rattle.rj_merge.specs.Merging.{AllTell, AreAmong, Passes, faults_of_heads, rows_of_heads}
 use Rattle.rj_merge.specs.Places.{IsAbove, IsNotBelow}
 use Rattle.rj_merge.proofs.HeadFacts.{faults_taken, has_fault, holds_first, holds_rest, rows_taken}
 use Rattle.rj_merge.proofs.PlaceFacts.{not_below}
+use Rattle.rj_merge.proofs.ToldFacts.{told_among}
 use Rattle.rj_merge.proofs.TakenFacts.{Takes, passes_short, passes_whole, takes_first, takes_more, takes_often}
 use Rattle.rj_merge.proofs.merge.take_place.Goals.{then-times-needed, else-times-needed}
 use Rattle.rj_merge.proofs.merge.take_place.Goals as goal
@@ -20,6 +21,11 @@ returns-in-Err-clause-fault g c = λ out all.
     let tells = All-head (λ h. g.S.Source.tells h.source) first old all in
     let spared = c.with_spare.ensures in
     inl (has_fault g.S.Source.copies g.S.Source.reading (first ∷ old) old first c.in-Err.e (IsPermutation-refl (first ∷ old)) (rw spared.reading at (c.in-Err.ensures.fault out (spared.tells tells))))
+
+pub returns-in-Err-clause-input : goal.returns-in-Err-clause-input
+returns-in-Err-clause-input g c = λ numbers all.
+    told_among numbers _ c.in-Err.e c.in-Err.ensures.input
+    (subst (λ n. numbers n ≡ true) (sym c.with_spare.ensures.number) (All-head (λ h. numbers (g.S.Source.number h.source) ≡ true) c.args.first (heap_items c.args.heads.now) all))
 
 pub heads-init : goal.heads-init
 heads-init g c =
@@ -37,6 +43,9 @@ heads-init g c =
       newest = c.in-Ok.ensures.newest (All-tail (λ h. g.S.Source.last h.source ≡ Some h.next.place) first old c.requires.newest);
       low = c.in-Ok.ensures.above (Some place) (λ p up. not_below (Some place) p (subst (λ l. IsAbove l p) newest up)) c.requires.low;
       tells = λ all. c.in-Ok.ensures.tells (first_tells all) (All-tail (λ h. g.S.Source.tells h.source) first old all);
+      among = λ numbers all.
+          c.in-Ok.ensures.among numbers (subst (λ n. numbers n ≡ true) (sym spared.number) (All-head (λ h. numbers (g.S.Source.number h.source) ≡ true) first old all))
+          (All-tail (λ h. numbers (g.S.Source.number h.source) ≡ true) first old all);
       rows = λ all.
           subst (λ n. Takes first.next n 1 (rows_of_heads g.S.Source.copies g.S.Source.reading (first ∷ old)) (rows_of_heads g.S.Source.copies g.S.Source.reading new)) (sym number)
           (takes_first (g.S.Source.copies first.source) first.next _ _
@@ -71,6 +80,15 @@ returns-in-Err-put_next-clause-fault g c = λ out all.
     inl (Contains-permutation (faults_of_heads g.S.Source.reading kept) before c.in-Err-put_next.e (IsPermutation-sym before (faults_of_heads g.S.Source.reading kept) (c.heads.invariant.faults all))
     (has_fault g.S.Source.copies g.S.Source.reading kept _ c.in-Some.head c.in-Err-put_next.e c.in-Some.ensures.taken (c.in-Err-put_next.ensures.fault out tells)))
 
+pub returns-in_default-clause-among : goal.returns-in_default-clause-among
+returns-in_default-clause-among g c = λ numbers all.
+    subst (λ l. AreAmong g.S.Source.number numbers l) (sym c.in_default.ensures.none) (c.heads.invariant.among numbers all)
+
+pub returns-in-Err-put_next-clause-input : goal.returns-in-Err-put_next-clause-input
+returns-in-Err-put_next-clause-input g c = λ numbers all.
+    told_among numbers _ c.in-Err-put_next.e c.in-Err-put_next.ensures.input
+    (holds_first (λ h. numbers (g.S.Source.number h.source) ≡ true) (heap_items c.heads.heads) _ c.in-Some.head c.in-Some.ensures.taken (c.heads.invariant.among numbers all))
+
 pub heads-preserved : goal.heads-preserved
 heads-preserved g c =
     let first = c.args.first in
@@ -94,6 +112,10 @@ heads-preserved g c =
       tells = λ all.
           let t = inv.tells all in
           c.in-Ok-put_next.ensures.tells (holds_first (λ h. g.S.Source.tells h.source) kept rest head taken t) (holds_rest (λ h. g.S.Source.tells h.source) kept rest head taken t);
+      among = λ numbers all.
+          let t = inv.among numbers all in
+          c.in-Ok-put_next.ensures.among numbers (holds_first (λ h. numbers (g.S.Source.number h.source) ≡ true) kept rest head taken t)
+          (holds_rest (λ h. numbers (g.S.Source.number h.source) ≡ true) kept rest head taken t);
       rows = λ all.
           let tells = holds_first (λ h. g.S.Source.tells h.source) kept rest head taken (inv.tells all) in
           subst (λ n. Takes first.next n (c.heads.times + 1) before (rows_of_heads g.S.Source.copies g.S.Source.reading new)) (sym least)

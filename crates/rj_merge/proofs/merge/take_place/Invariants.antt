@@ -1,7 +1,7 @@
-use Rattle.std.proofs.Common.{◌+◌, ◌-◌, ◌<◌, ◌^◌, ◌∷◌, Some}
+use Rattle.std.proofs.Common.{◌+◌, ◌-◌, ◌<◌, ◌^◌, ◌∷◌, ℕ, Bool, Some}
 use Rattle.std.specs.List.Sorted.{IsPermutation}
 use Rattle.std.specs.BinaryHeap.{IsHeap, heap_items}
-use Rattle.rj_merge.specs.Merging.{AllTell, AreNewest, AreNotBelow, faults_of_heads, head_order, rows_of_heads}
+use Rattle.rj_merge.specs.Merging.{AllTell, AreAmong, AreNewest, AreNotBelow, faults_of_heads, head_order, rows_of_heads}
 use Rattle.rj_merge.proofs.TakenFacts.{Takes}
 use Rattle.rj_merge.proofs.merge.take_place.Given as goal
 
@@ -12,6 +12,7 @@ invariant-heads g l = record {
   newest : AreNewest g.S.Source.last (heap_items l.heads);
   low : AreNotBelow (Some l.next.place) (heap_items l.heads);
   tells : AllTell g.S.Source.tells (l.fn.first ∷ heap_items l.fn.heads) → AllTell g.S.Source.tells (heap_items l.heads);
+  among : (numbers : ℕ → Bool) → AreAmong g.S.Source.number numbers (l.fn.first ∷ heap_items l.fn.heads) → AreAmong g.S.Source.number numbers (heap_items l.heads);
   rows : AllTell g.S.Source.tells (l.fn.first ∷ heap_items l.fn.heads)
       → Takes l.next l.needed l.times (rows_of_heads g.S.Source.copies g.S.Source.reading (l.fn.first ∷ heap_items l.fn.heads)) (rows_of_heads g.S.Source.copies g.S.Source.reading (heap_items l.heads));
   faults : AllTell g.S.Source.tells (l.fn.first ∷ heap_items l.fn.heads)

@@ -1,11 +1,13 @@
-use Rattle.std.proofs.Common.{◌++◌, ◌≡◌, refl}
+use Rattle.std.proofs.Common.{◌++◌, ◌≡◌, refl, subst, vec_len}
 use Rattle.csv.specs.Records.{fields_of}
 use Rattle.rj_csv_io.specs.Shown.{rows_text}
 use Rattle.rj_csv_io.proofs.WriteFacts.{ok-holds}
-use Rattle.rj_merge.specs.Inputs.{boxed_copies, boxed_reading, copies_of}
+use Rattle.rj_merge.specs.declared.refused.MergeRefused.TheVariants as refused
+use Rattle.rj_merge.specs.Inputs.{boxed_copies, boxed_reading, copies_of, is_input}
 use Rattle.rj_merge.specs.MergedTexts.{head_rows, records_text}
+use Rattle.rj_merge.specs.Sources.{TellsAmong}
 use Rattle.rj_merge.specs.Texts.{others}
-use Rattle.rj_merge.proofs.HeapFacts.{copies-boxed, readings-boxed, tells-boxed}
+use Rattle.rj_merge.proofs.HeapFacts.{copies-boxed, numbers-boxed, readings-boxed, tells-boxed}
 use Rattle.rj_merge.proofs.MergedFacts.{fault_of_texts, faultless, merged}
 use Rattle.rj_merge.proofs.WrittenFacts.{ok-if}
 use Rattle.rj_merge.proofs.texts.merge_texts.Goals as goal
@@ -66,3 +68,17 @@ returns-clause-first g c = λ texts tell f is. let none = c.in-Ok.ensures.header
 
 pub returns-in_default-on_heap-clause-first : goal.returns-in_default-on_heap-clause-first
 returns-in_default-on_heap-clause-first g c = λ texts tell f is. let none = c.in-Ok.ensures.headers texts tell in absurd (cc)
+
+pub returns-in-Err-clause-input : goal.returns-in-Err-clause-input
+returns-in-Err-clause-input g c = λ e told. let same : c.in-Err.e ≡ e = cc in subst (TellsAmong (is_input (vec_len c.args.inputs))) same c.in-Err.ensures.told
+
+pub returns-in_default-clause-input : goal.returns-in_default-clause-input
+returns-in_default-clause-input g c = λ e told. let same : refused.Memory ≡ e = cc in subst (TellsAmong (is_input (vec_len c.args.inputs))) same tt
+
+pub returns-in_default-on_heap-clause-input : goal.returns-in_default-on_heap-clause-input
+returns-in_default-on_heap-clause-input g c = λ e told. let same : refused.Memory ≡ e = cc in subst (TellsAmong (is_input (vec_len c.args.inputs))) same tt
+
+pub returns-clause-input : goal.returns-clause-input
+returns-clause-input g c = λ e told.
+    let numbers = is_input (vec_len c.args.inputs) in
+    c.put_rows.ensures.input e told numbers (numbers-boxed g.R.Read.remaining c.in-Ok-on_heap.sources.items c.in-Ok.opened.sources.items c.in-Ok-on_heap.ensures numbers c.in-Ok.ensures.numbers)

@@ -5,8 +5,9 @@ use Rattle.rj_csv_io.proofs.WriteFacts.{ok-holds}
 use Rattle.rj_merge.specs.Inputs.{boxed_copies, boxed_reading, boxed_tells}
 use Rattle.rj_merge.specs.MergedTexts.{records_text}
 use Rattle.rj_merge.specs.Merging.{IsFaultOf, faults_of_heads, faults_of_inputs, rows_of_heads}
+use Rattle.rj_merge.specs.Sources.{TellsAmong}
 use Rattle.rj_merge.specs.Steps.{stage_of}
-use Rattle.rj_merge.proofs.PutFacts.{not_memory, put-all, put-more, put-none}
+use Rattle.rj_merge.proofs.PutFacts.{not_memory, only_memory, put-all, put-more, put-none}
 use Rattle.rj_merge.proofs.StepFacts.{gave_fault, gave_faultless, gave_merge}
 use Rattle.rj_merge.proofs.WrittenFacts.{ok-if}
 use Rattle.rj_merge.proofs.texts.put_rows.Goals as goal
@@ -17,11 +18,15 @@ returns-in-Err-clause-fault g c = λ e refused all.
     let is : c.in-Err.e ≡ e = cc in
     inl (subst (λ x. Contains (faults_of_inputs (boxed_reading g.R.Read.remaining) c.args.sources.items) x) is (c.in-Err.ensures.fault (rw is refused.inside) all))
 
+pub returns-in-Err-clause-input : goal.returns-in-Err-clause-input
+returns-in-Err-clause-input g c = λ e told numbers all. let same : c.in-Err.e ≡ e = cc in subst (TellsAmong numbers) same (c.in-Err.ensures.input numbers all)
+
 pub rows-init : goal.rows-init
 rows-init g c = record {
   lawful = c.in-Ok.ensures.lawful;
   put = put-none (boxed_tells g.R.Read.remaining) boxed_copies (boxed_reading g.R.Read.remaining) c.args.sources.items (g.O.Output.told c.args.output.now) c.args.block c.in-Ok.merge.passed (heap_items c.in-Ok.merge.heads) c.in-Ok.ensures.passed c.in-Ok.ensures.tells c.in-Ok.ensures.rows
       c.in-Ok.ensures.faults;
+  among = λ numbers all. c.in-Ok.ensures.among numbers all;
   count = refl;
 }
 
@@ -49,6 +54,9 @@ returns-in-Ok-None-clause-faults g c =
 pub returns-in-Ok-None-clause-fault : goal.returns-in-Ok-None-clause-fault
 returns-in-Ok-None-clause-fault g c = λ e refused all. absurd (not_memory c.put_block.result c.put_block.ensures.fault e refused.is refused.inside)
 
+pub returns-in-Ok-None-clause-input : goal.returns-in-Ok-None-clause-input
+returns-in-Ok-None-clause-input g c = λ e told numbers all. only_memory c.put_block.result c.put_block.ensures.fault e told numbers
+
 pub returns-in-Ok-None-clause-device : goal.returns-in-Ok-None-clause-device
 returns-in-Ok-None-clause-device g c = λ e. c.put_block.ensures.device e ∙ ap (λ n. n + 1) c.rows.invariant.count
 
@@ -64,6 +72,14 @@ returns-in-Err-next-clause-fault g c = λ e refused all.
     let reading = boxed_reading g.R.Read.remaining in
     gave_fault boxed_copies reading c.args.sources.items h.rows (stage_of boxed_copies reading c.rows.merge.passed heads) e (h.gave all)
     (subst (λ x. IsFaultOf (rows_of_heads boxed_copies reading heads) (faults_of_heads reading heads) x) is (c.in-Err-next.ensures.fault (rw is refused.inside) (h.tells all)))
+
+pub returns-in-Err-next-clause-input : goal.returns-in-Err-next-clause-input
+returns-in-Err-next-clause-input g c = λ e told numbers all.
+    let same : c.in-Err-next.e ≡ e = cc in
+    subst (TellsAmong numbers) same (c.in-Err-next.ensures.input numbers (c.rows.invariant.among numbers all))
+
+pub returns-in-Err-add_row-clause-input : goal.returns-in-Err-add_row-clause-input
+returns-in-Err-add_row-clause-input g c = λ e told numbers all. only_memory c.add_row.result c.add_row.ensures.fault e (c.in-Err-add_row.is ∙ told) numbers
 
 pub returns-in-Err-add_row-clause-fault : goal.returns-in-Err-add_row-clause-fault
 returns-in-Err-add_row-clause-fault g c = λ e refused all. absurd (not_memory c.add_row.result c.add_row.ensures.fault e (c.in-Err-add_row.is ∙ refused.is) refused.inside)
@@ -82,5 +98,6 @@ rows-preserved g c =
       put = rw c.reuse.ensures (put-more (boxed_tells g.R.Read.remaining) boxed_copies (boxed_reading g.R.Read.remaining) c.args.sources.items start c.args.block c.rows.merge.passed (heap_items c.rows.merge.heads) c.rows.block (g.O.Output.told c.rows.output) c.rows.invariant.put c.next.new.self.passed
           c.in-Ok-Some.placed (heap_items c.next.new.self.heads) c.add_row.new.block (g.O.Output.told c.add_row.new.output) c.in-Ok-Some.ensures.tells
           (λ t. rw c.in-Ok-Some.field-0-is at (c.in-Ok-Some.ensures.step t)) (λ text t. c.in-Ok-add_row.ensures.told start text t));
+      among = rw c.reuse.ensures (λ numbers all. c.in-Ok-Some.ensures.among numbers (c.rows.invariant.among numbers all));
       count = c.in-Ok-add_row.ensures.kept (λ q. cc q) ∙ c.rows.invariant.count;
     }

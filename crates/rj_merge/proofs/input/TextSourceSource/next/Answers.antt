@@ -8,7 +8,7 @@ use Rattle.rj_merge.proofs.RangeFacts.{above_again, same_before, same_from, same
 use Rattle.rj_merge.proofs.input.TextSourceSource.next.Goals as goal
 
 pub rows-init : goal.rows-init
-rows-init g c = rw c.take_row.ensures.kept record { tells = λ t. t; rows = λ t. refl; fault = λ t. refl; columns = c.in-Ok.ensures.columns; copies = refl; above = λ p h. h }
+rows-init g c = rw c.take_row.ensures.kept record { tells = λ t. t; rows = λ t. refl; fault = λ t. refl; columns = c.in-Ok.ensures.columns; copies = refl; number = refl; above = λ p h. h }
 
 pub returns-in-Ok-None-clause-tells : goal.returns-in-Ok-None-clause-tells
 returns-in-Ok-None-clause-tells g c = λ t. c.in-Ok-None.ensures.tells (c.rows.invariant.tells t)
@@ -57,6 +57,7 @@ rows-preserved g c =
           c.rows.invariant.fault t ∙ ((within-below s.how old new record { place = c.in-Ok-Some.place; row = others s.columns (fields_of c.next_place.new.fields) } step.0 step.1 before below).1 ∙ ap (λ (r : Reading (List (List ℕ))). r.fault) same);
       columns = ap (λ (w : WholeRow). w.columns) c.as_mut.ensures.value ∙ c.rows.invariant.columns ∙ sym c.in-Ok-Some.ensures.columns;
       copies = c.in-Ok-Some.ensures.copies ∙ c.rows.invariant.copies;
+      number = c.in-Ok-Some.ensures.number ∙ c.rows.invariant.number;
       above = λ p h. c.rows.invariant.above p (above_again s.last c.in-Ok-Some.place p now.last rises.0 rises.1 h);
     }
 

@@ -11,5 +11,6 @@ invariant-rows g l = record {
   fault : input_tells g.R.Read.remaining l.fn.self → (input_reading g.R.Read.remaining l.fn.self).fault ≡ (input_reading g.R.Read.remaining l.self).fault;
   columns : l.whole.value.columns ≡ l.self.columns;
   copies : l.self.copies ≡ l.fn.self.copies;
+  number : l.self.input ≡ l.fn.self.input;
   above : (place : Place) → IsAbove l.self.last place → IsAbove l.fn.self.last place;
 }

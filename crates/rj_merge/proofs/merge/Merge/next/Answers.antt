@@ -1,4 +1,4 @@
-use Rattle.std.proofs.Common.{◌≡◌, ◌∷◌, ◌∙◌, [], false, Some, None, Option, refl, sym, subst}
+use Rattle.std.proofs.Common.{◌≡◌, ◌∷◌, ◌∙◌, [], true, false, Some, None, Option, refl, sym, subst}
 use Rattle.std.specs.Option.{is_some}
 use Rattle.std.specs.BinaryHeap.{heap_items}
 use Rattle.std.proofs.lemmas.Bool.{false≢true}
@@ -21,6 +21,7 @@ places-init g c = record {
   lawful = c.requires;
   onward = λ place h. h;
   tells = λ all. all;
+  among = λ numbers all. all;
   step = λ all. step_same _;
 }
 
@@ -44,6 +45,16 @@ pub returns-then-is_some-clause-tells : goal.returns-then-is_some-clause-tells
 returns-then-is_some-clause-tells g c = λ all.
     c.in-Ok.ensures.tells
     (All-permutation (λ h. g.S.Source.tells h.source) (heap_items c.places.self.heads) (c.in-Some.head ∷ heap_items c.pop.new.self) c.in-Some.ensures.permutation (c.places.invariant.tells all))
+
+pub returns-in-Err-clause-input : goal.returns-in-Err-clause-input
+returns-in-Err-clause-input g c = λ numbers all.
+    c.in-Err.ensures.input numbers
+    (All-permutation (λ h. numbers (g.S.Source.number h.source) ≡ true) (heap_items c.places.self.heads) (c.in-Some.head ∷ heap_items c.pop.new.self) c.in-Some.ensures.permutation (c.places.invariant.among numbers all))
+
+pub returns-then-is_some-clause-among : goal.returns-then-is_some-clause-among
+returns-then-is_some-clause-among g c = λ numbers all.
+    c.in-Ok.ensures.among numbers
+    (All-permutation (λ h. numbers (g.S.Source.number h.source) ≡ true) (heap_items c.places.self.heads) (c.in-Some.head ∷ heap_items c.pop.new.self) c.in-Some.ensures.permutation (c.places.invariant.among numbers all))
 
 pub returns-then-is_some-clause-step : goal.returns-then-is_some-clause-step
 returns-then-is_some-clause-step g c = λ all.
@@ -74,6 +85,7 @@ places-preserved g c =
       lawful = c.in-Ok.ensures.lawful;
       onward = λ place h. c.places.invariant.onward place (above_on passed head.next.place up place h);
       tells = λ all. c.in-Ok.ensures.tells (tell all);
+      among = λ numbers all. c.in-Ok.ensures.among numbers (All-permutation (λ h. numbers (g.S.Source.number h.source) ≡ true) heads (head ∷ rest) popped (c.places.invariant.among numbers all));
       step = λ all.
           step_on (stage c.args.self.now.passed (heap_items c.args.self.now.heads)) (stage passed heads) (stage (Some head.next.place) (heap_items c.take_place.new.heads)) None (c.places.invariant.step all)
           (step_on (stage passed heads) (stage passed (head ∷ rest)) (stage (Some head.next.place) (heap_items c.take_place.new.heads)) None (step_popped g.S.Source.copies g.S.Source.reading heads rest head passed popped)

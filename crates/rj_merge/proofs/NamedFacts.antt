@@ -1,0 +1,81 @@
+-- Texts that are opened by their names.
+use Rattle.std.proofs.Common.{◌≡◌, ◌⊎◌, ◌+◌, ◌-◌, ◌<◌, ◌∙◌, ℕ, List, [], ◌∷◌, ◌++◌, map, take, length, true, Option, Bor, ap, ap₂, arith, inl, inr, refl, subst, sym}
+use Rattle.std.specs.Prelude.{slice_index_or}
+use Rattle.std.proofs.lemmas.Bool.{false≢true}
+use Rattle.std.proofs.lemmas.List.{get_or-map, length-map, map-append, take_more}
+use Rattle.rj_merge.specs.declared.copies.Copies.{Copies}
+use Rattle.rj_merge.specs.declared.copies.MergeInput.{MergeInput}
+use Rattle.rj_merge.specs.declared.patient.Patient.{Patient}
+use Rattle.rj_merge.specs.declared.refused.MergeRefused.{MergeRefused}
+use Rattle.rj_merge.specs.declared.refused.MergeRefused.TheVariants as refused
+use Rattle.rj_merge.specs.Inputs.{TellTexts, copies_of, is_input}
+use Rattle.rj_merge.specs.Named.{AreOpened, IsShut, OpenTexts}
+use Rattle.rj_merge.specs.Patience.{reader_of}
+use Rattle.rj_merge.specs.Sources.{TellsAmong, is_outside}
+use Rattle.rj_merge.proofs.ToldFacts.{input_within}
+
+abbrev texts_of : List (Bor (List ℕ)) → List (List ℕ)
+texts_of names = map (λ n. n.now) names
+
+module _ {R : Type 0} where
+  opened_more : (opens : List ℕ → R → Type 0) (names : List (List ℕ)) (inputs : List (MergeInput (Patient R))) (name : List ℕ) (i : MergeInput (Patient R))
+      → AreOpened opens names inputs → opens name (reader_of i.reader) → AreOpened opens (names ++ name ∷ []) (inputs ++ i ∷ [])
+  opened_more opens [] [] name i all one = (one, tt)
+  opened_more opens [] (j ∷ inputs) name i all one = absurd all
+  opened_more opens (n ∷ names) [] name i all one = absurd all
+  opened_more opens (n ∷ names) (j ∷ inputs) name i all one = (all.0, opened_more opens names inputs name i all.1 one)
+
+  -- one name more is opened
+  pub opened_step : (opens : List ℕ → R → Type 0) (names : List (Bor (List ℕ))) (at : ℕ) (d : Bor (List ℕ)) (inputs : List (MergeInput (Patient R))) (i : MergeInput (Patient R)) (r : R) → at < length names
+      → AreOpened opens (texts_of (take at names)) inputs → reader_of i.reader ≡ r → opens (slice_index_or names at d).now r → AreOpened opens (texts_of (take (at + 1) names)) (inputs ++ i ∷ [])
+  opened_step opens names at d inputs i r h all same one =
+      subst (λ l. AreOpened opens l (inputs ++ i ∷ [])) (sym (ap texts_of (take_more names at d h) ∙ map-append (λ (n : Bor (List ℕ)). n.now) (take at names) (slice_index_or names at d ∷ [])))
+      (opened_more opens (texts_of (take at names)) inputs (slice_index_or names at d).now i all (subst (opens (slice_index_or names at d).now) (sym same) one))
+
+  pub copies_step : (copies : List Copies) (at : ℕ) (d : Copies) (inputs : List (MergeInput (Patient R))) (i : MergeInput (Patient R)) → at < length copies → copies_of inputs ≡ take at copies
+      → i.copies ≡ slice_index_or copies at d → copies_of (inputs ++ i ∷ []) ≡ take (at + 1) copies
+  copies_step copies at d inputs i h all one =
+      map-append (λ (j : MergeInput (Patient R)). j.copies) inputs (i ∷ []) ∙ (ap₂ (λ (l : List Copies) (c : Copies). l ++ c ∷ []) all one ∙ sym (take_more copies at d h))
+
+  -- what was opened tells the texts that its names open
+  pub opened_tell : (opens : List ℕ → R → Type 0) (known : R → Option (List ℕ)) (names texts : List (List ℕ)) (inputs : List (MergeInput (Patient R)))
+      → AreOpened opens names inputs → OpenTexts opens known names texts → TellTexts (λ p. known (reader_of p)) inputs texts
+  opened_tell opens known [] [] [] all told = refl
+  opened_tell opens known [] (text ∷ texts) inputs all told = absurd told
+  opened_tell opens known [] [] (j ∷ inputs) all told = absurd all
+  opened_tell opens known (n ∷ names) [] inputs all told = absurd told
+  opened_tell opens known (n ∷ names) (text ∷ texts) [] all told = absurd all
+  opened_tell opens known (n ∷ names) (text ∷ texts) (j ∷ inputs) all told =
+      ap₂ (λ (t : Option (List ℕ)) (ts : List (Option (List ℕ))). t ∷ ts) (told.0 (reader_of j.reader) all.0) (opened_tell opens known names texts inputs all.1 told.1)
+
+-- a text that can't be opened is told by the number of its name
+pub shut_here : (shut : List ℕ → Type 0) (names : List (Bor (List ℕ))) (at number : ℕ) (d : Bor (List ℕ)) (e : MergeRefused) → at < length names → number ≡ at → shut (slice_index_or names at d).now
+    → (e ≡ refused.Memory) ⊎ (e ≡ refused.ReadDevice (number + 1)) → (i : ℕ) → e ≡ refused.ReadDevice i → IsShut shut (texts_of names) i
+shut_here shut names at number d e h same is (inl memory) i told = absurd (cc)
+shut_here shut names at number d e h same is (inr device) i told =
+    let one : i ≡ number + 1 = cc in
+    let back : (at + 1) - 1 ≡ at = omega arith in
+    let there = get_or-map (λ (n : Bor (List ℕ)). n.now) names at d [] h in
+    let size = length-map names (λ (n : Bor (List ℕ)). n.now) in
+    subst (IsShut shut (texts_of names)) (sym (one ∙ ap (λ n. n + 1) same)) record {
+      first = omega arith;
+      last = omega (arith, size, h);
+      is = subst (λ k. shut (slice_index_or (texts_of names) k [])) (sym back) (subst shut (sym there) is);
+    }
+
+-- and so by one of the numbers that there are
+pub shut_among : (shut : List ℕ → Type 0) (names : List (Bor (List ℕ))) (e : MergeRefused) → is_outside e ≡ true → ((i : ℕ) → e ≡ refused.ReadDevice i → IsShut shut (texts_of names) i)
+    → TellsAmong (is_input (length names)) e
+shut_among shut names refused.Memory out is = tt
+shut_among shut names (refused.ReadDevice i) out is =
+    let size = length-map names (λ (n : Bor (List ℕ)). n.now) in
+    let last = (is i refl).last in
+    input_within (length names) i (is i refl).first (omega (arith, size, last))
+shut_among shut names (refused.NoHeader i) out is = absurd (false≢true out)
+shut_among shut names (refused.NoPlaces i) out is = absurd (false≢true out)
+shut_among shut names (refused.OtherHeader i) out is = absurd (false≢true out)
+shut_among shut names (refused.RaggedRow i row) out is = absurd (false≢true out)
+shut_among shut names (refused.BadPlace i row) out is = absurd (false≢true out)
+shut_among shut names (refused.NoPlace i row) out is = absurd (false≢true out)
+shut_among shut names (refused.NotInOrder i row) out is = absurd (false≢true out)
+shut_among shut names (refused.RepeatedPlace place) out is = absurd (false≢true out)

@@ -1,0 +1,29 @@
+-- Texts that are opened by their names.
+use Rattle.std.specs.Prelude.{◌≡◌, ◌-◌, ◌≤◌, ℕ, List, [], ◌∷◌, length, slice_index_or, Option, Some}
+use Rattle.rj_merge.specs.declared.copies.MergeInput.{MergeInput}
+use Rattle.rj_merge.specs.declared.patient.Patient.{Patient}
+use Rattle.rj_merge.specs.Patience.{reader_of}
+
+-- each input reads what its name opens
+abbrev pub AreOpened : {R : Type 0} → (List ℕ → R → Type 0) → List (List ℕ) → List (MergeInput (Patient R)) → Type 0
+AreOpened opens [] [] = Unit {0}
+AreOpened opens [] (i ∷ inputs) = ⊥
+AreOpened opens (name ∷ names) [] = ⊥
+AreOpened opens (name ∷ names) (i ∷ inputs) = opens name (reader_of i.reader) × AreOpened opens names inputs
+
+-- whatever the names open tells these texts
+abbrev pub OpenTexts : {R : Type 0} → (List ℕ → R → Type 0) → (R → Option (List ℕ)) → List (List ℕ) → List (List ℕ) → Type 0
+OpenTexts opens known [] [] = Unit {0}
+OpenTexts opens known [] (text ∷ texts) = ⊥
+OpenTexts opens known (name ∷ names) [] = ⊥
+OpenTexts {R} opens known (name ∷ names) (text ∷ texts) = ((r : R) → opens name r → known r ≡ Some text) × OpenTexts opens known names texts
+
+-- this holds of the texts that names open
+abbrev pub ForNamed : {R : Type 0} → (List ℕ → R → Type 0) → (R → Option (List ℕ)) → List (List ℕ) → (List (List ℕ) → Type 0) → Type 0
+ForNamed opens known names holds = (texts : List (List ℕ)) → OpenTexts opens known names texts → holds texts
+
+-- the name of this number, counted from 1, is one that can't be opened
+pub record IsShut (shut : List ℕ → Type 0) (names : List (List ℕ)) (number : ℕ) : Type 0 where
+  pub first : 1 ≤ number
+  pub last : number ≤ length names
+  pub is : shut (slice_index_or names (number - 1) [])

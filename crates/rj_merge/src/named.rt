@@ -1,0 +1,120 @@
+//! Texts that are opened by their names, and merged.
+
+ghost use Rattle.std.specs.Prelude.{◌≡◌, ◌≢◌, ◌<◌, ◌+◌, ◌-◌, ◌^◌, ◌⊎◌, true, ℕ, List, Err, IfOk, IfErr, OnOk, OnErr, length, map, vec_len};
+ghost use Rattle.rj_merge.specs.declared.refused.MergeRefused.{MergeRefused};
+ghost use Rattle.rj_merge.specs.Inputs.{copies_of, is_input};
+ghost use Rattle.rj_merge.specs.MergedTexts.{GotMerge, HaveNoFault, HeedsHeaders, IsFaultOfTexts, IsRefusedBy};
+ghost use Rattle.rj_merge.specs.Named.{AreOpened, ForNamed, IsShut};
+ghost use Rattle.rj_merge.specs.Sources.{TellsAmong, is_outside};
+
+use crate::copies::{Copies, MergeInput};
+use crate::options::MergeOptions;
+use crate::patient::Patient;
+use crate::refused::{MergeRefused, MergeTextsRefused};
+use crate::texts::merge_texts;
+use rj_csv_io::Output;
+use std::alloc::Global;
+use std::io::{self, ErrorKind, Read};
+
+/// What opens texts by their names.
+pub trait Opener {
+    /// What reads a text.
+    type Reader: Read + Drop;
+
+    // Whether a name may open this reader.
+    ghost opens: { Self → List ℕ → Self.Reader → Type 0 } = { λ _ _ _. Unit {0} };
+
+    // Whether a name may open nothing.
+    ghost shut: { Self → List ℕ → Type 0 } = { λ _ _. Unit {0} };
+
+    /// Opens the text of this name.
+    ///
+    /// # Errors
+    ///
+    /// Why it can't be opened: `OutOfMemory` where memory was refused.
+    fn open(&self, name: &str) -> io::Result<Self::Reader>
+        ensures opens { IfOk result (λ r. opens self.now name.now r) }
+        ensures shut { OnErr result (shut self.now name.now) };
+}
+
+// Why an input can't be opened.
+fn fault_of_open(input: u32, error: &io::Error) -> MergeRefused
+    ensures { (result ≡ MergeRefused.Memory) ⊎ (result ≡ MergeRefused.ReadDevice input) }
+{
+    if error.kind() == ErrorKind::OutOfMemory {
+        MergeRefused::Memory
+    } else {
+        MergeRefused::ReadDevice(input)
+    }
+}
+
+// Opens the texts, in order, each with its copies.
+fn open_named<P: Opener>(
+    alloc: Global,
+    opener: &P,
+    names: &[&str],
+    copies: &[Copies],
+) -> Result<Vec<MergeInput<Patient<P::Reader>>>, MergeRefused>
+    requires copies { length copies.now ≡ length names.now }
+    requires count { length names.now < 2 ^ 32 }
+    ensures opened { IfOk result (λ v. AreOpened (P.opens opener.now) (map (λ n. n.now) names.now) v.items) }
+    ensures copies { IfOk result (λ v. copies_of v.items ≡ copies.now) }
+    ensures count { IfOk result (λ v. vec_len v ≡ length names.now) }
+    ensures outside { IfErr result (λ e. is_outside e ≡ true) }
+    ensures shut { IfErr result (λ e. (i : ℕ) → e ≡ MergeRefused.ReadDevice i → IsShut (P.shut opener.now) (map (λ n. n.now) names.now) i) }
+{
+    let mut inputs = Vec::new(alloc);
+    let mut number = 0;
+    'names: for i in 0..names.len() {
+        number += 1;
+        let reader = match opener.open(names[i]) {
+            Ok(reader) => Patient::new(reader),
+            Err(error) => return Err(fault_of_open(number, &error)),
+        };
+        let input = MergeInput {
+            reader,
+            copies: copies[i],
+        };
+        if inputs.push(input).is_err() {
+            return Err(MergeRefused::Memory);
+        }
+    }
+    Ok(inputs)
+}
+
+/// Opens texts by their names, in order, and merges all of them, each with its copies, as [`merge_texts`] says.
+///
+/// # Errors
+///
+/// Those of [`merge_texts`]. `ReadDevice` tells a text that can't be opened too, the first of them.
+pub fn merge_named<P: Opener, O: Output>(
+    alloc: Global,
+    opener: &P,
+    names: &[&str],
+    copies: &[Copies],
+    how: MergeOptions<'_>,
+    output: &mut O,
+) -> Result<(), MergeTextsRefused>
+    requires some { 0 < length names.now }
+    requires count { length names.now < 2 ^ 32 }
+    requires copies { length copies.now ≡ length names.now }
+    requires failures { O.count output.old < 2 ^ 64 - 1 }
+    ensures merge { OnOk result (ForNamed (P.opens opener.now) P.Reader.remaining (map (λ n. n.now) names.now)
+        (λ texts. GotMerge how.entry copies.now texts (O.told output.old) (O.told output.new))) }
+    ensures faults { OnOk result (ForNamed (P.opens opener.now) P.Reader.remaining (map (λ n. n.now) names.now) (HaveNoFault how.entry)) }
+    ensures fault { (e : MergeRefused) → IsRefusedBy result e
+        → ForNamed (P.opens opener.now) P.Reader.remaining (map (λ n. n.now) names.now) (λ texts. IsFaultOfTexts how.entry copies.now texts e) }
+    ensures first { ForNamed (P.opens opener.now) P.Reader.remaining (map (λ n. n.now) names.now) (HeedsHeaders result) }
+    ensures input { (e : MergeRefused) → result ≡ Err (MergeTextsRefused.Merge e) → TellsAmong (is_input (length names.now)) e }
+    ensures device { result ≡ Err MergeTextsRefused.WriteDevice → O.count output.new ≡ O.count output.old + 1 }
+    ensures kept { result ≢ Err MergeTextsRefused.WriteDevice → O.count output.new ≡ O.count output.old }
+{
+    let inputs = match open_named(alloc, opener, names, copies) {
+        Ok(inputs) => inputs,
+        Err(e) => return Err(MergeTextsRefused::Merge(e)),
+    };
+    match merge_texts(alloc, inputs, how, output) {
+        Ok(()) => Ok(()),
+        Err(e) => Err(e),
+    }
+}
