@@ -1,0 +1,179 @@
+//! The file of `--output`, which has the whole result in the end, or what it had before.
+
+ghost use Rattle.std.specs.Prelude.{◌≡◌, IfErr};
+ghost use Rattle.rj_fault.specs.Faults.{IsOfWriting};
+
+use rj_fault::Fault;
+use std::alloc::Global;
+use std::fs::{self, Files, Metadata, OpenFile, OpenOptions};
+use std::io::{self, ErrorKind};
+use std::path::Path;
+
+// How many symbolic links are followed, as many as Linux follows.
+const LINKS: u32 = 40;
+
+// How many names are tried for a new file: a run that was killed may have left a file behind.
+const NAMES: u32 = 1000;
+
+// The longest name that a new file's name repeats, so that this has no more than 255 bytes.
+const LONGEST: usize = 200;
+
+/// What becomes of a file once the result is written to it.
+#[derive(Drop)]
+pub(crate) enum Draft {
+    /// It is a new file of this name beside the target, and takes the target's place.
+    Replacing { name: String, target: String },
+    /// It is a pipe or a device, and got the bytes as they came.
+    Stream,
+}
+
+/// Why there is no file to write to, with the system's error where it told one.
+#[derive(Drop)]
+pub(crate) struct Unwritten {
+    pub(crate) fault: Fault,
+    pub(crate) error: Option<io::Error>,
+}
+
+impl From<Fault> for Unwritten {
+    ghost from_gives = { λ fault refused. refused.fault ≡ fault };
+
+    fn from(fault: Fault) -> Unwritten {
+        Unwritten { fault, error: None }
+    }
+}
+
+// What an error is that the system tells of the file.
+fn unwritten_by(error: io::Error) -> Unwritten
+    ensures { IsOfWriting result.fault }
+{
+    let fault = match error.kind() {
+        ErrorKind::OutOfMemory => Fault::Memory,
+        _ => Fault::WriteDevice,
+    };
+    Unwritten {
+        fault,
+        error: Some(error),
+    }
+}
+
+// A file name in the folder of a path; a name that begins with a slash stands for itself.
+fn in_folder_of(alloc: Global, path: &str, name: &str) -> Result<String, Fault>
+    ensures { IfErr result IsOfWriting }
+{
+    match Path::new(path).parent() {
+        Some(folder) => Ok(String::from_str(alloc, folder.join(alloc, name)?.as_str())?),
+        None => Ok(String::from_str(alloc, name)?),
+    }
+}
+
+// The path that a path leads to by symbolic links, whether a file stands there or not.
+fn followed<R: Files + AllocGlobal>(rt: &R, path: &str) -> Result<String, Fault>
+    ensures { IfErr result IsOfWriting }
+{
+    let alloc = rt.alloc();
+    let mut followed = String::from_str(alloc, path)?;
+    for _link in 0..LINKS {
+        match fs::read_link(rt, followed.as_str()) {
+            Ok(link) => followed = in_folder_of(alloc, followed.as_str(), link.as_str())?,
+            Err(error) if error.kind() == ErrorKind::OutOfMemory => return Err(Fault::Memory),
+            Err(_) => return Ok(followed),
+        }
+    }
+    Err(Fault::WriteDevice)
+}
+
+// A name for a new file beside the target.
+fn draft_name(alloc: Global, target: &str, number: u32) -> Result<String, Fault>
+    ensures { IfErr result IsOfWriting }
+{
+    let Some(file) = Path::new(target).file_name() else {
+        return Err(Fault::WriteDevice);
+    };
+    let repeated = if file.len() > LONGEST { "" } else { file };
+    let name = format!(in alloc; ".{repeated}.radixjoin-{number}")?;
+    in_folder_of(alloc, target, name.as_str())
+}
+
+// Whether a path leads to something that isn't a regular file: a pipe, a device or a folder.
+fn is_special(found: &io::Result<Metadata>) -> bool {
+    match found {
+        Ok(metadata) => !metadata.is_file(),
+        Err(_) => false,
+    }
+}
+
+impl Draft {
+    /// A file to which a result for this output is written: a new one beside it, or where a pipe or a device stands there, that
+    /// one. It is told before anything is read that no such file can be made.
+    ///
+    /// # Errors
+    ///
+    /// `WriteDevice` where there is none, and then nothing is left of it; `Memory` where a growth was refused.
+    pub(crate) fn open<R: Files + AllocGlobal>(
+        rt: &R,
+        output: &str,
+    ) -> Result<(Draft, R::File), Unwritten>
+        ensures { IfErr result (λ refused. IsOfWriting refused.fault) }
+    {
+        if is_special(&fs::metadata(rt, output)) {
+            return match OpenOptions::new().write(true).open(rt, output) {
+                Ok(file) => Ok((Draft::Stream, file)),
+                Err(error) => Err(unwritten_by(error)),
+            };
+        }
+        Draft::beside(rt, followed(rt, output)?)
+    }
+
+    // A new file beside the target, under the first name that is free.
+    fn beside<R: Files + AllocGlobal>(rt: &R, target: String) -> Result<(Draft, R::File), Unwritten>
+        ensures { IfErr result (λ refused. IsOfWriting refused.fault) }
+    {
+        for number in 0..NAMES {
+            let name = draft_name(rt.alloc(), target.as_str(), number)?;
+            let made = OpenOptions::new()
+                .write(true)
+                .create_new(true)
+                .open(rt, name.as_str());
+            match made {
+                Ok(file) => return Ok((Draft::Replacing { name, target }, file)),
+                Err(error) if error.kind() == ErrorKind::AlreadyExists => {}
+                Err(error) => return Err(unwritten_by(error)),
+            }
+        }
+        Err(Unwritten::from(Fault::WriteDevice))
+    }
+
+    /// Brings the file to the disk and puts it in the target's place.
+    ///
+    /// # Errors
+    ///
+    /// `WriteDevice` where one of the two isn't done: the target is as it was, and the new file is removed.
+    pub(crate) fn finish<R: Files>(self, rt: &R, file: R::File) -> Result<(), Unwritten>
+        ensures { IfErr result (λ refused. refused.fault ≡ Fault.WriteDevice) }
+    {
+        let Draft::Replacing { name, target } = self else {
+            return Ok(());
+        };
+        let placed = match file.sync_all() {
+            Ok(()) => fs::rename(rt, name.as_str(), target.as_str()),
+            Err(error) => Err(error),
+        };
+        match placed {
+            Ok(()) => Ok(()),
+            Err(error) => {
+                let _ = fs::remove_file(rt, name.as_str());
+                Err(Unwritten {
+                    fault: Fault::WriteDevice,
+                    error: Some(error),
+                })
+            }
+        }
+    }
+
+    /// Removes the file, since nothing is to take the target's place.
+    pub(crate) fn discard<R: Files>(self, rt: &R) {
+        if let Draft::Replacing { name, target: _ } = self {
+            let _ = fs::remove_file(rt, name.as_str());
+        }
+    }
+}

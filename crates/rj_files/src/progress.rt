@@ -1,0 +1,358 @@
+//! How far a run is, shown on standard error where that is a terminal. No contract says when it is shown: the runs of `rj_command`
+//! meet theirs for every watch.
+
+ghost use Rattle.std.specs.Prelude.{◌≡◌};
+ghost use Rattle.rj_files.specs.Shares.{handed, joined, parts, share};
+
+use crate::message::{CLEARED, Message};
+use crate::named::is_standard_stream;
+use crate::outputs::output_of;
+use rj_command::{Gate, Line, Place, Step, Watch};
+use rj_fault::Side;
+use std::sync::atomic::{AtomicBool, AtomicU64, Ordering};
+use std::time::Clock;
+
+// Milliseconds after which it is shown where that isn't asked for.
+const PATIENCE: u64 = 2000;
+
+// Milliseconds for which a line stands at least, but for one of an earlier step.
+const PAUSE: u64 = 200;
+
+/// Which of the standard streams are terminals.
+#[derive(Clone, Copy)]
+pub struct Terminals {
+    /// Standard input.
+    pub input: bool,
+    /// Standard output.
+    pub output: bool,
+    /// Standard error.
+    pub error: bool,
+}
+
+// Into what the tables of a join are cut. The numbers are those of its settings.
+#[derive(Clone, Copy)]
+struct Cuts {
+    workers: u64,
+    partitions: u64,
+    block: u64,
+    piece: u64,
+}
+
+/// How far a run is. All its threads share it.
+#[derive(Drop)]
+pub struct Progress<'a, R> {
+    rt: &'a R,
+    // Whether the rows that are written go to a terminal, and the side whose table is written by hand, if there is one.
+    shares_terminal: bool,
+    by_hand: Option<Side>,
+    cuts: Cuts,
+    // The milliseconds of the clock from which on it is shown, and from which on a further line of a step is.
+    from: u64,
+    next: AtomicU64,
+    // Whether a line stands, and whether none is shown any more.
+    stands: AtomicBool,
+    is_over: AtomicBool,
+    // The bytes that were read of each file.
+    left_bytes: AtomicU64,
+    right_bytes: AtomicU64,
+    // The rows of each table, the parcels that were posted, and the partition of the first piece, plus one.
+    left_rows: AtomicU64,
+    right_rows: AtomicU64,
+    posted: AtomicU64,
+    first: AtomicU64,
+    // The rows that are written.
+    written_rows: AtomicU64,
+}
+
+// How many parts of so many rows the rows make.
+fn parts_of(rows: u64, size: u64) -> u64
+    ensures { result ≡ parts rows size }
+{
+    if size == 0 {
+        return 0;
+    }
+    rows.div_ceil(size)
+}
+
+// So many of these rows as this is of all, and never more than there are.
+fn share_of(rows: u64, this: u64, all: u64) -> u64
+    ensures { result ≡ share rows this all }
+{
+    if all == 0 {
+        return 0;
+    }
+    (rows.saturating_mul(this) / all).min(rows)
+}
+
+// How many of the rows of both tables were handed to partitions, about, when so many parcels were posted. A sender has a list for
+// each partition, of blocks and a close.
+fn handed_rows(cuts: Cuts, rows: u64, posted: u64) -> u64
+    ensures { result ≡ handed cuts rows posted }
+{
+    let lists = cuts
+        .workers
+        .saturating_mul(2)
+        .saturating_mul(cuts.partitions);
+    let blocks = parts_of(parts_of(rows, lists), cuts.block);
+    share_of(rows, posted, lists.saturating_mul(blocks.saturating_add(1)))
+}
+
+// How many of the rows of the larger table were joined, about, when so many partitions were and so many pieces of the next one.
+fn joined_rows(cuts: Cuts, rows: u64, behind: u64, pieces: u64) -> u64
+    ensures { result ≡ joined cuts rows behind pieces }
+{
+    let before = share_of(rows, behind, cuts.partitions);
+    let size = parts_of(rows, cuts.workers.saturating_mul(4)).min(cuts.piece);
+    before.saturating_add(pieces.saturating_mul(size)).min(rows)
+}
+
+// The side of a line whose table is standard input.
+fn side_of_input(line: &Line<'_>) -> Option<Side> {
+    if is_standard_stream(line.left) {
+        return Some(Side::Left);
+    }
+    if is_standard_stream(line.right) {
+        Some(Side::Right)
+    } else {
+        None
+    }
+}
+
+// The milliseconds of a clock, 0 where it can't be read.
+fn milliseconds<R: Clock>(rt: &R) -> u64 {
+    match rt.monotonic() {
+        Ok(time) => time
+            .as_secs()
+            .saturating_mul(1000)
+            .saturating_add(u64::from(time.subsec_millis())),
+        Err(_) => 0,
+    }
+}
+
+impl<'a, R: Clock> Progress<'a, R> {
+    /// That of a run which begins now. It is shown at once where the line asks for it, and else after two seconds. Where rows
+    /// go to a terminal, nothing is shown once they come.
+    pub fn of(rt: &'a R, line: &Line<'_>, terminals: Terminals) -> Progress<'a, R> {
+        let patience = if line.progress { 0 } else { PATIENCE };
+        let settings = &line.request.settings;
+        let cuts = Cuts {
+            workers: u64::from(settings.workers),
+            partitions: 1u64.checked_shl(settings.bits1).unwrap_or(1),
+            block: u64::from(settings.block),
+            piece: u64::from(settings.piece),
+        };
+        let from = milliseconds(rt).saturating_add(patience);
+        let mut progress = Progress::from(rt, from, cuts, terminals.error);
+        progress.shares_terminal = terminals.output && output_of(line).is_none();
+        if terminals.input {
+            progress.by_hand = side_of_input(line);
+        }
+        progress
+    }
+
+    /// One that is never shown.
+    pub(crate) fn hidden(rt: &'a R) -> Progress<'a, R> {
+        let cuts = Cuts {
+            workers: 1,
+            partitions: 1,
+            block: 1,
+            piece: 1,
+        };
+        Progress::from(rt, 0, cuts, false)
+    }
+
+    // One that is shown from a time of the clock on, where it is shown at all.
+    fn from(rt: &'a R, from: u64, cuts: Cuts, is_shown: bool) -> Progress<'a, R> {
+        Progress {
+            rt,
+            shares_terminal: false,
+            by_hand: None,
+            cuts,
+            from,
+            next: AtomicU64::new(from),
+            stands: AtomicBool::new(false),
+            is_over: AtomicBool::new(!is_shown),
+            left_bytes: AtomicU64::new(0),
+            right_bytes: AtomicU64::new(0),
+            left_rows: AtomicU64::new(0),
+            right_rows: AtomicU64::new(0),
+            posted: AtomicU64::new(0),
+            first: AtomicU64::new(0),
+            written_rows: AtomicU64::new(0),
+        }
+    }
+
+    // Whether a side's table is written by hand, at a terminal that is standard input. Beside it nothing is shown.
+    fn is_written_by_hand(&self, side: Side) -> bool {
+        self.by_hand == Some(side)
+    }
+
+    // Whether a further line of a step is to be shown. Of threads that ask at the same time one is told so.
+    fn is_due(&self) -> bool {
+        if self.is_over.load(Ordering::SeqCst) {
+            return false;
+        }
+        let now = milliseconds(self.rt);
+        let next = self.next.load(Ordering::SeqCst);
+        let after = now.saturating_add(PAUSE);
+        now >= next
+            && self
+                .next
+                .compare_exchange(next, after, Ordering::SeqCst, Ordering::SeqCst)
+                .is_ok()
+    }
+
+    // Whether the first line of a step is to be shown, whose step may be a long one without a further line.
+    fn is_begun(&self) -> bool {
+        if self.is_over.load(Ordering::SeqCst) {
+            return false;
+        }
+        let now = milliseconds(self.rt);
+        let after = now.saturating_add(PAUSE);
+        self.next.store(after.max(self.from), Ordering::SeqCst);
+        now >= self.from
+    }
+
+    // The bytes that were read of a side's file.
+    fn bytes_of(&self, side: Side) -> &AtomicU64 {
+        match side {
+            Side::Left => &self.left_bytes,
+            Side::Right => &self.right_bytes,
+        }
+    }
+
+    // The rows of both tables that were handed to partitions, about, when so many parcels were posted, and how many rows there are.
+    fn partitioned(&self, posted: u64) -> (u64, u64) {
+        let left = self.left_rows.load(Ordering::SeqCst);
+        let rows = left.saturating_add(self.right_rows.load(Ordering::SeqCst));
+        (handed_rows(self.cuts, rows, posted), rows)
+    }
+
+    // Notes that a worker has come to a piece of a partition, and tells whether it is the first one.
+    fn is_first_piece(&self, partition: u32) -> bool {
+        let number = u64::from(partition).saturating_add(1);
+        self.first
+            .compare_exchange(0, number, Ordering::SeqCst, Ordering::SeqCst)
+            .is_ok()
+    }
+
+    // The rows of the larger table that were joined, about, before a piece of a partition, and how many it has. Pieces are joined in
+    // the order of their partitions. (Without a key the first partition is the only one.)
+    fn joined(&self, partition: u32, piece: u64) -> (u64, u64) {
+        let left = self.left_rows.load(Ordering::SeqCst);
+        let rows = left.max(self.right_rows.load(Ordering::SeqCst));
+        let number = u64::from(partition).saturating_add(1);
+        let behind = number.saturating_sub(self.first.load(Ordering::SeqCst));
+        (joined_rows(self.cuts, rows, behind, piece), rows)
+    }
+}
+
+impl<R: Clock + Eprint> Progress<'_, R> {
+    // Shows a line in the place of the one that stands.
+    fn show(&self, message: Message) {
+        self.stands.store(true, Ordering::SeqCst);
+        let _ = eprint!(self.rt; "{CLEARED}{message}");
+    }
+
+    /// Takes away the line that stands, so that something else can be written.
+    pub fn clear(&self) {
+        if self.stands.swap(false, Ordering::SeqCst) {
+            let _ = eprint!(self.rt; "{CLEARED}");
+        }
+    }
+
+    /// The table of a side is read, which has about so many bytes, or none where that isn't known.
+    pub(crate) fn begin_file(&self, side: Side, size: u64) {
+        if self.is_written_by_hand(side) {
+            self.clear();
+            return;
+        }
+        if self.is_begun() {
+            self.show(Message::File {
+                side,
+                bytes: 0,
+                size,
+            });
+        }
+    }
+
+    /// So many bytes were read of a side's file, which has about so many, or none where that isn't known.
+    pub(crate) fn read(&self, side: Side, bytes: u64, size: u64) {
+        if self.is_written_by_hand(side) {
+            return;
+        }
+        self.bytes_of(side).store(bytes, Ordering::SeqCst);
+        if self.is_due() {
+            self.show(Message::File { side, bytes, size });
+        }
+    }
+
+    /// Something is about to be written. Where that goes to a terminal, nothing is shown from now on.
+    pub(crate) fn before_output(&self) {
+        if self.shares_terminal {
+            self.is_over.store(true, Ordering::SeqCst);
+            self.clear();
+        }
+    }
+
+    /// So many bytes were written.
+    pub(crate) fn wrote(&self, bytes: u64) {
+        let rows = self.written_rows.load(Ordering::SeqCst);
+        if rows > 0 && self.is_due() {
+            self.show(Message::Written { rows, bytes });
+        }
+    }
+}
+
+impl<R: Clock + Eprint> Gate for Progress<'_, R> {
+    fn pass(&self, place: Place) {
+        match place {
+            Place::Posted(_) => {
+                let before = self.posted.fetch_add(1, Ordering::SeqCst);
+                if self.is_due() {
+                    let (done, rows) = self.partitioned(before.saturating_add(1));
+                    self.show(Message::Partitioned { done, rows });
+                }
+            }
+            Place::Piece(partition, piece) => {
+                let is_shown = if self.is_first_piece(partition) {
+                    self.is_begun()
+                } else {
+                    self.is_due()
+                };
+                if is_shown {
+                    let (done, rows) = self.joined(partition, piece);
+                    self.show(Message::Joined { done, rows });
+                }
+            }
+            Place::Stripe(_) | Place::Take(_) | Place::Partition(_) => {}
+        }
+    }
+}
+
+impl<R: Clock + Eprint> Watch for Progress<'_, R> {
+    fn begin(&self, step: Step) {
+        let message = match step {
+            Step::Read(side) => {
+                let bytes = self.bytes_of(side).load(Ordering::SeqCst);
+                Message::NamedStream { side, bytes }
+            }
+            Step::Join {
+                left_rows,
+                right_rows,
+            } => {
+                self.left_rows.store(left_rows, Ordering::SeqCst);
+                self.right_rows.store(right_rows, Ordering::SeqCst);
+                let (done, rows) = self.partitioned(0);
+                Message::Partitioned { done, rows }
+            }
+            Step::Write { rows } => {
+                self.written_rows.store(rows, Ordering::SeqCst);
+                Message::Writing { rows }
+            }
+        };
+        if self.is_begun() {
+            self.show(message);
+        }
+    }
+}
