@@ -13,6 +13,7 @@ import refused_allocations
 
 JOINED, NOBODY, WORDS, run, two_files = ends.JOINED, ends.NOBODY, ends.WORDS, ends.run, ends.two_files
 BEFORE = b"what stood there before\n"
+COUNTED = b"pairs 1 lone-left 0 lone-right 0\n"
 UNWRITTEN = b"radixjoin: E20 WriteDevice\n"
 NAME = "out.csv"
 ROWS = 60_000
@@ -67,6 +68,28 @@ def files(folder):
     yield "./- is a file", harness.differences(ran, b"") + ([] if content(folder / "-") == JOINED else ["no file - was made"])
 
 
+def counts(folder):
+    """With `--count` the line of the counts stands in the file, whole or not at all, and nothing on standard output."""
+    words = [*two_files(folder), "--count", "--output", NAME]
+    for before in (None, BEFORE):
+        for options in ([], ["--explain"]):
+            written = Written(folder, before)
+            yield f"counted {options}, {'a file' if before else 'nothing'} there", written.faults(run("radixjoin", [*words, *options], folder), COUNTED)
+    written = Written(folder)
+    ran = harness.run([harness.program("radixjoin"), *words, "--explain"], folder, output="full")
+    yield "counted, and standard output is full", written.faults(ran, COUNTED)
+    written = Written(folder)
+    ran = ends.run_command(["sh", "-c", 'exec "$@" >> left.csv', "sh", harness.program("radixjoin"), *words], folder)
+    yield "counted, and standard output is an input, to which nothing is written", written.faults(ran, COUNTED)
+    written = Written(folder)
+    ran = run("radixjoin", [*words, "--max-rows=0"], folder)
+    yield "counted, and not as expected", written.faults(ran, stderr=b"radixjoin: E30 NotAsExpected\n", status=7)
+    ran = run("radixjoin", [*words[:-1], "-"], folder)
+    yield "counted to -", harness.differences(ran, COUNTED)
+    ran = run("radixjoin", [*words[:-1], "/dev/full", "--explain"], folder)
+    yield "counted to a full device", harness.differences(ran, b"", UNWRITTEN + b"  /dev/full: No space left on device\n", 6)
+
+
 def modes(folder):
     """A file gets the mode that the umask leaves, whatever stood there before."""
     words = two_files(folder)
@@ -95,6 +118,11 @@ def links(folder):
             ran = run("radixjoin", [*words, "--output", link], folder)
             kept = [] if (folder / link).is_symlink() else ["the link is gone"]
             yield f"{label}, {'a file' if before else 'nothing'} there", written.faults(ran) + kept
+    for number in range(1, 40):
+        os.symlink(f"chain-{number - 1}" if number > 1 else f"real/{NAME}", folder / f"chain-{number}")
+    for number in (6, 20, 39):
+        written = Written(folder / "real")
+        yield f"a chain of {number} links", written.faults(run("radixjoin", [*words, "--output", f"chain-{number}"], folder))
     os.symlink("round", folder / "round")
     yield "a link to itself", harness.differences(run("radixjoin", [*words, "--output", "round"], folder), b"", UNWRITTEN, 6)
     written = Written(folder)
@@ -113,6 +141,12 @@ def names(folder):
     ran = run("radixjoin", [*words, "--output", NAME], folder)
     kept = [name for name in sorted(written.names) if name.startswith(".") and content(folder / name) != BEFORE]
     yield "names that are there", written.faults(ran) + [f"{name} has another content" for name in kept]
+    for label, names_there, status in (("one name is free", 999, 0), ("no name is free", 1000, 6)):
+        for number in range(names_there):
+            (folder / f".{NAME}.radixjoin-{number}").write_bytes(BEFORE)
+        written = Written(folder)
+        ran = run("radixjoin", [*words, "--output", NAME], folder)
+        yield label, written.faults(ran, stderr=UNWRITTEN if status else b"", status=status)
     for length in (200, 201, 255):
         name = "x" * length
         ran = run("radixjoin", [*words, "--output", name], folder)
@@ -164,7 +198,7 @@ def outputs_that_are_inputs(folder):
     os.link(folder / "left.csv", folder / "link.csv")
     kept = {name: content(folder / name) for name in ("left.csv", "right.csv")}
     for output, side in (("left.csv", "left"), ("./right.csv", "right"), ("symbolic.csv", "right"), ("link.csv", "left")):
-        for asked in (words, [*words[:-1], "nonsense"]):
+        for asked in (words, [*words[:-1], "nonsense"], [*words, "--count"]):
             known = names_in(folder)
             ran = run("radixjoin", [*asked, "--output", output], folder)
             changed = [f"{name} changed" for name in kept if content(folder / name) != kept[name]]
@@ -175,17 +209,32 @@ def outputs_that_are_inputs(folder):
     yield "standard output is an input, to which nothing is written", written.faults(ran)
 
 
+def other_devices(folder):
+    """A file that has the output's number on another device isn't the output."""
+    words = two_files(folder)
+    library = folder / "other_device.so"
+    subprocess.run(["gcc", "-O2", "-shared", "-fPIC", "-o", library, harness.ROOT / "tests" / "other_device.c", "-ldl"], check=True)
+    for name, side in (("left.csv", "left"), ("right.csv", "right")):
+        os.link(folder / name, folder / f"{side}-link")
+        asked = [*words, "--output", f"{side}-link"]
+        told = f"radixjoin: E29 OutputIsInput {side}\n".encode()
+        yield f"{name} on the output's device", harness.differences(run("radixjoin", asked, folder), b"", told, 6)
+        environment = {**os.environ, "LD_PRELOAD": str(library), "OTHER_DEVICE": name}
+        ran = run("radixjoin", asked, folder, env=environment)
+        yield f"{name} on another device", harness.differences(ran, b"") + ([] if content(folder / f"{side}-link") == JOINED else ["no result"])
+
+
 def refused_calls(folder):
     """Where the file can't be written, brought to the disk or renamed, what stood there stays, and nothing is left."""
     words = two_files(folder)
     library = folder / "refused_rename.so"
     subprocess.run(["gcc", "-O2", "-shared", "-fPIC", "-o", library, harness.ROOT / "tests" / "refused_rename.c", "-ldl"], check=True)
     for call in ("rename", "fsync", "write"):
-        for before in (BEFORE, None):
+        for before, options in ((BEFORE, []), (None, []), (BEFORE, ["--count"])):
             written = Written(folder, before)
             environment = {**os.environ, "LD_PRELOAD": str(library), "REFUSED": call}
-            ran = run("radixjoin", [*words, "--output", NAME], folder, env=environment)
-            yield f"{call} is refused, {'a file' if before else 'nothing'} there", written.faults(ran, stderr=UNWRITTEN, status=6)
+            ran = run("radixjoin", [*words, *options, "--output", NAME], folder, env=environment)
+            yield f"{call} is refused {options}, {'a file' if before else 'nothing'} there", written.faults(ran, stderr=UNWRITTEN, status=6)
 
 
 def refused_memory(folder):
@@ -276,12 +325,14 @@ def killed(folder):
 def run_all(tally):
     for cases in (
         files,
+        counts,
         modes,
         links,
         names,
         special_files,
         faults_of_a_join,
         outputs_that_are_inputs,
+        other_devices,
         refused_calls,
         refused_memory,
         folders_without_permission,

@@ -7,6 +7,7 @@ by that too; nothing is on standard output then but after a write that failed.""
 import functools
 import os
 import pathlib
+import re
 
 import harness
 import refused_allocations
@@ -115,10 +116,37 @@ def sweep(tally, refuse, run):
     return MOST
 
 
+def explained(tally, refuse, label, options):
+    """What `--explain` adds where an allocation is refused in turn: while which file was read, or how many bytes the tables have."""
+    left, right = b"k,a\n1,5\n1,9\n2,7\n", b"k,b\n1,7\n"
+    tables = b"  while tables of %d and %d bytes were joined; with what is written that takes about three times as many\n" % (len(left), len(right))
+    reading = re.compile(rb"(?:  while the (?:left|right) file was read\n)?")
+    run = joined(f"explained, {label}", left, right, ["int,int", "int,int"], "JOIN USING (k)", None, "--explain", *options)
+    with harness.folder() as at:
+        folder, is_told = pathlib.Path(at), False
+        for file, content in run.files.items():
+            (folder / file).write_bytes(content)
+        for n in range(1, MOST):
+            report = folder / "report"
+            environment = {**os.environ, "LD_PRELOAD": str(refuse), "REFUSE_ALLOCATION": str(n), "REFUSE_REPORT": str(report)}
+            ran = ended(run, folder, environment)
+            was_refused = report.exists()
+            report.unlink(missing_ok=True)
+            if ran.status == 5:
+                told = ran.stderr.removeprefix(b"radixjoin: E18 Memory\n")
+                is_told |= told == tables
+                tally.check(f"{run.name}: allocation {n}", [] if told == tables or reading.fullmatch(told) else [harness.shorten(ran.stderr)])
+            elif not was_refused:
+                break
+        tally.check(f"{run.name}: tables are told", [] if is_told else ["no line tells them"])
+
+
 def run_all(tally):
     """Sweeps each run."""
     with harness.folder() as at:
         refuse = refused_allocations.library(pathlib.Path(at))
+        for label, options in (("joined", []), ("counted", ["--count"])):
+            explained(tally, refuse, label, options)
         found = harness.side_by_side(tally, [functools.partial(sweep, refuse=refuse, run=run) for run in RUNS])
         counts = [f"{run.name} {count}" for run, count in zip(RUNS, found)]
     print("allocations refused in turn:", ", ".join(counts))

@@ -93,6 +93,9 @@ def outputs_that_are_inputs(folder):
         ("before a missing file is", '"$@" >> right.csv', ["--left", "missing", *words[2:]], "right"),
         ("before a pipe is read", '"$@" >> right.csv', ["--left", "pipe", *words[2:]], "right"),
         ("before the clause is", '"$@" >> left.csv', [*words[:-1], "nonsense"], "left"),
+        ("written to by --output -", '"$@" >> left.csv', [*words, "--output", "-"], "left"),
+        ("counted", '"$@" >> right.csv', [*words, "--count"], "right"),
+        ("counted by --output -", '"$@" >> left.csv', [*words, "--count", "--output=-"], "left"),
         ("of which types are suggested", '"$@" >> left.csv', ["--suggest-types", "left.csv"], "left"),
     ]
     for label, line, asked, side in cases:

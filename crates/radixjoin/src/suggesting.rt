@@ -1,12 +1,9 @@
 //! `radixjoin --suggest-types FILE`: prints a list of types that the cells of a file suggest.
 
-use crate::inputs::{STANDARD_OUTPUT, read_table, refuse_output};
-use crate::progress::Progress;
 use clap::error::ErrorKind;
 use clap::{Arg, ArgAction, ArgMatches, Command, Error};
-use rj_csv_io::{CountedWriter, Output};
-use rj_fault::{Fault, Side};
-use rj_suggest::suggest_types;
+use rj_fault::Fault;
+use rj_files::{NamedStream, refuse_printed, write_suggested};
 use std::alloc::{AllocError, Global};
 use std::fs::Files;
 use std::io;
@@ -44,19 +41,19 @@ fn matches_of<'a>(alloc: Global, words: &'a [&'a str]) -> Result<ArgMatches<'a>,
 }
 
 /// Prints the types that the cells of the file in these words suggest. The words are those behind `--suggest-types`.
-pub(crate) fn suggest<R: Files + Input + AllocGlobal + Print + Eprint + Clock>(
-    rt: &R,
-    words: &[&str],
+pub(crate) fn suggest<'a, R: Files + Input + AllocGlobal + Print + Eprint + Clock>(
+    rt: &'a R,
+    words: &'a [&'a str],
 ) -> Result<(), Fault> {
     let matches = matches_of(rt.alloc(), words)?;
     let name = matches.get_str("FILE").unwrap_or("");
-    refuse_output(rt, STANDARD_OUTPUT, name, Side::Left)?;
-    let bytes = read_table(rt, name, Side::Left, &Progress::hidden(rt))?;
+    refuse_printed(rt, name)?;
     let null = matches.get_str("null").unwrap_or("");
-    let list = suggest_types(rt.alloc(), bytes.as_slice(), &[null])?;
-    let mut writer = CountedWriter::new(io::writer(rt));
-    match writer.put(list.as_slice()) {
-        Ok(()) => Ok(()),
-        Err(_) => Err(Fault::WriteDevice),
-    }
+    let (written, _writer) = write_suggested(
+        rt,
+        &NamedStream::new(rt, name),
+        &[null],
+        io::writer(rt),
+    );
+    written
 }

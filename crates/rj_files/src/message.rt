@@ -1,5 +1,7 @@
 //! The lines that show how far a run is.
 
+ghost use Rattle.std.specs.Prelude.{◌≡◌, ◌/◌};
+
 use rj_fault::Side;
 use std::fmt;
 
@@ -13,7 +15,7 @@ pub(crate) enum Message {
     /// So many bytes were read of the file of a side, of about so many, or of none where that isn't known.
     File { side: Side, bytes: u64, size: u64 },
     /// A table is read from the bytes of a side's file.
-    Table { side: Side, bytes: u64 },
+    NamedStream { side: Side, bytes: u64 },
     /// About so many rows of both tables were handed to partitions.
     Partitioned { done: u64, rows: u64 },
     /// About so many rows of the larger table were joined.
@@ -55,7 +57,9 @@ impl fmt::Display for Grouped {
 }
 
 // Bytes, in whole megabytes.
-fn megabytes(bytes: u64) -> Grouped {
+fn megabytes(bytes: u64) -> Grouped
+    ensures { result.0 ≡ bytes / 1000000 }
+{
     Grouped(bytes / 1_000_000)
 }
 
@@ -89,7 +93,7 @@ impl fmt::Display for Message {
     fn fmt<W: fmt::Write>(&self, f: &mut fmt::Formatter<W>) -> fmt::Result {
         match *self {
             Message::File { side, bytes, size } => write_file(f, side, bytes, size),
-            Message::Table { side, bytes } => {
+            Message::NamedStream { side, bytes } => {
                 let bytes = megabytes(bytes);
                 write!(f, "radixjoin: reading {side} table of {bytes} MB")
             }

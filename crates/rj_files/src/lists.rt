@@ -1,6 +1,7 @@
 //! Lists of types that stand in files: `@FILE` in the place of a list.
 
-use crate::inputs::read_file;
+use crate::named::open_file;
+use crate::reading::{OpenStream, read_bytes, unopened};
 use rj_fault::{Fault, Side};
 use rj_suggest::list_of_lines;
 use std::alloc::AllocError;
@@ -25,6 +26,19 @@ fn with_list<R: Files + AllocGlobal>(rt: &R, word: &str) -> Result<Option<String
     };
     let list = list_of(rt, file, side)?;
     Ok(Some(format!(in rt.alloc(); "{option}={list}")?))
+}
+
+// The bytes of a file, to its end.
+fn read_file<R: Files + AllocGlobal>(rt: &R, name: &str, side: Side) -> Result<Vec<u8>, Fault> {
+    match open_file(rt, name) {
+        Ok(
+            OpenStream {
+                reader,
+                likely_size,
+            },
+        ) => read_bytes(rt.alloc(), reader, likely_size, side),
+        Err(error) => Err(unopened(&error, side)),
+    }
 }
 
 // The list that a file has.
@@ -57,7 +71,7 @@ fn with_its_list<R: Files + AllocGlobal>(
 ///
 /// A file that can't be read is `ReadDevice` of its side, and one whose list isn't text `BadTypeList`. `Memory` comes only where
 /// a growth was refused.
-pub(crate) fn read_lists<R: Files + AllocGlobal>(
+pub fn read_lists<R: Files + AllocGlobal>(
     rt: &R,
     words: Vec<String>,
 ) -> Result<Vec<String>, Fault> {

@@ -1,5 +1,8 @@
 //! The file of `--output`, which has the whole result in the end, or what it had before.
 
+ghost use Rattle.std.specs.Prelude.{◌≡◌, IfErr};
+ghost use Rattle.rj_fault.specs.Faults.{IsOfWriting};
+
 use rj_fault::Fault;
 use std::alloc::Global;
 use std::fs::{self, Files, Metadata, OpenFile, OpenOptions};
@@ -32,13 +35,17 @@ pub(crate) struct Unwritten {
 }
 
 impl From<Fault> for Unwritten {
+    ghost from_gives = { λ fault refused. refused.fault ≡ fault };
+
     fn from(fault: Fault) -> Unwritten {
         Unwritten { fault, error: None }
     }
 }
 
 // What an error is that the system tells of the file.
-fn unwritten_by(error: io::Error) -> Unwritten {
+fn unwritten_by(error: io::Error) -> Unwritten
+    ensures { IsOfWriting result.fault }
+{
     let fault = match error.kind() {
         ErrorKind::OutOfMemory => Fault::Memory,
         _ => Fault::WriteDevice,
@@ -50,7 +57,9 @@ fn unwritten_by(error: io::Error) -> Unwritten {
 }
 
 // A file name in the folder of a path; a name that begins with a slash stands for itself.
-fn in_folder_of(alloc: Global, path: &str, name: &str) -> Result<String, Fault> {
+fn in_folder_of(alloc: Global, path: &str, name: &str) -> Result<String, Fault>
+    ensures { IfErr result IsOfWriting }
+{
     match Path::new(path).parent() {
         Some(folder) => Ok(String::from_str(alloc, folder.join(alloc, name)?.as_str())?),
         None => Ok(String::from_str(alloc, name)?),
@@ -58,7 +67,9 @@ fn in_folder_of(alloc: Global, path: &str, name: &str) -> Result<String, Fault> 
 }
 
 // The path that a path leads to by symbolic links, whether a file stands there or not.
-fn followed<R: Files + AllocGlobal>(rt: &R, path: &str) -> Result<String, Fault> {
+fn followed<R: Files + AllocGlobal>(rt: &R, path: &str) -> Result<String, Fault>
+    ensures { IfErr result IsOfWriting }
+{
     let alloc = rt.alloc();
     let mut followed = String::from_str(alloc, path)?;
     for _link in 0..LINKS {
@@ -72,7 +83,9 @@ fn followed<R: Files + AllocGlobal>(rt: &R, path: &str) -> Result<String, Fault>
 }
 
 // A name for a new file beside the target.
-fn draft_name(alloc: Global, target: &str, number: u32) -> Result<String, Fault> {
+fn draft_name(alloc: Global, target: &str, number: u32) -> Result<String, Fault>
+    ensures { IfErr result IsOfWriting }
+{
     let Some(file) = Path::new(target).file_name() else {
         return Err(Fault::WriteDevice);
     };
@@ -99,7 +112,9 @@ impl Draft {
     pub(crate) fn open<R: Files + AllocGlobal>(
         rt: &R,
         output: &str,
-    ) -> Result<(Draft, R::File), Unwritten> {
+    ) -> Result<(Draft, R::File), Unwritten>
+        ensures { IfErr result (λ refused. IsOfWriting refused.fault) }
+    {
         if is_special(&fs::metadata(rt, output)) {
             return match OpenOptions::new().write(true).open(rt, output) {
                 Ok(file) => Ok((Draft::Stream, file)),
@@ -110,10 +125,9 @@ impl Draft {
     }
 
     // A new file beside the target, under the first name that is free.
-    fn beside<R: Files + AllocGlobal>(
-        rt: &R,
-        target: String,
-    ) -> Result<(Draft, R::File), Unwritten> {
+    fn beside<R: Files + AllocGlobal>(rt: &R, target: String) -> Result<(Draft, R::File), Unwritten>
+        ensures { IfErr result (λ refused. IsOfWriting refused.fault) }
+    {
         for number in 0..NAMES {
             let name = draft_name(rt.alloc(), target.as_str(), number)?;
             let made = OpenOptions::new()
@@ -134,7 +148,9 @@ impl Draft {
     /// # Errors
     ///
     /// `WriteDevice` where one of the two isn't done: the target is as it was, and the new file is removed.
-    pub(crate) fn finish<R: Files>(self, rt: &R, file: R::File) -> Result<(), Unwritten> {
+    pub(crate) fn finish<R: Files>(self, rt: &R, file: R::File) -> Result<(), Unwritten>
+        ensures { IfErr result (λ refused. refused.fault ≡ Fault.WriteDevice) }
+    {
         let Draft::Replacing { name, target } = self else {
             return Ok(());
         };

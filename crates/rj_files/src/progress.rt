@@ -1,7 +1,12 @@
-//! How far a run is, shown on standard error where that is a terminal. No contract speaks of it: the runs of `rj_command` meet theirs
-//! for every watch.
+//! How far a run is, shown on standard error where that is a terminal. No contract says when it is shown: the runs of `rj_command`
+//! meet theirs for every watch.
+
+ghost use Rattle.std.specs.Prelude.{◌≡◌};
+ghost use Rattle.rj_files.specs.Shares.{handed, joined, parts, share};
 
 use crate::message::{CLEARED, Message};
+use crate::named::is_standard_stream;
+use crate::outputs::output_of;
 use rj_command::{Gate, Line, Place, Step, Watch};
 use rj_fault::Side;
 use std::sync::atomic::{AtomicBool, AtomicU64, Ordering};
@@ -15,10 +20,13 @@ const PAUSE: u64 = 200;
 
 /// Which of the standard streams are terminals.
 #[derive(Clone, Copy)]
-pub(crate) struct Terminals {
-    pub(crate) input: bool,
-    pub(crate) output: bool,
-    pub(crate) error: bool,
+pub struct Terminals {
+    /// Standard input.
+    pub input: bool,
+    /// Standard output.
+    pub output: bool,
+    /// Standard error.
+    pub error: bool,
 }
 
 // Into what the tables of a join are cut. The numbers are those of its settings.
@@ -32,9 +40,11 @@ struct Cuts {
 
 /// How far a run is. All its threads share it.
 #[derive(Drop)]
-pub(crate) struct Progress<'a, R> {
+pub struct Progress<'a, R> {
     rt: &'a R,
-    terminals: Terminals,
+    // Whether the rows that are written go to a terminal, and the side whose table is written by hand, if there is one.
+    shares_terminal: bool,
+    by_hand: Option<Side>,
     cuts: Cuts,
     // The milliseconds of the clock from which on it is shown, and from which on a further line of a step is.
     from: u64,
@@ -55,18 +65,57 @@ pub(crate) struct Progress<'a, R> {
 }
 
 // How many parts of so many rows the rows make.
-fn parts_of(rows: u64, size: u64) -> u64 {
-    rows.saturating_add(size.saturating_sub(1))
-        .checked_div(size)
-        .unwrap_or(0)
+fn parts_of(rows: u64, size: u64) -> u64
+    ensures { result ≡ parts rows size }
+{
+    if size == 0 {
+        return 0;
+    }
+    rows.div_ceil(size)
 }
 
 // So many of these rows as this is of all, and never more than there are.
-fn share_of(rows: u64, this: u64, all: u64) -> u64 {
-    rows.saturating_mul(this)
-        .checked_div(all)
-        .unwrap_or(0)
-        .min(rows)
+fn share_of(rows: u64, this: u64, all: u64) -> u64
+    ensures { result ≡ share rows this all }
+{
+    if all == 0 {
+        return 0;
+    }
+    (rows.saturating_mul(this) / all).min(rows)
+}
+
+// How many of the rows of both tables were handed to partitions, about, when so many parcels were posted. A sender has a list for
+// each partition, of blocks and a close.
+fn handed_rows(cuts: Cuts, rows: u64, posted: u64) -> u64
+    ensures { result ≡ handed cuts rows posted }
+{
+    let lists = cuts
+        .workers
+        .saturating_mul(2)
+        .saturating_mul(cuts.partitions);
+    let blocks = parts_of(parts_of(rows, lists), cuts.block);
+    share_of(rows, posted, lists.saturating_mul(blocks.saturating_add(1)))
+}
+
+// How many of the rows of the larger table were joined, about, when so many partitions were and so many pieces of the next one.
+fn joined_rows(cuts: Cuts, rows: u64, behind: u64, pieces: u64) -> u64
+    ensures { result ≡ joined cuts rows behind pieces }
+{
+    let before = share_of(rows, behind, cuts.partitions);
+    let size = parts_of(rows, cuts.workers.saturating_mul(4)).min(cuts.piece);
+    before.saturating_add(pieces.saturating_mul(size)).min(rows)
+}
+
+// The side of a line whose table is standard input.
+fn side_of_input(line: &Line<'_>) -> Option<Side> {
+    if is_standard_stream(line.left) {
+        return Some(Side::Left);
+    }
+    if is_standard_stream(line.right) {
+        Some(Side::Right)
+    } else {
+        None
+    }
 }
 
 // The milliseconds of a clock, 0 where it can't be read.
@@ -83,7 +132,7 @@ fn milliseconds<R: Clock>(rt: &R) -> u64 {
 impl<'a, R: Clock> Progress<'a, R> {
     /// That of a run which begins now. It is shown at once where the line asks for it, and else after two seconds. Where rows
     /// go to a terminal, nothing is shown once they come.
-    pub(crate) fn of(rt: &'a R, line: &Line<'_>, terminals: Terminals) -> Progress<'a, R> {
+    pub fn of(rt: &'a R, line: &Line<'_>, terminals: Terminals) -> Progress<'a, R> {
         let patience = if line.progress { 0 } else { PATIENCE };
         let settings = &line.request.settings;
         let cuts = Cuts {
@@ -92,40 +141,37 @@ impl<'a, R: Clock> Progress<'a, R> {
             block: u64::from(settings.block),
             piece: u64::from(settings.piece),
         };
-        Progress::from(
-            rt,
-            milliseconds(rt).saturating_add(patience),
-            cuts,
-            terminals,
-        )
+        let from = milliseconds(rt).saturating_add(patience);
+        let mut progress = Progress::from(rt, from, cuts, terminals.error);
+        progress.shares_terminal = terminals.output && output_of(line).is_none();
+        if terminals.input {
+            progress.by_hand = side_of_input(line);
+        }
+        progress
     }
 
     /// One that is never shown.
     pub(crate) fn hidden(rt: &'a R) -> Progress<'a, R> {
-        let terminals = Terminals {
-            input: false,
-            output: false,
-            error: false,
-        };
         let cuts = Cuts {
             workers: 1,
             partitions: 1,
             block: 1,
             piece: 1,
         };
-        Progress::from(rt, 0, cuts, terminals)
+        Progress::from(rt, 0, cuts, false)
     }
 
-    // One that is shown from a time of the clock on.
-    fn from(rt: &'a R, from: u64, cuts: Cuts, terminals: Terminals) -> Progress<'a, R> {
+    // One that is shown from a time of the clock on, where it is shown at all.
+    fn from(rt: &'a R, from: u64, cuts: Cuts, is_shown: bool) -> Progress<'a, R> {
         Progress {
             rt,
-            terminals,
+            shares_terminal: false,
+            by_hand: None,
             cuts,
             from,
             next: AtomicU64::new(from),
             stands: AtomicBool::new(false),
-            is_over: AtomicBool::new(!terminals.error),
+            is_over: AtomicBool::new(!is_shown),
             left_bytes: AtomicU64::new(0),
             right_bytes: AtomicU64::new(0),
             left_rows: AtomicU64::new(0),
@@ -136,9 +182,9 @@ impl<'a, R: Clock> Progress<'a, R> {
         }
     }
 
-    /// Whether standard input is a terminal, at which somebody writes.
-    pub(crate) fn is_input_written_by_hand(&self) -> bool {
-        self.terminals.input
+    // Whether a side's table is written by hand, at a terminal that is standard input. Beside it nothing is shown.
+    fn is_written_by_hand(&self, side: Side) -> bool {
+        self.by_hand == Some(side)
     }
 
     // Whether a further line of a step is to be shown. Of threads that ask at the same time one is told so.
@@ -176,15 +222,10 @@ impl<'a, R: Clock> Progress<'a, R> {
     }
 
     // The rows of both tables that were handed to partitions, about, when so many parcels were posted, and how many rows there are.
-    // A sender has a list for each partition, of blocks and a close.
     fn partitioned(&self, posted: u64) -> (u64, u64) {
         let left = self.left_rows.load(Ordering::SeqCst);
         let rows = left.saturating_add(self.right_rows.load(Ordering::SeqCst));
-        let senders = self.cuts.workers.saturating_mul(2);
-        let lists = senders.saturating_mul(self.cuts.partitions);
-        let blocks = parts_of(parts_of(rows, lists), self.cuts.block);
-        let parcels = lists.saturating_mul(blocks.saturating_add(1));
-        (share_of(rows, posted, parcels), rows)
+        (handed_rows(self.cuts, rows, posted), rows)
     }
 
     // Notes that a worker has come to a piece of a partition, and tells whether it is the first one.
@@ -202,11 +243,7 @@ impl<'a, R: Clock> Progress<'a, R> {
         let rows = left.max(self.right_rows.load(Ordering::SeqCst));
         let number = u64::from(partition).saturating_add(1);
         let behind = number.saturating_sub(self.first.load(Ordering::SeqCst));
-        let before = share_of(rows, behind, self.cuts.partitions);
-        let shares = self.cuts.workers.saturating_mul(4);
-        let size = parts_of(rows, shares).min(self.cuts.piece);
-        let done = before.saturating_add(piece.saturating_mul(size));
-        (done.min(rows), rows)
+        (joined_rows(self.cuts, rows, behind, piece), rows)
     }
 }
 
@@ -218,14 +255,18 @@ impl<R: Clock + Eprint> Progress<'_, R> {
     }
 
     /// Takes away the line that stands, so that something else can be written.
-    pub(crate) fn clear(&self) {
+    pub fn clear(&self) {
         if self.stands.swap(false, Ordering::SeqCst) {
             let _ = eprint!(self.rt; "{CLEARED}");
         }
     }
 
-    /// The file of a side is read, which has about so many bytes, or none where that isn't known.
+    /// The table of a side is read, which has about so many bytes, or none where that isn't known.
     pub(crate) fn begin_file(&self, side: Side, size: u64) {
+        if self.is_written_by_hand(side) {
+            self.clear();
+            return;
+        }
         if self.is_begun() {
             self.show(Message::File {
                 side,
@@ -237,6 +278,9 @@ impl<R: Clock + Eprint> Progress<'_, R> {
 
     /// So many bytes were read of a side's file, which has about so many, or none where that isn't known.
     pub(crate) fn read(&self, side: Side, bytes: u64, size: u64) {
+        if self.is_written_by_hand(side) {
+            return;
+        }
         self.bytes_of(side).store(bytes, Ordering::SeqCst);
         if self.is_due() {
             self.show(Message::File { side, bytes, size });
@@ -245,7 +289,7 @@ impl<R: Clock + Eprint> Progress<'_, R> {
 
     /// Something is about to be written. Where that goes to a terminal, nothing is shown from now on.
     pub(crate) fn before_output(&self) {
-        if self.terminals.output {
+        if self.shares_terminal {
             self.is_over.store(true, Ordering::SeqCst);
             self.clear();
         }
@@ -291,7 +335,7 @@ impl<R: Clock + Eprint> Watch for Progress<'_, R> {
         let message = match step {
             Step::Read(side) => {
                 let bytes = self.bytes_of(side).load(Ordering::SeqCst);
-                Message::Table { side, bytes }
+                Message::NamedStream { side, bytes }
             }
             Step::Join {
                 left_rows,

@@ -1,8 +1,11 @@
 //! A writer that keeps the system's error.
 
+ghost use Rattle.std.specs.Prelude.{◌≡◌};
+ghost use Rattle.std.specs.IoError.{error_kind};
+
 use std::io::{self, Write};
 
-/// A writer that does what another one does, and keeps the last error of it.
+/// A writer that does what another one does, and keeps the last error of it. It tells the bytes that the other one tells.
 #[derive(Drop)]
 pub(crate) struct Noting<W: Write> {
     writer: W,
@@ -10,7 +13,9 @@ pub(crate) struct Noting<W: Write> {
 }
 
 impl<W: Write> Noting<W> {
-    pub(crate) fn new(writer: W) -> Noting<W> {
+    pub(crate) fn new(writer: W) -> Noting<W>
+        ensures { result.writer ≡ writer }
+    {
         Noting {
             writer,
             error: None,
@@ -18,13 +23,18 @@ impl<W: Write> Noting<W> {
     }
 
     /// The writer, and the last error of it.
-    pub(crate) fn into_parts(self) -> (W, Option<io::Error>) {
+    pub(crate) fn into_parts(self) -> (W, Option<io::Error>)
+        ensures { result.0 ≡ self.writer }
+    {
         let Noting { writer, error } = self;
         (writer, error)
     }
 
     // Keeps an error, and gives one of its kind.
-    fn note(&mut self, error: io::Error) -> io::Error {
+    fn note(&mut self, error: io::Error) -> io::Error
+        ensures writer { self.new.writer ≡ self.old.writer }
+        ensures kind { error_kind result ≡ error_kind error }
+    {
         let kind = error.kind();
         self.error = Some(error);
         io::Error::from(kind)
@@ -32,6 +42,8 @@ impl<W: Write> Noting<W> {
 }
 
 impl<W: Write> Write for Noting<W> {
+    ghost contents = { λ n. W.contents n.writer };
+
     fn write(&mut self, bytes: &[u8]) -> io::Result<usize> {
         match self.writer.write(bytes) {
             Ok(written) => Ok(written),

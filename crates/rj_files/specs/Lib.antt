@@ -1,0 +1,5 @@
+pub mod Outputs
+pub mod Readers
+pub mod Shares
+pub mod Streams
+pub mod Texts

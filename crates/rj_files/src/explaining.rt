@@ -1,0 +1,150 @@
+//! `--explain`: what is told of a fault behind its own line.
+
+ghost use Rattle.std.specs.Prelude.{◌≡◌, IfOk, IfSome, length, string_bytes};
+ghost use Rattle.rj_files.specs.Texts.{memory_text};
+
+use crate::ended::Ended;
+use crate::named::told_by_system;
+use crate::outputs::output_of;
+use rj_command::{Line, Open, Violation, first_violation, read_line};
+use rj_explain::{Inputs, explain, explain_row, explain_words};
+use rj_fault::{Fault, Side};
+use std::alloc::{AllocError, Global};
+use std::io;
+use std::sync::Wait;
+use std::thread::Threads;
+use std::time::Clock;
+
+// What explains a fault of the command line, where it can be explained and this is asked for among the words.
+fn explain_line(
+    alloc: Global,
+    words: &[&str],
+    fault: &Fault,
+) -> Result<Option<String>, AllocError> {
+    if !words.iter().any(|word| *word == "--explain") {
+        return Ok(None);
+    }
+    explain_words(alloc, words, fault)
+}
+
+/// What the words of the command line say.
+///
+/// # Errors
+///
+/// As `read_line` tells them; a list of types that is none is explained where `--explain` is one of the words.
+pub fn read_words_of_line<'a>(alloc: Global, words: &'a [&'a str]) -> Result<Line<'a>, Ended> {
+    match read_line(alloc, words) {
+        Ok(line) => Ok(line),
+        Err(fault) => match explain_line(alloc, words, &fault) {
+            Ok(Some(lines)) => Err(Ended::explained(fault, Ok(lines))),
+            Ok(None) | Err(_) => Err(Ended::from(fault)),
+        },
+    }
+}
+
+// What is told of what isn't as expected.
+fn lines_of_violation(
+    alloc: Global,
+    inputs: &Inputs<'_, '_>,
+    violation: &Violation,
+) -> Result<String, AllocError> {
+    let (side, row, pairs) = match violation {
+        Violation::Rows(rows) => return format!(in alloc; "  the joined table has {rows} rows\n"),
+        Violation::LeftRow(row, pairs) => (Side::Left, *row, *pairs),
+        Violation::RightRow(row, pairs) => (Side::Right, *row, *pairs),
+    };
+    explain_row(alloc, inputs, side, u64::from(row).saturating_add(1), pairs)
+}
+
+// What is told of a joined table that isn't as expected. It is joined once more, since nothing was kept of it.
+fn violation_lines<R: AllocGlobal + Threads + Wait + Clock + Sync>(
+    rt: &R,
+    inputs: &Inputs<'_, '_>,
+) -> Result<String, AllocError> {
+    let alloc = rt.alloc();
+    let (left, right, request) = (inputs.left, inputs.right, inputs.request);
+    match first_violation(rt, alloc, left, right, request, &Open) {
+        Ok(Some(violation)) => lines_of_violation(alloc, inputs, &violation),
+        Ok(None) | Err(_) => Ok(String::new(alloc)),
+    }
+}
+
+// What is told of want of memory in a join of two tables of so many bytes.
+fn memory_lines(alloc: Global, left: usize, right: usize) -> Result<String, AllocError>
+    ensures { IfOk result (λ text. string_bytes text ≡ memory_text left right) }
+{
+    format!(in alloc;
+        "  while tables of {left} and {right} bytes were joined; with what is written that takes about three times as many\n"
+    )
+}
+
+// What is told of a fault of a join of two tables.
+fn lines_of<R: AllocGlobal + Threads + Wait + Clock + Sync>(
+    rt: &R,
+    fault: &Fault,
+    inputs: &Inputs<'_, '_>,
+) -> Result<String, AllocError>
+    ensures { fault.now ≡ Fault.Memory → IfOk result (λ text. string_bytes text ≡ memory_text (length inputs.now.left.now) (length inputs.now.right.now)) }
+{
+    match fault {
+        Fault::Memory => memory_lines(rt.alloc(), inputs.left.len(), inputs.right.len()),
+        Fault::NotAsExpected => violation_lines(rt, inputs),
+        _ => explain(rt.alloc(), fault, inputs),
+    }
+}
+
+/// A fault of a join of two tables, explained.
+pub(crate) fn explained<R: AllocGlobal + Threads + Wait + Clock + Sync>(
+    rt: &R,
+    fault: Fault,
+    inputs: &Inputs<'_, '_>,
+) -> Ended
+    ensures fault { result.fault ≡ fault }
+    ensures memory { fault ≡ Fault.Memory
+        → IfSome result.lines (λ text. string_bytes text ≡ memory_text (length inputs.now.left.now) (length inputs.now.right.now)) }
+{
+    let lines = lines_of(rt, &fault, inputs);
+    Ended::explained(fault, lines)
+}
+
+/// The fault of a result that can't be written, explained where that is asked for: by the output's name and the system's words.
+pub(crate) fn unwritten(
+    alloc: Global,
+    line: &Line<'_>,
+    fault: Fault,
+    error: &Option<io::Error>,
+) -> Ended
+    ensures { result.fault ≡ fault }
+{
+    if !line.explain || !is_unwritten(&fault) {
+        return Ended::from(fault);
+    }
+    let name = output_of(line).unwrap_or("standard output");
+    Ended::explained(fault, told_by_system(alloc, name, error))
+}
+
+fn is_unwritten(fault: &Fault) -> bool {
+    match fault {
+        Fault::WriteDevice => true,
+        _ => false,
+    }
+}
+
+/// The same of an end that may be another one, which then is as it was.
+pub(crate) fn with_write_error(
+    alloc: Global,
+    line: &Line<'_>,
+    ended: Ended,
+    error: &Option<io::Error>,
+) -> Ended
+    ensures { result.fault ≡ ended.fault }
+{
+    let (fault, lines) = ended.into_parts();
+    if is_unwritten(&fault) {
+        return unwritten(alloc, line, fault, error);
+    }
+    match lines {
+        Some(lines) => Ended::explained(fault, Ok(lines)),
+        None => Ended::from(fault),
+    }
+}

@@ -1,0 +1,218 @@
+//! What a line asks for of the bytes of two tables: their joined table, or how many rows it has.
+
+ghost use Rattle.std.specs.Prelude.{◌≡◌, ◌≢◌, ◌<◌, ◌-◌, ◌^◌, IfOk, IfErr, OnOk};
+ghost use Rattle.rj_command.specs.Counts.{IsCountFault, WritesCounts};
+ghost use Rattle.rj_command.specs.Runs.{IsRunFault, WritesJoined};
+ghost use Rattle.rj_files.specs.Streams.{IsAskedFault, WritesAsked};
+
+use crate::ended::Ended;
+use crate::explaining::{explained, with_write_error};
+use crate::noting::Noting;
+use crate::progress::Progress;
+use crate::watched::WatchedWriter;
+use rj_command::{Line, Stats, count, run, run_owned};
+use rj_csv_io::{CountedWriter, Output};
+use rj_explain::Inputs;
+use rj_fault::Fault;
+use std::alloc::AllocError;
+use std::io::Write;
+use std::sync::Wait;
+use std::thread::Threads;
+use std::time::Clock;
+
+/// The bytes of two tables.
+#[derive(Drop)]
+pub(crate) struct Tables {
+    pub(crate) left: Vec<u8>,
+    pub(crate) right: Vec<u8>,
+}
+
+impl Tables {
+    // The same bytes once more.
+    fn copied(&self) -> Result<Tables, AllocError>
+        ensures { IfOk result (λ tables. (tables.left.items ≡ self.now.left.items) × (tables.right.items ≡ self.now.right.items)) }
+    {
+        let left = self.left.clone()?;
+        let right = self.right.clone()?;
+        Ok(Tables { left, right })
+    }
+}
+
+// Joins two tables, and writes the joined table. The bytes are kept for what is told of a fault.
+fn join_explained<R, O>(
+    rt: &R,
+    line: &Line<'_>,
+    progress: &Progress<'_, R>,
+    tables: &Tables,
+    writer: &mut O,
+) -> Result<Stats, Ended>
+where
+    R: AllocGlobal + Eprint + Threads + Wait + Clock + Sync,
+    O: Output,
+    requires { O.count writer.old < 2 ^ 64 - 1 }
+    ensures joined { IfOk result (WritesJoined tables.now.left.items tables.now.right.items line.now.request (O.told writer.old) (O.told writer.new)) }
+    ensures fault { IfErr result (λ ended. IsRunFault tables.now.left.items tables.now.right.items line.now.request ended.fault) }
+    ensures unchanged { IfErr result (λ ended. ended.fault ≢ Fault.WriteDevice → writer.new ≡ writer.old) }
+{
+    let (alloc, request) = (rt.alloc(), &line.request);
+    let (left, right) = (tables.left.as_slice(), tables.right.as_slice());
+    match run(rt, alloc, left, right, request, progress, writer) {
+        Ok(stats) => Ok(stats),
+        Err(fault) => {
+            let inputs = Inputs {
+                left,
+                right,
+                request,
+            };
+            Err(explained(rt, fault, &inputs))
+        }
+    }
+}
+
+// Joins two tables, and writes the joined table, explained where that is asked for.
+fn join_tables<R, O>(
+    rt: &R,
+    line: &Line<'_>,
+    progress: &Progress<'_, R>,
+    tables: Tables,
+    writer: &mut O,
+) -> Result<Stats, Ended>
+where
+    R: AllocGlobal + Eprint + Threads + Wait + Clock + Sync,
+    O: Output,
+    requires { O.count writer.old < 2 ^ 64 - 1 }
+    ensures joined { IfOk result (WritesJoined tables.left.items tables.right.items line.now.request (O.told writer.old) (O.told writer.new)) }
+    ensures fault { IfErr result (λ ended. IsRunFault tables.left.items tables.right.items line.now.request ended.fault) }
+    ensures unchanged { IfErr result (λ ended. ended.fault ≢ Fault.WriteDevice → writer.new ≡ writer.old) }
+{
+    if line.explain {
+        return join_explained(rt, line, progress, &tables, writer);
+    }
+    let (alloc, request) = (rt.alloc(), &line.request);
+    let Tables { left, right } = tables;
+    match run_owned(rt, alloc, left, right, request, progress, writer) {
+        Ok(stats) => Ok(stats),
+        Err(fault) => Err(Ended::from(fault)),
+    }
+}
+
+// Counts the rows of two tables' joined table. The bytes are kept for what is told of a fault.
+fn count_explained<R, O>(
+    rt: &R,
+    line: &Line<'_>,
+    progress: &Progress<'_, R>,
+    tables: &Tables,
+    writer: &mut O,
+) -> Result<(), Ended>
+where
+    R: AllocGlobal + Eprint + Threads + Wait + Clock + Sync,
+    O: Output,
+    requires { O.count writer.old < 2 ^ 64 - 1 }
+    ensures counted { OnOk result (WritesCounts tables.now.left.items tables.now.right.items line.now.request (O.told writer.old) (O.told writer.new)) }
+    ensures fault { IfErr result (λ ended. IsCountFault tables.now.left.items tables.now.right.items line.now.request ended.fault) }
+    ensures unchanged { IfErr result (λ ended. ended.fault ≢ Fault.WriteDevice → writer.new ≡ writer.old) }
+{
+    let (alloc, request) = (rt.alloc(), &line.request);
+    let Tables { left, right } = match tables.copied() {
+        Ok(copied) => copied,
+        Err(_) => return Err(Ended::from(Fault::Memory)),
+    };
+    match count(rt, alloc, left, right, request, progress, writer) {
+        Ok(()) => Ok(()),
+        Err(fault) => {
+            let inputs = Inputs {
+                left: tables.left.as_slice(),
+                right: tables.right.as_slice(),
+                request,
+            };
+            Err(explained(rt, fault, &inputs))
+        }
+    }
+}
+
+// Counts the rows of two tables' joined table, explained where that is asked for.
+fn count_tables<R, O>(
+    rt: &R,
+    line: &Line<'_>,
+    progress: &Progress<'_, R>,
+    tables: Tables,
+    writer: &mut O,
+) -> Result<(), Ended>
+where
+    R: AllocGlobal + Eprint + Threads + Wait + Clock + Sync,
+    O: Output,
+    requires { O.count writer.old < 2 ^ 64 - 1 }
+    ensures counted { OnOk result (WritesCounts tables.left.items tables.right.items line.now.request (O.told writer.old) (O.told writer.new)) }
+    ensures fault { IfErr result (λ ended. IsCountFault tables.left.items tables.right.items line.now.request ended.fault) }
+    ensures unchanged { IfErr result (λ ended. ended.fault ≢ Fault.WriteDevice → writer.new ≡ writer.old) }
+{
+    if line.explain {
+        return count_explained(rt, line, progress, &tables, writer);
+    }
+    let (alloc, request) = (rt.alloc(), &line.request);
+    let Tables { left, right } = tables;
+    match count(rt, alloc, left, right, request, progress, writer) {
+        Ok(()) => Ok(()),
+        Err(fault) => Err(Ended::from(fault)),
+    }
+}
+
+// Writes what the line asks for. The statistics are given where that is the joined table.
+fn write_asked<R, O>(
+    rt: &R,
+    line: &Line<'_>,
+    progress: &Progress<'_, R>,
+    tables: Tables,
+    writer: &mut O,
+) -> Result<Option<Stats>, Ended>
+where
+    R: AllocGlobal + Eprint + Threads + Wait + Clock + Sync,
+    O: Output,
+    requires { O.count writer.old < 2 ^ 64 - 1 }
+    ensures written { IfOk result (WritesAsked line.now tables.left.items tables.right.items (O.told writer.old) (O.told writer.new)) }
+    ensures fault { IfErr result (λ ended. IsAskedFault line.now tables.left.items tables.right.items ended.fault) }
+    ensures unchanged { IfErr result (λ ended. ended.fault ≢ Fault.WriteDevice → writer.new ≡ writer.old) }
+{
+    if line.count {
+        return match count_tables(rt, line, progress, tables, writer) {
+            Ok(()) => Ok(None),
+            Err(ended) => Err(ended),
+        };
+    }
+    match join_tables(rt, line, progress, tables, writer) {
+        Ok(stats) => Ok(Some(stats)),
+        Err(ended) => Err(ended),
+    }
+}
+
+/// Writes what the line asks for of two tables, and gives the writer back. The statistics are given where that is the joined table.
+///
+/// # Errors
+///
+/// Those of `run` or `count` of `rj_command`, explained where that is asked for. The writer is as it was but after `WriteDevice`.
+pub(crate) fn write_tables<R, W>(
+    rt: &R,
+    line: &Line<'_>,
+    progress: &Progress<'_, R>,
+    tables: Tables,
+    writer: W,
+) -> (Result<Option<Stats>, Ended>, W)
+where
+    R: AllocGlobal + Eprint + Threads + Wait + Clock + Sync,
+    W: Write,
+    ensures written { IfOk result.0 (WritesAsked line.now tables.left.items tables.right.items (W.contents writer) (W.contents result.1)) }
+    ensures fault { IfErr result.0 (λ ended. IsAskedFault line.now tables.left.items tables.right.items ended.fault) }
+    ensures unchanged { IfErr result.0 (λ ended. ended.fault ≢ Fault.WriteDevice → result.1 ≡ writer) }
+{
+    let mut writer = CountedWriter::new(Noting::new(WatchedWriter::new(progress, writer)));
+    let written = write_asked(rt, line, progress, tables, &mut writer);
+    let (writer, error) = writer.into_inner().into_parts();
+    let writer = writer.into_inner();
+    match written {
+        Ok(stats) => (Ok(stats), writer),
+        Err(ended) => (
+            Err(with_write_error(rt.alloc(), line, ended, &error)),
+            writer,
+        ),
+    }
+}

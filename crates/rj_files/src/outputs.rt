@@ -1,0 +1,156 @@
+//! Where the result is written to: standard output, or a file that is none of the tables.
+
+ghost use Rattle.std.specs.Prelude.{◌≡◌, IfOk, IfErr, option_map, unwrap_or};
+ghost use Rattle.rj_files.specs.Outputs.{file_of};
+ghost use Rattle.rj_files.specs.Streams.{IsFaultOf, IsWrittenOf};
+
+use crate::draft::{Draft, Unwritten};
+use crate::ended::Ended;
+use crate::explaining::unwritten;
+use crate::named::is_standard_stream;
+use crate::progress::Progress;
+use crate::reading::Stream;
+use crate::streams::write_streams;
+use rj_command::{Line, Stats};
+use rj_fault::{Fault, Side};
+use std::fs::{self, Files, Metadata};
+use std::io::{self, ErrorKind};
+use std::os::unix::fs::MetadataExt;
+use std::sync::Wait;
+use std::thread::Threads;
+use std::time::Clock;
+
+// What the system shows of the files that standard input reads and that standard output writes.
+const STANDARD_INPUT: &str = "/proc/self/fd/0";
+
+const STANDARD_OUTPUT: &str = "/proc/self/fd/1";
+
+/// The file that the result of a line is written to, or none where that is standard output.
+pub(crate) fn output_of<'a>(line: &Line<'a>) -> Option<&'a str>
+    ensures { option_map (λ name. name.now) result ≡ file_of (option_map (λ name. name.now) line.now.output) }
+{
+    match line.output {
+        Some(name) if !is_standard_stream(name) => Some(name),
+        _ => None,
+    }
+}
+
+// The name by which the system shows what the result of a line is written to.
+fn shown_output<'a>(line: &Line<'a>) -> &'a str
+    ensures { result.now ≡ unwrap_or (file_of (option_map (λ name. name.now) line.now.output)) STANDARD_OUTPUT.now }
+{
+    output_of(line).unwrap_or(STANDARD_OUTPUT)
+}
+
+// What the system tells of a file, or none where it tells nothing.
+fn told_of<R: Files>(rt: &R, name: &str) -> Result<Option<Metadata>, Fault> {
+    match fs::metadata(rt, name) {
+        Ok(metadata) => Ok(Some(metadata)),
+        Err(error) if error.kind() == ErrorKind::OutOfMemory => Err(Fault::Memory),
+        Err(_) => Ok(None),
+    }
+}
+
+// Refuses a table whose file is the one that is written, as far as the system tells.
+fn refuse_input<R: Files>(rt: &R, output: &str, name: &str, side: Side) -> Result<(), Fault> {
+    let input = if is_standard_stream(name) {
+        STANDARD_INPUT
+    } else {
+        name
+    };
+    let (Some(output), Some(input)) = (told_of(rt, output)?, told_of(rt, input)?) else {
+        return Ok(());
+    };
+    if output.is_file() && output.dev() == input.dev() && output.ino() == input.ino() {
+        Err(Fault::OutputIsInput(side))
+    } else {
+        Ok(())
+    }
+}
+
+/// Refuses two tables of a line that can't be read, before anything of them is.
+///
+/// # Errors
+///
+/// `TwoStandardInputs` where both are standard input; `OutputIsInput` of the side whose file is the one that is written, as far as the
+/// system tells, by whatever name. `Memory` comes only where the system has none.
+pub fn refuse_inputs<R: Files>(rt: &R, line: &Line<'_>) -> Result<(), Fault> {
+    if is_standard_stream(line.left) && is_standard_stream(line.right) {
+        return Err(Fault::TwoStandardInputs);
+    }
+    let output = shown_output(line);
+    refuse_input(rt, output, line.left, Side::Left)?;
+    refuse_input(rt, output, line.right, Side::Right)
+}
+
+/// Refuses a table whose file is the one that standard output writes.
+///
+/// # Errors
+///
+/// `OutputIsInput` of the left side, as [`refuse_inputs`] tells it.
+pub fn refuse_printed<R: Files>(rt: &R, name: &str) -> Result<(), Fault> {
+    refuse_input(rt, STANDARD_OUTPUT, name, Side::Left)
+}
+
+// Reads two tables and writes what the line asks for into a file, which has the whole of it in the end, or what it had before.
+fn write_file<R, L, S>(
+    rt: &R,
+    line: &Line<'_>,
+    progress: &Progress<'_, R>,
+    left: &L,
+    right: &S,
+    name: &str,
+) -> Result<Option<Stats>, Ended>
+where
+    R: Files + AllocGlobal + Eprint + Threads + Wait + Clock + Sync,
+    L: Stream,
+    S: Stream,
+    ensures written { IfOk result (IsWrittenOf line.now (L.tells left.now) (S.tells right.now)) }
+    ensures fault { IfErr result (λ ended. IsFaultOf line.now (L.tells left.now) (S.tells right.now) ended.fault) }
+{
+    let (draft, file) = match Draft::open(rt, name) {
+        Ok(opened) => opened,
+        Err(Unwritten { fault, error }) => return Err(unwritten(rt.alloc(), line, fault, &error)),
+    };
+    let (written, file) = write_streams(rt, line, progress, left, right, file);
+    match written {
+        Ok(stats) => match draft.finish(rt, file) {
+            Ok(()) => Ok(stats),
+            Err(Unwritten { fault, error }) => Err(unwritten(rt.alloc(), line, fault, &error)),
+        },
+        Err(ended) => {
+            draft.discard(rt);
+            Err(ended)
+        }
+    }
+}
+
+/// Reads two tables and writes what a line asks for where it asks for it: into a file, which has the whole of it in the end, or what
+/// it had before, or on standard output. The statistics are given where that is the joined table.
+///
+/// # Errors
+///
+/// Those of [`write_streams`](crate::write_streams); `WriteDevice` also where there can be no such file. A file that can't be made is
+/// told before anything is read.
+pub fn write_output<R, L, S>(
+    rt: &R,
+    line: &Line<'_>,
+    progress: &Progress<'_, R>,
+    left: &L,
+    right: &S,
+) -> Result<Option<Stats>, Ended>
+where
+    R: Files + AllocGlobal + Print + Eprint + Threads + Wait + Clock + Sync,
+    L: Stream,
+    S: Stream,
+    ensures written { IfOk result (IsWrittenOf line.now (L.tells left.now) (S.tells right.now)) }
+    ensures fault { IfErr result (λ ended. IsFaultOf line.now (L.tells left.now) (S.tells right.now) ended.fault) }
+{
+    match output_of(line) {
+        Some(name) => write_file(rt, line, progress, left, right, name),
+        None => {
+            let (written, _writer) = write_streams(rt, line, progress, left, right, io::writer(rt));
+            written
+        }
+    }
+}

@@ -1,0 +1,111 @@
+//! The bytes of a table, from a stream that is opened when it is its turn.
+
+ghost use Rattle.std.specs.Prelude.{◌≡◌, ◌≢◌, ◌⊎◌, ℕ, List, Option, None, IfOk, IfErr};
+ghost use Rattle.std.specs.Io.KnownBytes.{Keeps};
+ghost use Rattle.std.specs.IoError.{error_kind};
+ghost use Rattle.rj_files.specs.Streams.{AreBytesOf, IsUnread};
+
+use crate::progress::Progress;
+use crate::watched::WatchedReader;
+use rj_csv_io::{CountedReader, ReadRefused, read_all};
+use rj_fault::{Fault, Side};
+use std::alloc::{AllocError, Global};
+use std::io::{self, ErrorKind, Read};
+use std::time::Clock;
+
+/// What gives the bytes of a table.
+pub trait Stream {
+    /// What they are read from.
+    type Reader: Read + Drop;
+
+    // The bytes, where they are known before it is opened.
+    ghost tells: { Self → Option (List ℕ) } = { λ _. None };
+
+    /// Opens it, before anything of it is read.
+    ///
+    /// # Errors
+    ///
+    /// The system's error where it can't be opened.
+    fn open(&self) -> io::Result<OpenStream<Self::Reader>>
+        ensures { IfOk result (λ opened. Keeps (tells self.now) (Self.Reader.remaining opened.reader)) };
+
+    /// What explains that it can't be opened or read, as a line with two blanks in front.
+    ///
+    /// # Errors
+    ///
+    /// It fails only where memory is refused.
+    fn explain_unread(&self, alloc: Global) -> Result<String, AllocError>;
+}
+
+/// A stream that was just opened.
+#[derive(Drop)]
+pub struct OpenStream<F> {
+    /// What it is read from.
+    pub reader: F,
+    /// About how many bytes it has, or 0 where that isn't known. It promises nothing.
+    pub likely_size: u64,
+}
+
+/// The fault of a side's table that can't be opened.
+pub(crate) fn unopened(error: &io::Error, side: Side) -> Fault
+    ensures memory { error_kind error.now ≡ ErrorKind.OutOfMemory → result ≡ Fault.Memory }
+    ensures device { error_kind error.now ≢ ErrorKind.OutOfMemory → result ≡ Fault.ReadDevice side }
+    ensures unread { IsUnread side result }
+{
+    if error.kind() == ErrorKind::OutOfMemory {
+        Fault::Memory
+    } else {
+        Fault::ReadDevice(side)
+    }
+}
+
+// The fault of a side's table that can't be read to its end.
+fn unread(refused: ReadRefused, side: Side) -> Fault
+    ensures memory { refused ≡ ReadRefused.Memory → result ≡ Fault.Memory }
+    ensures device { refused ≢ ReadRefused.Memory → result ≡ Fault.ReadDevice side }
+    ensures unread { IsUnread side result }
+{
+    match refused {
+        ReadRefused::Memory => Fault::Memory,
+        _ => Fault::ReadDevice(side),
+    }
+}
+
+/// The bytes of a reader, which are about so many, to its end.
+pub(crate) fn read_bytes<F: Read + Drop>(
+    alloc: Global,
+    reader: F,
+    likely_size: u64,
+    side: Side,
+) -> Result<Vec<u8>, Fault>
+    ensures bytes { IfOk result (λ v. AreBytesOf (F.remaining reader) v.items) }
+    ensures fault { IfErr result (IsUnread side) }
+{
+    let mut reader = CountedReader::with_likely_size(reader, likely_size);
+    match read_all(alloc, &mut reader) {
+        Ok(bytes) => Ok(bytes),
+        Err(refused) => Err(unread(refused, side)),
+    }
+}
+
+/// The bytes of a side's table, to their end. It is shown meanwhile how many were read.
+pub(crate) fn read_stream<R: Eprint + Clock, S: Stream>(
+    alloc: Global,
+    stream: &S,
+    side: Side,
+    progress: &Progress<'_, R>,
+) -> Result<Vec<u8>, Fault>
+    ensures bytes { IfOk result (λ v. AreBytesOf (S.tells stream.now) v.items) }
+    ensures fault { IfErr result (IsUnread side) }
+{
+    let OpenStream {
+        reader,
+        likely_size,
+    } = match stream.open() {
+        Ok(opened) => opened,
+        Err(error) => return Err(unopened(&error, side)),
+    };
+    progress.begin_file(side, likely_size);
+    let reader = WatchedReader::new(progress, reader, side, likely_size);
+    read_bytes(alloc, reader, likely_size, side)
+}

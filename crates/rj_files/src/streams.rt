@@ -1,0 +1,108 @@
+//! From two streams of bytes to the bytes of their joined table.
+
+ghost use Rattle.std.specs.Prelude.{◌≡◌, ◌≢◌, ◌⊎◌, IfOk, IfErr};
+ghost use Rattle.rj_files.specs.Streams.{AreBytesOf, IsFaultOf, IsUnread, WritesOf};
+
+use crate::ended::Ended;
+use crate::joining::{Tables, write_tables};
+use crate::progress::Progress;
+use crate::reading::{Stream, read_stream};
+use rj_command::{Line, Stats};
+use rj_fault::{Fault, Side};
+use std::alloc::{AllocError, Global};
+use std::io::Write;
+use std::sync::Wait;
+use std::thread::Threads;
+use std::time::Clock;
+
+// What explains that a side's table wasn't read.
+fn unread_lines<S: Stream>(
+    alloc: Global,
+    stream: &S,
+    side: Side,
+    fault: &Fault,
+) -> Result<String, AllocError> {
+    match fault {
+        Fault::Memory => format!(in alloc; "  while the {side} file was read\n"),
+        _ => stream.explain_unread(alloc),
+    }
+}
+
+// The bytes of a side's table, or why they can't be read, explained where that is asked for.
+fn read_side<R: AllocGlobal + Eprint + Clock, S: Stream>(
+    rt: &R,
+    line: &Line<'_>,
+    progress: &Progress<'_, R>,
+    stream: &S,
+    side: Side,
+) -> Result<Vec<u8>, Ended>
+    ensures bytes { IfOk result (λ v. AreBytesOf (S.tells stream.now) v.items) }
+    ensures fault { IfErr result (λ ended. IsUnread side ended.fault) }
+{
+    let alloc = rt.alloc();
+    match read_stream(alloc, stream, side, progress) {
+        Ok(bytes) => Ok(bytes),
+        Err(fault) => {
+            if !line.explain {
+                return Err(Ended::from(fault));
+            }
+            let lines = unread_lines(alloc, stream, side, &fault);
+            Err(Ended::explained(fault, lines))
+        }
+    }
+}
+
+// The bytes of both tables. The right one is opened when the left one was read to its end.
+fn read_both<R: AllocGlobal + Eprint + Clock, L: Stream, S: Stream>(
+    rt: &R,
+    line: &Line<'_>,
+    progress: &Progress<'_, R>,
+    left: &L,
+    right: &S,
+) -> Result<Tables, Ended>
+    ensures left { IfOk result (λ tables. AreBytesOf (L.tells left.now) tables.left.items) }
+    ensures right { IfOk result (λ tables. AreBytesOf (S.tells right.now) tables.right.items) }
+    ensures fault { IfErr result (λ ended. IsUnread Side.Left ended.fault ⊎ IsUnread Side.Right ended.fault) }
+{
+    let left = match read_side(rt, line, progress, left, Side::Left) {
+        Ok(bytes) => bytes,
+        Err(ended) => return Err(ended),
+    };
+    match read_side(rt, line, progress, right, Side::Right) {
+        Ok(right) => Ok(Tables { left, right }),
+        Err(ended) => Err(ended),
+    }
+}
+
+/// Reads the tables that two streams give, each to its end, and writes what the line asks for behind what the writer has: what is
+/// chosen of their joined table, or with `--count` the line of how many rows of each kind that has. The right stream is opened when the
+/// left one was read to its end, and nothing is written before both are. The writer is given back, and the statistics where it is the
+/// joined table that was written.
+///
+/// # Errors
+///
+/// `ReadDevice` of the side whose stream can't be opened or read, and else the fault of [`run`](rj_command::run) or
+/// [`count`](rj_command::count) on the bytes of both, with the lines that explain it where the line asks for them. The writer is as it
+/// was, but after `WriteDevice`, when nothing is known of how much it took. `Memory` comes only where a growth was refused.
+pub fn write_streams<R, L, S, W>(
+    rt: &R,
+    line: &Line<'_>,
+    progress: &Progress<'_, R>,
+    left: &L,
+    right: &S,
+    writer: W,
+) -> (Result<Option<Stats>, Ended>, W)
+where
+    R: AllocGlobal + Eprint + Threads + Wait + Clock + Sync,
+    L: Stream,
+    S: Stream,
+    W: Write,
+    ensures written { IfOk result.0 (WritesOf line.now (L.tells left.now) (S.tells right.now) (W.contents writer) (W.contents result.1)) }
+    ensures fault { IfErr result.0 (λ ended. IsFaultOf line.now (L.tells left.now) (S.tells right.now) ended.fault) }
+    ensures unchanged { IfErr result.0 (λ ended. ended.fault ≢ Fault.WriteDevice → result.1 ≡ writer) }
+{
+    match read_both(rt, line, progress, left, right) {
+        Ok(tables) => write_tables(rt, line, progress, tables, writer),
+        Err(ended) => (Err(ended), writer),
+    }
+}
