@@ -10,12 +10,13 @@ from typing import Any, Dict, FrozenSet, Iterator, List, Mapping, Optional, Sequ
 from . import programs, text
 from .arguments import Arguments
 from .clauses import given, needs_names
-from .columns import Types
+from .columns import Column, Types
 from .conditions import compared, comparisons
 from .faults import ClauseFault, Fault, InputFault, fault_of
 from .foreign import is_foreign
 from .frames import FrameTable, is_frame
 from .given_rows import RowsTable
+from .keys import KeyColumn, agree
 from .nulls import Nulls
 from .process import Run
 from .tables import FileTable, HeaderTable, Table, table_of_path
@@ -120,20 +121,19 @@ class Asked:
             while any(row in it for it in taken):
                 row += "_"
             frame.send_keys(places, row, frame.side == "left" and not has_names)
-        if any(column.of for frame in frames for column in frame.columns()):
-            self._refuse_mixed()
+        if any(key.is_open or key.column().of for frame in frames for key in frame.sent.values()):
+            self._compare()
 
-    def _refuse_mixed(self) -> None:
-        """Refuses to compare dates, times and truth values, which the program is given as whole numbers, with anything else."""
-        columns = [dict(zip(it.places() if isinstance(it, FrameTable) else range(len(it.names())), it.columns())) for it in self.tables]
-        for comparison in comparisons(self.clause, *self.names()):
-            compares = [(f"{self.tables[at].side} column {columns[at][place].name!r}", columns[at][place]) for at, place in comparison.columns]
-            where, whole = next(((name, it) for name, it in compares if it.of), ("", None))
-            others = [f"{name}, which is {it.domain}" for name, it in compares if whole is not None and it.domain != whole.domain]
-            if whole is not None:
-                others += [it for it in comparison.literals if whole.of != "bool" or it not in ("0", "1")]
-                if others:
-                    raise TypeError(f"{where} is {whole.of}, and is compared with {others[0]}: convert one of them, so that both are of one kind and unit")
+    def _compare(self) -> None:
+        """Has columns that are compared be of one kind."""
+        names = self.names()
+        for comparison in comparisons(self.clause, *names):
+            operands = [(f"{self.tables[at].side} column {names[at][place]!r}", self._operand(self.tables[at], place)) for at, place in comparison.columns]
+            agree(operands, comparison.literals)
+
+    @staticmethod
+    def _operand(table: Table, place: int) -> Union[KeyColumn, Column]:
+        return table.sent[place] if isinstance(table, FrameTable) else table.columns()[place]
 
     def run(self, output: Any = subprocess.PIPE, more: Sequence[str] = ()) -> Run:
         nulls = {table.side: self.nulls.of(table.side)[0] for table in self.tables}

@@ -106,6 +106,16 @@ def nullable(name: str) -> str:
     return name.replace("uint", "UInt") if name.startswith("u") else name.replace("int", "Int")
 
 
+def with_nulls(dtype: Any) -> Any:
+    """The dtype that has the cells of one, and nulls; None of none."""
+    import numpy
+    import pandas
+
+    if not isinstance(dtype, numpy.dtype) or dtype.kind not in "iub":
+        return dtype
+    return pandas.api.types.pandas_dtype("boolean" if dtype.kind == "b" else nullable(dtype.name))
+
+
 class Builder:
     """Gathers the cells of one column of a result, and makes the column."""
 

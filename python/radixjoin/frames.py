@@ -6,7 +6,7 @@ from typing import Any, Collection, Dict, FrozenSet, Iterator, List, Optional, S
 from . import text
 from .columns import Column, Types, declared_of
 from .digits import base_of, records_of
-from .dtypes import declared_series, domain_of, refuse_without_text
+from .dtypes import declared_series, refuse_without_text
 from .keys import ROWS, KeyColumn
 from .tables import Table
 
@@ -59,17 +59,11 @@ class FrameTable(Table):
         return self._with_row("int", [column.word for column in self.sent.values()])
 
     def columns(self) -> List[Column]:
-        return self._with_row(Column(self.row, "int"), [self.column(at) for at in self.sent])
+        return self._with_row(Column(self.row, "int"), [it.column() for it in self.sent.values()])
 
     def places(self) -> List[Optional[int]]:
         """The place in the frame of each column that the program is given, None of the row's number."""
         return self._with_row(None, list(self.sent))
-
-    def column(self, at: int) -> Column:
-        """The column of a place that the program is given."""
-        made = self.sent[at]
-        keeps = made.word == "text" or (made.word == "int" and made.kind != "null")
-        return Column(made.name, made.word, made.series.dtype if keeps else None, domain_of(made.kind))
 
     def seen(self, texts: FrozenSet[str]) -> Dict[str, str]:
         found: Dict[str, str] = {}

@@ -61,7 +61,6 @@ class Stats:
         return self.pairs + self.lone_left + self.lone_right
 
 
-# fmt: off
 @overload
 def join(
     left: FrameT, right: Any, clause: Optional[str] = None, *, using: Names = None, on: Optional[str] = None, left_on: Names = None, right_on: Names = None, natural: bool = False, how: How = "inner",
@@ -112,7 +111,6 @@ def join(
     bits1: Optional[int] = None, bits2: Optional[int] = None, piece: Optional[int] = None, block: Optional[int] = None, capacity: Optional[int] = None,
     lanes: Optional[int] = None, retries: Optional[int] = None,
 ) -> PathT: ...
-# fmt: on
 
 
 def join(left: Any, right: Any, clause: Optional[str] = None, **arguments: Any) -> Any:

@@ -1,10 +1,11 @@
 """The columns of frames as the program is given them: as texts, or as whole numbers where these say all that the cells do."""
 from __future__ import annotations
 
-from typing import Any, Iterator, List, Optional, Tuple
+from typing import Any, Iterator, List, Optional, Sequence, Tuple, Union, cast
 
 from . import text
-from .dtypes import kind_of_series, type_of_kind
+from .columns import Column
+from .dtypes import domain_of, kind_of_series, type_of_kind, with_nulls
 from .given_rows import Digits
 
 ROWS = 65_536
@@ -25,6 +26,20 @@ class KeyColumn:
         if self.kind == "int" and (self.series.dropna() > _MOST).any():
             raise ValueError(f"{self.where} has {self.series.max()}, which is beyond 64 bits with a sign: convert it to texts")
         self.word = self._word(declared)
+        # Where nothing says what nulls alone are: the column with which they are compared.
+        self.is_open, self.like = declared is None and self.kind == "null", Column(name, "text")
+
+    def column(self) -> Column:
+        """The column, as the program is given it."""
+        if self.is_open:
+            return Column(self.name, self.word, self.series.dtype if self.word == "text" else with_nulls(self.like.dtype), self.like.of)
+        keeps = self.word == "text" or (self.word == "int" and self.kind != "null")
+        return Column(self.name, self.word, self.series.dtype if keeps else None, domain_of(self.kind))
+
+    def adopt(self, like: Column) -> None:
+        """Has nulls alone the type of the column with which they are compared."""
+        if self.is_open and self.word == "text":
+            self.like, self.word = like, like.word
 
     def _word(self, declared: Optional[str]) -> str:
         """The type for the program: the one declared, where the cells can have it, else the least that they all have."""
@@ -87,3 +102,20 @@ class KeyColumn:
 def _number(cell: Any) -> int:
     """The whole number of a number, a truth value or a date."""
     return int(cell.toordinal() if hasattr(cell, "toordinal") else cell)
+
+
+def agree(operands: Sequence[Tuple[str, Union[KeyColumn, Column]]], literals: Sequence[str]) -> None:
+    """Gives columns of nulls alone the type of what they are compared with. Refuses to compare dates, times and truth values, which the program
+    is given as whole numbers, with anything else than their kind."""
+    columns = [it.column() if isinstance(it, KeyColumn) else it for _, it in operands]
+    like = next((column for column, (_, it) in zip(columns, operands) if not (isinstance(it, KeyColumn) and it.is_open)), None)
+    for key in (it for _, it in operands if isinstance(it, KeyColumn) and like is not None):
+        key.adopt(cast(Column, like))
+    whole = next((at for at, column in enumerate(columns) if column.of), None)
+    if whole is None:
+        return
+    of = columns[whole].of
+    others = [f"{where}, which is {column.domain}" for column, (where, it) in zip(columns, operands) if column.of != of and not getattr(it, "is_open", False)]
+    others += [it for it in literals if of != "bool" or it not in ("0", "1")]
+    if others:
+        raise TypeError(f"{operands[whole][0]} is {of}, and is compared with {others[0]}: convert one of them, so that both are of one kind and unit")

@@ -10,7 +10,7 @@ from typing import Any, Dict, Iterable, Iterator, List, Mapping, NamedTuple, Opt
 from .clauses import Places, result_places
 from .columns import Column, reader_of
 from .digits import ends_of, numbers_at, numbers_before
-from .dtypes import Builder, common, nullable
+from .dtypes import Builder, common, with_nulls
 from .frames import FrameTable
 from .tables import Table
 
@@ -119,8 +119,7 @@ def taken(series: Any, rows: Any) -> Any:
     if series.dtype == object:
         values[are_none] = pandas.NA
         return values
-    dtype = "boolean" if series.dtype.kind == "b" else nullable(series.dtype.name)
-    return type(pandas.array([], dtype=dtype))(values, are_none)
+    return type(pandas.array([], dtype=with_nulls(series.dtype)))(values, are_none)
 
 
 def taken_once(left: Tuple[Any, Column], right: Tuple[Any, Column], rows: Sequence[Any]) -> Any:
@@ -166,7 +165,7 @@ def _of_frames(written: Written, origin: Places, rows: Sequence[Any]) -> Any:
     at = 0 if origin[1] is None else 1
     if None in origin:
         return taken(frames[at].series[origin[at]], rows[at])
-    both = [(frame.sent[place].series, frame.column(place)) for frame, place in zip(frames, origin)]
+    both = [(frame.sent[place].series, frame.sent[place].column()) for frame, place in zip(frames, origin)]
     return taken_once(both[0], both[1], rows)
 
 
