@@ -116,7 +116,8 @@ def arguments_of(call: str, clause: Optional[str], given: Mapping[str, Any], has
             raise ValueError(f"{name}={getattr(asked, name)!r} is none of {', '.join(repr(word) for word in words if word is not None)}")
     asked = _filtered(_by_names(_expecting(_with_names(asked, has_rows))))
     refuse_rows(asked.rows, asked.text_of_clause())
-    if asked.suffixes is not None and (asked.repeated is not None or asked.output is not None or len(asked.suffixes) != 2):
+    is_pair = asked.suffixes is None or (not isinstance(asked.suffixes, str) and len(asked.suffixes) == 2)
+    if not is_pair or (asked.suffixes is not None and (asked.repeated is not None or asked.output is not None)):
         raise ValueError("suffixes= is a pair, as ('_left', '_right'), of a result that isn't written to a file, and without repeated=")
     return asked
 

@@ -57,6 +57,8 @@ class Asked:
         try:
             for side, table in (("left", left), ("right", right)):
                 self.tables.append(_table(side, table, getattr(arguments, f"{side}_types"), getattr(arguments, f"{side}_columns"), watched))
+            if arguments.indicator and not (self.makes_frame() and all(isinstance(it, FrameTable) for it in self.tables)):
+                raise ValueError("indicator= is for two frames whose result is a frame: radixjoin.stats counts the rows of each kind, and rows= chooses them")
             is_known = not any(isinstance(it, RowsTable) for it in self.tables)
             if is_known:
                 self._choose_columns()
