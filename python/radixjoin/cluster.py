@@ -236,7 +236,7 @@ class Job:
         """A joined table, its index, and the row and column of its first cell that isn't null and is written as null is, if that has to
         be told and there is one."""
         told = json.loads(Path(self.joined(one), "told").read_text())
-        entries = [(at, before, tuple(place)) for at, before, place in told["entries"]]
+        entries: List[Tuple[int, int, Place]] = [(at, before, (first, second, third)) for at, before, (first, second, third) in told["entries"]]
         return Shard(self.place(one.table()), self.order), (entries, told["end"]), told["cell"]
 
     def merged(self, number: int) -> str:
@@ -596,7 +596,8 @@ def ranges_of_merge(cluster: Any, joins: int, size: int) -> int:
     to merge all it needs one file of each."""
     if joins > most_tables(FILES_OF_INPUT):
         return 1
-    return max(1, min(cluster.tasks_at_once(), size // LEAST_MERGED, MOST_MERGES))
+    tasks: int = cluster.tasks_at_once()
+    return max(1, min(tasks, size // LEAST_MERGED, MOST_MERGES))
 
 
 def run(job: Job, cluster: Any, count: int, merges: Optional[int]) -> None:

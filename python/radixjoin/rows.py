@@ -23,7 +23,12 @@ class Rows(Iterator[Row]):
     A cell is an int, a str, a decimal.Decimal, or None. `columns` are the names and `types` the program's types. Where not all
     rows are read `close`, or the end of a `with` block, ends the program; so does the end of the iterator's own life. To ask for a
     row after that, or after an error, is an error too: the iteration has an end where the rows have theirs, and nowhere else.
-    Threads may share it; each row is given to one of them."""
+    Threads may share it; each row is given to one of them.
+
+    >>> with radixjoin.join([{"id": 1, "x": "a"}], [{"id": 1}, {"id": 1}], using="id") as rows:
+    ...     rows.columns, rows.types, next(rows)
+    (('id', 'x'), ('int', 'text'), {'id': 1, 'x': 'a'})
+    """
 
     def __init__(
         self, names: Sequence[str], columns: Sequence[Column], pieces: Iterator[List[str]], null: str, are_dicts: bool, close: Callable[[], None]

@@ -20,7 +20,7 @@ def suggest_types(path: Path, *, null: Optional[str] = None, program: Optional[P
     Raises:
         Fault: the file can't be read, or not as CSV.
 
-    >>> _ = open("items.csv", "w").write("id,price,name\\\\n1,1.50,bolt\\\\n2,,nut\\\\n")
+    >>> _ = open("items.csv", "w").write("id,price,name\\n1,1.50,bolt\\n2,,nut\\n")
     >>> radixjoin.suggest_types("items.csv")
     {'id': 'int', 'price': 'num(3,2)', 'name': 'text'}
     """
