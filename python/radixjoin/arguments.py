@@ -110,16 +110,22 @@ def arguments_of(call: str, clause: Optional[str], given: Mapping[str, Any], has
     for name in given:
         if name not in known or name in _not_of(call):
             _refuse(call, name, [it for it in known if it not in _not_of(call)])
+    refuse_values(given)
     asked = Arguments(clause=clause, **given)
-    for name, words in _WORDS.items():
-        if getattr(asked, name) not in words:
-            raise ValueError(f"{name}={getattr(asked, name)!r} is none of {', '.join(repr(word) for word in words if word is not None)}")
     asked = _filtered(_by_names(_expecting(_with_names(asked, has_rows))))
     refuse_rows(asked.rows, asked.text_of_clause())
     is_pair = asked.suffixes is None or (not isinstance(asked.suffixes, str) and len(asked.suffixes) == 2)
     if not is_pair or (asked.suffixes is not None and (asked.repeated is not None or asked.output is not None)):
         raise ValueError("suffixes= is a pair, as ('_left', '_right'), of a result that isn't written to a file, and without repeated=")
     return asked
+
+
+def refuse_values(given: Mapping[str, Any]) -> None:
+    """Refuses a value that an argument never has."""
+    for name, words in _WORDS.items():
+        if name in given and given[name] not in words:
+            known = [repr(word) for word in words if word is not None]
+            raise ValueError(f"{name}={given[name]!r} is none of {', '.join(known[:-1])} and {known[-1]}")
 
 
 def _not_of(call: str) -> Tuple[str, ...]:

@@ -29,6 +29,7 @@ import warnings
 from pathlib import Path
 from typing import TYPE_CHECKING, Any, Dict, Iterator, List, Mapping, Optional, Sequence, Tuple, Union
 
+from .arguments import refuse_values
 from .clauses import clause_of, given, refuse_rows
 from .columns import Types
 from .explained import of_cell, of_row, of_unread
@@ -688,6 +689,7 @@ def join(
     unknown = next((name for name in of_one_join if name not in OF_ONE_JOIN), None)
     if unknown is not None:
         raise TypeError(f"{unknown}= is no option of the join of a shard")
+    refuse_values(of_one_join)
     refuse_rows(of_one_join.get("rows"), clause_of(clause, None, None, False, "inner"))
     refuse_input(output, left, right)
     each = {name: None if of_one_join.get(name) is None else str(of_one_join[name]) for name in OF_ONE_JOIN}

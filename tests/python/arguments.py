@@ -109,7 +109,7 @@ REFUSED = [
     (TypeError, "join has no sort=: order='left' keeps", {"sort": True}),
     (TypeError, "join has no copy=: a result is always made anew", {"copy": False}),
     (TypeError, "join has no report=: radixjoin.stats(.., report=True)", {"report": True}),
-    (ValueError, "how='lefft' is none of 'inner', 'left', 'right', 'outer', 'full', 'cross', 'semi', 'anti'", {"how": "lefft"}),
+    (ValueError, "how='lefft' is none of 'inner', 'left', 'right', 'outer', 'full', 'cross', 'semi' and 'anti'", {"how": "lefft"}),
     (ValueError, "order='right' is none of", {"order": "right"}),
     (ValueError, "columns='lefft' is none of", {"columns": "lefft"}),
     (ValueError, "expect='one_to_one' is none of", {"expect": "one_to_one"}),
