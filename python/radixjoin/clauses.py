@@ -27,7 +27,7 @@ def clause_of(clause: Optional[str], using: Union[str, Sequence[str], None], on:
     """The text of the clause that the arguments of `join` ask for."""
     ways = [clause is not None, using is not None, on is not None, natural, how == "cross"]
     if sum(ways) != 1:
-        raise ValueError('one of clause=, using=, on=, natural=True and how="cross" has to be given, and no two of them')
+        raise ValueError('one of using=, left_on= with right_on=, on=, natural=True, how="cross" and clause= has to be given, and no two of them')
     if how != "cross" and how not in _HOW:
         raise ValueError(f"how={how!r} is none of {', '.join(_HOW)}, cross")
     if clause is not None:

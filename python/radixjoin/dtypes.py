@@ -30,10 +30,10 @@ def kind_of_series(where: str, series: Any) -> str:
         raise TypeError(f"{where} is a category of {dtype.categories.dtype}: convert it to {_CONVERT['O']}")
     if isinstance(dtype, pandas.StringDtype):
         return "text"
-    if dtype.kind in "iubmM":
+    if dtype.kind in ("iub" if hasattr(dtype, "pyarrow_dtype") else "iubmM"):
         return {"i": "int", "u": "int", "b": "bool"}.get(dtype.kind, str(dtype))
-    if dtype.kind != "O":
-        raise TypeError(f"{where} is {dtype}: convert it to {_CONVERT.get(dtype.kind, _CONVERT['O'])}")
+    if dtype.kind in "fc":
+        raise TypeError(f"{where} is {dtype}: convert it to {_CONVERT['f']}")
     inferred = pandas.api.types.infer_dtype(series if dtype == object else series.astype(object), skipna=True)
     if inferred not in _OBJECTS:
         raise TypeError(f"{where} has {dtype if dtype != object else 'object'}s of type {inferred}: convert it to {_CONVERT['O']}")

@@ -23,8 +23,8 @@ class KeyColumn:
         self.series = series
         self.kind = kind_of_series(self.where, self.series)
         self.is_whole = self.kind not in _TEXTS
-        if self.kind == "int" and (self.series.dropna() > _MOST).any():
-            raise ValueError(f"{self.where} has {self.series.max()}, which is beyond 64 bits with a sign: convert it to texts")
+        if self.kind == "int" and self.series.dtype.kind in "uO" and not self.series.dropna().between(-_MOST - 1, _MOST).all():
+            raise ValueError(f"{self.where} has numbers beyond 64 bits with a sign, as {self.series.max()}: convert it to texts")
         self.word = self._word(declared)
         # Where nothing says what nulls alone are: the column with which they are compared.
         self.is_open, self.like = declared is None and self.kind == "null", Column(name, "text")
@@ -73,13 +73,13 @@ class KeyColumn:
 
         some = self.series.iloc[start : start + ROWS]
         are_null = some.isna().to_numpy()
-        if some.dtype.kind in "mM":
+        if some.dtype.kind in "iub":
+            numbers = some.to_numpy(dtype=numpy.int64, na_value=0)
+        elif self.kind in ("int", "bool", "date"):
+            numbers = numpy.array([0 if is_null else _number(cell) for cell, is_null in zip(some, are_null)], dtype=numpy.int64)
+        else:
             unit = getattr(some.dtype, "unit", None) or numpy.datetime_data(some.dtype)[0]
             numbers = numpy.asarray(some.array, dtype=f"{some.dtype.kind}8[{unit}]").view(numpy.int64)
-        elif some.dtype.kind in "iub":
-            numbers = some.to_numpy(dtype=numpy.int64, na_value=0)
-        else:
-            numbers = numpy.array([0 if is_null else _number(cell) for cell, is_null in zip(some, are_null)], dtype=numpy.int64)
         return numbers, are_null if are_null.any() else None
 
     def fields(self, start: int) -> List[str]:
