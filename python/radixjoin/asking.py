@@ -167,12 +167,20 @@ class Asked:
         try:
             yield
         except ClauseFault as fault:
-            with contextlib.suppress(InputFault):
-                # (what there is of names, all names tell)
-                self.header()
-            raise fault
+            raise self._of_all_names(fault) from None
         except InputFault as fault:
             raise self._placed(fault) from None
+
+    def _of_all_names(self, fault: ClauseFault) -> Fault:
+        """A fault of the clause, as it is told of all names that there are."""
+        try:
+            self.header()
+        except ClauseFault as told:
+            return told
+        except InputFault:
+            # (of a name that the clause doesn't need)
+            pass
+        return fault
 
     def _placed(self, fault: InputFault) -> Fault:
         """A fault with the column's place in the frame."""

@@ -86,23 +86,20 @@ class _RowColumn:
         classes = set(map(type, cells))
         kinds = {of: kind_of(of) for of in classes}
         self.kinds |= {self._allowed(of, kind) for of, kind in kinds.items()} - {"null"}
-        if self.declared is None:
-            self._note(cells if classes == {int} else [cell for cell in cells if kinds[type(cell)] in ("int", "num")])
-        if "text" in kinds.values():
-            self.seen |= self.watched.intersection(cell for cell in cells if isinstance(cell, str))
-        if set(kinds.values()) == {"text"}:
-            return text.fields_of(list(cells))
-        if classes == {int}:
-            return list(map(str, cells))
-        return [self._field(cell, kinds[type(cell)]) for cell in cells]
-
-    def _note(self, cells: Sequence[Any]) -> None:
-        """Notes the digits of numbers, for a column whose type isn't declared."""
-        if "text" in self.kinds and len(self.kinds) > 1:
+        if self.declared is None and "text" in self.kinds and len(self.kinds) > 1:
             raise TypeError(f"{self.where} has texts and numbers: convert them to one type, or declare that of the numbers")
-        decimals = [cell for cell in cells if isinstance(cell, Decimal)]
-        self.digits.add(decimals, self.where)
-        self.digits.add_integers([cell for cell in cells if not isinstance(cell, Decimal)] if decimals else cells)
+        if classes == {int}:
+            self.digits.add_integers(cells)
+            return list(map(str, cells))
+        if classes == {str}:
+            self.seen |= self.watched.intersection(cells)
+            return text.fields_of(list(cells))
+        of = {kind: [cell for cell in cells if kinds[type(cell)] == kind] for kind in set(kinds.values())}
+        self.digits.add_integers(of.get("int", ()))
+        if self.declared is None:
+            self.digits.add(of.get("num", ()), self.where)
+        self.seen |= self.watched.intersection(of.get("text", ()))
+        return [self._field(cell, kinds[type(cell)]) for cell in cells]
 
     def _allowed(self, of: type, kind: Optional[str]) -> str:
         """The kind of cells of a class, if this column may have them. Texts may stand for numbers where those are declared."""
@@ -161,20 +158,17 @@ class RowsTable(Table):
         self.sizes.append(self.file.tell())
         every, number = chain(first, rows), 0
         while some := list(islice(every, _ROWS)):
-            self._write(self._lists(some, number))
+            self._write(some, number)
             number += len(some)
 
-    def _lists(self, rows: List[Any], number: int) -> List[Sequence[Any]]:
-        """The cells of some rows, in the order of the columns; so many rows stand before them."""
-        classes = set(map(type, rows))
-        if not self.are_mappings and classes <= {tuple, list}:
-            return rows
-        if classes == {dict} and set(map(len, rows)) == {len(self._names)} and len(self._names) > 1:
-            try:
-                return list(map(itemgetter(*self._names), rows))
-            except KeyError:
-                pass
-        return [self._cells(row, number + at) for at, row in enumerate(rows, 1)]
+    def _columns(self, rows: List[Any]) -> Optional[List[Sequence[Any]]]:
+        """The cells of some rows column by column, where all rows are of the classes that rows mostly have, and as long as the header."""
+        if not set(map(type, rows)) <= ({dict} if self.are_mappings else {tuple, list}) or set(map(len, rows)) != {len(self._names)}:
+            return None
+        try:
+            return [list(map(itemgetter(name), rows)) for name in self._names] if self.are_mappings else list(zip(*rows))
+        except KeyError:
+            return None
 
     def _cells(self, row: Any, number: int) -> Sequence[Any]:
         """The cells of a row, in the order of the columns."""
@@ -186,13 +180,16 @@ class RowsTable(Table):
             raise ValueError(f"{self.side} row {number} has other keys than the columns {', '.join(map(repr, self._names))}")
         return [row[name] for name in self._names]
 
-    def _write(self, rows: List[Sequence[Any]]) -> None:
-        """Writes some rows. Those of another length than the header go as they are: the program tells the first."""
-        width = len(self._names)
-        if set(map(len, rows)) == {width}:
-            lines = text.records([column.fields(cells) for column, cells in zip(self.made, zip(*rows))]) if width else []
+    def _write(self, rows: List[Any], number: int) -> None:
+        """Writes some rows, before which so many stand. Those of another length than the header go as they are: the program tells the first."""
+        columns = self._columns(rows)
+        lists = [self._cells(row, number + at) for at, row in enumerate(rows, 1)] if columns is None else []
+        if set(map(len, lists)) == {len(self._names)}:
+            columns = list(zip(*lists))
+        if columns is None:
+            lines = [self._line(row) for row in lists]
         else:
-            lines = [self._line(row) for row in rows]
+            lines = text.records([column.fields(cells) for column, cells in zip(self.made, columns)]) if columns else []
         written = text.encoded(lines)
         self.file.write(written)
         self.sizes.append(len(written))

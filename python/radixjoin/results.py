@@ -18,6 +18,9 @@ from .process import Run
 from .rows import Rows
 from .taking import Written, frame_of_rows, merged, rows_and_arrays
 
+# How many bytes of the program's are looked at together.
+_BLOCK = 1 << 20
+
 
 class _Result:
     """What the program writes, behind its header."""
@@ -63,7 +66,7 @@ def _whole(run: Run) -> Iterator[bytes]:
     """What the program writes, in pieces of whole records. The last piece is given once the program has ended without a fault: one
     that was broken off may have ended in the middle of a record."""
     last = b""
-    for piece in text.pieces(run.stdout):
+    for piece in text.pieces(run.stdout, _BLOCK):
         if last:
             yield last
         last = piece
