@@ -163,7 +163,8 @@ class RowsTable(Table):
 
     def _columns(self, rows: List[Any]) -> Optional[List[Sequence[Any]]]:
         """The cells of some rows column by column, where all rows are of the classes that rows mostly have, and as long as the header."""
-        if not set(map(type, rows)) <= ({dict} if self.are_mappings else {tuple, list}) or set(map(len, rows)) != {len(self._names)}:
+        usual: Set[type] = {dict} if self.are_mappings else {tuple, list}
+        if not usual.issuperset(map(type, rows)) or set(map(len, rows)) != {len(self._names)}:
             return None
         try:
             return [list(map(itemgetter(name), rows)) for name in self._names] if self.are_mappings else list(zip(*rows))
