@@ -129,10 +129,11 @@ def taken_once(left: Tuple[Any, Column], right: Tuple[Any, Column], rows: Sequen
 
     made = left[1].coalesced(right[1])
     dtype = object if made.kind == "num" else common(left[1], right[1])
+    columns = [it if it.dtype == dtype else it.astype(dtype) for it, _ in (left, right)]
     if (rows[0] >= 0).all():
-        cells = left[0].astype(dtype, copy=False).array.take(rows[0])
+        cells = columns[0].array.take(rows[0])
     else:
-        both = pandas.concat([it.astype(dtype, copy=False) for it, _ in (left, right)], ignore_index=True)
+        both = pandas.concat(columns, ignore_index=True)
         cells = both.array.take(numpy.where(rows[0] >= 0, rows[0], rows[1] + numpy.int64(len(left[0]))))
     if made.kind != "num":
         return cells
