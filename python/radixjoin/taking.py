@@ -113,13 +113,18 @@ def taken(series: Any, rows: Any) -> Any:
     are_none = rows < 0
     if not are_none.any():
         return series.array.take(rows)
-    if not isinstance(series.dtype, numpy.dtype) or series.dtype.kind not in "iubO":
-        return series.array.take(rows, allow_fill=True)
-    values = series.to_numpy().take(rows, mode="clip") if len(series) else numpy.zeros(len(rows), dtype=series.dtype)
-    if series.dtype == object:
-        values[are_none] = pandas.NA
-        return values
-    return type(pandas.array([], dtype=with_nulls(series.dtype)))(values, are_none)
+    is_plain = isinstance(series.dtype, numpy.dtype) and series.dtype.kind in "iub"
+    if not is_plain and series.dtype != object:
+        made = series.array.take(rows, allow_fill=True)
+        if isinstance(series.dtype, numpy.dtype) or made.dtype == series.dtype:
+            return made
+        # (sparse integers would become floats)
+    values = numpy.asarray(series, dtype=series.dtype if is_plain else object)
+    values = values.take(rows, mode="clip") if len(values) else numpy.zeros(len(rows), dtype=values.dtype)
+    if is_plain:
+        return type(pandas.array([], dtype=with_nulls(series.dtype)))(values, are_none)
+    values[are_none] = pandas.NA
+    return values
 
 
 def taken_once(left: Tuple[Any, Column], right: Tuple[Any, Column], rows: Sequence[Any]) -> Any:

@@ -7,6 +7,7 @@ import io
 import os
 import pathlib
 import pickle
+import re
 import shutil
 import signal
 import subprocess
@@ -226,6 +227,28 @@ def dtypes_that_have_no_type(folder):
     error = telling.raised(radixjoin.join, pandas.DataFrame({"id": [1], 7: [1]}), ROWS, using="id")
     yield from [] if isinstance(error, TypeError) and "column 7 " in str(error) else [f"a name that is no text: {error!r}"]
     yield from telling.differs("files", os.listdir(folder), [])
+
+
+def hinted(error, number, frame):
+    """A frame whose column `x` is what an error says to make of it, by the hint of this number."""
+    hints = re.findall(r"as by (frame\[column\].*?\))(?=, else|$)", str(error))
+    return frame.assign(x=eval(hints[number], {"frame": frame, "column": "x", "decimal": decimal}))
+
+
+def hints(folder):
+    """What is said to be made of a column joins as it should: equal cells meet, others don't, and nulls meet nothing."""
+    for cells, number in (([1.0, None, 3.0, -2.0], 0), ([0.1, None, 1e-7, 123456.75], 1)):
+        frame = pandas.DataFrame({"x": cells})
+        made = hinted(telling.raised(radixjoin.join, frame, frame, using="x"), number, frame)
+        got = radixjoin.join(made, made.assign(place=range(4)), using="x")
+        yield from telling.differs(f"{cells}", ([float(cell) for cell in got["x"]], got["place"].to_list()), ([cell for cell in cells if cell is not None], [0, 2, 3]))
+    times = pandas.to_datetime(["2026-01-01 08:00", "2026-01-01 09:00", "2026-01-01 09:00:00.000000001", None])
+    for cells in (times, times - times[0], times.date, [True, False, True, True]):
+        frame = pandas.DataFrame({"x": cells, "id": 1})
+        made = hinted(telling.raised(radixjoin.join, frame, ROWS, using="id", null="~", output=folder / "out.csv"), -1, frame)
+        yield from telling.differs(f"{cells}", (made["x"].nunique(), made["x"].isna().sum()), (frame["x"].nunique(), frame["x"].isna().sum()))
+        radixjoin.join(made, ROWS, using="id", null="~", output=folder / "out.csv")
+        yield from telling.differs(f"{cells}: rows", len((folder / "out.csv").read_text().splitlines()), 5)
 
 
 def children():
@@ -621,7 +644,7 @@ def explanations(_):
 
 def main():
     tests = [faults_of_each_status, refused_arguments, outputs, outputs_that_are_inputs, without_streams, explanations, open_files, broken_off, killed, closed_rows, shared_rows, programs_that_are_not_there, interrupted]
-    for test in tests + ([dtypes_that_have_no_type] if pandas is not None else []):
+    for test in tests + ([dtypes_that_have_no_type, hints] if pandas is not None else []):
         with tempfile.TemporaryDirectory(prefix="radixjoin-test-") as name:
             telling.attempt(test.__name__.replace("_", " "), test, pathlib.Path(name))
 
