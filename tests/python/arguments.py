@@ -1,4 +1,6 @@
 """What fingers know from pandas.merge and elsewhere: each argument that stands for another one, and what is said where there is none."""
+import ast
+import dataclasses
 import pathlib
 import sys
 import tempfile
@@ -6,6 +8,8 @@ import tempfile
 import telling
 
 import radixjoin
+from radixjoin import joining
+from radixjoin.arguments import Arguments
 
 try:
     import pandas
@@ -163,7 +167,18 @@ def suggested(folder):
     yield from telling.differs("no file", (type(fault), getattr(fault, "code", None)), (radixjoin.DeviceFault, "E19"))
 
 
+def declared():
+    """Each way in which `join` is declared has the arguments that there are, and no other."""
+    tree = ast.parse(pathlib.Path(joining.__file__).read_text())
+    ways = [[it.arg for it in node.args.kwonlyargs] for node in tree.body if isinstance(node, ast.FunctionDef) and node.name == "join" and node.decorator_list]
+    names = sorted({it.name for it in dataclasses.fields(Arguments)} - {"clause", "report"})
+    yield from telling.differs("ways", len(ways), 4)
+    for way in ways:
+        yield from telling.differs("names", sorted(way), names)
+
+
 def main():
+    telling.attempt("declared arguments", declared)
     for left, right in tables():
         of = f"{type(left).__name__} and {type(right).__name__}"
         telling.attempt(f"arguments by names of {of}", by_names, left, right)
