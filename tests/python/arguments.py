@@ -153,6 +153,12 @@ def refused(folder):
         for named, word in (({"using": "id"}, "Decimal"), ({"on": "L.day = R.n"}, "is compared with right column 'n', which is number"), ({"on": "L.day > 5"}, "is compared with 5")):
             error = telling.raised(radixjoin.join, frame, frame, program="nowhere", **named)
             yield from [] if type(error) is TypeError and word in str(error) else [f"frames {named}: {error!r}"]
+        for table, more in ((path, {"program": "nowhere", "right_types": "int"}), ([{"id": 1}], {}), (frame.assign(id=7), {"program": "nowhere"})):
+            error = telling.raised(radixjoin.join, frame, table, on="L.day = R.id", **more)
+            yield from [] if type(error) is TypeError and "left column 'day' is datetime64[ns]" in str(error) and "right column 'id', which is number" in str(error) else [f"times and numbers: {error!r}"]
+        for condition in ("L.day = R.day AND L.n = 1", "L.day BETWEEN R.day AND L.day AND 2 > L.n OR L.n = R.n", "NOT (L.day <> R.day) OR L.n IN (5, R.n)"):
+            error = telling.raised(radixjoin.join, frame, frame, on=condition)
+            yield from telling.differs(condition, repr(error), "None")
 
 
 def suggested(folder):
