@@ -16,6 +16,8 @@ import harness
 PACKAGE = harness.ROOT / "python"
 SCRIPTS = harness.ROOT / "tests" / "python"
 JOINS = 10_000
+# Those of frames with all dtypes. (`tests/python/dtypes.py 0 10000` runs more.)
+JOINS_OF_DTYPES = 1_000
 AT_ONCE = 500
 SECONDS = 600
 OLDEST = (3, 9)
@@ -48,8 +50,11 @@ def tasks_of_scripts(programs):
     yield run_script(frames or sys.executable, "faults")
     yield run_script(frames or sys.executable, "nulls")
     yield run_script(frames or sys.executable, "chosen")
-    needed = {"values": ("pandas", "hypothesis"), "memory": ("pandas",), "pages": ("pandas",), "clusters": ("distributed",)}
-    words = {"pages": [harness.ROOT / "docs" / "python.md"], "clusters": [programs]}
+    yield run_script(frames or sys.executable, "arguments")
+    yield run_script(frames or sys.executable, "times")
+    needed = {"values": ("pandas", "hypothesis"), "clusters": ("distributed",), **dict.fromkeys(("memory", "pages", "foreign", "merges"), ("pandas",))}
+    page = harness.ROOT / "docs" / "python.md"
+    words = {"pages": [page], "merges": [page], "clusters": [programs]}
     for script, modules in needed.items():
         python = harness.python_with(*modules)
         if python is None:
@@ -58,6 +63,8 @@ def tasks_of_scripts(programs):
             yield run_script(python, script, *words.get(script, []))
     if frames is None:
         print("skipped: random joins of frames: pandas is not installed")
+    else:
+        yield from (run_script(frames, "dtypes", start, start + AT_ONCE) for start in range(0, JOINS_OF_DTYPES, AT_ONCE))
     yield from (run_script(frames or sys.executable, "joins", start, start + AT_ONCE) for start in range(0, JOINS, AT_ONCE))
 
 

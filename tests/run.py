@@ -42,6 +42,7 @@ PARTS = (
     "cluster_skew",
     "cluster_slow",
     "python_package",
+    "python_types",
     "shards_order",
     "shards_strict",
     "shards",

@@ -2,15 +2,15 @@
 from __future__ import annotations
 
 import re
-from typing import List, Optional, Sequence, Tuple, Union
+from typing import List, Literal, Optional, Sequence, Tuple, Union
 
-from .columns import Column
-from .lists import lower
+from .lists import lower, means
 
 _HOW = {"inner": "", "left": "LEFT ", "right": "RIGHT ", "outer": "FULL ", "full": "FULL "}
 # What a clause begins with up to its names or condition: blanks, words, delimited names and signs.
 _TOKEN = re.compile(r'[ \t\n\r]*([A-Za-z][A-Za-z0-9_]*|"(?:[^"]|"")*"|.)', re.DOTALL)
 _MOST = 65_536
+_NAME_ALONE = re.compile(r"\s*\w+\s*")
 # The word of a clause that says which rows it keeps.
 _KIND = re.compile(r"[ \t\n\r]*(?:NATURAL[ \t\n\r]+)?(?:(INNER|LEFT|RIGHT|FULL)(?:[ \t\n\r]+OUTER)?[ \t\n\r]+|CROSS[ \t\n\r]+)?JOIN\b", re.ASCII | re.IGNORECASE)
 # The kinds of rows that an option may ask for: those of pairs, which every join keeps, and lone ones, with the words that keep them.
@@ -27,7 +27,7 @@ def clause_of(clause: Optional[str], using: Union[str, Sequence[str], None], on:
     """The text of the clause that the arguments of `join` ask for."""
     ways = [clause is not None, using is not None, on is not None, natural, how == "cross"]
     if sum(ways) != 1:
-        raise ValueError('one of clause=, using=, on=, natural=True and how="cross" has to be given, and no two of them')
+        raise ValueError('one of using=, left_on= with right_on=, on=, natural=True, how="cross" and clause= has to be given, and no two of them')
     if how != "cross" and how not in _HOW:
         raise ValueError(f"how={how!r} is none of {', '.join(_HOW)}, cross")
     if clause is not None:
@@ -41,6 +41,8 @@ def clause_of(clause: Optional[str], using: Union[str, Sequence[str], None], on:
     if on is not None:
         if not isinstance(on, str):
             raise TypeError("on= is a condition, as 'L.id = R.id'; names of columns that both tables have are given by using=")
+        if _NAME_ALONE.fullmatch(on):
+            raise ValueError(f"on={on!r} is a name alone, and no condition: using={on.strip()!r} joins by a column that both tables have")
         return f"{_HOW[how]}JOIN ON {on}"
     names = [using] if isinstance(using, str) else list(using or ())
     if not names or not all(isinstance(name, str) for name in names):
@@ -66,39 +68,36 @@ def given(clause: str) -> bytes:
     return text if len(text) <= _MOST else b" " * (_MOST + 1)
 
 
+# The places of the columns that one column of a result comes from, in the left and in the right table: both for one of USING and NATURAL.
+Places = Tuple[Optional[int], Optional[int]]
+
+
 def _tokens(clause: str) -> List[str]:
     return _TOKEN.findall(clause)
 
 
-def _join_names(clause: str) -> Union[None, bool, List[str]]:
+def join_names(clause: str) -> Union[None, Literal[True], List[str]]:
     """Of a clause that the grammar derives: True for NATURAL, the names of USING as they stand, None for the others."""
     tokens = _tokens(clause)
     words = [token.upper() for token in tokens]
     if words[:1] == ["NATURAL"]:
         return True
-    behind = words.index("JOIN") + 1
+    behind = words.index("JOIN") + 1 if "JOIN" in words else len(words)
     if words[behind : behind + 1] != ["USING"]:
         return None
     return [token for token in tokens[behind + 1 :] if token not in ("(", ",", ")")]
 
 
-def _place(name: str, columns: Sequence[Column]) -> int:
-    """The place of the column that a name of USING means."""
-    if name.startswith('"'):
-        exact = name[1:-1].replace('""', '"')
-        return next(at for at, column in enumerate(columns) if column.name == exact)
-    return next(at for at, column in enumerate(columns) if lower(column.name or "") == lower(name))
-
-
-def _partners(clause: str, left: Sequence[Column], right: Sequence[Column]) -> List[Tuple[int, int]]:
-    """The pairs of columns that stand once in the result, in the order of the left table."""
-    names = _join_names(clause)
+def partners(clause: str, left: Sequence[str], right: Sequence[str]) -> List[Tuple[int, int]]:
+    """The places of the columns that stand once in the result, by their names, in the order of the left table."""
+    names = join_names(clause)
     if names is None:
         return []
     if names is True:
-        places = {lower(column.name or ""): at for at, column in enumerate(right)}
-        return [(at, places[lower(column.name or "")]) for at, column in enumerate(left) if lower(column.name or "") in places]
-    return sorted((_place(name, left), _place(name, right)) for name in names)
+        places = {lower(name): at for at, name in enumerate(right)}
+        return [(at, places[lower(name)]) for at, name in enumerate(left) if lower(name) in places]
+    meant = [[[at for at, name in enumerate(side) if means(written, name)] for side in (left, right)] for written in names]
+    return sorted((found[0][0], found[1][0]) for found in meant if found[0] and found[1])
 
 
 def needs_names(clause: str) -> bool:
@@ -107,11 +106,10 @@ def needs_names(clause: str) -> bool:
     return "NATURAL" in tokens or "USING" in tokens
 
 
-def result_columns(clause: str, left: Sequence[Column], right: Sequence[Column], which: str = "all") -> List[Column]:
-    """The columns of the result of a clause that the program accepted: those of USING and NATURAL once, then the other left
+def result_places(pairs: Sequence[Tuple[int, int]], left: int, right: int, which: str = "all") -> List[Places]:
+    """Where the columns of a result come from, of tables of so many columns each: those that stand once come first, then the other left
     ones, then the other right ones. Where `which` names a side, those of the other side alone are left out, as by `--columns`."""
-    pairs = _partners(clause, left, right)
     lefts, rights = {i for i, _ in pairs}, {j for _, j in pairs}
-    once = [left[i].coalesced(right[j]) for i, j in pairs]
-    others = {"left": [it for i, it in enumerate(left) if i not in lefts], "right": [it for j, it in enumerate(right) if j not in rights]}
-    return once + [it for side, some in others.items() if which in ("all", side) for it in some]
+    found: List[Places] = [*pairs]
+    found += [(i, None) for i in range(left) if i not in lefts and which != "right"]
+    return found + [(None, j) for j in range(right) if j not in rights and which != "left"]

@@ -29,6 +29,7 @@ import warnings
 from pathlib import Path
 from typing import TYPE_CHECKING, Any, Dict, Iterator, List, Mapping, NoReturn, Optional, Sequence, Tuple, Union
 
+from .arguments import refuse_values
 from .clauses import clause_of, given, refuse_rows
 from .columns import Types
 from .explained import of_cell, of_row, of_unread
@@ -250,7 +251,7 @@ class Job:
         """A joined table, its index, and the row and column of its first cell that isn't null and is written as null is, if that has to
         be told and there is one."""
         told = json.loads(Path(self.joined(one), "told").read_text())
-        entries = [(at, before, tuple(place)) for at, before, place in told["entries"]]
+        entries: List[Tuple[int, int, Place]] = [(at, before, (first, second, third)) for at, before, (first, second, third) in told["entries"]]
         return Shard(self.place(one.table()), self.order), (entries, told["end"]), told["cell"]
 
     def merged(self, number: int) -> str:
@@ -612,7 +613,8 @@ def ranges_of_merge(cluster: Any, joins: int, size: int) -> int:
     to merge all it needs one file of each."""
     if joins > most_tables(FILES_OF_INPUT):
         return 1
-    return max(1, min(cluster.tasks_at_once(), size // LEAST_MERGED, MOST_MERGES))
+    tasks: int = cluster.tasks_at_once()
+    return max(1, min(tasks, size // LEAST_MERGED, MOST_MERGES))
 
 
 def run(job: Job, cluster: Any, count: int, merges: Optional[int]) -> None:
@@ -704,6 +706,7 @@ def join(
     unknown = next((name for name in of_one_join if name not in OF_ONE_JOIN), None)
     if unknown is not None:
         raise TypeError(f"{unknown}= is no option of the join of a shard")
+    refuse_values(of_one_join)
     refuse_rows(of_one_join.get("rows"), clause_of(clause, None, None, False, "inner"))
     refuse_input(output, left, right)
     each = {name: None if of_one_join.get(name) is None else str(of_one_join[name]) for name in OF_ONE_JOIN}

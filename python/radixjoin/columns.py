@@ -15,11 +15,18 @@ _MOST = 256
 
 @dataclass(frozen=True)
 class Column:
-    """A column: its name, where it is known, its type as the program is told it, and the dtype that a frame's column had."""
+    """A column: its name, where it is known, its type as the program is told it, the dtype that a frame's column had, and with what its
+    cells are compared, where these are no numbers or texts."""
 
     name: Optional[str]
     word: str
     dtype: Any = None
+    of: str = ""
+
+    @property
+    def domain(self) -> str:
+        """What its cells are compared with: `number`, `text`, or one of those words of `dtypes`."""
+        return self.of or ("text" if self.kind == "text" else "number")
 
     @property
     def kind(self) -> str:
@@ -72,8 +79,8 @@ def declared_of(side: str, types: Types, names: Sequence[Any]) -> List[Optional[
     """The words that are declared for columns that are there, None where there is none. What doesn't fit them is a ValueError."""
     if types is None:
         return [None] * len(names)
-    if not isinstance(types, str) and hasattr(types, "keys"):
-        return some_by_name(side, dict(types), names)
+    if isinstance(types, Mapping):
+        return some_by_name(side, types, names)
     text = text_of(side, types)
     if is_by_name(text):
         return _fitting(side, text, names)

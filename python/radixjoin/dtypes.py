@@ -8,18 +8,19 @@ if TYPE_CHECKING:
 
 # What a column that came from no frame gets in one, by its kind.
 _OTHERS = {"int": "Int64", "text": "string", "num": "object"}
+# What all cells of a column of objects may be, by the word that pandas has for it.
+_OBJECTS = {"string": "text", "decimal": "num", "empty": "null", "integer": "int", "boolean": "bool", "date": "date"}
+_TO_TEXTS = "texts, as by frame[column].astype('string')"
+_TO_DECIMALS = "decimal.Decimal, as by frame[column].map(lambda cell: decimal.Decimal(str(cell)), na_action='ignore')"
 _CONVERT = {
-    "f": "Int64 where it holds whole numbers, else to decimal.Decimal (as by frame[column].map(decimal.Decimal))",
-    "b": "Int64, or to texts by astype('string')",
-    "M": "texts, as by frame[column].dt.strftime('%Y-%m-%d').astype('string')",
-    "m": "Int64 (as whole seconds), or to texts by astype('string')",
+    "f": f"Int64 where it holds whole numbers, as by frame[column].astype('Int64'), else to {_TO_DECIMALS}",
     "O": "Int64, texts (str) or decimal.Decimal, one of them in all cells",
 }
 
 
 def kind_of_series(where: str, series: Any) -> str:
-    """The kind of a column's cells, by its dtype; of objects, by all of them, `null` where there is none but nulls. What has no
-    type here is a TypeError."""
+    """The kind of a column's cells, by its dtype; of objects, by all of them: `int`, `num`, `text`, `null` where there is none but nulls;
+    `bool` and `date`; and of times their dtype, which has their unit. What can't be compared exactly is a TypeError."""
     import pandas
 
     dtype = series.dtype
@@ -27,17 +28,47 @@ def kind_of_series(where: str, series: Any) -> str:
         if pandas.api.types.infer_dtype(dtype.categories, skipna=True) in ("string", "empty"):
             return "text"
         raise TypeError(f"{where} is a category of {dtype.categories.dtype}: convert it to {_CONVERT['O']}")
-    if pandas.api.types.is_integer_dtype(dtype):
-        return "int"
     if isinstance(dtype, pandas.StringDtype):
         return "text"
-    if dtype == object:
-        inferred = pandas.api.types.infer_dtype(series, skipna=True)
-        kind = {"string": "text", "decimal": "num", "empty": "null"}.get(inferred)
-        if kind is not None:
-            return kind
-        raise TypeError(f"{where} has objects of type {inferred}: convert it to {_CONVERT['O']}")
-    raise TypeError(f"{where} is {dtype}: convert it to {_CONVERT.get(getattr(dtype, 'kind', 'O'), _CONVERT['O'])}")
+    if dtype.kind in ("iub" if hasattr(dtype, "pyarrow_dtype") else "iubmM"):
+        return {"i": "int", "u": "int", "b": "bool"}.get(dtype.kind, str(dtype))
+    if dtype.kind in "fc":
+        raise TypeError(f"{where} is {dtype}: convert it to {_CONVERT['f']}")
+    inferred = pandas.api.types.infer_dtype(series if dtype == object else series.astype(object), skipna=True)
+    if inferred not in _OBJECTS:
+        raise TypeError(f"{where} has {dtype if dtype != object else 'object'}s of type {inferred}: convert it to {_CONVERT['O']}")
+    return _OBJECTS[inferred]
+
+
+def refuse_without_text(where: str, kind: str) -> None:
+    """Refuses a column whose cells have no text that a file could have."""
+    if kind not in _OTHERS and kind != "null":
+        whole = "Int64, or to " if kind == "bool" else ""
+        raise TypeError(f"{where} is {kind}, of which a file has no cells: convert it to {whole}{_TO_TEXTS}")
+
+
+def type_of_kind(kind: str) -> str:
+    """The kind of cells by which the program knows those of a kind: all others are whole numbers."""
+    return kind if kind in ("text", "num", "null") else "int"
+
+
+def domain_of(kind: str) -> str:
+    """With what cells of a kind are compared: nothing is said of numbers, texts and nulls, and all others with those of their kind alone."""
+    return "" if kind in _OTHERS or kind == "null" else kind
+
+
+def declared_series(series: Any, declared: Optional[str]) -> Any:
+    """A column as its declared type says that it is, where its dtype doesn't: objects that are whole numbers, and nulls alone."""
+    import pandas
+
+    kind = "num" if (declared or "").startswith("num") else declared
+    if kind not in _OTHERS or not (series.dtype == object or series.dtype.kind == "f"):
+        return series
+    inferred = pandas.api.types.infer_dtype(series, skipna=True) if series.dtype == object else "empty" if series.isna().all() else ""
+    is_whole = inferred == "integer" and kind == "int" and series.dropna().between(-(2**63), 2**63 - 1).all()
+    if not is_whole and inferred != "empty":
+        return series
+    return series.astype(series.dtype if kind == "text" and series.dtype == object else _OTHERS[kind])
 
 
 def common(left: "Column", right: "Column") -> Optional[Any]:
@@ -50,8 +81,10 @@ def common(left: "Column", right: "Column") -> Optional[Any]:
 
     if all(it is not None for it in dtypes) and dtypes[0] == dtypes[1]:
         return dtypes[0]
+    if left.domain == "bool":
+        return pandas.BooleanDtype()
     if left.kind == "int":
-        return _common_integers(*(pandas.Int64Dtype() if it is None else it for it in dtypes))
+        return _common_integers(*(pandas.Int64Dtype() if it is None or it == object else it for it in dtypes))
     strings = [it for it in dtypes if isinstance(it, pandas.StringDtype)]
     return strings[0] if strings else object
 
@@ -71,6 +104,16 @@ def _common_integers(left: Any, right: Any) -> Any:
 def nullable(name: str) -> str:
     """The dtype with nulls of a plain dtype of integers: `Int64` of `int64`, `UInt8` of `uint8`."""
     return name.replace("uint", "UInt") if name.startswith("u") else name.replace("int", "Int")
+
+
+def with_nulls(dtype: Any) -> Any:
+    """The dtype that has the cells of one, and nulls; None of none."""
+    import numpy
+    import pandas
+
+    if not isinstance(dtype, numpy.dtype) or dtype.kind not in "iub":
+        return dtype
+    return pandas.api.types.pandas_dtype("boolean" if dtype.kind == "b" else nullable(dtype.name))
 
 
 class Builder:

@@ -12,6 +12,12 @@ class Fault(Exception):
     Where the line has them, and else None: `code` (`E6`), `name` (`BadInteger`), `side` (`left` or `right`), `row` and `column`
     (both counted from 1; row 1 is the first one behind the header, of a frame the first one), and `byte` (of the clause's
     UTF-8 text, counted from 0).
+
+    >>> try:
+    ...     radixjoin.join([{"id": 1}], [{"id": "x"}], using="id")
+    ... except radixjoin.Fault as fault:
+    ...     fault.code, fault.name, fault.status
+    ('E15', 'TypeMismatch', 4)
     """
 
     def __init__(self, line: str, status: int, explanation: str = "") -> None:

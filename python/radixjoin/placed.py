@@ -70,7 +70,8 @@ class Shard:
     def scanned(self, counts_rows: bool = True) -> Index:
         """The index of the file. Where rows needn't be counted, none is told to stand before a piece: to count them takes most of the
         time."""
-        entries, at, before, size = [], self.begin, 0, PIECE
+        entries: List[Entry] = []
+        at, before, size = self.begin, 0, PIECE
         with open(self.path, "rb") as file:
             while True:
                 file.seek(at)

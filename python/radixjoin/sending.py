@@ -94,7 +94,8 @@ def _worker() -> Callable[[str, str, bytes], bytes]:
             package = importlib.import_module(name)
         finally:
             sys.path.remove(path)
-        return package.answered(path, task)
+        answer: bytes = package.answered(path, task)
+        return answer
 
     return work
 

@@ -127,7 +127,8 @@ class Cluster:
 
     def tasks_at_once(self) -> int:
         """How many tasks they do at once: a process does one in each of its threads."""
-        return max(1, sum(self.client.nthreads().values()))
+        threads: Dict[str, int] = self.client.nthreads()
+        return max(1, sum(threads.values()))
 
 
 def first_fault(answers: Sequence[Any]) -> None:

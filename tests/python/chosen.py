@@ -68,7 +68,7 @@ def of_expectations():
     for named in ({"expect": "many-to-one"}, {"expect": "one-to-one"}, {"max_rows": 1}, {"how": "outer", "max_rows": 4}):
         for call in (radixjoin.join, radixjoin.stats):
             fault = telling.raised(call, LEFT, RIGHT, **BY_ID, **named)
-            got = (type(fault).__name__, getattr(fault, "status", None), str(fault))
+            got = (type(fault).__name__, getattr(fault, "status", None), getattr(fault, "line", fault))
             yield from telling.differs(f"{call.__name__} {named}", got, ("ExpectationFault", 7, "radixjoin: E30 NotAsExpected"))
     for named in ({"expect": "one-to-many"}, {"how": "outer", "max_rows": 5}, {"how": "outer", "expect": "one-to-many", "max_rows": 5}):
         yield from telling.differs(f"{named}", radixjoin.stats(LEFT, RIGHT, **BY_ID, **named).pairs, 2)

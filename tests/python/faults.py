@@ -1,11 +1,13 @@
 """Faults of each status as exceptions, refused arguments, and runs that are broken off: no process, open file or file is left."""
 import contextlib
+import datetime
 import decimal
 import gc
 import io
 import os
 import pathlib
 import pickle
+import re
 import shutil
 import signal
 import subprocess
@@ -148,10 +150,10 @@ def cases_that_are_refused(folder):
     yield ValueError, "'x'", path, [{"id": 1, "x": ""}], {**by_id, "left_types": "int", "strict": False}
     yield ValueError, "clause", ROWS, ROWS, {}
     yield ValueError, "clause", ROWS, ROWS, {"clause": "CROSS JOIN", **by_id}
-    yield ValueError, "how", ROWS, ROWS, {**by_id, "how": "anti"}
+    yield ValueError, "how", ROWS, ROWS, {**by_id, "how": "lefft"}
     yield TypeError, "using=", ROWS, ROWS, {"on": ["id"]}
     yield ValueError, "'id'", ROWS, ROWS, {"on": "L.id = R.id"}
-    yield NotImplementedError, "--no-such-option", ROWS, ROWS, {**by_id, "no_such_option": 1}
+    yield TypeError, "no_such_option=", ROWS, ROWS, {**by_id, "no_such_option": 1}
     yield TypeError, "stats", ROWS, ROWS, {**by_id, "stats": True}
     yield TypeError, "radixjoin.stats counts", ROWS, ROWS, {**by_id, "count": True}
     yield TypeError, "radixjoin.stats(.., report=True)", ROWS, ROWS, {**by_id, "report": True}
@@ -190,25 +192,63 @@ def refused_arguments(folder):
     yield from telling.differs("files", sorted(it.name for it in folder.iterdir()), ["a.csv"])
 
 
-def dtypes_that_have_no_type(_):
-    """Columns of frames: each error names the column, and says what to convert it to."""
-    columns = {
-        "floats": pandas.Series([1.5]),
-        "truths": pandas.Series([True]),
-        "dates": pandas.Series(pandas.to_datetime(["2026-01-01"])),
-        "spans": pandas.Series(pandas.to_timedelta(["1s"])),
-        "mixed": pandas.Series([1, "x"], dtype="object"),
-        "bytes": pandas.Series([b"x"], dtype="object"),
-        "categories": pandas.Series([1.5], dtype="category"),
-        "large": pandas.Series([2**63], dtype="uint64"),
-        "digits": pandas.Series([D("1e20")], dtype="object"),
-        "infinite": pandas.Series([D("inf")], dtype="object"),
-        7: pandas.Series([1]),
-    }
-    for name, column in columns.items():
-        error = telling.raised(radixjoin.join, pandas.DataFrame({"id": [1] * len(column), name: column}), ROWS, using="id")
-        kind = ValueError if name in ("large", "digits", "infinite") else TypeError
-        yield from [] if isinstance(error, kind) and repr(name) in str(error) and ": " in str(error) else [f"{name}: {error!r}"]
+# Columns of frames whose cells can't be compared exactly: by name the error's class and a word of what it says to do, and the column.
+UNCOMPARED = {
+    "floats": (TypeError, "Decimal", lambda: pandas.Series([1.5, None])),
+    "mixed": (TypeError, "Int64", lambda: pandas.Series([1, "x"], dtype="object")),
+    "bytes": (TypeError, "str", lambda: pandas.Series([b"x"], dtype="object")),
+    "categories": (TypeError, "Int64", lambda: pandas.Series([1.5], dtype="category")),
+    "large": (ValueError, "texts", lambda: pandas.Series([2**63], dtype="uint64")),
+    "large objects": (ValueError, "texts", lambda: pandas.Series([2**63, None], dtype="object")),
+    "digits": (ValueError, "quantize", lambda: pandas.Series([D("1e20")], dtype="object")),
+    "infinite": (ValueError, "null", lambda: pandas.Series([D("inf")], dtype="object")),
+}
+# Those that are compared as whole numbers, and have no text for a file.
+UNWRITTEN = {
+    "truths": lambda: pandas.Series([True]),
+    "dates": lambda: pandas.Series(pandas.to_datetime(["2026-01-01"])),
+    "spans": lambda: pandas.Series(pandas.to_timedelta(["1s"])),
+    "days": lambda: pandas.Series([datetime.date(2026, 1, 1)]),
+}
+
+
+def dtypes_that_have_no_type(folder):
+    """Columns of frames: each error names the column, and says what to convert it to. Where the clause doesn't compare it, and no file has to
+    have it, there is none."""
+    for name, (kind, word, column) in {**UNCOMPARED, **{name: (TypeError, "astype('string')", column) for name, column in UNWRITTEN.items()}}.items():
+        frame = pandas.DataFrame({name: column()}).assign(id=1)
+        if name in UNCOMPARED:
+            error = telling.raised(radixjoin.join, frame, [{name: 1}], using=name)
+            yield from [] if isinstance(error, kind) and repr(name) in str(error) and word in str(error) else [f"{name}: {error!r}"]
+        error = telling.raised(radixjoin.join, frame, ROWS, using="id", null="~", output=folder / "out.csv")
+        yield from [] if isinstance(error, kind) and repr(name) in str(error) and word in str(error) else [f"{name} in a file: {error!r}"]
+        got = radixjoin.join(frame, ROWS, using="id")
+        yield from telling.differs(f"{name} that goes through", (got[name].dtype, repr(got[name][0])), (frame[name].dtype, repr(frame[name][0])))
+    error = telling.raised(radixjoin.join, pandas.DataFrame({"id": [1], 7: [1]}), ROWS, using="id")
+    yield from [] if isinstance(error, TypeError) and "column 7 " in str(error) else [f"a name that is no text: {error!r}"]
+    yield from telling.differs("files", os.listdir(folder), [])
+
+
+def hinted(error, number, frame):
+    """A frame whose column `x` is what an error says to make of it, by the hint of this number."""
+    hints = re.findall(r"as by (frame\[column\].*?\))(?=, else|$)", str(error))
+    return frame.assign(x=eval(hints[number], {"frame": frame, "column": "x", "decimal": decimal}))
+
+
+def hints(folder):
+    """What is said to be made of a column joins as it should: equal cells meet, others don't, and nulls meet nothing."""
+    for cells, number in (([1.0, None, 3.0, -2.0], 0), ([0.1, None, 1e-7, 123456.75], 1)):
+        frame = pandas.DataFrame({"x": cells})
+        made = hinted(telling.raised(radixjoin.join, frame, frame, using="x"), number, frame)
+        got = radixjoin.join(made, made.assign(place=range(4)), using="x")
+        yield from telling.differs(f"{cells}", ([float(cell) for cell in got["x"]], got["place"].to_list()), ([cell for cell in cells if cell is not None], [0, 2, 3]))
+    times = pandas.to_datetime(["2026-01-01 08:00", "2026-01-01 09:00", "2026-01-01 09:00:00.000000001", None])
+    for cells in (times, times - times[0], times.date, [True, False, True, True]):
+        frame = pandas.DataFrame({"x": cells, "id": 1})
+        made = hinted(telling.raised(radixjoin.join, frame, ROWS, using="id", null="~", output=folder / "out.csv"), -1, frame)
+        yield from telling.differs(f"{cells}", (made["x"].nunique(), made["x"].isna().sum()), (frame["x"].nunique(), frame["x"].isna().sum()))
+        radixjoin.join(made, ROWS, using="id", null="~", output=folder / "out.csv")
+        yield from telling.differs(f"{cells}: rows", len((folder / "out.csv").read_text().splitlines()), 5)
 
 
 def children():
@@ -293,10 +333,12 @@ def killed(folder):
     long = "x" * 60
     texts = ("", "i", 'id,"na', 'id,"na\nme', "id,name\n", "id,name\n1,ann\n-", f'id,name\n1,"{long}', f'id,name\n1,"{long}""', "id,name\n1,\u00e9")
     frames = [pandas.DataFrame(ROWS)] if pandas is not None else []
-    for text, table in ((text, table) for text in texts for table in (ROWS, *frames)):
+    tables = [(ROWS, ROWS, "", ""), *((it, ROWS, ",left_row", ",10000000") for it in frames), *((it, it, ",left_row,right_row", ",10000000,10000000") for it in frames)]
+    for text, (left, right, names, cells) in ((text, table) for text in texts for table in tables):
+        text = text.replace("name\n", f"name{names}\n").replace("ann\n", f"ann{cells}\n")
         program = cut_off(folder, text.encode()[: len(text)])
-        error = telling.raised(lambda: list(radixjoin.join(table, ROWS, using=["id", "name"], program=program)))
-        yield from telling.differs(f"{text!r} of {type(table).__name__}", repr(error), repr(RuntimeError("radixjoin was ended by signal 9")))
+        error = telling.raised(lambda: list(radixjoin.join(left, right, using=["id", "name"], program=program)))
+        yield from telling.differs(f"{text!r} of {type(left).__name__}", repr(error), repr(RuntimeError("radixjoin was ended by signal 9")))
     got = radixjoin.join(ROWS, ROWS, using=["id", "name"], program=cut_off(folder, b"id,name\n" + b"1,ann\n" * 2_000_000 + b"1,an"))
     given = []
     error = telling.raised(lambda: given.extend(map(tuple, map(dict.values, got))))
@@ -459,7 +501,7 @@ with contextlib.suppress(ImportError):
 try:
     radixjoin.join(FEW, [(1, "x"), (1,)], **named)
 except radixjoin.InputFault as fault:
-    told.append(str(fault))
+    told.append(fault.line)
 with open("fed.csv", "wb") as output:
     words = [radixjoin.programs.find(), "--left-types=int,text", "--right-types=int,text", "--join=JOIN USING (id)"]
     inputs = [(f"--{side}=", (it for it in [TEXT])) for side in ("left", "right")]
@@ -583,20 +625,26 @@ def programs_that_are_not_there(folder):
 
 
 def explanations(_):
-    """With `explain=True` a fault has the lines that the program told below its own."""
-    fault = telling.raised(radixjoin.join, ROWS, ROWS, on="L.idd = R.id", explain=True)
+    """A fault has the lines that the program told below its own, unless `explain=False` is said. Of a frame all columns are told."""
     wanted = '  "idd" at byte 10 of the clause; left has id, name; did you mean "id"?'
-    yield from telling.differs("of a clause", (type(fault), getattr(fault, "explanation", None)), (radixjoin.ClauseFault, wanted))
-    fault = telling.raised(radixjoin.join, ROWS, ROWS, on="L.idd = R.id")
-    yield from telling.differs("without it", getattr(fault, "explanation", None), "")
-    fault = telling.raised(radixjoin.stats, ROWS, [(1,), (1,)], using="id", right_columns=["id"], expect="many-to-one", explain=True)
-    wanted = '  left row 1, line 2 of the file, is in 2 kept pairs: "id" is "1"'
-    yield from telling.differs("of a row", getattr(fault, "explanation", None), wanted)
+    for table in (ROWS, *([pandas.DataFrame(ROWS)] if pandas is not None else [])):
+        fault = telling.raised(radixjoin.join, table, ROWS, on="L.idd = R.id")
+        yield from telling.differs("of a clause", (type(fault), getattr(fault, "explanation", None)), (radixjoin.ClauseFault, wanted))
+        fault = telling.raised(radixjoin.join, table, ROWS, on="L.idd = R.id", explain=False)
+        yield from telling.differs("without it", getattr(fault, "explanation", None), "")
+        fault = telling.raised(radixjoin.stats, table, [(1,), (1,)], using="id", right_columns=["id"], expect="many-to-one")
+        wanted_of_row = '  left row 1, line 2 of the file, is in 2 kept pairs: "id" is "1"'
+        yield from telling.differs("of a row", getattr(fault, "explanation", None), wanted_of_row)
+    if pandas is not None:
+        frame = pandas.DataFrame({"x": [1.5], "y": [2.5], "text": ["a\ud800"]})
+        fault = telling.raised(radixjoin.join, frame, frame, using="text")
+        told = (getattr(fault, "line", fault), getattr(fault, "column", None), "text" in str(fault))
+        yield from telling.differs("the column of a frame", told, ("radixjoin: E7 BadText left row 1 column 3", 3, True))
 
 
 def main():
     tests = [faults_of_each_status, refused_arguments, outputs, outputs_that_are_inputs, without_streams, explanations, open_files, broken_off, killed, closed_rows, shared_rows, programs_that_are_not_there, interrupted]
-    for test in tests + ([dtypes_that_have_no_type] if pandas is not None else []):
+    for test in tests + ([dtypes_that_have_no_type, hints] if pandas is not None else []):
         with tempfile.TemporaryDirectory(prefix="radixjoin-test-") as name:
             telling.attempt(test.__name__.replace("_", " "), test, pathlib.Path(name))
 

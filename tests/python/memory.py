@@ -1,5 +1,5 @@
-"""Large frames: what this process takes beside the frames and the result, in terms of the CSV text of both and of the result. And what
-the program is told of its own memory."""
+"""Large frames: what this process takes beside the frames and the result, in terms of the text of their keys. And what the program is told
+of its own memory."""
 import os
 import pathlib
 import random
@@ -13,7 +13,9 @@ import radixjoin
 from radixjoin import programs
 
 ROWS = 400_000
-MOST = 3
+# What may be taken beside the frames and the result, in terms of the text that the program is given of both frames, and beside that for what
+# is read and written at once.
+MOST, PAGE = 1, 16 << 20
 
 
 def resident():
@@ -35,18 +37,23 @@ def frames():
     return left, right
 
 
-def large():
+def given(frame):
+    """The bytes of the text that the program is given of a frame: its key, and the row's number of eight digits."""
+    return len(frame[["key"]].assign(row=10_000_000).to_csv(index=False))
+
+
+def large(named, rows):
     left, right = frames()
-    size = sum(len(frame.to_csv(index=False)) for frame in (left, right))
+    size = sum(map(given, (left, right)))
     with open("/proc/self/clear_refs", "w") as file:
         file.write("5")
     before = resident()
-    joined = radixjoin.join(left, right, using="key")
+    joined = radixjoin.join(left, right, **named)
     most = peak() - before
-    size += len(joined.to_csv(index=False))
-    result = int(joined.memory_usage(deep=True).sum())
-    yield from telling.differs("rows", len(joined), ROWS)
-    if most - result > MOST * size:
+    yield from telling.differs("rows", len(joined), rows)
+    # (texts are the frames' own)
+    result = int(joined.memory_usage().sum())
+    if most - result > MOST * size + PAGE:
         yield f"{most / 1e6:.0f} MB beside the frames, {result / 1e6:.0f} of them for the result, for {size / 1e6:.0f} MB of text"
 
 
@@ -66,5 +73,6 @@ def variables():
 
 
 if __name__ == "__main__":
-    telling.attempt("memory for large frames", large)
+    telling.attempt("memory for large frames", large, {"using": "key"}, ROWS)
+    telling.attempt("memory for large frames by a condition", large, {"on": "L.key = R.key", "how": "left", "suffixes": ("", "_r")}, ROWS)
     telling.attempt("one heap", variables)

@@ -68,7 +68,7 @@ def faults(folder):
     ]
     for name, more, kind, line in cases:
         fault = telling.raised(radixjoin.join, left, right, **{**how, **more})
-        yield from telling.differs(name, (type(fault), str(fault)), (kind, f"radixjoin: {line}"))
+        yield from telling.differs(name, (type(fault), getattr(fault, "line", fault)), (kind, f"radixjoin: {line}"))
     refused = [
         ("no text", left, {"left_null": []}, "left_null"),
         ("a number", left, {"left_null": [1]}, "left_null"),
@@ -131,7 +131,7 @@ def random_nulls(folder, seed):
     fault = telling.raised(radixjoin.join, folder / "left.csv", folder / "right.csv", **how, **more, out_null=out, output=folder / "out.csv")
     places = [(row, column) for row, it in enumerate(wanted, 1) for column, cell in enumerate(it, 1) if cell == out]
     line = f"radixjoin: E28 AmbiguousNull row {places[0][0]} column {places[0][1]}" if places else "None"
-    yield from telling.differs(f"{seed}: {rows} {more} {out!r}", str(fault), line)
+    yield from telling.differs(f"{seed}: {rows} {more} {out!r}", getattr(fault, "line", str(fault)), line)
 
 
 def main():
