@@ -161,7 +161,9 @@ def frame_of_rows(written: Written, places: Sequence[Places], rows: Sequence[Any
     import pandas
 
     made = {at: arrays[origin] if origin in arrays else _of_frames(written, origin, rows) for at, origin in enumerate(places)}
-    return pandas.DataFrame(made, copy=False)
+    # (objects that are times would become a column of times)
+    kept = {at: pandas.Series(it, dtype=object, copy=False) if str(it.dtype) == "object" else it for at, it in made.items()}
+    return pandas.DataFrame(kept, copy=False)
 
 
 def _of_frames(written: Written, origin: Places, rows: Sequence[Any]) -> Any:
