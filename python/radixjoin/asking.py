@@ -45,6 +45,13 @@ def _table(side: str, table: Any, types: Types, names: Any, watched: FrozenSet[s
     return RowsTable(side, table, names, types, watched)
 
 
+def _free_name(name: str, taken: Sequence[str]) -> str:
+    """A name that begins with this one and stands in none of some texts: no table has it, and no clause means it."""
+    while any(name in it for it in taken):
+        name += "_"
+    return name
+
+
 class Asked:
     """A join as it was asked for. `close` gives back what its tables hold."""
 
@@ -117,12 +124,9 @@ class Asked:
             return
         has_names = needs_names(self.clause)
         names = [it.names() if has_names or isinstance(it, FrameTable) else [] for it in self.tables]
-        taken = {self.clause.lower(), *map(str.lower, (*names[0], *names[1]))}
+        taken = [self.clause.lower(), *map(str.lower, (*names[0], *names[1]))]
         for frame, places in ((it, at) for it, at in zip(self.tables, compared(self.clause, *names)) if isinstance(it, FrameTable)):
-            row = f"{frame.side}_row"
-            while any(row in it for it in taken):
-                row += "_"
-            frame.send_keys(places, row, frame.side == "left" and not has_names)
+            frame.send_keys(places, _free_name(f"{frame.side}_row", taken), frame.side == "left" and not has_names)
         if any(key.is_open or key.column().of for frame in frames for key in frame.sent.values()):
             self._compare()
 
