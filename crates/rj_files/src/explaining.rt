@@ -84,7 +84,8 @@ fn lines_of<R: AllocGlobal + Threads + Wait + Clock + Sync>(
     fault: &Fault,
     inputs: &Inputs<'_, '_>,
 ) -> Result<String, AllocError>
-    ensures { fault.now ≡ Fault.Memory → IfOk result (λ text. string_bytes text ≡ memory_text (length inputs.now.left.now) (length inputs.now.right.now)) }
+    ensures { fault.now ≡ Fault.Memory
+        → IfOk result (λ text. string_bytes text ≡ memory_text (length inputs.now.left.now) (length inputs.now.right.now)) }
 {
     match fault {
         Fault::Memory => memory_lines(rt.alloc(), inputs.left.len(), inputs.right.len()),

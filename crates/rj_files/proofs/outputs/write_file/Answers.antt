@@ -13,4 +13,4 @@ written_to line left right before after stats written = (before, after, written)
 pub returns-in-Ok-finish-clause-written : goal.returns-in-Ok-finish-clause-written
 returns-in-Ok-finish-clause-written g c =
     written_to c.args.line.now (g.L.Stream.tells c.args.left.now) (g.S.Stream.tells c.args.right.now) _ _ c.in-Ok-written.stats
-        (IfOk-at_ok _ c.in-Ok-written.is c.write_streams-written.ensures.written)
+    (IfOk-at_ok _ c.in-Ok-written.is c.write_streams-written.ensures.written)
