@@ -62,7 +62,7 @@ FIGURES = (
     ("docs/DECISIONS.md", rf"sleeps, (?:{NUMBER}) to ({NUMBER}) microseconds", 1, "rj_workers/src/pause.rt", "LONGEST"),
     ("docs/DECISIONS.md", rf"`shards` reads ({NUMBER}) MiB at a time", 1 << 20, "shards/src/dividing.rt", "BLOCK"),
     ("docs/specification.md", rf"A and B are at most ({NUMBER}) and places", 1, "shards/src/dividing.rt", "MOST"),
-    ("docs/specification.md", rf"without NAME where that has more than ({NUMBER}) bytes", 1, "rj_files/src/draft.rt", "LONGEST"),
+    ("docs/specification.md", rf"NAME is left out if it has more than ({NUMBER}) bytes", 1, "rj_files/src/draft.rt", "LONGEST"),
     ("docs/specification.md", rf"of more than ({NUMBER}) bytes the first ones", 1, "rj_explain/src/shown.rt", "MOST"),
     ("docs/specification.md", rf"another text of 1 to ({NUMBER}) bytes", 1, "rj_line/src/choosing.rt", "LONGEST_SUFFIX"),
     ("docs/specification.md", rf"would have more than ({NUMBER}) bytes before it is like no other", 1, "rj_engine/src/naming.rt", "MAX_NAME"),
