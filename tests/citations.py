@@ -23,8 +23,8 @@ CONSTANTS = {
     "rows of a table": ("rj_csv_io/src/read_rows.rt", r"MAX_ROWS: u64 = (\w+);"),
     "columns of a table": ("rj_columns/src/builder.rt", r"MAX_COLUMNS: usize = (\w+);"),
     "a header name": ("rj_columns/src/names.rt", r"MAX_NAME: usize = (\w+);"),
-    "a null text": ("rj_csv_io/src/null_text.rt", r"MAX_NULL: usize = (\w+);"),
-    "null texts of a side": ("rj_line/src/nulls.rt", r"MOST_NULLS: usize = (\w+);"),
+    "a NULL text": ("rj_csv_io/src/null_text.rt", r"MAX_NULL: usize = (\w+);"),
+    "NULL texts of a side": ("rj_line/src/nulls.rt", r"MOST_NULLS: usize = (\w+);"),
     "a clause": ("rj_condition/src/parsing.rt", r"LONGEST: usize = (\w+);"),
     "nesting": ("rj_condition/src/nesting.rt", r"MOST: usize = (\w+);"),
     "senders of a ledger": ("arrivals/src/main.rt", r"How many senders it has, 1 to (\w+)"),
@@ -41,7 +41,7 @@ TOLD = {
     "rows of a table": "rows",
     "columns of a table": "columns|names",
     "a header name": "bytes",
-    "a null text": "bytes|printable",
+    "a NULL text": "bytes|printable",
     "a clause": "bytes",
     "nesting": "deep|parentheses",
 }
@@ -62,14 +62,14 @@ FIGURES = (
     ("docs/DECISIONS.md", rf"sleeps, (?:{NUMBER}) to ({NUMBER}) microseconds", 1, "rj_workers/src/pause.rt", "LONGEST"),
     ("docs/DECISIONS.md", rf"`shards` reads ({NUMBER}) MiB at a time", 1 << 20, "shards/src/dividing.rt", "BLOCK"),
     ("docs/specification.md", rf"A and B are at most ({NUMBER}) and places", 1, "shards/src/dividing.rt", "MOST"),
-    ("docs/specification.md", rf"without NAME where that has more than ({NUMBER}) bytes", 1, "rj_files/src/draft.rt", "LONGEST"),
+    ("docs/specification.md", rf"NAME is left out if it has more than ({NUMBER}) bytes", 1, "rj_files/src/draft.rt", "LONGEST"),
     ("docs/specification.md", rf"of more than ({NUMBER}) bytes the first ones", 1, "rj_explain/src/shown.rt", "MOST"),
     ("docs/specification.md", rf"another text of 1 to ({NUMBER}) bytes", 1, "rj_line/src/choosing.rt", "LONGEST_SUFFIX"),
     ("docs/specification.md", rf"would have more than ({NUMBER}) bytes before it is like no other", 1, "rj_engine/src/naming.rt", "MAX_NAME"),
 )
 # The columns of a line and the words of a table's cell that a page may have, and the pages that aren't laid out so yet.
 MOST_COLUMNS, MOST_WORDS = 100, 25
-WIDE = ("docs/architecture.md", "docs/cluster.md", "docs/faults.md", "docs/proved.md", "docs/python.md", "docs/specification.md")
+WIDE = ("docs/architecture.md", "docs/cluster.md", "docs/proved.md", "docs/python.md")
 # How many decisions docs/DECISIONS.md may have.
 MOST_DECISIONS = 60
 # What is said of memory, wherever it is said.
