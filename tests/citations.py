@@ -69,7 +69,7 @@ FIGURES = (
 )
 # The columns of a line and the words of a table's cell that a page may have, and the pages that aren't laid out so yet.
 MOST_COLUMNS, MOST_WORDS = 100, 25
-WIDE = ("docs/architecture.md", "docs/cluster.md", "docs/faults.md", "docs/proved.md", "docs/specification.md")
+WIDE = ("docs/architecture.md", "docs/faults.md", "docs/proved.md", "docs/specification.md")
 # How many decisions docs/DECISIONS.md may have.
 MOST_DECISIONS = 60
 # What is said of memory, wherever it is said.
