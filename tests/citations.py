@@ -23,8 +23,8 @@ CONSTANTS = {
     "rows of a table": ("rj_csv_io/src/read_rows.rt", r"MAX_ROWS: u64 = (\w+);"),
     "columns of a table": ("rj_columns/src/builder.rt", r"MAX_COLUMNS: usize = (\w+);"),
     "a header name": ("rj_columns/src/names.rt", r"MAX_NAME: usize = (\w+);"),
-    "a null text": ("rj_csv_io/src/null_text.rt", r"MAX_NULL: usize = (\w+);"),
-    "null texts of a side": ("rj_line/src/nulls.rt", r"MOST_NULLS: usize = (\w+);"),
+    "a NULL text": ("rj_csv_io/src/null_text.rt", r"MAX_NULL: usize = (\w+);"),
+    "NULL texts of a side": ("rj_line/src/nulls.rt", r"MOST_NULLS: usize = (\w+);"),
     "a clause": ("rj_condition/src/parsing.rt", r"LONGEST: usize = (\w+);"),
     "nesting": ("rj_condition/src/nesting.rt", r"MOST: usize = (\w+);"),
     "senders of a ledger": ("arrivals/src/main.rt", r"How many senders it has, 1 to (\w+)"),
@@ -41,7 +41,7 @@ TOLD = {
     "rows of a table": "rows",
     "columns of a table": "columns|names",
     "a header name": "bytes",
-    "a null text": "bytes|printable",
+    "a NULL text": "bytes|printable",
     "a clause": "bytes",
     "nesting": "deep|parentheses",
 }
@@ -49,7 +49,9 @@ TOLD = {
 FIGURES = (
     ("docs/architecture.md", rf"nor do fewer than ({NUMBER}) rows", 1, "rj_csv_io/src/write_in_parts.rt", "LEAST_ROWS"),
     ("docs/architecture.md", rf"list of texts of up to ({NUMBER}) rows", 1, "rj_csv_io/src/range.rt", "TEXT_ROWS"),
-    ("docs/architecture.md", rf"block of written rows \| up to ({NUMBER}) rows", 1, "rj_csv_io/src/block.rt", "BLOCK_ROWS"),
+    ("docs/architecture.md", rf"Output is made in blocks of up to ({NUMBER}) rows", 1, "rj_csv_io/src/block.rt", "BLOCK_ROWS"),
+    ("docs/architecture.md", rf"Keys are hashed in blocks of up to ({NUMBER}) rows", 1, "rj_radix/src/routing.rt", "BLOCK"),
+    ("docs/architecture.md", rf"Keys are hashed in blocks of up to ({NUMBER}) rows", 1, "rj_hashjoin/src/hashing.rt", "BLOCK"),
     ("docs/DECISIONS.md", rf"A part has at least ({NUMBER}) KiB", 1 << 10, "rj_csv_io/src/read_parts.rt", "LEAST_PART"),
     ("docs/DECISIONS.md", rf"a share of the written rows at least ({NUMBER}) rows", 1, "rj_csv_io/src/write_in_parts.rt", "LEAST_ROWS"),
     ("docs/DECISIONS.md", rf"Rows are written in blocks of ({NUMBER}) rows", 1, "rj_csv_io/src/block.rt", "BLOCK_ROWS"),
@@ -62,14 +64,14 @@ FIGURES = (
     ("docs/DECISIONS.md", rf"sleeps, (?:{NUMBER}) to ({NUMBER}) microseconds", 1, "rj_workers/src/pause.rt", "LONGEST"),
     ("docs/DECISIONS.md", rf"`shards` reads ({NUMBER}) MiB at a time", 1 << 20, "shards/src/dividing.rt", "BLOCK"),
     ("docs/specification.md", rf"A and B are at most ({NUMBER}) and places", 1, "shards/src/dividing.rt", "MOST"),
-    ("docs/specification.md", rf"without NAME where that has more than ({NUMBER}) bytes", 1, "rj_files/src/draft.rt", "LONGEST"),
+    ("docs/specification.md", rf"NAME is left out if it has more than ({NUMBER}) bytes", 1, "rj_files/src/draft.rt", "LONGEST"),
     ("docs/specification.md", rf"of more than ({NUMBER}) bytes the first ones", 1, "rj_explain/src/shown.rt", "MOST"),
     ("docs/specification.md", rf"another text of 1 to ({NUMBER}) bytes", 1, "rj_line/src/choosing.rt", "LONGEST_SUFFIX"),
     ("docs/specification.md", rf"would have more than ({NUMBER}) bytes before it is like no other", 1, "rj_engine/src/naming.rt", "MAX_NAME"),
 )
 # The columns of a line and the words of a table's cell that a page may have, and the pages that aren't laid out so yet.
 MOST_COLUMNS, MOST_WORDS = 100, 25
-WIDE = ("docs/architecture.md", "docs/cluster.md", "docs/faults.md", "docs/proved.md", "docs/python.md", "docs/specification.md")
+WIDE = ("docs/proved.md",)
 # How many decisions docs/DECISIONS.md may have.
 MOST_DECISIONS = 60
 # What is said of memory, wherever it is said.
@@ -176,14 +178,19 @@ def listed_crates():
 
 
 def crate_faults(text):
-    """Where the table of crates differs from crates.txt: which there are, and what they stand on where that is told."""
+    """Where the list of crates differs from crates.txt: which there are, and what they use where that is told. An entry ends with what
+    its crate uses."""
     listed, told = listed_crates(), set()
-    for names, below in re.findall(r"^\| (`[^|]*`) \|[^|]*\| ([^|]*) \|$", text.partition("\n## The way of the data")[0], re.MULTILINE):
+    entries = re.findall(r"^- (.*(?:\n  .*)*)", text.partition("\n## The way of the data")[0], re.MULTILINE)
+    for entry in (" ".join(lines.split()) for lines in entries):
+        names, _, rest = entry.partition(": ")
         row = re.findall(r"`(\w+)`", names)
         told.update(row)
+        below = rest.rpartition(" Uses ")[2] if " Uses " in rest else ""
         wanted, found = set().union(*(listed.get(name, set()) for name in row)), set(re.findall(r"`(\w+)`", below))
-        if found != wanted and "that they test" not in below:
-            yield f"{', '.join(row)}: stands on {', '.join(sorted(wanted)) or 'std alone'}, and {', '.join(sorted(found)) or 'nothing'} is told"
+        is_right = found == wanted and (found or below == "std alone.")
+        if not is_right and below != "the libraries that they test.":
+            yield f"{', '.join(row)}: uses {', '.join(sorted(wanted)) or 'std alone'}, and {', '.join(sorted(found)) or 'nothing'} is told"
     yield from (f"{name} is told, and crates.txt hasn't it" for name in sorted(told - set(listed)))
     yield from (f"crates.txt has {name}, which isn't told" for name in sorted(set(listed) - told))
 
@@ -292,15 +299,18 @@ def declared_types(files):
 def type_faults(text, files):
     """Where the table of types of one name differs from the sources: which there are, and in which crates; files, where a crate has
     two."""
-    told = dict(re.findall(r"^\| `(\w+)` \| (.*) \|$", text.partition("\n### Types of one name\n")[2].partition("\n## ")[0], re.MULTILINE))
+    told = {}
+    section = text.partition("\n### Types of one name\n")[2].partition("\n## ")[0]
+    for name, places in re.findall(r"^\| `(\w+)` \| ([^|]*) \| [^|]+ \|$", section, re.MULTILINE):
+        told.setdefault(name, []).extend(re.findall(r"`([^`]+)`", places))
     shared = {name: places for name, places in declared_types(files).items() if len(places) > 1}
     yield from (f"{name} is one type, and is told as several" for name in sorted(set(told) - set(shared)))
     for name, places in sorted(shared.items()):
         crates = [place.split("/")[0] for place in places]
         wanted = {place if crates.count(place.split("/")[0]) > 1 else place.split("/")[0] for place in places}
-        found = {token for token in re.findall(r"`([^`]+)`", told.get(name, "")) if token.split("/")[0] in listed_crates()}
-        if found != wanted:
-            yield f"{name}: it stands in {', '.join(sorted(wanted))}, and {', '.join(sorted(found)) or 'nothing'} is told"
+        found = sorted(told.get(name, []))
+        if found != sorted(wanted):
+            yield f"{name}: it stands in {', '.join(sorted(wanted))}, and {', '.join(found) or 'nothing'} is told"
 
 
 def library_faults(text):

@@ -1,8 +1,8 @@
 """Runs the examples of the pages for users: README.md, docs/options.md, docs/faults.md, docs/recipes.md and the man pages.
 
 An example has one of two forms. A block ```sh can be pasted: a shell gets it as it stands, and the block ```text behind it is
-what it prints, nothing where there is none. A session is an indented block of lines `$ COMMAND`, each with what it prints below
-it, where a line `> ..` goes on with the command. In both a line `..` of what is printed stands for any lines.
+what it prints, nothing where there is none. Man pages have sessions: lines `$ COMMAND`, each with what it prints below it, where a
+line `> ..` goes on with the command. In both a line `..` of what is printed stands for any lines.
 
 The examples of one section go on in one folder, which has the examples of the repository, and find the built programs on the
 PATH. A section's line `Needs: a, b.` names the tools that it runs beside those that any system has; where one isn't installed
@@ -18,9 +18,8 @@ import subprocess
 
 import harness
 
+# The pages whose examples can be pasted, so that no prompt stands before a command.
 PAGES = ("README.md", "docs/options.md", "docs/faults.md", "docs/recipes.md")
-# Those whose examples can be pasted, so that no prompt stands before a command.
-PASTED = ("README.md", "docs/options.md", "docs/recipes.md")
 MANUALS = ("man/radixjoin.1", "man/arrivals.1", "man/shards.1", "man/merges.1")
 PROGRAMS = ("radixjoin", "arrivals", "shards", "merges")
 SECONDS = 60
@@ -208,7 +207,7 @@ def check_clauses(tally):
 
 def check_pasted(tally):
     """What can be pasted has no prompts, and each of its blocks is a command or what one prints, so that none is left out."""
-    for page in PASTED:
+    for page in PAGES:
         lines = (harness.ROOT / page).read_text().splitlines()
         faults = [f"a prompt stands in {line}" for line in lines if re.match(r" *[$>] ", line)]
         faults += [f"no test runs the block {line}" for line in lines if line.startswith("```") and line not in ("```sh", "```text", "```")]

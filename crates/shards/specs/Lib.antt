@@ -1,3 +1,1 @@
 pub mod Failures
-pub mod Ranges
-pub mod Explained
