@@ -1,29 +1,22 @@
--- What stands behind a keyword, a sign, a name or an operator.
-use Rattle.std.proofs.Common.{◌≡◌, inl, inr, ℕ, List, [], ◌∷◌, Option, Some, None, true, cond, refl, sym, ap, ◌∙◌}
+-- What stands behind a keyword, a sign or an operator.
+use Rattle.std.proofs.Common.{◌≡◌, inl, inr, ℕ, List, [], ◌∷◌, Bool, Option, Some, None, option_map, true, cond, refl, sym, ap, ◌∙◌}
 use Rattle.std.specs.List.{find}
 use Rattle.std.specs.Str.{bytes_eq, str_to_ascii_lowercase}
 use Rattle.std.proofs.lemmas.Slice.Eq.{bytes_eq-Decides}
 use Rattle.rj_condition.proofs.Quotes.{some_same}
 use Rattle.rj_condition.specs.declared.token.Keyword.{Keyword}
-use Rattle.rj_condition.specs.declared.token.Keyword.TheVariants as keyword
 use Rattle.rj_condition.specs.declared.token.Sign.{Sign}
 use Rattle.rj_condition.specs.declared.token.Sign.TheVariants as sign
 use Rattle.rj_condition.specs.declared.token.Token.{Token}
 use Rattle.rj_condition.specs.declared.token.Token.TheVariants as token
-use Rattle.rj_condition.specs.declared.truth.Truth.{Truth}
-use Rattle.rj_condition.specs.declared.tree.Name.{Name}
 use Rattle.rj_condition.specs.declared.tree.Comparison.{Comparison}
 use Rattle.rj_condition.specs.declared.tree.Comparison.TheVariants as comparison
 use Rattle.rj_condition.specs.Tokens.{spelling_of, sign_text}
 use Rattle.rj_condition.specs.Scanning.{all_keywords}
-use Rattle.rj_condition.specs.Grammar.{optional, sign_of, keyword_of_truth}
-use Rattle.rj_condition.specs.Reading.{◌>>=◌, same_keyword, same_sign, after, behind, optionally, opt, name_at, comparison_of, operator_at, truth_of, truth_at}
+use Rattle.rj_condition.specs.Grammar.{sign_of}
+use Rattle.rj_condition.specs.Reading.{same_keyword, same_sign, after, behind, comparison_of, operator_at}
 use Rattle.rj_condition.proofs.Words.{spelled_once}
 use Rattle.rj_condition.proofs.TokenLaws.{chosen}
-
-pub bind_some : {A B : Type 0} (r : Option A) (f : A → Option B) (y : B) → (r >>= f) ≡ Some y → (x : A) × (r ≡ Some x) × (f x ≡ Some y)
-bind_some (Some x) f y e = (x, refl, e)
-bind_some None f y e = cc
 
 keyword_is : (j k : Keyword) → same_keyword j k ≡ true → j ≡ k
 keyword_is j k e =
@@ -41,6 +34,10 @@ pub after_next : (k : Keyword) (ts us : List Token) → after k ts ≡ Some us �
 unfolding after
 after_next k (token.Keyword j ∷ ts) us e = keyword_next k j ts us e
 after_next k _ us e = cc
+
+pub after_here : (k : Keyword) (us : List Token) → after k (token.Keyword k ∷ us) ≡ Some us
+unfolding after
+after_here k us = ap (λ (b : Bool). cond b (Some us) None) ((bytes_eq-Decides (spelling_of k) (spelling_of k)).1 refl)
 
 -- signs
 all_signs : List Sign
@@ -76,20 +73,11 @@ unfolding behind
 behind_next s (token.Sign r ∷ ts) us e = sign_next s r ts us e
 behind_next s _ us e = cc
 
--- what may come next
-opt_of : (k : Keyword) (ts : List Token) (o : Option (List Token)) → after k ts ≡ o → ts ≡ optional (optionally o ts).0 k (optionally o ts).1
-opt_of k ts (Some us) e = after_next k ts us e
-opt_of k ts None e = refl
+pub behind_here : (s : Sign) (us : List Token) → behind s (token.Sign s ∷ us) ≡ Some us
+unfolding behind
+behind_here s us = ap (λ (b : Bool). cond b (Some us) None) ((bytes_eq-Decides (sign_text s) (sign_text s)).1 refl)
 
-pub opt_is : (k : Keyword) (ts : List Token) → ts ≡ optional (opt k ts).0 k (opt k ts).1
-opt_is k ts = opt_of k ts (after k ts) refl
-
--- names, operators and truth values
-pub name_next : (ts : List Token) (p : Name × List Token) → name_at ts ≡ Some p → ts ≡ token.Name p.0 ∷ p.1
-unfolding name_at
-name_next (token.Name n ∷ ts) p e = ap (λ (z : Name × List Token). token.Name z.0 ∷ z.1) (some_same _ _ e)
-name_next _ p e = cc
-
+-- operators
 comparison_is : (s : Sign) (op : Comparison) → comparison_of s ≡ Some op → s ≡ sign_of op
 comparison_is sign.Equal op e = ap sign_of (some_same _ _ e)
 comparison_is sign.NotEqual op e = ap sign_of (some_same _ _ e)
@@ -102,14 +90,15 @@ comparison_is sign.Close op e = cc
 comparison_is sign.Comma op e = cc
 comparison_is sign.Point op e = cc
 
-operator_of : (s : Sign) (ts : List Token) (p : Comparison × List Token) → (comparison_of s >>= λ op. Some (op, ts)) ≡ Some p → token.Sign s ∷ ts ≡ token.Sign (sign_of p.0) ∷ p.1
-operator_of s ts p e =
-    let b = bind_some (comparison_of s) _ p e in
-    ap (λ (z : Sign). token.Sign z ∷ ts) (comparison_is s b.0 b.1) ∙ ap (λ (z : Comparison × List Token). token.Sign (sign_of z.0) ∷ z.1) (some_same _ _ b.2)
+operator_of : (s : Sign) (ts : List Token) (p : Comparison × List Token) (o : Option Comparison) → comparison_of s ≡ o → option_map (λ op. (op, ts)) o ≡ Some p
+    → token.Sign s ∷ ts ≡ token.Sign (sign_of p.0) ∷ p.1
+operator_of s ts p (Some op) f e =
+    ap (λ (z : Sign). token.Sign z ∷ ts) (comparison_is s op f) ∙ ap (λ (z : Comparison × List Token). token.Sign (sign_of z.0) ∷ z.1) (some_same _ _ e)
+operator_of s ts p None f e = cc
 
 pub operator_next : (ts : List Token) (p : Comparison × List Token) → operator_at ts ≡ Some p → ts ≡ token.Sign (sign_of p.0) ∷ p.1
 unfolding operator_at
-operator_next (token.Sign s ∷ ts) p e = operator_of s ts p e
+operator_next (token.Sign s ∷ ts) p e = operator_of s ts p (comparison_of s) refl e
 operator_next _ p e = cc
 
 pub operator_here : (op : Comparison) (ts : List Token) → operator_at (token.Sign (sign_of op) ∷ ts) ≡ Some (op, ts)
@@ -129,19 +118,3 @@ operator_no_point comparison.Less ts = refl
 operator_no_point comparison.Greater ts = refl
 operator_no_point comparison.LessOrEqual ts = refl
 operator_no_point comparison.GreaterOrEqual ts = refl
-
-truth_is : (k : Keyword) (t : Truth) → truth_of k ≡ Some t → k ≡ keyword_of_truth t
-truth_is keyword.False t e = ap keyword_of_truth (some_same _ _ e)
-truth_is keyword.Unknown t e = ap keyword_of_truth (some_same _ _ e)
-truth_is keyword.True t e = ap keyword_of_truth (some_same _ _ e)
-truth_is _ t e = cc
-
-truth_here : (k : Keyword) (ts : List Token) (p : Truth × List Token) → (truth_of k >>= λ t. Some (t, ts)) ≡ Some p → token.Keyword k ∷ ts ≡ token.Keyword (keyword_of_truth p.0) ∷ p.1
-truth_here k ts p e =
-    let b = bind_some (truth_of k) _ p e in
-    ap (λ (z : Keyword). token.Keyword z ∷ ts) (truth_is k b.0 b.1) ∙ ap (λ (z : Truth × List Token). token.Keyword (keyword_of_truth z.0) ∷ z.1) (some_same _ _ b.2)
-
-pub truth_next : (ts : List Token) (p : Truth × List Token) → truth_at ts ≡ Some p → ts ≡ token.Keyword (keyword_of_truth p.0) ∷ p.1
-unfolding truth_at
-truth_next (token.Keyword k ∷ ts) p e = truth_here k ts p e
-truth_next _ p e = cc

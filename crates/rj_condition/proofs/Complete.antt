@@ -1,5 +1,5 @@
 -- What is in the grammar is read.
-use Rattle.std.proofs.Common.{◌≡◌, ℕ, zero, suc, ◌+◌, ◌<◌, ◌≤◌, List, [], ◌∷◌, ◌++◌, length, Option, Some, None, Bool, true, false, refl, ap, ◌∙◌, append_assoc, arith, le_refl}
+use Rattle.std.proofs.Common.{◌≡◌, ℕ, zero, suc, ◌+◌, ◌<◌, ◌≤◌, List, [], ◌∷◌, ◌++◌, length, Option, Some, None, Ok, Bool, true, false, refl, ap, ◌∙◌, append_assoc, arith, le_refl}
 use Rattle.rj_condition.specs.declared.token.Keyword.TheVariants as keyword
 use Rattle.rj_condition.specs.declared.token.Sign.TheVariants as sign
 use Rattle.rj_condition.specs.declared.token.Token.{Token}
@@ -12,7 +12,7 @@ use Rattle.rj_condition.specs.declared.tree.Comparison.{Comparison}
 use Rattle.rj_condition.specs.declared.tree.Condition.{Condition}
 use Rattle.rj_condition.specs.declared.tree.Condition.TheVariants as tree
 use Rattle.rj_condition.specs.Grammar.{optional, sign_of, keyword_of_truth, any_of, all_of, IsOperand, plain_name, qualified_name, integer, decimal, text, IsOperands, last_operand, more_operands, IsNames, last_name, more_names, IsPredicate, compare, is_null, between, among, IsFactor, not, test, IsTest, plain, is_truth, IsPrimary, predicate, group, IsFactors, last_factor, and_factors, IsTerms, last_term, or_terms}
-use Rattle.rj_condition.specs.Reading.{Read, ◌>>=◌, go_on, separated, after, behind, name_at, column_of, column_at, operand_at, operands_at, names_at, operator_at, null_at, bounds_at, members_at, range_at, by_operator, test_of, predicate_at, negated, factor_of, factor_at, factors_at, term_at, terms_at, cond_at, term_with, cond_with, group_with, truth_at, truth_test_at, suffix_of, suffix, primary_of, primary_with, test_with, primary_at, test_at}
+use Rattle.rj_condition.specs.Reading.{Read, ◌>>=◌, expect, go_on, separated, after, behind, name_at, column_of, column_at, operand_at, operands_at, names_at, operator_at, null_at, bounds_at, members_at, range_at, by_operator, test_of, predicate_at, negated, factor_of, factor_at, factors_at, term_at, terms_at, cond_at, term_with, cond_with, group_with, truth_at, truth_test_at, suffix_of, suffix, primary_of, primary_with, test_with, primary_at, test_at}
 use Rattle.rj_condition.proofs.Turns.{turn_of}
 use Rattle.rj_condition.proofs.Behind.{operator_here, operator_no_point}
 
@@ -80,24 +80,24 @@ mutual
 
 -- Lists with separators, of items that are read in whole.
 module _ {A : Type 0} (item : List Token → Read A) (next : List Token → Option (List Token)) where
-  pub read_last : (n : ℕ) (found : List A) (ts : List Token) (x : A) (us : List Token) → item ts ≡ Some (x, us) → next us ≡ None → 0 < n →
-      separated item next n found ts ≡ Some (found ++ x ∷ [], us)
+  pub read_last : (n : ℕ) (found : List A) (ts : List Token) (x : A) (us : List Token) → item ts ≡ Ok (x, us) → next us ≡ None → 0 < n →
+      separated item next n found ts ≡ Ok (found ++ x ∷ [], us)
   read_last zero found ts x us e f lt = absurd (omega arith)
   read_last (suc n) found ts x us e f lt =
       turn_of item next n found ts x us e
-      ∙ ap (λ o. go_on o (Some (found ++ x ∷ [], us)) (λ ws. separated item next n (found ++ x ∷ []) ws)) f
+      ∙ ap (λ o. go_on o (Ok (found ++ x ∷ [], us)) (λ ws. separated item next n (found ++ x ∷ []) ws)) f
 
-  pub read_more : (n : ℕ) (found : List A) (ts : List Token) (x : A) (us vs : List Token) → item ts ≡ Some (x, us) → next us ≡ Some vs →
+  pub read_more : (n : ℕ) (found : List A) (ts : List Token) (x : A) (us vs : List Token) → item ts ≡ Ok (x, us) → next us ≡ Some vs →
       separated item next (suc n) found ts ≡ separated item next n (found ++ x ∷ []) vs
   read_more n found ts x us vs e f =
       turn_of item next n found ts x us e
-      ∙ ap (λ o. go_on o (Some (found ++ x ∷ [], us)) (λ ws. separated item next n (found ++ x ∷ []) ws)) f
+      ∙ ap (λ o. go_on o (Ok (found ++ x ∷ [], us)) (λ ws. separated item next n (found ++ x ∷ []) ws)) f
 
-regroup : {A : Type 0} (found : List A) (x : A) (xs : List A) (us : List Token) → ◌≡◌ {A = Read (List A)} (Some ((found ++ x ∷ []) ++ xs, us)) (Some (found ++ x ∷ xs, us))
-regroup {A} found x xs us = ap (λ (z : List A). Some (z, us)) (append_assoc found (x ∷ []) xs)
+regroup : {A : Type 0} (found : List A) (x : A) (xs : List A) (us : List Token) → ◌≡◌ {A = Read (List A)} (Ok ((found ++ x ∷ []) ++ xs, us)) (Ok (found ++ x ∷ xs, us))
+regroup {A} found x xs us = ap (λ (z : List A). Ok (z, us)) (append_assoc found (x ∷ []) xs)
 
 -- operands
-pub operand_complete : (ts : List Token) (x : Operand) (us : List Token) → IsOperand ts x us → behind sign.Point us ≡ None → operand_at ts ≡ Some (x, us)
+pub operand_complete : (ts : List Token) (x : Operand) (us : List Token) → IsOperand ts x us → behind sign.Point us ≡ None → operand_at ts ≡ Ok (x, us)
 unfolding operand_at column_at name_at behind
 operand_complete _ _ _ (plain_name n us) p = ap (column_of n us) p
 operand_complete _ _ _ (qualified_name q n us) p = refl
@@ -114,7 +114,7 @@ unfolding behind
 comma_here us = refl
 
 operands_found : (ts : List Token) (xs : List Operand) (us : List Token) → IsOperands ts xs us → behind sign.Point us ≡ None → behind sign.Comma us ≡ None →
-    (n : ℕ) (found : List Operand) → length ts ≤ n → separated operand_at (behind sign.Comma) n found ts ≡ Some (found ++ xs, us)
+    (n : ℕ) (found : List Operand) → length ts ≤ n → separated operand_at (behind sign.Comma) n found ts ≡ Ok (found ++ xs, us)
 operands_found _ _ _ (last_operand ts x us h) p e n found le =
     read_last operand_at (behind sign.Comma) n found ts x us (operand_complete ts x us h p) e (omega (arith, operand_shorter ts x us h))
 operands_found _ _ _ (more_operands ts x vs xs us h k) p e zero found le = absurd (omega (arith, operand_shorter ts x (token.Sign sign.Comma ∷ vs) h))
@@ -123,17 +123,17 @@ operands_found _ _ _ (more_operands ts x vs xs us h k) p e (suc n) found le =
     ∙ operands_found vs xs us k p e n (found ++ x ∷ []) (omega (arith, operand_shorter ts x (token.Sign sign.Comma ∷ vs) h))
     ∙ regroup found x xs us
 
-operands_complete : (ts : List Token) (xs : List Operand) (us : List Token) → IsOperands ts xs us → behind sign.Point us ≡ None → behind sign.Comma us ≡ None → operands_at ts ≡ Some (xs, us)
+operands_complete : (ts : List Token) (xs : List Operand) (us : List Token) → IsOperands ts xs us → behind sign.Point us ≡ None → behind sign.Comma us ≡ None → operands_at ts ≡ Ok (xs, us)
 unfolding operands_at
 operands_complete ts xs us h p e = operands_found ts xs us h p e (length ts) [] (le_refl (length ts))
 
 -- names
-name_here : (n : Name) (us : List Token) → name_at (token.Name n ∷ us) ≡ Some (n, us)
+name_here : (n : Name) (us : List Token) → name_at (token.Name n ∷ us) ≡ Ok (n, us)
 unfolding name_at
 name_here n us = refl
 
 names_found : (ts : List Token) (ns : List Name) (us : List Token) → IsNames ts ns us → behind sign.Comma us ≡ None →
-    (n : ℕ) (found : List Name) → length ts ≤ n → separated name_at (behind sign.Comma) n found ts ≡ Some (found ++ ns, us)
+    (n : ℕ) (found : List Name) → length ts ≤ n → separated name_at (behind sign.Comma) n found ts ≡ Ok (found ++ ns, us)
 names_found _ _ _ (last_name n us) e m found le = read_last name_at (behind sign.Comma) m found (token.Name n ∷ us) n us (name_here n us) e (omega arith)
 names_found _ _ _ (more_names n vs ns us k) e zero found le = absurd (omega arith)
 names_found _ _ _ (more_names n vs ns us k) e (suc m) found le =
@@ -141,18 +141,18 @@ names_found _ _ _ (more_names n vs ns us k) e (suc m) found le =
     ∙ names_found vs ns us k e m (found ++ n ∷ []) (omega arith)
     ∙ regroup found n ns us
 
-pub names_complete : (ts : List Token) (ns : List Name) (us : List Token) → IsNames ts ns us → behind sign.Comma us ≡ None → names_at ts ≡ Some (ns, us)
+pub names_complete : (ts : List Token) (ns : List Name) (us : List Token) → IsNames ts ns us → behind sign.Comma us ≡ None → names_at ts ≡ Ok (ns, us)
 unfolding names_at
 names_complete ts ns us h e = names_found ts ns us h e (length ts) [] (le_refl (length ts))
 
 -- predicates, by what stands behind their first operand
 compare_told : (x : Operand) (op : Comparison) (vs : List Token) (y : Operand) (us : List Token) → IsOperand vs y us → behind sign.Point us ≡ None →
-    test_of x (token.Sign (sign_of op) ∷ vs) ≡ Some (tree.Compare x op y, us)
+    test_of x (token.Sign (sign_of op) ∷ vs) ≡ Ok (tree.Compare x op y, us)
 unfolding test_of
 compare_told x op vs y us k p =
-    ap (by_operator x (token.Sign (sign_of op) ∷ vs)) (operator_here op vs) ∙ ap (λ (r : Read Operand). r >>= λ y. Some (tree.Compare x op y.0, y.1)) (operand_complete vs y us k p)
+    ap (by_operator x (token.Sign (sign_of op) ∷ vs)) (operator_here op vs) ∙ ap (λ (r : Read Operand). r >>= λ y. Ok (tree.Compare x op y.0, y.1)) (operand_complete vs y us k p)
 
-null_told : (x : Operand) (negated : Bool) (us : List Token) → test_of x (token.Keyword keyword.Is ∷ optional negated keyword.Not (token.Keyword keyword.Null ∷ us)) ≡ Some (tree.IsNull x negated, us)
+null_told : (x : Operand) (negated : Bool) (us : List Token) → test_of x (token.Keyword keyword.Is ∷ optional negated keyword.Not (token.Keyword keyword.Null ∷ us)) ≡ Ok (tree.IsNull x negated, us)
 unfolding test_of operator_at after null_at
 null_told x true us = refl
 null_told x false us = refl
@@ -162,12 +162,12 @@ unfolding behind
 and_no_point ws = refl
 
 bounds_told : (x : Operand) (negated : Bool) (vs : List Token) (low : Operand) (ws : List Token) (high : Operand) (us : List Token) →
-    IsOperand vs low (token.Keyword keyword.And ∷ ws) → IsOperand ws high us → behind sign.Point us ≡ None → bounds_at x negated vs ≡ Some (tree.Between x low high negated, us)
+    IsOperand vs low (token.Keyword keyword.And ∷ ws) → IsOperand ws high us → behind sign.Point us ≡ None → bounds_at x negated vs ≡ Ok (tree.Between x low high negated, us)
 unfolding bounds_at after
 bounds_told x negated vs low ws high us k l p =
-    ap (λ (r : Read Operand). r >>= λ low. after keyword.And low.1 >>= λ ws. operand_at ws >>= λ high. Some (tree.Between x low.0 high.0 negated, high.1))
+    ap (λ (r : Read Operand). r >>= λ low. expect (after keyword.And low.1) low.1 >>= λ u. operand_at u.1 >>= λ high. Ok (tree.Between x low.0 high.0 negated, high.1))
     (operand_complete vs low (token.Keyword keyword.And ∷ ws) k (and_no_point ws))
-    ∙ ap (λ (r : Read Operand). r >>= λ high. Some (tree.Between x low high.0 negated, high.1)) (operand_complete ws high us l p)
+    ∙ ap (λ (r : Read Operand). r >>= λ high. Ok (tree.Between x low high.0 negated, high.1)) (operand_complete ws high us l p)
 
 between_told : (x : Operand) (negated : Bool) (vs : List Token) → test_of x (optional negated keyword.Not (token.Keyword keyword.Between ∷ vs)) ≡ bounds_at x negated vs
 unfolding test_of operator_at after range_at
@@ -183,10 +183,10 @@ unfolding behind
 close_no_comma us = refl
 
 members_told : (x : Operand) (negated : Bool) (vs : List Token) (xs : List Operand) (us : List Token) → IsOperands vs xs (token.Sign sign.Close ∷ us) →
-    members_at x negated (token.Sign sign.Open ∷ vs) ≡ Some (tree.In x xs negated, us)
+    members_at x negated (token.Sign sign.Open ∷ vs) ≡ Ok (tree.In x xs negated, us)
 unfolding members_at behind
 members_told x negated vs xs us k =
-    ap (λ (r : Read (List Operand)). r >>= λ xs. behind sign.Close xs.1 >>= λ us. Some (tree.In x xs.0 negated, us))
+    ap (λ (r : Read (List Operand)). r >>= λ xs. expect (behind sign.Close xs.1) xs.1 >>= λ u. Ok (tree.In x xs.0 negated, u.1))
     (operands_complete vs xs (token.Sign sign.Close ∷ us) k (close_no_point us) (close_no_comma us))
 
 in_told : (x : Operand) (negated : Bool) (vs : List Token) → test_of x (optional negated keyword.Not (token.Keyword keyword.In ∷ vs)) ≡ members_at x negated vs
@@ -213,7 +213,7 @@ told_behind : (ts : List Token) (x : Operand) (us : List Token) → IsOperand ts
 unfolding predicate_at
 told_behind ts x us h p = ap (λ (r : Read Operand). r >>= λ x. test_of x.0 x.1) (operand_complete ts x us h p)
 
-predicate_complete : (ts : List Token) (c : Condition) (us : List Token) → IsPredicate ts c us → behind sign.Point us ≡ None → predicate_at ts ≡ Some (c, us)
+predicate_complete : (ts : List Token) (c : Condition) (us : List Token) → IsPredicate ts c us → behind sign.Point us ≡ None → predicate_at ts ≡ Ok (c, us)
 predicate_complete _ _ _ (compare ts x op vs y us h k) p = told_behind ts x (token.Sign (sign_of op) ∷ vs) h (operator_no_point op vs) ∙ compare_told x op vs y us k p
 predicate_complete _ _ _ (is_null ts x negated us h) p =
     let rest = optional negated keyword.Not (token.Keyword keyword.Null ∷ us) in
@@ -251,7 +251,7 @@ test_first _ _ _ (is_truth ts c t negated us h) = primary_first ts c (token.Keyw
 
 -- IS and its truth value
 suffix_truth : (c : Condition) (t : Truth) (negated : Bool) (us : List Token) →
-    suffix c (token.Keyword keyword.Is ∷ optional negated keyword.Not (token.Keyword (keyword_of_truth t) ∷ us)) ≡ Some (tree.Is c t negated, us)
+    suffix c (token.Keyword keyword.Is ∷ optional negated keyword.Not (token.Keyword (keyword_of_truth t) ∷ us)) ≡ Ok (tree.Is c t negated, us)
 unfolding suffix after truth_test_at truth_at
 suffix_truth c truth.False true us = refl
 suffix_truth c truth.Unknown true us = refl
@@ -260,15 +260,15 @@ suffix_truth c truth.False false us = refl
 suffix_truth c truth.Unknown false us = refl
 suffix_truth c truth.True false us = refl
 
-suffix_none : (c : Condition) (us : List Token) → after keyword.Is us ≡ None → suffix c us ≡ Some (c, us)
+suffix_none : (c : Condition) (us : List Token) → after keyword.Is us ≡ None → suffix c us ≡ Ok (c, us)
 unfolding suffix
 suffix_none c us e = ap (suffix_of c us) e
 
 abbrev pub named : (List Condition → Condition) → Read (List Condition) → Read Condition
-named f r = r >>= λ x. Some (f x.0, x.1)
+named f r = r >>= λ x. Ok (f x.0, x.1)
 
 abbrev closed : Read Condition → Read Condition
-closed r = r >>= λ x. behind sign.Close x.1 >>= λ us. Some (x.0, us)
+closed r = r >>= λ x. expect (behind sign.Close x.1) x.1 >>= λ u. Ok (x.0, u.1)
 
 abbrev suffixed : Read Condition → Read Condition
 suffixed r = r >>= λ x. suffix x.0 x.1
@@ -341,29 +341,29 @@ term_named : (n : ℕ) (ts : List Token) (r : Read (List Condition)) → factors
 unfolding term_with
 term_named n ts r e = ap (named all_of) e
 
-closed_group : (cs : List Condition) (us : List Token) → closed (named any_of (Some (cs, token.Sign sign.Close ∷ us))) ≡ Some (any_of cs, us)
-closed_group cs us = ap (λ (o : Option (List Token)). o >>= λ us. Some (any_of cs, us)) (close_here us)
+closed_group : (cs : List Condition) (us : List Token) → closed (named any_of (Ok (cs, token.Sign sign.Close ∷ us))) ≡ Ok (any_of cs, us)
+closed_group cs us = ap (λ (o : Option (List Token)). expect o (token.Sign sign.Close ∷ us) >>= λ u. Ok (any_of cs, u.1)) (close_here us)
 
 mutual
-  pub factor_complete : (ts : List Token) (c : Condition) (us : List Token) → IsFactor ts c us → IsFactorEnd us → (n : ℕ) → length ts ≤ n → factor_at n ts ≡ Some (c, us)
+  pub factor_complete : (ts : List Token) (c : Condition) (us : List Token) → IsFactor ts c us → IsFactorEnd us → (n : ℕ) → length ts ≤ n → factor_at n ts ≡ Ok (c, us)
   factor_complete _ _ _ (not ts c us h) e zero le = absurd (omega arith)
   factor_complete _ _ _ (not ts c us h) e (suc n) le = factor_negated n ts ∙ ap negated (factor_complete ts c us h e n (omega arith))
   factor_complete _ _ _ (test ts c us h) e zero le = absurd (omega (arith, test_shorter ts c us h))
   factor_complete _ _ _ (test ts c us h) e (suc n) le = factor_tested n ts (test_first ts c us h) ∙ test_complete ts c us h e n (omega arith)
 
-  test_complete : (ts : List Token) (c : Condition) (us : List Token) → IsTest ts c us → IsFactorEnd us → (n : ℕ) → length ts ≤ n + 1 → test_at n ts ≡ Some (c, us)
-  test_complete _ _ _ (plain ts c us h) e n le = test_suffixed n ts (Some (c, us)) (primary_complete ts c us h e.no_point n le) ∙ suffix_none c us e.no_is
+  test_complete : (ts : List Token) (c : Condition) (us : List Token) → IsTest ts c us → IsFactorEnd us → (n : ℕ) → length ts ≤ n + 1 → test_at n ts ≡ Ok (c, us)
+  test_complete _ _ _ (plain ts c us h) e n le = test_suffixed n ts (Ok (c, us)) (primary_complete ts c us h e.no_point n le) ∙ suffix_none c us e.no_is
   test_complete _ _ _ (is_truth ts c t negated us h) e n le =
       let rest = optional negated keyword.Not (token.Keyword (keyword_of_truth t) ∷ us) in
-      test_suffixed n ts (Some (c, token.Keyword keyword.Is ∷ rest)) (primary_complete ts c (token.Keyword keyword.Is ∷ rest) h (is_no_point rest) n le) ∙ suffix_truth c t negated us
+      test_suffixed n ts (Ok (c, token.Keyword keyword.Is ∷ rest)) (primary_complete ts c (token.Keyword keyword.Is ∷ rest) h (is_no_point rest) n le) ∙ suffix_truth c t negated us
 
-  primary_complete : (ts : List Token) (c : Condition) (us : List Token) → IsPrimary ts c us → behind sign.Point us ≡ None → (n : ℕ) → length ts ≤ n + 1 → primary_at n ts ≡ Some (c, us)
+  primary_complete : (ts : List Token) (c : Condition) (us : List Token) → IsPrimary ts c us → behind sign.Point us ≡ None → (n : ℕ) → length ts ≤ n + 1 → primary_at n ts ≡ Ok (c, us)
   primary_complete _ _ _ (predicate ts c us h) p n le = primary_predicate n ts (predicate_first ts c us h).0 ∙ predicate_complete ts c us h p
   primary_complete _ _ _ (group ts cs us h) p n le =
-      primary_grouped n ts (Some (cs, token.Sign sign.Close ∷ us)) (terms_complete ts cs (token.Sign sign.Close ∷ us) h (end_close us) n n [] (omega arith) (omega arith)) ∙ closed_group cs us
+      primary_grouped n ts (Ok (cs, token.Sign sign.Close ∷ us)) (terms_complete ts cs (token.Sign sign.Close ∷ us) h (end_close us) n n [] (omega arith) (omega arith)) ∙ closed_group cs us
 
   factors_complete : (ts : List Token) (cs : List Condition) (us : List Token) → IsFactors ts cs us → IsFactorEnd us → after keyword.And us ≡ None →
-      (n m : ℕ) (found : List Condition) → length ts ≤ n → length ts ≤ m → separated (factor_at m) (after keyword.And) n found ts ≡ Some (found ++ cs, us)
+      (n m : ℕ) (found : List Condition) → length ts ≤ n → length ts ≤ m → separated (factor_at m) (after keyword.And) n found ts ≡ Ok (found ++ cs, us)
   factors_complete _ _ _ (last_factor ts c us h) i e n m found p q =
       read_last (factor_at m) (after keyword.And) n found ts c us (factor_complete ts c us h i m q) e (omega (arith, factor_shorter ts c us h))
   factors_complete _ _ _ (and_factors ts c vs cs us h k) i e zero m found p q = absurd (omega (arith, factor_shorter ts c (token.Keyword keyword.And ∷ vs) h))
@@ -374,19 +374,19 @@ mutual
       ∙ regroup found c cs us
 
   pub terms_complete : (ts : List Token) (cs : List Condition) (us : List Token) → IsTerms ts cs us → IsEnd us →
-      (n m : ℕ) (found : List Condition) → length ts ≤ n → length ts ≤ m → separated (term_at m) (after keyword.Or) n found ts ≡ Some (found ++ cs, us)
+      (n m : ℕ) (found : List Condition) → length ts ≤ n → length ts ≤ m → separated (term_at m) (after keyword.Or) n found ts ≡ Ok (found ++ cs, us)
   terms_complete _ _ _ (last_term ts cs us h) e n m found p q =
       read_last (term_at m) (after keyword.Or) n found ts (all_of cs) us
-      (term_named m ts (Some (cs, us)) (factors_complete ts cs us h record { no_point = e.no_point; no_is = e.no_is } e.no_and m m [] q q)) e.no_or (omega (arith, factors_shorter ts cs us h))
+      (term_named m ts (Ok (cs, us)) (factors_complete ts cs us h record { no_point = e.no_point; no_is = e.no_is } e.no_and m m [] q q)) e.no_or (omega (arith, factors_shorter ts cs us h))
   terms_complete _ _ _ (or_terms ts cs vs ds us h k) e zero m found p q = absurd (omega (arith, factors_shorter ts cs (token.Keyword keyword.Or ∷ vs) h))
   terms_complete _ _ _ (or_terms ts cs vs ds us h k) e (suc n) m found p q =
       let s = factors_shorter ts cs (token.Keyword keyword.Or ∷ vs) h in
       read_more (term_at m) (after keyword.Or) n found ts (all_of cs) (token.Keyword keyword.Or ∷ vs) vs
-      (term_named m ts (Some (cs, token.Keyword keyword.Or ∷ vs)) (factors_complete ts cs (token.Keyword keyword.Or ∷ vs) h (or_ends_factor vs) (or_no_and vs) m m [] q q)) (or_here vs)
+      (term_named m ts (Ok (cs, token.Keyword keyword.Or ∷ vs)) (factors_complete ts cs (token.Keyword keyword.Or ∷ vs) h (or_ends_factor vs) (or_no_and vs) m m [] q q)) (or_here vs)
       ∙ terms_complete vs ds us k e n m (found ++ all_of cs ∷ []) (omega (arith, s)) (omega (arith, s))
       ∙ regroup found (all_of cs) ds us
 
 -- a whole condition
-pub cond_complete : (ts : List Token) (cs : List Condition) → IsTerms ts cs [] → cond_at (length ts) ts ≡ Some (any_of cs, [])
+pub cond_complete : (ts : List Token) (cs : List Condition) → IsTerms ts cs [] → cond_at (length ts) ts ≡ Ok (any_of cs, [])
 unfolding cond_with
 cond_complete ts cs h = ap (named any_of) (terms_complete ts cs [] h end_nothing (length ts) (length ts) [] (le_refl (length ts)) (le_refl (length ts)))

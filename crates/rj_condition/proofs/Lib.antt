@@ -24,7 +24,9 @@ pub mod BandFacts
 pub mod NullSafeFacts
 pub mod Turns
 pub mod Behind
-pub mod Sound
+pub mod Stopping
+pub mod Fuel
+pub mod Readers
 pub mod Complete
 pub mod Whole
 pub mod Answer

@@ -1,6 +1,6 @@
 -- Clause: the syntax tree of a text, or its fault. A text over 65,536 bytes is too long; that is told first, then that it
 -- is nested too deep, and then that it is no clause.
-use Rattle.std.specs.Prelude.{◌≡◌, ◌≢◌, ◌<◌, ◌≤◌, ℕ, true, false, List, length, Result, Ok, Err, MatchResult}
+use Rattle.std.specs.Prelude.{◌≡◌, ◌≢◌, ◌<◌, ◌≤◌, ◌++◌, ℕ, suc, true, false, List, length, slice_get, take, unwrap_or, Result, Ok, Err, MatchResult}
 use Rattle.rj_condition.specs.declared.token.Token.{Token}
 use Rattle.rj_condition.specs.declared.tree.Clause.{Clause}
 use Rattle.rj_condition.specs.declared.refused.ParseRefused.{ParseRefused}
@@ -8,6 +8,7 @@ use Rattle.rj_condition.specs.declared.refused.ParseRefused.TheVariants as refus
 use Rattle.rj_condition.specs.Lexing.{Lexes}
 use Rattle.rj_condition.specs.Nesting.{is_deep}
 use Rattle.rj_condition.specs.Grammar.{Derives}
+use Rattle.rj_condition.specs.Refusals.{BeginAt}
 
 abbrev pub IsTooLong : List ℕ → Type 0
 IsTooLong text = 65536 < length text
@@ -23,11 +24,30 @@ HasClause text c = (ts : List Token) × (length text ≤ 65536) × Lexes text ts
 abbrev pub HasNoClause : List ℕ → Type 0
 HasNoClause text = (ts : List Token) × (length text ≤ 65536) × Lexes text ts × (is_deep ts ≡ false) × ((c : Clause) → Derives ts c → ⊥)
 
+-- the tokens begin a clause: with some more behind them they are those of one
+abbrev pub BeginsClause : List Token → Type 0
+BeginsClause ts = (us : List Token) × (c : Clause) × Derives (ts ++ us) c
+
+-- so many tokens begin a clause, and with the next one, if there is one, they begin none
+pub record IsStop (ts : List Token) (n : ℕ) : Type 0 where
+  pub within : n ≤ length ts
+  pub begins : BeginsClause (take n ts)
+  pub stops : n < length ts → BeginsClause (take (suc n) ts) → ⊥
+
+-- the first byte of the first token with which the tokens so far begin no clause, or the text's length where there is no such token
+pub record IsStopByte (text : List ℕ) (byte : ℕ) : Type 0 where
+  pub tokens : List Token
+  pub starts : List ℕ
+  pub begin : BeginAt text text tokens starts
+  pub place : ℕ
+  pub stop : IsStop tokens place
+  pub at : byte ≡ unwrap_or (slice_get starts place) (length text)
+
 -- The fault is the text's own, or memory ran out.
 abbrev pub IsFault : List ℕ → ParseRefused → Type 0
 IsFault text refused.TooLong = IsTooLong text
 IsFault text refused.TooDeep = IsTooDeep text
-IsFault text (refused.Syntax byte) = HasNoClause text
+IsFault text (refused.Syntax byte) = HasNoClause text × IsStopByte text byte
 IsFault text refused.Memory = Unit {0}
 
 -- The answer of a parser is the clause or the fault of the text, unless memory ran out.

@@ -57,8 +57,8 @@ differ_in l r c = fold-Condition (Option Pair) (differ_at l r) c
 
 -- those of the predicate that the tokens begin with
 abbrev pub differ_read : TableValue → TableValue → Read Condition → Option Pair
-differ_read l r None = None
-differ_read l r (Some p) = differ_in l r p.0
+differ_read l r (Err left) = None
+differ_read l r (Ok p) = differ_in l r p.0
 
 -- the columns of a name of USING
 abbrev pub differ_by_name : TableValue → TableValue → Name → Option Pair

@@ -1,6 +1,6 @@
 //! A clause text and its syntax tree.
 
-ghost use Rattle.std.specs.Prelude.{◌≡◌, ◌∷◌, [], ◌≤◌, length, List, ℕ};
+ghost use Rattle.std.specs.Prelude.{◌≡◌, ◌∷◌, ◌-◌, [], ◌≤◌, length, slice_get, unwrap_or, List, ℕ};
 ghost use Rattle.rj_condition.specs.declared.tree.Clause.{Clause};
 ghost use Rattle.rj_condition.specs.declared.refused.ParseRefused.TheVariants as refused;
 ghost use Rattle.rj_condition.specs.Clauses.{IsTooLong, IsTooDeep, HasClause, HasNoClause, Parses, IsAnswer, Refuses, IsSyntax};
@@ -50,19 +50,18 @@ fn read(alloc: Global, text: &str) -> Result<Clause, ParseRefused>
         Ok(clause) => Ok(clause),
         Err(Stop::Memory) => Err(ParseRefused::Memory),
         Err(Stop::Syntax(left)) => Err(ParseRefused::Syntax(
-            fault_byte(&lexed.starts, left, text.len()) as u64,
+            fault_byte(lexed.starts.as_slice(), left, text.len()) as u64,
         )),
     }
 }
 
 // Where the token starts of which so many are left, or the end of the text.
-fn fault_byte(starts: &[u32], left: usize, text_len: usize) -> usize {
-    match starts
-        .len()
-        .checked_sub(left)
-        .and_then(|at| starts.get(at).copied())
-    {
-        Some(start) => start as usize,
+fn fault_byte(starts: &[u32], left: usize, text_len: usize) -> usize
+    requires { left ≤ length starts.now }
+    ensures { result ≡ unwrap_or (slice_get starts.now (length starts.now - left)) text_len }
+{
+    match starts.get(starts.len() - left) {
+        Some(start) => *start as usize,
         None => text_len,
     }
 }
