@@ -13,7 +13,7 @@ returns-in-Ok c =
 pub fault_byte-requires : goal.fault_byte-requires
 fault_byte-requires c =
     let stopped : clause_at c.as_slice-2.result.now ≡ Err c.in-Err-Syntax.left = rw c.in-Err-Syntax.field-0-is at c.in-Err-Syntax.ensures in
-    rw c.as_slice-3.ensures.value
+    rw c.as_slice-in-Err-Syntax.ensures.value
     (left_within c.args.text.now c.in_ok-lexed.lexed.tokens c.in_ok-lexed.lexed.starts.items c.in-Err-Syntax.left c.in_ok-lexed.ensures.starts
     (ap clause_at (sym c.as_slice-2.ensures) ∙ stopped))
 
@@ -27,7 +27,7 @@ returns c =
     let flat : is_deep ts ≡ false = sym (ap is_deep c.as_slice.ensures) ∙ sym c.in_ok-too_deep.ensures ∙ c.if-branch.false in
     let stopped : clause_at c.as_slice-2.result.now ≡ Err left = rw c.in-Err-Syntax.field-0-is at c.in-Err-Syntax.ensures in
     let none : clause_at ts ≡ Err left = ap clause_at (sym c.as_slice-2.ensures) ∙ stopped in
-    let byte = c.fault_byte.ensures in (
+    let byte = rw c.as_slice-in-Err-Syntax.ensures.value at c.fault_byte.ensures in (
       not_found text ts left within c.in_ok-lexed.ensures.tokens flat none,
       stop_byte text ts starts left c.fault_byte.result c.in_ok-lexed.ensures.starts none byte,
     )
