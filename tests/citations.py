@@ -8,17 +8,17 @@ import sys
 import harness
 
 # Where a path may begin: what stands in `crates/`, and what an earlier path of the line names, may be left out.
-PLACES = ("", "crates/", "crates/*/", "crates/*/edits/", "crates/*/must-fail/", "crates/*/proofs/", "docs/", "tests/", "tests/oracle/", "bench/", "tools/", "examples/")
+PLACES = ("", "crates/", "crates/*/", "crates/*/edits/", "crates/*/must-fail/", "crates/*/proofs/", "docs/user/", "docs/dev/", "tests/", "tests/oracle/", "bench/", "tools/", "examples/")
 SUFFIXES = ("antt", "rt", "py", "toml", "md", "c", "rs", "sh", "edit", "txt", "tried", "fish", "bash", "1")
 # Pages whose code is what a user types, and no name of the repository's.
-FOR_USERS = ("docs/faults.md", "docs/recipes.md", "README.md", "CHANGELOG.md", "docs/python.md", "docs/options.md")
+FOR_USERS = ("docs/user/errors.md", "docs/user/recipes.md", "README.md", "CHANGELOG.md", "docs/user/python.md", "docs/user/options.md")
 # Words in code letters that stand for a text, a place or a thing outside the repository.
 OTHERS = {"NAME", "CRATE", "FOLDER", "PREFIX"}
 # Options in the documents that are none of this repository: those of `rt`, and those that stand for any.
 OTHER_OPTIONS = {"limit", "name", "only", "test", "minutes"}
 # A number as documents write it.
 NUMBER = r"2\^\d+(?: - 1)?|\d[\d,]*"
-# The constant that each limit of docs/specification.md stands in.
+# The constant that each limit of docs/user/specification.md stands in.
 CONSTANTS = {
     "rows of a table": ("rj_csv_io/src/read_rows.rt", r"MAX_ROWS: u64 = (\w+);"),
     "columns of a table": ("rj_columns/src/builder.rt", r"MAX_COLUMNS: usize = (\w+);"),
@@ -47,32 +47,32 @@ TOLD = {
 }
 # Sizes that pages tell: the page, what stands there with the number, what the number counts, and the constant that has it.
 FIGURES = (
-    ("docs/architecture.md", rf"nor do fewer than ({NUMBER}) rows", 1, "rj_csv_io/src/write_in_parts.rt", "LEAST_ROWS"),
-    ("docs/architecture.md", rf"list of texts of up to ({NUMBER}) rows", 1, "rj_csv_io/src/range.rt", "TEXT_ROWS"),
-    ("docs/architecture.md", rf"Output is made in blocks of up to ({NUMBER}) rows", 1, "rj_csv_io/src/block.rt", "BLOCK_ROWS"),
-    ("docs/architecture.md", rf"Keys are hashed in blocks of up to ({NUMBER}) rows", 1, "rj_radix/src/routing.rt", "BLOCK"),
-    ("docs/architecture.md", rf"Keys are hashed in blocks of up to ({NUMBER}) rows", 1, "rj_hashjoin/src/hashing.rt", "BLOCK"),
-    ("docs/DECISIONS.md", rf"A part has at least ({NUMBER}) KiB", 1 << 10, "rj_csv_io/src/read_parts.rt", "LEAST_PART"),
-    ("docs/DECISIONS.md", rf"a share of the written rows at least ({NUMBER}) rows", 1, "rj_csv_io/src/write_in_parts.rt", "LEAST_ROWS"),
-    ("docs/DECISIONS.md", rf"Rows are written in blocks of ({NUMBER}) rows", 1, "rj_csv_io/src/block.rt", "BLOCK_ROWS"),
-    ("docs/DECISIONS.md", rf"no more than ({NUMBER}) GiB at once", 1 << 30, "rj_csv_io/src/range.rt", "MOST_ROOM"),
-    ("docs/DECISIONS.md", rf"list of texts of up to ({NUMBER}) rows", 1, "rj_csv_io/src/range.rt", "TEXT_ROWS"),
-    ("docs/DECISIONS.md", rf"line feeds of the file's first ({NUMBER}) KiB", 1 << 10, "rj_csv_io/src/header.rt", "SAMPLE"),
-    ("docs/DECISIONS.md", rf"Rows are hashed in blocks of ({NUMBER}),", 1, "rj_radix/src/routing.rt", "BLOCK"),
-    ("docs/DECISIONS.md", rf"Rows are hashed in blocks of ({NUMBER}),", 1, "rj_hashjoin/src/hashing.rt", "BLOCK"),
-    ("docs/DECISIONS.md", rf"sleeps, ({NUMBER}) to (?:{NUMBER}) microseconds", 1, "rj_workers/src/pause.rt", "SHORTEST"),
-    ("docs/DECISIONS.md", rf"sleeps, (?:{NUMBER}) to ({NUMBER}) microseconds", 1, "rj_workers/src/pause.rt", "LONGEST"),
-    ("docs/DECISIONS.md", rf"`shards` reads ({NUMBER}) MiB at a time", 1 << 20, "shards/src/dividing.rt", "BLOCK"),
-    ("docs/specification.md", rf"A and B are at most ({NUMBER}) and places", 1, "shards/src/dividing.rt", "MOST"),
-    ("docs/specification.md", rf"NAME is left out if it has more than ({NUMBER}) bytes", 1, "rj_files/src/draft.rt", "LONGEST"),
-    ("docs/specification.md", rf"of more than ({NUMBER}) bytes the first ones", 1, "rj_explain/src/shown.rt", "MOST"),
-    ("docs/specification.md", rf"another text of 1 to ({NUMBER}) bytes", 1, "rj_line/src/choosing.rt", "LONGEST_SUFFIX"),
-    ("docs/specification.md", rf"would have more than ({NUMBER}) bytes before it is like no other", 1, "rj_engine/src/naming.rt", "MAX_NAME"),
+    ("docs/dev/architecture.md", rf"nor do fewer than ({NUMBER}) rows", 1, "rj_csv_io/src/write_in_parts.rt", "LEAST_ROWS"),
+    ("docs/dev/architecture.md", rf"list of texts of up to ({NUMBER}) rows", 1, "rj_csv_io/src/range.rt", "TEXT_ROWS"),
+    ("docs/dev/architecture.md", rf"Output is made in blocks of up to ({NUMBER}) rows", 1, "rj_csv_io/src/block.rt", "BLOCK_ROWS"),
+    ("docs/dev/architecture.md", rf"Keys are hashed in blocks of up to ({NUMBER}) rows", 1, "rj_radix/src/routing.rt", "BLOCK"),
+    ("docs/dev/architecture.md", rf"Keys are hashed in blocks of up to ({NUMBER}) rows", 1, "rj_hashjoin/src/hashing.rt", "BLOCK"),
+    ("docs/dev/decisions.md", rf"A part has at least ({NUMBER}) KiB", 1 << 10, "rj_csv_io/src/read_parts.rt", "LEAST_PART"),
+    ("docs/dev/decisions.md", rf"a share of the written rows at least ({NUMBER}) rows", 1, "rj_csv_io/src/write_in_parts.rt", "LEAST_ROWS"),
+    ("docs/dev/decisions.md", rf"Rows are written in blocks of ({NUMBER}) rows", 1, "rj_csv_io/src/block.rt", "BLOCK_ROWS"),
+    ("docs/dev/decisions.md", rf"no more than ({NUMBER}) GiB at once", 1 << 30, "rj_csv_io/src/range.rt", "MOST_ROOM"),
+    ("docs/dev/decisions.md", rf"list of texts of up to ({NUMBER}) rows", 1, "rj_csv_io/src/range.rt", "TEXT_ROWS"),
+    ("docs/dev/decisions.md", rf"line feeds of the file's first ({NUMBER}) KiB", 1 << 10, "rj_csv_io/src/header.rt", "SAMPLE"),
+    ("docs/dev/decisions.md", rf"Rows are hashed in blocks of ({NUMBER}),", 1, "rj_radix/src/routing.rt", "BLOCK"),
+    ("docs/dev/decisions.md", rf"Rows are hashed in blocks of ({NUMBER}),", 1, "rj_hashjoin/src/hashing.rt", "BLOCK"),
+    ("docs/dev/decisions.md", rf"sleeps, ({NUMBER}) to (?:{NUMBER}) microseconds", 1, "rj_workers/src/pause.rt", "SHORTEST"),
+    ("docs/dev/decisions.md", rf"sleeps, (?:{NUMBER}) to ({NUMBER}) microseconds", 1, "rj_workers/src/pause.rt", "LONGEST"),
+    ("docs/dev/decisions.md", rf"`shards` reads ({NUMBER}) MiB at a time", 1 << 20, "shards/src/dividing.rt", "BLOCK"),
+    ("docs/user/specification.md", rf"A and B are at most ({NUMBER}) and places", 1, "shards/src/dividing.rt", "MOST"),
+    ("docs/user/specification.md", rf"NAME is left out if it has more than ({NUMBER}) bytes", 1, "rj_files/src/draft.rt", "LONGEST"),
+    ("docs/user/specification.md", rf"of more than ({NUMBER}) bytes the first ones", 1, "rj_explain/src/shown.rt", "MOST"),
+    ("docs/user/specification.md", rf"another text of 1 to ({NUMBER}) bytes", 1, "rj_line/src/choosing.rt", "LONGEST_SUFFIX"),
+    ("docs/user/specification.md", rf"would have more than ({NUMBER}) bytes before it is like no other", 1, "rj_engine/src/naming.rt", "MAX_NAME"),
 )
 # The columns of a line and the words of a table's cell that a page may have, and the pages that aren't laid out so yet.
 MOST_COLUMNS, MOST_WORDS = 100, 25
-WIDE = ("docs/proved.md",)
-# How many decisions docs/DECISIONS.md may have.
+WIDE = ("docs/dev/theorem.md",)
+# How many decisions docs/dev/decisions.md may have.
 MOST_DECISIONS = 60
 # What is said of memory, wherever it is said.
 MEMORY = r"about\s+(\w+)\s+times\s+the\s+size\s+of\s+(?:the|its)\s+two\s+(?:files|parts)"
@@ -370,34 +370,35 @@ def layout_faults(text):
 
 
 def index_faults(text):
-    """Where docs/index.md isn't what `tools/index` prints."""
+    """Where docs/dev/index.md isn't what `tools/index` prints."""
     ran = subprocess.run([sys.executable, harness.ROOT / "tools" / "index"], capture_output=True, check=False)
     wanted = ran.stdout.decode().splitlines()
     if ran.returncode:
         yield ran.stderr.decode().strip()
     elif wanted != text.splitlines():
-        yield "it isn't what tools/index prints: tools/index > docs/index.md"
+        yield "it isn't what tools/index prints: tools/index > docs/dev/index.md"
 
 
 def check_agreement(tally, files):
     """What several places tell of one thing."""
-    docs = {name: (harness.ROOT / "docs" / f"{name}.md").read_text() for name in ("specification", "architecture", "changing", "proved", "DECISIONS", "index")}
-    tally.check("docs/specification.md: definitions", list(definition_faults(docs["specification"])))
-    tally.check("docs/specification.md: limits", list(limit_faults(docs["specification"])))
-    tally.check("docs/specification.md: what merges tells", list(ending_faults(docs["specification"])))
-    tally.check("docs/architecture.md: crates", list(crate_faults(docs["architecture"])))
+    names = ("user/specification", "dev/architecture", "dev/changing", "dev/theorem", "dev/decisions", "dev/index")
+    docs = {name.partition("/")[2]: (harness.ROOT / "docs" / f"{name}.md").read_text() for name in names}
+    tally.check("docs/user/specification.md: definitions", list(definition_faults(docs["specification"])))
+    tally.check("docs/user/specification.md: limits", list(limit_faults(docs["specification"])))
+    tally.check("docs/user/specification.md: what merges tells", list(ending_faults(docs["specification"])))
+    tally.check("docs/dev/architecture.md: crates", list(crate_faults(docs["architecture"])))
     tally.check("crates.txt: crates that none names", list(unnamed_faults(files)))
-    tally.check("docs/architecture.md: types of one name", list(type_faults(docs["architecture"], files)))
-    tally.check("docs/changing.md: files of names", list(place_faults(docs["changing"])))
-    tally.check("docs/proved.md: libraries", list(library_faults(docs["proved"])))
-    tally.check("docs/index.md: what tools/index prints", list(index_faults(docs["index"])))
-    tally.check("docs/DECISIONS.md: numbers", list(number_faults(docs["DECISIONS"])))
-    pages = ("README.md", "CONTRIBUTING.md", "docs/proved.md")
+    tally.check("docs/dev/architecture.md: types of one name", list(type_faults(docs["architecture"], files)))
+    tally.check("docs/dev/changing.md: files of names", list(place_faults(docs["changing"])))
+    tally.check("docs/dev/theorem.md: libraries", list(library_faults(docs["theorem"])))
+    tally.check("docs/dev/index.md: what tools/index prints", list(index_faults(docs["index"])))
+    tally.check("docs/dev/decisions.md: numbers", list(number_faults(docs["decisions"])))
+    pages = ("README.md", "CONTRIBUTING.md", "docs/dev/theorem.md")
     tally.check("the kit", list(agreement_faults("the kit", r"rattle-kit-\w+", pages)))
     tally.check("the kit's logic", list(agreement_faults("the kit", r"rattle-kit-\w+ logic \w+", pages[1:])))
-    pages = ("README.md", "docs/options.md", "docs/faults.md", "docs/cluster.md", "man/radixjoin.1")
+    pages = ("README.md", "docs/user/options.md", "docs/user/errors.md", "docs/user/cluster.md", "man/radixjoin.1")
     tally.check("memory", list(agreement_faults("memory", MEMORY, pages)))
-    for page in ("docs/options.md", "docs/faults.md", "man/radixjoin.1"):
+    for page in ("docs/user/options.md", "docs/user/errors.md", "man/radixjoin.1"):
         tally.check(f"{page}: limits", list(untold_limits(page)))
     for page in sorted({figure[0] for figure in FIGURES}):
         tally.check(f"{page}: sizes", list(figure_faults(page)))

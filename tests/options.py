@@ -182,26 +182,26 @@ def section_faults(text, program, options):
 
 
 def index_faults(program, options):
-    """How the options of a program in docs/index.md differ from those of help."""
-    index = (harness.ROOT / "docs" / "index.md").read_text()
+    """How the options of a program in docs/dev/index.md differ from those of help."""
+    index = (harness.ROOT / "docs" / "dev" / "index.md").read_text()
     section = index.partition(f"\n## Options of `{program}`\n")[2].partition("\n## ")[0]
     return difference(re.findall(r"^- `--([\w-]+)`", section, re.MULTILINE), set(options) - {"help", "version"})
 
 
 def document_faults(options):
-    """Which options the tables of docs/options.md and the specification lack."""
-    page = (harness.ROOT / "docs" / "options.md").read_text()
-    specification = (harness.ROOT / "docs" / "specification.md").read_text()
+    """Which options the tables of docs/user/options.md and the specification lack."""
+    page = (harness.ROOT / "docs" / "user" / "options.md").read_text()
+    specification = (harness.ROOT / "docs" / "user" / "specification.md").read_text()
     joins = options["radixjoin"]
     table = [name for line in page.splitlines() if line.startswith("| `--") for name in re.findall(r"--([\w-]+)", line.split("|")[1])]
-    yield "docs/options.md, options", difference(table, set(joins) - {"help", "version"}) + list(row_faults(page, joins))
-    yield "docs/specification.md, options", list(row_faults(specification, joins))
+    yield "docs/user/options.md, options", difference(table, set(joins) - {"help", "version"}) + list(row_faults(page, joins))
+    yield "docs/user/specification.md, options", list(row_faults(specification, joins))
     for program in PROGRAMS[1:]:
-        yield f"docs/specification.md, {program}", list(section_faults(specification, program, options[program]))
+        yield f"docs/user/specification.md, {program}", list(section_faults(specification, program, options[program]))
     for program in PROGRAMS:
-        yield f"docs/index.md, options of {program}", index_faults(program, options[program])
+        yield f"docs/dev/index.md, options of {program}", index_faults(program, options[program])
     for name in sorted({name for program in PROGRAMS for name in options[program]}):
-        yield f"docs/specification.md, --{name}", [] if re.search(rf"--{name}\b(?!-)", specification) else ["it isn't told"]
+        yield f"docs/user/specification.md, --{name}", [] if re.search(rf"--{name}\b(?!-)", specification) else ["it isn't told"]
 
 
 def version_faults(program):

@@ -1,4 +1,4 @@
-"""Runs the examples of the pages for users: README.md, docs/options.md, docs/faults.md, docs/recipes.md and the man pages.
+"""Runs the examples of the pages for users: README.md, docs/user/options.md, docs/user/errors.md, docs/user/recipes.md and the man pages.
 
 An example has one of two forms. A block ```sh can be pasted: a shell gets it as it stands, and the block ```text behind it is
 what it prints, nothing where there is none. Man pages have sessions: lines `$ COMMAND`, each with what it prints below it, where a
@@ -19,7 +19,7 @@ import subprocess
 import harness
 
 # The pages whose examples can be pasted, so that no prompt stands before a command.
-PAGES = ("README.md", "docs/options.md", "docs/faults.md", "docs/recipes.md")
+PAGES = ("README.md", "docs/user/options.md", "docs/user/errors.md", "docs/user/recipes.md")
 MANUALS = ("man/radixjoin.1", "man/arrivals.1", "man/shards.1", "man/merges.1")
 PROGRAMS = ("radixjoin", "arrivals", "shards", "merges")
 SECONDS = 60
@@ -197,12 +197,12 @@ def check_cheat_sheet(tally):
 
 def check_clauses(tally):
     """Runs each clause of the table of clauses over the two files of examples/, and counts the rows."""
-    page = (harness.ROOT / "docs" / "options.md").read_text()
+    page = (harness.ROOT / "docs" / "user" / "options.md").read_text()
     for clause, wanted in re.findall(r"^\| `(.*?JOIN.*?)` \|.*\| (\d+) \|$", page, re.MULTILINE):
         words = ["--left", "people.csv", "--left-types", "int,text,int", "--right", "cities.csv", "--right-types", "int,text", "--join", clause]
         ran = harness.run([harness.program("radixjoin"), *words], harness.ROOT / "examples")
         rows = ran.stdout.count(b"\n") - 1
-        tally.check(f"docs/options.md, {clause}", harness.differences(ran, None) + ([] if rows == int(wanted) else [f"{rows} rows, and not {wanted}"]))
+        tally.check(f"docs/user/options.md, {clause}", harness.differences(ran, None) + ([] if rows == int(wanted) else [f"{rows} rows, and not {wanted}"]))
 
 
 def check_pasted(tally):
@@ -215,9 +215,9 @@ def check_pasted(tally):
 
 
 def check_faults_are_told(tally):
-    """docs/faults.md has a section for each fault of the table in docs/specification.md, and shows its line."""
-    specification = (harness.ROOT / "docs" / "specification.md").read_text()
-    sections = sections_of("docs/faults.md")
+    """docs/user/errors.md has a section for each fault of the table in docs/user/specification.md, and shows its line."""
+    specification = (harness.ROOT / "docs" / "user" / "specification.md").read_text()
+    sections = sections_of("docs/user/errors.md")
     for line, status in re.findall(r"^\| `radixjoin: (.*?)` \|.*\| (\d) \|$", specification, re.MULTILINE):
         name = re.split(r" (?:SIDE|byte N|row R|column C)", line)[0]
         text = "\n".join(line for section in sections if section.title == name for line in section.text)
@@ -227,7 +227,7 @@ def check_faults_are_told(tally):
             faults.append(f"no line 'radixjoin: {name}' is shown")
         if text and f"Status {status}." not in text:
             faults.append(f"it doesn't say 'Status {status}.'")
-        tally.check(f"docs/faults.md, {name}", faults)
+        tally.check(f"docs/user/errors.md, {name}", faults)
 
 
 def run_all(tally):

@@ -53,7 +53,7 @@ def tasks_of_scripts(programs):
     yield run_script(frames or sys.executable, "arguments")
     yield run_script(frames or sys.executable, "times")
     needed = {"values": ("pandas", "hypothesis"), "clusters": ("distributed",), **dict.fromkeys(("memory", "pages", "foreign", "merges"), ("pandas",))}
-    page = harness.ROOT / "docs" / "python.md"
+    page = harness.ROOT / "docs" / "user" / "python.md"
     words = {"pages": [page], "merges": [page], "clusters": [programs]}
     for script, modules in needed.items():
         python = harness.python_with(*modules)

@@ -1,5 +1,5 @@
-"""Runs each recipe of docs/recipes.md on files as other programs write them: with a byte order mark, with CRLF, and with cells that
-have line breaks, or all of these. What docs/faults.md says of finding and mending is run on files of the first two kinds.
+"""Runs each recipe of docs/user/recipes.md on files as other programs write them: with a byte order mark, with CRLF, and with cells that
+have line breaks, or all of these. What docs/user/errors.md says of finding and mending is run on files of the first two kinds.
 
 The examples are those of the pages; their files are changed as soon as they are there: those of examples/, and each that a line
 `printf .. > NAME` makes. What is printed has to be what the page has, with the cells changed that were changed in a file.
@@ -15,7 +15,7 @@ import sys
 import harness
 import pages
 
-PAGES = ("docs/recipes.md", "docs/faults.md")
+PAGES = ("docs/user/recipes.md", "docs/user/errors.md")
 MARK = b"\xef\xbb\xbf"
 # Of each way: whether files begin with a byte order mark, how lines end, and what is put behind each text.
 WAYS = {
@@ -103,7 +103,7 @@ def faults_of(section, way, folder, environment):
 
 def ways_of(section):
     """The ways in which a section's files can be changed: cells are left as they are in a TSV file without quotes, which can't have line
-    breaks, and in the files of docs/faults.md, which are broken."""
+    breaks, and in the files of docs/user/errors.md, which are broken."""
     keeps_cells = section.page != PAGES[0] or any(".tsv" in command for command, _ in section.commands)
     return [way for way, (_, _, tail) in WAYS.items() if not (keeps_cells and tail)]
 

@@ -1,4 +1,4 @@
-"""Files read strictly: the lines of the faults as docs/faults.md has them, typed here; by one and by four workers, in files of no
+"""Files read strictly: the lines of the faults as docs/user/errors.md has them, typed here; by one and by four workers, in files of no
 record, of one and of many, around the cuts of parts; and random bytes beside Python's csv, where the two have one meaning."""
 import csv
 import io

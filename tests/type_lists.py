@@ -1,4 +1,4 @@
-"""Types by name: the bytes and the fault lines as docs/specification.md has them, typed here; by one and by four workers, read
+"""Types by name: the bytes and the fault lines as docs/user/specification.md has them, typed here; by one and by four workers, read
 strictly and not, in files of no record, of one and of many; and random lists by name beside the lists by position that they stand
 for."""
 import itertools

@@ -2,7 +2,7 @@
 
 Both files are divided by the hash of their rows' keys (the program `shards`, one task for each range of a file), the two
 parts of each shard are joined (`radixjoin`, one task a shard, or several where it is too large), and what these joins give is merged
-(`merges`, one task for each range of the joined table). The bytes written are those that `radixjoin` would write. docs/cluster.md says what of this is proved, and how to run it.
+(`merges`, one task for each range of the joined table). The bytes written are those that `radixjoin` would write. docs/user/cluster.md says what of this is proved, and how to run it.
 
 Every task writes under a new name and renames at its end, so that a task may run twice. The parts of a range stand in one file. What
 a step made is removed when the next one is done, and all that is half made at the end, whether it is a good one or not. It needs
@@ -689,7 +689,7 @@ def join(
     """Joins two files by the processes of a Dask client, and gives the path of the result, `output`. All processes have to see the
     files, the programs and the scratch folder under the same names.
 
-    The arguments are the options of the command line `radixjoin-cluster` (docs/cluster.md): `left_null` and `right_null`, a text or
+    The arguments are the options of the command line `radixjoin-cluster` (docs/user/cluster.md): `left_null` and `right_null`, a text or
     up to four, and `out_null`, in place of `null`; `strict`, True or "full", has files refused that aren't of RFC 4180's grammar; with `explain`, a `Fault` has an `explanation`;
     `parts` that the tables are divided into (1 to 1,024), `ranges` of a file that are divided side by side, `spread`, the bytes of
     both tables above which a shard is joined in pieces, `merges`, the ranges of the joined table that are merged side by side, `memory` in MiB for each program; `workers` and other options of the join of each shard go to `radixjoin`. Types are a list, a text as the program

@@ -1,6 +1,6 @@
 """Lists of types as texts: by position, as `int,text`; by name, as `id=int,*=text`; and in files, as `@FILE`.
 
-docs/specification.md has the grammar. That a list is one is the program's to tell."""
+docs/user/specification.md has the grammar. That a list is one is the program's to tell."""
 from __future__ import annotations
 
 import re

@@ -1,4 +1,4 @@
-"""A join clause as a tree, or its fault: "The join clause" of docs/specification.md.
+"""A join clause as a tree, or its fault: "The join clause" of docs/user/specification.md.
 
 A name is (is it delimited, its bytes). An operand is ("column", qualifier or None, name), ("number", value)
 or ("text", bytes). A condition is a tuple that begins with compare, null, between, in, is, not, and, or."""

@@ -1,4 +1,4 @@
-"""The words of both command lines: "The order" and "Errors and statuses" of docs/specification.md.
+"""The words of both command lines: "The order" and "Errors and statuses" of docs/user/specification.md.
 
 Options are long ones, used at most once but for those of a side's null texts; `--name value` and `--name=value` mean the same, and a value that begins
 with `-` is given by `=` (but `-` alone is a value)."""

@@ -1,9 +1,9 @@
-"""The grammar of docs/specification.md itself, and Earley's recogniser over it: which token is the first with which the
+"""The grammar of docs/user/specification.md itself, and Earley's recogniser over it: which token is the first with which the
 tokens so far begin no clause. It stands beside the reader of clause.py, which it has to agree with."""
 import pathlib
 import re
 
-PAGE = pathlib.Path(__file__).resolve().parents[2] / "docs" / "specification.md"
+PAGE = pathlib.Path(__file__).resolve().parents[2] / "docs" / "user" / "specification.md"
 # Rules that stand for one token each.
 TOKENS = {"name"}
 

@@ -1,4 +1,4 @@
-"""What `arrivals` prints for a script: "The program `arrivals`" of docs/specification.md.
+"""What `arrivals` prints for a script: "The program `arrivals`" of docs/user/specification.md.
 
 The rules are read over the parcels that were kept so far, accepted or held: each is asked of the whole collection."""
 import re

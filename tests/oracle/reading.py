@@ -1,4 +1,4 @@
-"""CSV bytes as a table, or the first fault of a reading: "Tables" and "Reading CSV" of docs/specification.md."""
+"""CSV bytes as a table, or the first fault of a reading: "Tables" and "Reading CSV" of docs/user/specification.md."""
 import re
 
 from .faults import Fault

@@ -1,4 +1,4 @@
-"""The records of a text by RFC 4180's grammar, or where it stops being of it: "Reading strictly" of docs/specification.md.
+"""The records of a text by RFC 4180's grammar, or where it stops being of it: "Reading strictly" of docs/user/specification.md.
 
 Each field is found by one expression, so that nothing here goes over a text byte by byte as a machine."""
 import re

@@ -1,4 +1,4 @@
-"""Each row of the table "From pandas.merge" of docs/python.md: what its two sides give beside each other.
+"""Each row of the table "From pandas.merge" of docs/user/python.md: what its two sides give beside each other.
 
 usage: merges.py FILE"""
 import pathlib

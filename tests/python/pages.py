@@ -1,4 +1,4 @@
-"""Runs the examples of docs/python.md, in the order in which they stand, and those of the package's public names.
+"""Runs the examples of docs/user/python.md, in the order in which they stand, and those of the package's public names.
 
 usage: pages.py FILE"""
 import doctest
@@ -37,4 +37,4 @@ def faults_of_names():
 
 if __name__ == "__main__":
     telling.attempt("examples of public names", faults_of_names)
-    telling.attempt("docs/python.md", faults_of, sys.argv[1])
+    telling.attempt("docs/user/python.md", faults_of, sys.argv[1])
