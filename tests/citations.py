@@ -8,7 +8,7 @@ import sys
 import harness
 
 # Where a path may begin: what stands in `crates/`, and what an earlier path of the line names, may be left out.
-PLACES = ("", "crates/", "crates/*/", "crates/*/edits/", "crates/*/must-fail/", "crates/*/proofs/", "docs/user/", "docs/dev/", "tests/", "tests/oracle/", "bench/", "tools/", "examples/")
+PLACES = ("", "crates/", "crates/*/", "crates/*/must-fail/", "crates/*/proofs/", "docs/user/", "docs/dev/", "tests/", "tests/oracle/", "bench/", "tools/", "examples/")
 SUFFIXES = ("antt", "rt", "py", "toml", "md", "c", "rs", "sh", "edit", "txt", "tried", "fish", "bash", "1")
 # Pages whose code is what a user types, and no name of the repository's.
 FOR_USERS = ("docs/user/errors.md", "docs/user/recipes.md", "README.md", "CHANGELOG.md", "docs/user/python.md", "docs/user/options.md")
