@@ -69,9 +69,8 @@ FIGURES = (
     ("docs/user/specification.md", rf"another text of 1 to ({NUMBER}) bytes", 1, "rj_line/src/choosing.rt", "LONGEST_SUFFIX"),
     ("docs/user/specification.md", rf"would have more than ({NUMBER}) bytes before it is like no other", 1, "rj_engine/src/naming.rt", "MAX_NAME"),
 )
-# The columns of a line and the words of a table's cell that a page may have, and the pages that aren't laid out so yet.
+# The columns of a line and the words of a table's cell that a page may have.
 MOST_COLUMNS, MOST_WORDS = 100, 25
-WIDE = ("docs/dev/theorem.md",)
 # How many decisions docs/dev/decisions.md may have.
 MOST_DECISIONS = 60
 # What is said of memory, wherever it is said.
@@ -417,8 +416,7 @@ def run_all(tally):
         if page not in FOR_USERS:
             tally.check(f"{page}: names", list(name_faults(prose, words)))
         tally.check(f"{page}: options", list(option_faults(prose, options)))
-        if page not in WIDE:
-            tally.check(f"{page}: lines", list(layout_faults(text)))
+        tally.check(f"{page}: lines", list(layout_faults(text)))
         crates = set(re.findall(r"\brj_\w+", text)) - set(listed_crates())
         tally.check(f"{page}: crates", [f"there is no crate {name}" for name in sorted(crates)])
     check_agreement(tally, files)
