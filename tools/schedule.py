@@ -1,5 +1,6 @@
 """When to prove each of several crates, and with how many jobs, so that all are proved soonest: planned by recorded seconds, and run."""
 
+import os
 import random
 import threading
 import time
@@ -15,10 +16,15 @@ RECORD = repository.ROOT / "tools" / "build.seconds"
 # What a check from nothing takes: how many seconds of processor time, and the part of them that further jobs don't make shorter, since libraries
 # are read, what the jobs proved is put together, and a program is compiled.
 Cost = namedtuple("Cost", ("seconds", "serial"), defaults=(0.43,))
+# Where a crate's check runs: with how many jobs, and whether beside those that have all processors.
+Lane = namedtuple("Lane", ("jobs", "is_spare"))
 # How many jobs a check has at most, how many plans are tried, and what each job beyond the first adds to a check's memory.
 MOST_JOBS, PLANS, MORE_MEMORY = 4, 2000, 0.6
 # How much a check takes of the memory that the kit plans for it: most take a third, and the largest, that of a program, all of it alone.
 TAKEN = 0.5
+# How many checks with one job are begun beside those that have all processors, and by how much lower their priority is: a check with several jobs
+# ends with one that is at work alone.
+SPARE, LOWER = 2, 10
 
 
 def recorded_costs():
@@ -102,7 +108,7 @@ class Planned:
         self.jobs = jobs_of(self.below, costs, self.chains, self.lanes, plans, most)
         self.ends = ends_of(self.below, costs, self.chains, self.jobs, self.lanes)
         self.total = max(self.ends.values(), default=0)
-        self.start, self.ended, self.printing = time.monotonic(), [], threading.Lock()
+        self.left, self.start, self.ended, self.printing = set(self.below), time.monotonic(), [], threading.Lock()
 
     def tell_end(self, name):
         with self.printing:
@@ -112,19 +118,29 @@ class Planned:
             rest = f", about {minutes(left)} left" if len(self.ended) < len(self.ends) else ""
             self.say(f"{len(self.ended)} of {len(self.ends)}, {name} ({minutes(taken)} so far{rest})")
 
+    def lane_for(self, name, running):
+        """Which lane a crate is begun in now, where one is free: one of the processors', which the crate that most others wait for takes in any case, or a
+        spare one. running: the lane of each crate that is at work."""
+        idle = self.lanes - sum(lane.jobs for _, lane in running if not lane.is_spare)
+        if idle > 0 or all(self.chains[name] > self.chains[it] for it, _ in running):
+            return Lane(jobs_now(name, self.left, self.jobs, self.chains, idle), False)
+        return Lane(1, True) if sum(lane.is_spare for _, lane in running) < SPARE else None
+
+    def has_memory(self, name, running):
+        """Whether a crate can be begun beside those that are at work, with no more than the memory that is free. One alone can."""
+        taken = sum(self.needs[it] * (1 + MORE_MEMORY * (lane.jobs - 1)) for it, lane in running)
+        return not running or taken + self.needs[name] <= self.memory
+
     def run(self, work):
-        """Calls work(name, jobs) of each crate in a thread, with no more than the memory that is free where more than one is at work. It ends early where a
-        work gives false, and gives whether none did."""
-        left, running, proved = set(self.below), {}, set()
-        with ThreadPoolExecutor(self.lanes) as pool:
-            while left or running:
-                idle = self.lanes - sum(jobs for _, jobs in running.values())
-                taken = sum(self.needs[name] * (1 + MORE_MEMORY * (jobs - 1)) for name, jobs in running.values())
-                name = next_of(left, self.below, proved, self.chains) if idle > 0 else None
-                if name and (not running or taken + self.needs[name] <= self.memory):
-                    jobs = jobs_now(name, left, self.jobs, self.chains, idle)
-                    left.remove(name)
-                    running[pool.submit(work, name, jobs)] = name, jobs
+        """Calls work(name, jobs) of each crate in a thread. It ends early where a work gives false, and gives whether none did."""
+        running, proved = {}, set()
+        with ThreadPoolExecutor(2 * self.lanes) as pool, ThreadPoolExecutor(SPARE, initializer=os.nice, initargs=(LOWER,)) as spare:
+            while self.left or running:
+                name = next_of(self.left, self.below, proved, self.chains)
+                lane = name and self.lane_for(name, running.values())
+                if lane and self.has_memory(name, running.values()):
+                    self.left.remove(name)
+                    running[(spare if lane.is_spare else pool).submit(work, name, lane.jobs)] = name, lane
                     continue
                 for it in wait(running, return_when=FIRST_COMPLETED).done:
                     name, _ = running.pop(it)
@@ -132,5 +148,5 @@ class Planned:
                         self.tell_end(name)
                         proved.add(name)
                     else:
-                        left.clear()
+                        self.left.clear()
         return len(proved) == len(self.below)
