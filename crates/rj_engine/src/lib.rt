@@ -16,6 +16,7 @@ mod naming;
 mod nested_loops;
 mod once;
 mod origin;
+mod parallel_join;
 mod partitions;
 mod pieces;
 mod ranges;
@@ -27,7 +28,6 @@ mod shown;
 mod sizes;
 mod view;
 mod violations;
-mod working;
 
 pub use choices::{chosen_names_are_lawful, left_order, plain_choice};
 pub use closes::nothing_after_close;
