@@ -3,7 +3,7 @@
 
 mod cells;
 mod choices;
-mod choosing;
+mod chosen_rows;
 mod closes;
 mod collecting;
 mod expected;

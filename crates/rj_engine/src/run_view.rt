@@ -4,7 +4,7 @@ ghost use Rattle.std.specs.Prelude.{◌≡◌, ◌<◌, ◌≤◌, ◌+◌, ◌-
 ghost use Rattle.rj_columns.specs.Contents.{content_of};
 ghost use Rattle.rj_engine.specs.Shown.{IsRunWithin, IsShownOf, run_view, shown_view};
 
-use crate::choosing::{count_of, row_at};
+use crate::chosen_rows::{count_of, row_at};
 use crate::joined::Joined;
 use crate::runs::Run;
 use crate::shown::{Shown, add_shown, cell_at, counted_from};

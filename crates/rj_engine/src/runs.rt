@@ -6,7 +6,7 @@ ghost use Rattle.rj_columns.specs.Tables.{rows_of_all};
 ghost use Rattle.rj_engine.specs.Chosen.{shown_rows};
 ghost use Rattle.rj_engine.specs.Shown.{Follow, IsRunOf, StandsWithin, rows_between, start_of};
 
-use crate::choosing::{count_of, row_at};
+use crate::chosen_rows::{count_of, row_at};
 use crate::joined::{Joined, JoinedRow};
 use crate::shown::Shown;
 use rj_columns::Table;

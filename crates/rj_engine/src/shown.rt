@@ -11,7 +11,7 @@ ghost use Rattle.rj_engine.specs.Shown.{HasColumnsOf, IsShownOf, counted_from, r
 ghost use Rattle.rj_engine.specs.declared.origin.Origin.{Origin};
 
 use crate::cells::{add_coalesced, add_left, add_right};
-use crate::choosing::choose_rows;
+use crate::chosen_rows::choose_rows;
 use crate::joined::{Joined, JoinedRow, Members};
 use crate::origin::{Origin, chosen_origins, origins};
 use rj_columns::{Cell, ColumnType, Table, coalesce, in_scale};

@@ -7,7 +7,7 @@ ghost use Rattle.rj_engine.specs.Results.{joined_of};
 ghost use Rattle.rj_engine.specs.Chosen.{chosen_header, chosen_view};
 ghost use Rattle.rj_engine.specs.Cells.{header_of, view_of, columns_of, name_of, IsColumnOf};
 
-use crate::choosing::{count_of, row_at};
+use crate::chosen_rows::{count_of, row_at};
 use crate::joined::Joined;
 use crate::origin::{Origin, chosen_origins, origins};
 use crate::shown::{Shown, add_shown, cell_at};
