@@ -8,7 +8,7 @@ pub use join::{
     plain_text, read_strictly, results_are_apart, results_read_back, run, run_owned,
     types_of_header,
 };
-pub use rj_engine::{Gate, Open, Place, Violation};
+pub use rj_engine::{Gate, OpenGate, Place, Violation};
 pub use rj_fault::{ExitReason, Fault, Side, VERSION, fault_of_read, read_words, tell, texts_of};
 pub use rj_line::{Hash, Line, Request, Strictness, read_line, read_nulls, read_types};
 pub use rj_script::arrivals;

@@ -44,7 +44,7 @@ pub use reporting::{JoinReport, report};
 pub use rj_settings::{
     Choice, ColumnChoice, Expectation, Matching, Repeated, RowKinds, RowOrder, Settings,
 };
-pub use rj_workers::{Gate, Open, Place};
+pub use rj_workers::{Gate, OpenGate, Place};
 pub use run_view::RunView;
 pub use runs::{Run, cut_runs};
 pub use shown::Shown;

@@ -6,7 +6,7 @@ ghost use Rattle.rj_files.specs.Texts.{memory_text};
 use crate::ended::Ended;
 use crate::named::told_by_system;
 use crate::outputs::output_of;
-use rj_command::{Line, Open, Violation, first_violation, read_line};
+use rj_command::{Line, OpenGate, Violation, first_violation, read_line};
 use rj_explain::{Inputs, explain, explain_row, explain_words};
 use rj_fault::{Fault, Side};
 use std::alloc::{AllocError, Global};
@@ -63,7 +63,7 @@ fn violation_lines<R: AllocGlobal + Threads + Wait + Clock + Sync>(
 ) -> Result<String, AllocError> {
     let alloc = rt.alloc();
     let (left, right, request) = (inputs.left, inputs.right, inputs.request);
-    match first_violation(rt, alloc, left, right, request, &Open) {
+    match first_violation(rt, alloc, left, right, request, &OpenGate) {
         Ok(Some(violation)) => lines_of_violation(alloc, inputs, &violation),
         Ok(None) | Err(_) => Ok(String::new(alloc)),
     }

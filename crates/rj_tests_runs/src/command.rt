@@ -3,7 +3,7 @@
 ghost use Rattle.std.specs.Prelude.{◌<◌, ◌-◌, ◌^◌};
 
 use rj_command::{
-    Fault, Open, Request, Side, Stats, Step, Violation, Watch, first_violation, read_line, run,
+    Fault, OpenGate, Request, Side, Stats, Step, Violation, Watch, first_violation, read_line, run,
     run_owned,
 };
 use rj_csv_io::{CountedWriter, Output};
@@ -288,7 +288,7 @@ fn violation<R: Threads + Wait + Clock + Sync>(
 ) -> Result<Option<Violation>, Fault> {
     let words = words_of("CROSS JOIN", "--expect=many-to-one");
     let line = read_line(alloc, words.as_slice())?;
-    first_violation(rt, alloc, PEOPLE, CITIES, &line.request, &Open)
+    first_violation(rt, alloc, PEOPLE, CITIES, &line.request, &OpenGate)
 }
 
 #[test]

@@ -27,7 +27,7 @@ mod take;
 mod workers;
 
 pub use closing::Delivered;
-pub use gate::{Gate, Open, Place};
+pub use gate::{Gate, OpenGate, Place};
 pub use job::Job;
 pub use laws::closed_once_delivered;
 pub use run::run_workers;

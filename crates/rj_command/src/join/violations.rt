@@ -9,7 +9,7 @@ ghost use Rattle.rj_command.specs.Operands.{IsFirstFault};
 ghost use Rattle.rj_command.specs.Violations.{HasViolation};
 
 use crate::join::operands::{Operands, read_operands};
-use rj_engine::{Gate, Open, Violation, run_join};
+use rj_engine::{Gate, OpenGate, Violation, run_join};
 use rj_fault::Fault;
 use rj_line::Request;
 use rj_radix::Plain;
@@ -60,6 +60,6 @@ pub fn first_violation<R: Threads + Wait + Clock + Sync, G: Gate + Sync>(
     ensures violation { IfOk result (HasViolation left.now right.now request.now) }
     ensures fault { IfErr result (λ f. f ≢ Fault.Memory → IsFirstFault left.now right.now request.now f) }
 {
-    let operands = read_operands(rt, alloc, left, right, request, &Open)?;
+    let operands = read_operands(rt, alloc, left, right, request, &OpenGate)?;
     violation_of(rt, alloc, &operands, request, gate)
 }

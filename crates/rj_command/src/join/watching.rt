@@ -1,6 +1,6 @@
 //! What is told of a run while it goes on.
 
-use rj_engine::{Gate, Open};
+use rj_engine::{Gate, OpenGate};
 use rj_fault::Side;
 
 /// A step of a run. The steps come in this order, each where the ones before it have ended without a fault.
@@ -28,7 +28,7 @@ pub trait Watch: Gate {
     fn begin(&self, step: Step);
 }
 
-impl Watch for Open {
+impl Watch for OpenGate {
     fn begin(&self, step: Step) {
         let _step = step;
     }

@@ -5,7 +5,7 @@
 
 use crate::waiting::{TURNS, wait_for};
 use crate::workers::dealt::builds;
-use rj_workers::{Gate, Open, Place};
+use rj_workers::{Gate, OpenGate, Place};
 use std::alloc::{AllocError, Global};
 use std::sync::Wait;
 use std::sync::atomic::{AtomicU64, Ordering};
@@ -91,7 +91,7 @@ fn are_built<R: Threads + Wait + Clock + Sync>(
     runs: &[Run],
 ) -> Result<bool, AllocError> {
     for (workers, scans, wanted) in runs {
-        if builds(rt, alloc, &Open, *workers, (2, 1), *scans)? != *wanted {
+        if builds(rt, alloc, &OpenGate, *workers, (2, 1), *scans)? != *wanted {
             return Ok(false);
         }
     }

@@ -7,7 +7,7 @@ ghost use Rattle.rj_ledger.specs.Ledgers.{LedgerValue};
 use crate::tables::{first_keys, join_by_keys};
 use rj_columns::Table;
 use rj_condition::BoundJoin;
-use rj_engine::{Joined, Open, Settings, run_join};
+use rj_engine::{Joined, OpenGate, Settings, run_join};
 use rj_radix::Plain;
 use std::alloc::Global;
 use std::sync::Wait;
@@ -30,7 +30,7 @@ fn in_one_partition<R: Threads + Wait + Clock + Sync>(
     let Some(settings) = Settings::new(workers, 0, 0, 1024, 1, 64, 1) else {
         return None;
     };
-    match run_join(rt, alloc, table, table, join, &settings, &Plain, &Open) {
+    match run_join(rt, alloc, table, table, join, &settings, &Plain, &OpenGate) {
         Ok(joined) => Some(joined),
         Err(_) => None,
     }
