@@ -1,7 +1,7 @@
 //! The command line of a join: its options, and the request that its words make.
 #![tactic(auto)]
 
-mod choosing;
+mod choice;
 mod expecting;
 mod line;
 mod nulls;

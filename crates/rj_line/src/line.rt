@@ -5,7 +5,7 @@ ghost use Rattle.clap.specs.Words.{first_value, found_of};
 ghost use Rattle.rj_line.specs.Named.{IsNameOf, IsNamedOr};
 ghost use Rattle.rj_line.specs.Line.{AreNumbersIn, AreSettings, HasValues, IsLineFault, IsLineOf, IsNumberIn, IsNumberOr, IsParseError, IsParseOf, IsRequestFault, IsRequestOf, IsStrictName, IsStrictness, hash_name, is_true, texts_found};
 
-use crate::choosing::choice_of;
+use crate::choice::choice_of;
 use crate::expecting::{expectation_of, number_of};
 use crate::nulls::read_nulls;
 use crate::options::line_command;

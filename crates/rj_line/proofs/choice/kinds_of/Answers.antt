@@ -3,7 +3,7 @@ use Rattle.std.specs.List.{list_all}
 use Rattle.std.proofs.lemmas.List.Folds.{list_all-map}
 use Rattle.clap.specs.Words.{Text}
 use Rattle.rj_line.specs.Choices.{is_kind}
-use Rattle.rj_line.proofs.choosing.kinds_of.Goals as goal
+use Rattle.rj_line.proofs.choice.kinds_of.Goals as goal
 
 pub returns-then-not-are_kinds : goal.returns-then-not-are_kinds
 returns-then-not-are_kinds c = λ k are.
