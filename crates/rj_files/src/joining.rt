@@ -28,7 +28,7 @@ pub(crate) struct Tables {
 }
 
 impl Tables {
-    // The same bytes once more.
+    // A copy of the bytes.
     fn copied(&self) -> Result<Tables, AllocError>
         ensures { IfOk result (λ tables. (tables.left.items ≡ self.now.left.items) × (tables.right.items ≡ self.now.right.items)) }
     {
@@ -38,7 +38,7 @@ impl Tables {
     }
 }
 
-// Joins two tables, and writes the joined table. The bytes are kept for what is told of a fault.
+// Joins two tables, and writes the joined table. The bytes are kept to explain an error.
 fn join_explained<R, O>(
     rt: &R,
     line: &Line<'_>,
@@ -69,7 +69,7 @@ where
     }
 }
 
-// Joins two tables, and writes the joined table, explained where that is asked for.
+// Joins two tables, and writes the joined table. An error is explained if that is asked for.
 fn join_tables<R, O>(
     rt: &R,
     line: &Line<'_>,
@@ -96,7 +96,7 @@ where
     }
 }
 
-// Counts the rows of two tables' joined table. The bytes are kept for what is told of a fault.
+// Counts the rows of two tables' joined table. The bytes are kept to explain an error.
 fn count_explained<R, O>(
     rt: &R,
     line: &Line<'_>,
@@ -130,7 +130,7 @@ where
     }
 }
 
-// Counts the rows of two tables' joined table, explained where that is asked for.
+// Counts the rows of two tables' joined table. An error is explained if that is asked for.
 fn count_tables<R, O>(
     rt: &R,
     line: &Line<'_>,
@@ -157,7 +157,7 @@ where
     }
 }
 
-// Writes what the line asks for. The statistics are given where that is the joined table.
+// Writes what the line asks for. There are statistics if that is the joined table.
 fn write_asked<R, O>(
     rt: &R,
     line: &Line<'_>,
@@ -185,11 +185,13 @@ where
     }
 }
 
-/// Writes what the line asks for of two tables, and gives the writer back. The statistics are given where that is the joined table.
+/// Writes what the line asks for of two tables, and returns the writer. There are statistics if
+/// that is the joined table.
 ///
 /// # Errors
 ///
-/// Those of `run` or `count` of `rj_command`, explained where that is asked for. The writer is as it was but after `WriteDevice`.
+/// Those of `run` or `count` of `rj_command`, explained if that is asked for. The writer stays as
+/// it was, except after `WriteDevice`.
 pub(crate) fn write_tables<R, W>(
     rt: &R,
     line: &Line<'_>,

@@ -1,11 +1,12 @@
-//! A writer that keeps the system's error.
+//! A writer that records the system's error.
 
 ghost use Rattle.std.specs.Prelude.{◌≡◌};
 ghost use Rattle.std.specs.IoError.{error_kind};
 
 use std::io::{self, Write};
 
-/// A writer that does what another one does, and keeps the last error of it. It tells the bytes that the other one tells.
+/// A writer that does what another one does, and records its last error. It tells the bytes that
+/// the other one tells.
 #[derive(Drop)]
 pub(crate) struct Noting<W: Write> {
     writer: W,
@@ -22,7 +23,7 @@ impl<W: Write> Noting<W> {
         }
     }
 
-    /// The writer, and the last error of it.
+    /// The writer, and its last error.
     pub(crate) fn into_parts(self) -> (W, Option<io::Error>)
         ensures { result.0 ≡ self.writer }
     {
@@ -30,7 +31,7 @@ impl<W: Write> Noting<W> {
         (writer, error)
     }
 
-    // Keeps an error, and gives one of its kind.
+    // Records an error, and returns one of its kind.
     fn note(&mut self, error: io::Error) -> io::Error
         ensures writer { self.new.writer ≡ self.old.writer }
         ensures kind { error_kind result ≡ error_kind error }
