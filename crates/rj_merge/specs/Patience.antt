@@ -1,4 +1,4 @@
--- The reader under one that reads again.
+-- The reader under one that repeats interrupted reads.
 use Rattle.rj_merge.specs.declared.patient.Patient.{Patient}
 
 abbrev pub reader_of : {R : Type 0} → Patient R → R

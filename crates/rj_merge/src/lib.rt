@@ -1,4 +1,5 @@
-//! Joined tables in shards, merged into one: each input gives its rows in order, and the merge gives all of them in order.
+//! Joined tables in shards, merged into one. Each input gives its rows in order, and the merge
+//! gives all of them in order.
 #![tactic(auto)]
 
 mod block;

@@ -1,18 +1,19 @@
-//! Readers that read again.
+//! Readers that repeat interrupted reads.
 
 ghost use Rattle.std.specs.Prelude.{◌≡◌};
 ghost use Rattle.rj_merge.specs.Patience.{reader_of};
 
 use std::io::{self, ErrorKind, Read};
 
-/// A reader that reads again where a signal broke a read off. It tells the bytes that the reader under it tells.
+/// A reader that repeats a read that a signal interrupted. It tells the bytes that the reader under
+/// it tells.
 #[derive(Drop)]
 pub struct Patient<R: Read + Drop> {
     reader: R,
 }
 
 impl<R: Read + Drop> Patient<R> {
-    /// The reader, which reads again.
+    /// The reader, which repeats interrupted reads.
     pub fn new(reader: R) -> Patient<R>
         ensures { reader_of result ≡ reader }
     {
