@@ -104,8 +104,8 @@ fn read_quoted<R: Threads + Sync>(
     read_text(rt, alloc, quoted.as_slice(), request, side)
 }
 
-// Whether a text is derived and has no empty line, as far as a fast look tells: at as many parts as
-// there are workers, or at all of the text if a part was cut within a field.
+// Whether a text is derived and has no empty line: by a fast look at as many parts as there are
+// workers, or, if that doesn't say so, by a check of the whole text.
 fn has_full_lines<R: Threads + Sync>(
     rt: &R,
     alloc: Global,
