@@ -9,8 +9,8 @@ ghost use Rattle.rj_merge.specs.Sources.{TellsAmong, is_outside};
 
 use crate::copies::{Copies, MergeInput};
 use crate::options::MergeOptions;
-use crate::patient::Patient;
 use crate::refused::{MergeRefused, MergeTextsRefused};
+use crate::retrying::RetryingReader;
 use crate::texts::merge_texts;
 use rj_csv_io::Output;
 use std::alloc::Global;
@@ -54,7 +54,7 @@ fn open_named<P: Opener>(
     opener: &P,
     names: &[&str],
     copies: &[Copies],
-) -> Result<Vec<MergeInput<Patient<P::Reader>>>, MergeRefused>
+) -> Result<Vec<MergeInput<RetryingReader<P::Reader>>>, MergeRefused>
     requires copies { length copies.now ≡ length names.now }
     requires count { length names.now < 2 ^ 32 }
     ensures opened { IfOk result (λ v. AreOpened (P.opens opener.now) (map (λ n. n.now) names.now) v.items) }
@@ -68,7 +68,7 @@ fn open_named<P: Opener>(
     'names: for i in 0..names.len() {
         number += 1;
         let reader = match opener.open(names[i]) {
-            Ok(reader) => Patient::new(reader),
+            Ok(reader) => RetryingReader::new(reader),
             Err(error) => return Err(fault_of_open(number, &error)),
         };
         let input = MergeInput {

@@ -2,7 +2,7 @@
 
 use rj_csv_io::CountedWriter;
 use rj_merge::{
-    Copies, MergeInput, MergeOptions, MergeRefused, MergeTextsRefused, Patient, RowOrder,
+    Copies, MergeInput, MergeOptions, MergeRefused, MergeTextsRefused, RetryingReader, RowOrder,
     merge_texts,
 };
 use std::alloc::Global;
@@ -44,8 +44,8 @@ impl<'t> Read for Halting<'t> {
 
 // An input with a reader of such a text that repeats interrupted reads. Its rows are in no other
 // input.
-fn input_of(text: &str, fails: bool) -> MergeInput<Patient<Halting<'_>>> {
-    let reader = Patient::new(Halting {
+fn input_of(text: &str, fails: bool) -> MergeInput<RetryingReader<Halting<'_>>> {
+    let reader = RetryingReader::new(Halting {
         text: text.as_bytes(),
         at: 0,
         broken: false,
@@ -83,7 +83,7 @@ fn merged(alloc: Global, fails: bool) -> Result<Vec<u8>, MergeTextsRefused> {
 }
 
 #[test]
-fn patient_readers(rt: HostRuntime) -> Result<(), Fail> {
+fn retrying_readers(rt: HostRuntime) -> Result<(), Fail> {
     let whole = merged(rt.alloc(), false)?;
     assert!(rt; whole.as_slice() == BOTH.as_bytes());
     let refused = merged(rt.alloc(), true).map(|_| ());
