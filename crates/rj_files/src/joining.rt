@@ -7,8 +7,8 @@ ghost use Rattle.rj_files.specs.Streams.{IsAskedFault, WritesAsked};
 
 use crate::ended::Ended;
 use crate::explaining::{explained, with_write_error};
-use crate::noting::Noting;
 use crate::progress::Progress;
+use crate::recording::ErrorRecordingWriter;
 use crate::watched::WatchedWriter;
 use rj_command::{Line, Stats, count, run, run_owned};
 use rj_csv_io::{CountedWriter, Output};
@@ -206,7 +206,7 @@ where
     ensures fault { IfErr result.0 (λ ended. IsAskedFault line.now tables.left.items tables.right.items ended.fault) }
     ensures unchanged { IfErr result.0 (λ ended. ended.fault ≢ Fault.WriteDevice → result.1 ≡ writer) }
 {
-    let mut writer = CountedWriter::new(Noting::new(WatchedWriter::new(progress, writer)));
+    let mut writer = CountedWriter::new(ErrorRecordingWriter::new(WatchedWriter::new(progress, writer)));
     let written = write_asked(rt, line, progress, tables, &mut writer);
     let (writer, error) = writer.into_inner().into_parts();
     let writer = writer.into_inner();

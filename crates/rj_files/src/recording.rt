@@ -8,16 +8,16 @@ use std::io::{self, Write};
 /// A writer that does what another one does, and records its last error. It tells the bytes that
 /// the other one tells.
 #[derive(Drop)]
-pub(crate) struct Noting<W: Write> {
+pub(crate) struct ErrorRecordingWriter<W: Write> {
     writer: W,
     error: Option<io::Error>,
 }
 
-impl<W: Write> Noting<W> {
-    pub(crate) fn new(writer: W) -> Noting<W>
+impl<W: Write> ErrorRecordingWriter<W> {
+    pub(crate) fn new(writer: W) -> ErrorRecordingWriter<W>
         ensures { result.writer ≡ writer }
     {
-        Noting {
+        ErrorRecordingWriter {
             writer,
             error: None,
         }
@@ -27,7 +27,7 @@ impl<W: Write> Noting<W> {
     pub(crate) fn into_parts(self) -> (W, Option<io::Error>)
         ensures { result.0 ≡ self.writer }
     {
-        let Noting { writer, error } = self;
+        let ErrorRecordingWriter { writer, error } = self;
         (writer, error)
     }
 
@@ -42,7 +42,7 @@ impl<W: Write> Noting<W> {
     }
 }
 
-impl<W: Write> Write for Noting<W> {
+impl<W: Write> Write for ErrorRecordingWriter<W> {
     ghost contents = { λ n. W.contents n.writer };
 
     fn write(&mut self, bytes: &[u8]) -> io::Result<usize> {
