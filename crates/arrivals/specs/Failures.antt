@@ -14,7 +14,7 @@ exit_of failure.Memory = 5
 exit_of failure.ReadDevice = 6
 exit_of failure.WriteDevice = 6
 
--- what `clap` tells in place of the line
+-- what `clap` prints in place of the line
 abbrev pub clap_error_of : Failure → Option Error
 clap_error_of (failure.CommandLine e) = Some e
 clap_error_of _ = None

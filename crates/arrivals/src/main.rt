@@ -1,5 +1,6 @@
-//! The program `arrivals`: replays a script of arrivals at one partition, read from standard input to its end, and prints what
-//! the partition's ledger answers to each line and what it delivered of each sender. Faults go to standard error.
+//! The program `arrivals`: replays a script of arrivals at one partition, which it reads from
+//! standard input to its end. It prints the answer of the partition's ledger to each line, and what
+//! the ledger delivered of each sender. Errors go to standard error.
 #![tactic(auto)]
 
 use clap::{Arg, ArgAction, Command, Error, value_parser};
@@ -73,7 +74,7 @@ struct Line {
     gaps: bool,
 }
 
-// A required option whose number lies in the range.
+// A required option whose number is in the range.
 fn number_option<'a>(
     alloc: Global,
     name: &'a str,
@@ -153,7 +154,8 @@ fn read_script<R: Input + AllocGlobal>(rt: &R) -> Result<Vec<u8>, Failure> {
     }
 }
 
-// Reads the command line and the script, and prints; whether every line was readable.
+// Reads the command line and the script, and prints the answers. Returns whether every line was
+// readable.
 fn replay<R: Env + Input + AllocGlobal + Print>(rt: &R) -> Result<bool, Failure> {
     let Some(words) = read_words(rt)? else {
         return Err(Failure::NotText);

@@ -25,7 +25,7 @@ exit_of (failure.NoPlace name row) = 3
 exit_of (failure.NotInOrder name row) = 3
 exit_of (failure.RepeatedPlace place) = 3
 
--- what `clap` tells in place of the line
+-- what `clap` prints in place of the line
 abbrev pub clap_error_of : Failure → Option Error
 clap_error_of (failure.CommandLine e) = Some e
 clap_error_of _ = None

@@ -1,4 +1,4 @@
-//! What `--copies` says: in how many of the files the lone rows of each stand.
+//! The values of `--copies`: for each file, in how many of the files its unmatched rows are.
 
 ghost use Rattle.std.specs.Prelude.{◌≡◌, IfOk, vec_len};
 
@@ -6,7 +6,7 @@ use crate::failure::Failure;
 use rj_merge::Copies;
 use std::alloc::Global;
 
-// The most files that a row may have to stand in.
+// The most files that a row may have to be in.
 const MOST: u32 = 1_048_576;
 
 // The number that a text writes without a sign, if it is one of those that an entry may have.
@@ -22,7 +22,7 @@ fn number_of(text: &str) -> Option<u32> {
     }
 }
 
-// What an entry says: `1`, or two numbers with an `x` between them.
+// The copies of an entry: `1`, or two numbers with an `x` between them.
 fn copies_of(entry: &str) -> Option<Copies> {
     if entry == "1" {
         return Some(Copies::single());
@@ -36,7 +36,8 @@ fn copies_of(entry: &str) -> Option<Copies> {
     }
 }
 
-// What a list says of each file, or that each stands alone where there is no list. A list has an entry for each file.
+// The copies of each file, by a list with an entry for each file. Without a list each file is
+// alone.
 pub fn read_copies(alloc: Global, list: Option<&str>, files: usize) -> Result<Vec<Copies>, Failure>
     ensures { IfOk result (λ all. vec_len all ≡ files) }
 {

@@ -6,7 +6,7 @@ use rj_merge::{MergeRefused, MergeTextsRefused, Place};
 use std::alloc::{AllocError, Global};
 use std::fmt;
 
-// A place, as its two columns would tell it.
+// A place, shown as in its two columns.
 #[derive(Clone, Copy, Debug)]
 pub struct At(Place);
 
@@ -20,7 +20,8 @@ impl fmt::Display for At {
     }
 }
 
-// Why nothing, or not all, was merged. The text is the line that is printed, without its line end; a file goes by its name.
+// Why nothing, or not all, was merged. The text is the line that is printed, without its line end.
+// A file is shown by its name.
 #[derive(Debug, Drop, thiserror::Error)]
 pub enum Failure {
     // `clap` refused the words, or they ask for help or for the version.
@@ -105,7 +106,7 @@ impl ExitReason for Failure {
 }
 
 impl Failure {
-    // The failure that a refusal is, whose inputs are these files.
+    // The failure of a refused merge of these files.
     pub fn of(alloc: Global, files: &[&str], refused: MergeTextsRefused) -> Failure {
         match refused {
             MergeTextsRefused::WriteDevice => Failure::WriteDevice,

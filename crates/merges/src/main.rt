@@ -1,5 +1,5 @@
 //! The program `merges`: merges joined shards, CSV files whose rows have their places, into one CSV text on standard output, without
-//! the places. Faults go to standard error.
+//! the places. Errors go to standard error.
 #![tactic(auto)]
 
 ghost use Rattle.std.specs.Prelude.{◌≡◌, length};
@@ -77,7 +77,7 @@ fn line_command<'a>(alloc: Global) -> Result<Command<'a>, AllocError> {
         .arg(files)
 }
 
-// The order that is named, or pairs first where none is.
+// The order that is named, or pairs first if none is.
 fn order_of(matches: &ArgMatches<'_>) -> RowOrder {
     match matches.get_str("order") {
         Some("left") => RowOrder::LeftFirst,

@@ -1,6 +1,6 @@
-//! The program `radixjoin`: joins two tables read from CSV files, and writes the joined table as CSV on standard output
-//! or in a file; or prints the types that the cells of a file suggest. Statistics, faults and
-//! how far a run is go to standard error.
+//! The program `radixjoin`: joins two tables read from CSV files, and writes the joined table as
+//! CSV to standard output or into a file; or prints the types that the cells of a file suggest.
+//! Statistics, errors and the progress of a run go to standard error.
 #![tactic(auto)]
 
 mod suggesting;
@@ -20,7 +20,7 @@ use std::sync::Wait;
 use std::thread::Threads;
 use std::time::Clock;
 
-// Does what the words of a line ask for, and shows meanwhile how far it is.
+// Does what the words of a line ask for, and shows its progress meanwhile.
 fn write_watched<R: Files + Input + AllocGlobal + Print + Eprint + Threads + Wait + Clock + Sync>(
     rt: &R,
     line: &Line<'_>,
@@ -59,7 +59,7 @@ fn join<R: Files + Input + AllocGlobal + Print + Eprint + Threads + Wait + Clock
     Ok(())
 }
 
-// The words behind `--suggest-types`, where that is the first word.
+// The words after `--suggest-types`, if that is the first word.
 fn words_to_suggest(words: &[String]) -> Option<&[String]> {
     match words {
         [first, rest @ ..] if first.as_str() == "--suggest-types" => Some(rest),

@@ -1,4 +1,5 @@
--- How two cells compare (SQL-92 8.2): numbers by their exact values, whatever their types and scales, texts by their UTF-8 bytes; a null compares with nothing.
+-- How two cells compare (SQL-92 8.2): numbers by their exact values, whatever their types and
+-- scales, texts by their UTF-8 bytes. A NULL compares with nothing.
 use Rattle.std.specs.Prelude.{ℕ, List, Bool, true, false, Option, None, Some}
 use Rattle.std.specs.Str.{bytes_eq}
 use Rattle.std.specs.declared.cmp.Ordering.{Ordering}
@@ -28,7 +29,7 @@ comparand_of value.Null = absent
 comparand_of (value.Number d) = number (number_of d)
 comparand_of (value.Text s) = text s.now
 
--- the order of two comparands of one kind; none where either is absent
+-- the order of two comparands of one kind; none if either is absent
 abbrev pub order_of : Comparand → Comparand → Option Ordering
 order_of absent y = None
 order_of (number m) absent = None
@@ -58,19 +59,19 @@ AreOneKind (text s) absent = Unit {0}
 AreOneKind (text s) (number n) = ⊥
 AreOneKind (text s) (text t) = Unit {0}
 
--- the order of two cells, both numbers or both texts; none where either is null
+-- the order of two cells, both numbers or both texts; none if either is NULL
 abbrev pub compared : Content → Content → Option Ordering
 compared x y = order_of (seen x) (seen y)
 
--- both non-null, both numbers or both texts, and equal
+-- neither is NULL, both are numbers or both texts, and they are equal
 abbrev pub are_equal : Content → Content → Bool
 are_equal x y = are_one (seen x) (seen y)
 
--- either is null, or both are numbers or both texts; decimals are within their limits
+-- either is NULL, or both are numbers or both texts; decimals are within their limits
 abbrev pub AreComparable : Content → Content → Type 0
 AreComparable x y = IsInLimits x × IsInLimits y × AreOneKind (seen x) (seen y)
 
--- a cell that is null
+-- a cell that is NULL
 abbrev pub is_null : Content → Bool
 is_null nothing = true
 is_null (whole n) = false

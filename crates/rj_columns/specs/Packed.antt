@@ -1,4 +1,5 @@
--- Texts that stand one after another in a buffer of bytes, by the places where they end. The program's own: no public contract speaks of it.
+-- Texts one after another in a buffer of bytes, by the places where they end. Internal: no public
+-- contract uses it.
 use Rattle.std.specs.Prelude.{ℕ, zero, suc, ◌≡◌, ◌+◌, ◌≤◌, List, [], ◌∷◌, Bool, length, All, slice_range, IsUtf8}
 use Rattle.std.specs.List.{concat}
 use Rattle.rj_columns.specs.declared.ends.Places.{Places}
@@ -20,7 +21,7 @@ unfoldable pub texts_from : ℕ → List ℕ → List ℕ → List (List ℕ)
 texts_from start bytes [] = []
 texts_from start bytes (e ∷ ends) = slice_range bytes start e ∷ texts_from e bytes ends
 
--- where texts end that stand one after another from a place on
+-- where texts end that are one after another from a place on
 unfoldable pub ends_from : ℕ → List (List ℕ) → List ℕ
 ends_from start [] = []
 ends_from start (t ∷ texts) = (start + length t) ∷ ends_from (start + length t) texts
@@ -31,7 +32,7 @@ pub record Packs (buffer places : List ℕ) (texts : List (List ℕ)) : Type 0 w
   pub ends : places ≡ ends_from 0 texts
   pub utf8 : All IsUtf8 texts
 
--- texts in a buffer, and no more marks of nulls than there are texts
+-- texts in a buffer, and no more marks of NULLs than there are texts
 pub record ArePacked (buffer places : List ℕ) (marks : List Bool) : Type 0 where
   pub texts : Packs buffer places (texts_from 0 buffer places)
   pub nulls : length marks ≤ length places

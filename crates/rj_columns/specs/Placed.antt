@@ -1,4 +1,5 @@
--- Segments at their places in a table, and the hints by which the one of a row is found. The program's own: no public contract speaks of it.
+-- Segments at their places in a table, and the hints by which the segment of a row is found.
+-- Internal: no public contract uses it.
 use Rattle.std.specs.Prelude.{ℕ, suc, ◌+◌, ◌*◌, ◌≡◌, ◌<◌, ◌≤◌, ◌^◌, List, length, map, take, slice_index_or}
 use Rattle.rj_columns.specs.declared.segments.Placed.{Placed}
 use Rattle.rj_columns.specs.Tables.{TableValue, rows_of_all}

@@ -1,9 +1,9 @@
--- Cells in a scale, and the first of two that is not null.
+-- Cells in a scale, and the first of two that is not NULL.
 use Rattle.std.specs.Prelude.{ℕ, ◌-◌, ◌≤◌, ◌==◌, if◌then◌else◌}
 use Rattle.rj_decimal.specs.Numbers.{finer}
 use Rattle.rj_columns.specs.Contents.{Content, nothing, whole, decimal, word}
 
--- the same number with this many digits after the point; a whole number stays one where there are none
+-- the same number with this many digits after the point; a whole number stays one if there are none
 abbrev pub in_scale : ℕ → Content → Content
 in_scale scale nothing = nothing
 in_scale scale (whole n) = if scale == 0 then whole n else decimal (finer n scale) scale
@@ -17,7 +17,7 @@ HasScaleWithin scale (whole n) = Unit {0}
 HasScaleWithin scale (decimal units own) = own ≤ scale
 HasScaleWithin scale (word s) = Unit {0}
 
--- the first cell, or the second where the first is null (SQL-92 6.9, COALESCE)
+-- the first cell, or the second if the first is NULL (SQL-92 6.9, COALESCE)
 abbrev pub coalesced : Content → Content → Content
 coalesced nothing y = y
 coalesced (whole n) y = whole n

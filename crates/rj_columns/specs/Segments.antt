@@ -1,5 +1,5 @@
 -- Segments, which are tables without names: how their rows make those of a table, and where a row is found.
--- The program's own: no public contract speaks of it.
+-- Internal: no public contract uses it.
 use Rattle.std.specs.Prelude.{ℕ, ◌+◌, ◌≡◌, ◌<◌, ◌≤◌, ◌^◌, List, [], ◌++◌, None, length, take, slice_index_or, All}
 use Rattle.rj_columns.specs.Names.{name_fault}
 use Rattle.rj_columns.specs.Tables.{TableValue, FitsTypes, rows_of_all}
@@ -8,7 +8,8 @@ use Rattle.rj_columns.specs.Tables.{TableValue, FitsTypes, rows_of_all}
 abbrev pub table_in : List (List ℕ) → List TableValue → TableValue → TableValue
 table_in names closed last = record { names = names; types = last.types; rows = rows_of_all closed ++ last.rows }
 
--- segments of equal types, whose rows are of these types, with a lawful name for each of at most 256 columns, and rows within the limit
+-- segments of equal types, whose rows are of these types, with a valid name for each of at most 256
+-- columns, and rows within the limit
 pub record AreSegments (names : List (List ℕ)) (closed : List TableValue) (last : TableValue) : Type 0 where
   pub few : length last.types ≤ 256
   pub named : length names ≡ length last.types

@@ -20,8 +20,8 @@ const MAX_COLUMNS: usize = 256;
 
 /// A table that is being built, row by row.
 ///
-/// A row is added whole by `push_row`, or cell by cell by `push_cell` and then `end_row`. Cells that were
-/// pushed and not ended are the row at hand, which is no part of the table.
+/// A row is added whole by `push_row`, or cell by cell by `push_cell` and then `end_row`. Cells
+/// that were pushed and not ended are the row at hand, which isn't yet part of the table.
 #[derive(Drop)]
 pub struct TableBuilder {
     names: Names,
@@ -47,9 +47,10 @@ impl TableBuilder {
     ///
     /// # Errors
     ///
-    /// Faults are told in this order: `TooManyColumns`, over 256; name by name from the left `BadName`, where
-    /// one isn't 1 to 128 bytes of UTF-8, and `RepeatedName`, where one before it is alike when ASCII case
-    /// is ignored; `TypeCount`, where types and names differ in number. `Memory` stands for a refused growth.
+    /// Errors are reported in this order: `TooManyColumns` over 256 names; name by name from the
+    /// left `BadName` for one that isn't 1 to 128 bytes of UTF-8, and `RepeatedName` for one that
+    /// repeats an earlier name when ASCII case is ignored; `TypeCount` if types and names differ in
+    /// number. `Memory` means out of memory.
     pub fn new(
         alloc: Global,
         names: &[&[u8]],
@@ -80,18 +81,19 @@ impl TableBuilder {
         }
     }
 
-    /// Makes room for more rows, as far as memory is granted, and for 65,536 at most. The table stays as it is.
+    /// Makes room for more rows, 65,536 at most, as far as memory allows. The table stays the same.
     pub fn reserve(&mut self, rows: usize)
         ensures { self.new ≡ self.old }
     {
         self.current.reserve(rows.min(SEGMENT_ROWS));
     }
 
-    /// Adds a cell to the row at hand: there is a column for it, and it is null or of that column's type.
+    /// Adds a cell to the row at hand. There must be a column for it, and it is NULL or of that
+    /// column's type.
     ///
     /// # Errors
     ///
-    /// It fails only where memory is refused. The builder is then unchanged.
+    /// It fails only when memory runs out. The builder then stays as it was.
     #[inline]
     pub fn push_cell(&mut self, cell: Cell<'_>) -> Result<(), AllocError>
         requires { FitsAt self.old.table.types (length self.old.row) (content_of cell) }
@@ -102,7 +104,7 @@ impl TableBuilder {
         self.current.push_cell(cell)
     }
 
-    // Begins another segment: there is no cell of a row at hand. Where memory is refused nothing is changed.
+    // Begins another segment. The row at hand has no cell. If memory runs out, nothing is changed.
     fn close(&mut self) -> Result<(), AllocError>
         requires { self.old.row ≡ [] }
         ensures { self.new ≡ self.old }
@@ -118,7 +120,7 @@ impl TableBuilder {
         }
     }
 
-    // Begins another segment where the one at hand is full. Where memory is refused nothing is changed.
+    // Begins another segment if the current one is full. If memory runs out, nothing is changed.
     #[inline]
     fn make_room(&mut self) -> Result<(), AllocError>
         ensures { self.new ≡ self.old }
@@ -129,7 +131,8 @@ impl TableBuilder {
         Ok(())
     }
 
-    /// Ends the row at hand, which has a cell for each column. There were fewer than 2^31 - 1 rows.
+    /// Ends the row at hand, which has a cell for each column. The table has fewer than 2^31 - 1
+    /// rows before.
     #[inline]
     pub fn end_row(&mut self)
         requires full { length self.old.row ≡ length self.old.table.types }
@@ -146,12 +149,13 @@ impl TableBuilder {
         self.closed.rows() + self.current.rows()
     }
 
-    /// Adds a row: one cell a column, each null or of the column's type. There were fewer than 2^31 - 1
-    /// rows. A row at hand is dropped.
+    /// Adds a row: one cell a column, each NULL or of the column's type. The table has fewer than
+    /// 2^31 - 1 rows before. A row at hand is dropped.
     ///
     /// # Errors
     ///
-    /// It fails only where memory is refused. The builder is then unchanged, its row at hand too.
+    /// It fails only when memory runs out. The builder then stays as it was, and so does its row at
+    /// hand.
     pub fn push_row(&mut self, cells: &[Cell<'_>]) -> Result<(), AllocError>
         requires fits { FitsTypes self.old.table.types (map content_of cells.now) }
         requires room { length self.old.table.rows < 2 ^ 31 - 1 }

@@ -33,9 +33,10 @@ fn value_of(cell: Cell<'_>) -> Value<'_>
     }
 }
 
-/// How two cells compare (SQL-92 8.2): numbers by their exact values, whatever their types and scales, texts by
-/// their UTF-8 bytes without padding. None where either is null. Cells that are not null are both numbers or both
-/// texts; a decimal has a scale of at most 18 and units below 10^18 in size.
+/// How two cells compare (SQL-92 8.2). Numbers compare by their exact values, whatever their types
+/// and scales, and texts by their UTF-8 bytes without padding. `None` if either is NULL. Cells that
+/// are not NULL have to be both numbers or both texts. A decimal has a scale of at most 18 and
+/// units below 10^18 in size.
 #[inline]
 pub fn compare(left: Cell<'_>, right: Cell<'_>) -> Option<Ordering>
     requires { AreComparable (content_of left) (content_of right) }
@@ -58,8 +59,9 @@ pub fn compare(left: Cell<'_>, right: Cell<'_>) -> Option<Ordering>
     }
 }
 
-/// Whether two cells are equal: both not null, and both numbers of one value, whatever their types and scales, or
-/// both texts of the same bytes. A decimal has a scale of at most 18 and units below 10^18 in size.
+/// Whether two cells are equal: neither is NULL, and both are numbers of one value, whatever their
+/// types and scales, or texts of the same bytes. A decimal has a scale of at most 18 and units
+/// below 10^18 in size.
 #[inline]
 pub fn are_equal_cells(left: Cell<'_>, right: Cell<'_>) -> bool
     requires left { IsInLimits (content_of left) }

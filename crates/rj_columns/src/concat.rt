@@ -1,4 +1,4 @@
-//! One table of the rows of several, and several of the rows of one.
+//! One table from the rows of several, and several from the rows of one.
 
 ghost use Rattle.std.specs.Prelude.{◌≡◌, ◌≢◌, ◌<◌, ◌+◌, ◌^◌, ◌++◌, [], length, map, All, IfOk};
 ghost use Rattle.rj_columns.specs.Segments.{AreSegments, table_in};
@@ -40,7 +40,7 @@ fn tables_of_segments(
 }
 
 impl Table {
-    // The rows of another table with the same names and types behind those of this one.
+    // The rows of another table with the same names and types after those of this one.
     fn followed_by(self, other: Table) -> Result<Table, AllocError>
         requires names { other.names ≡ self.names }
         requires types { other.types ≡ self.types }
@@ -68,12 +68,13 @@ impl Table {
         })
     }
 
-    /// The rows of several tables, one after another, in one table under the names and the types that each of them
-    /// has. There is a table, and there are fewer than 2^31 rows in all. No cell is copied.
+    /// The rows of several tables, one after another, in one table. All have the same names and
+    /// types. There is at least one table, and there are fewer than 2^31 rows in all. No cell is
+    /// copied.
     ///
     /// # Errors
     ///
-    /// It fails only where memory is refused.
+    /// It fails only when memory runs out.
     pub fn concat(parts: Vec<Table>) -> Result<Table, AllocError>
         requires alike { AreAlike parts.items }
         requires room { length (rows_of_all parts.items) < 2 ^ 31 }
@@ -90,12 +91,13 @@ impl Table {
         Ok(whole)
     }
 
-    /// The table as tables of a segment each, one after another, under its names and types: of at most 65,536 rows each
-    /// where there are columns. A table without rows is one table. No cell is copied.
+    /// The segments of the table, one after another, each as a table with its names and types. Each
+    /// has at most 65,536 rows if there are columns. A table without rows gives one table. No cell
+    /// is copied.
     ///
     /// # Errors
     ///
-    /// It fails only where memory is refused.
+    /// It fails only when memory runs out.
     pub fn into_segments(self, alloc: Global) -> Result<Vec<Table>, AllocError>
         ensures same { IfOk result (λ v. All (λ t. (t.names ≡ self.names) × (t.types ≡ self.types)) v.items) }
         ensures rows { IfOk result (λ v. rows_of_all v.items ≡ self.rows) }

@@ -101,7 +101,7 @@ impl Ends {
         }
     }
 
-    // Where the text at a place starts, or would start behind the last one.
+    // Where the text at a place starts, or would start after the last one.
     #[inline]
     pub(crate) fn start(&self, i: usize) -> usize
         requires { i ≤ length self.now }
@@ -110,7 +110,8 @@ impl Ends {
         if i == 0 { 0 } else { self.end(i - 1) }
     }
 
-    // Adds an end. The ends become wide where it asks for that. Where memory is refused they are as they were.
+    // Adds an end. The ends become wide if it doesn't fit 4 bytes. If memory runs out, they stay as
+    // they were.
     #[inline(always)]
     pub(crate) fn push(&mut self, end: usize) -> Result<(), AllocError>
         ensures ok { OnOk result (self.new ≡ self.old ++ end ∷ []) }
@@ -143,7 +144,7 @@ impl Ends {
         }
     }
 
-    // Drops the end at a place, and lowers those behind it by the size of the text there.
+    // Drops the end at a place, and lowers those after it by the size of the text there.
     pub(crate) fn remove(&mut self, at: usize, size: usize)
         requires { at < length self.old }
         ensures { self.new ≡ take at self.old ++ map (λ e. e - size) (drop (at + 1) self.old) }

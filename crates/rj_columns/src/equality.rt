@@ -10,7 +10,7 @@ use crate::ints::Ints;
 use rj_decimal::{Decimal, compare};
 use std::cmp::Ordering;
 
-// Whether the whole numbers at two rows are the same one, and neither is null.
+// Whether the whole numbers at two rows are the same one, and neither is NULL.
 #[inline]
 pub(crate) fn are_same_ints(left: &Ints, i: usize, right: &Ints, j: usize) -> bool
     requires left { i < length left.now }

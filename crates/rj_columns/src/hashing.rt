@@ -14,7 +14,8 @@ use crate::numbers::NumberSlice;
 use crate::table::Table;
 use crate::texts::Texts;
 
-/// A hash that takes up cells one by one. `None` is the hash of what has none, as where a cell is null.
+/// A hash that takes up cells one by one. `None` is the hash of what has none, for example after a
+/// NULL.
 pub trait CellHash {
     ghost added: { Self → Option ℕ → Content → Option ℕ };
 
@@ -24,7 +25,7 @@ pub trait CellHash {
         ensures { result ≡ added self.now hash (content_of cell.entry) };
 }
 
-// Adds the numbers of 4 bytes at these rows, where none is null.
+// Adds the numbers of 4 bytes at these rows, where none is NULL.
 fn hash_narrow<H: CellHash>(
     values: &[i32],
     from: usize,
@@ -60,7 +61,7 @@ fn hash_wide<H: CellHash>(
     }
 }
 
-// Adds the numbers at these rows, where none is null. Their width is asked once for all.
+// Adds the numbers at these rows, where none is NULL. Their width is asked once for all.
 fn hash_present<H: CellHash>(
     numbers: NumberSlice<'_>,
     from: usize,
@@ -78,7 +79,7 @@ fn hash_present<H: CellHash>(
     }
 }
 
-// Adds the whole numbers at these rows to the hashes at their places. Whether any is null is asked once for all.
+// Adds the whole numbers at these rows to the hashes at their places. Whether any is NULL is asked once for all.
 pub(crate) fn hash_ints<H: CellHash>(
     numbers: &Ints,
     from: usize,
@@ -138,8 +139,8 @@ pub(crate) fn hash_texts<H: CellHash>(
     }
 }
 
-// Where the rows end that stand from a place on and are all in a segment, whose rows are those from `start` up to `end`: the
-// one at the place is.
+// The place after the rows, from a place on, that are all in the segment of the rows from `start`
+// up to `end`. The row at the place is in it.
 fn run_end(rows: &[u32], place: usize, start: u64, end: u64) -> usize
     requires place { place < length rows.now }
     requires from { start ≤ slice_index_or rows.now place 0 }
@@ -156,8 +157,9 @@ fn run_end(rows: &[u32], place: usize, start: u64, end: u64) -> usize
 }
 
 impl Table {
-    /// Adds the cells of a column at these rows to the hashes at the rows' places. It takes no memory, and what kind of
-    /// cells the column has is asked once for all rows that stand in one segment, so that reads from memory overlap.
+    /// Adds the cells of a column at these rows to the hashes at the rows' places. It allocates no
+    /// memory. The type of the cells is looked at once for all rows in one segment, so that reads
+    /// from memory overlap.
     pub fn hash_cells<H: CellHash>(
         &self,
         col: usize,

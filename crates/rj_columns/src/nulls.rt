@@ -1,4 +1,4 @@
-//! Marks of nulls, which reach no further than the last null.
+//! Marks of NULLs, which reach no further than the last NULL.
 
 ghost use Rattle.std.specs.Prelude.{◌≡◌, ◌≤◌, ◌+◌, length, false, slice_index_or, OnOk, OnErr};
 ghost use Rattle.rj_columns.specs.Nulls.{marked_at};
@@ -16,7 +16,7 @@ pub(crate) fn is_marked(nulls: &Vec<bool>, row: usize) -> bool
     false
 }
 
-// Marks a row behind all that are marked. Where memory is refused the marks are as they were.
+// Marks a row after all that are marked. If memory runs out, the marks stay as they were.
 pub(crate) fn mark(nulls: &mut Vec<bool>, row: usize) -> Result<(), AllocError>
     requires { length nulls.old.items ≤ row }
     ensures ok { OnOk result (nulls.new.items ≡ marked_at nulls.old.items row) }

@@ -31,14 +31,14 @@ impl Model for Numbers {
     ghost view = { λ a. numbers_in a.values };
 }
 
-/// Whole numbers that are lent, as they are kept.
+/// Borrowed whole numbers, as they are stored.
 #[derive(Clone, Copy)]
 pub(crate) enum NumberSlice<'a> {
     Narrow(&'a [i32]),
     Wide(&'a [i64]),
 }
 
-// Adds numbers of 4 bytes to those of 8. Where memory is refused nothing is changed.
+// Adds numbers of 4 bytes to those of 8. If memory runs out, nothing is changed.
 fn extend_widened(wide: &mut Vec<i64>, more: &Vec<i32>) -> Result<(), AllocError>
     ensures ok { OnOk result (wide.new.items ≡ wide.old.items ++ more.now.items) }
     ensures err { OnErr result (wide.new.items ≡ wide.old.items) }
@@ -51,7 +51,8 @@ fn extend_widened(wide: &mut Vec<i64>, more: &Vec<i32>) -> Result<(), AllocError
     Ok(())
 }
 
-// The same numbers in 8 bytes each, with room for as many as these had, where there is memory for it.
+// The same numbers in 8 bytes each. As far as memory allows, there is room for as many as these had
+// room for.
 fn widened(narrow: &Vec<i32>) -> Result<Vec<i64>, AllocError>
     ensures { IfOk result (λ v. v.items ≡ narrow.now.items) }
 {
@@ -92,7 +93,8 @@ impl Numbers {
         }
     }
 
-    // Adds a number. All become wide where it doesn't fit 4 bytes. Where memory is refused nothing is changed.
+    // Adds a number. All become wide if it doesn't fit 4 bytes. If memory runs out, nothing is
+    // changed.
     #[inline]
     pub(crate) fn push(&mut self, n: i64) -> Result<(), AllocError>
         ensures ok { OnOk result (self.new ≡ self.old ++ n ∷ []) }
@@ -147,7 +149,7 @@ impl Numbers {
         }
     }
 
-    // All of them, as they are kept.
+    // All of them, as they are stored.
     #[inline]
     pub(crate) fn as_slice(&self) -> NumberSlice<'_>
         ensures { numbers_lent result ≡ self.now }

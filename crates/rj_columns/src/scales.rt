@@ -1,4 +1,4 @@
-//! Cells in a scale, and the first of two that is not null.
+//! Cells in a scale, and the first of two that is not NULL.
 
 ghost use Rattle.std.specs.Prelude.{◌≡◌, ◌≤◌};
 ghost use Rattle.rj_columns.specs.Contents.{content_of, IsInLimits};
@@ -7,9 +7,9 @@ ghost use Rattle.rj_columns.specs.Scales.{coalesced, in_scale, HasScaleWithin};
 use crate::cell::{Cell, narrow};
 use rj_decimal::{Decimal, rescale};
 
-/// A cell's number with this many digits after the point, at most 18 and no fewer than its own: the value stays. A
-/// whole number stays one where the scale is 0; a text and a null stay as they are. A decimal has units below 10^18
-/// in size.
+/// A cell's number with this many digits after the point, at most 18 and no fewer than its own. The
+/// value stays the same. If the scale is 0, a whole number stays a whole number. A text and a NULL
+/// stay unchanged. A decimal has units below 10^18 in size.
 pub fn in_scale(cell: Cell<'_>, scale: u8) -> Cell<'_>
     requires limits { IsInLimits (content_of cell) }
     requires scale { scale ≤ 18 }
@@ -41,7 +41,7 @@ pub fn in_scale(cell: Cell<'_>, scale: u8) -> Cell<'_>
     }
 }
 
-/// The first cell, or the second where the first is null (SQL-92 6.9, COALESCE).
+/// The first cell, or the second if the first is NULL (SQL-92 6.9, COALESCE).
 pub fn coalesce<'a>(first: Cell<'a>, second: Cell<'a>) -> Cell<'a>
     ensures { content_of result ≡ coalesced (content_of first.entry) (content_of second.entry) }
 {

@@ -12,7 +12,7 @@ use std::marker::Model;
 /// The rows that a segment is meant to have at most.
 pub(crate) const SEGMENT_ROWS: usize = 65536;
 
-/// Some rows of a table that follow one another, with columns of their own: a table without names.
+/// Consecutive rows of a table, with columns of their own: a table without names.
 pub(crate) struct Segment {
     pub(crate) columns: Vec<Column>,
     pub(crate) rows: u64,

@@ -11,8 +11,8 @@ use crate::segment::{SEGMENT_ROWS, Segment};
 use std::alloc::{AllocError, Global};
 use std::marker::Model;
 
-/// A segment that is being built, row by row, as a [`crate::TableBuilder`] builds a table: the cells of the row at hand
-/// stand behind the others in the first columns.
+/// A segment that is being built, row by row, as a [`crate::TableBuilder`] builds a table. The
+/// cells of the row at hand come after the others in the first columns.
 #[derive(Drop)]
 pub(crate) struct SegmentBuilder {
     columns: Vec<Column>,
@@ -44,7 +44,7 @@ fn empty_columns(alloc: Global, types: &[ColumnType]) -> Result<Vec<Column>, All
     Ok(columns)
 }
 
-// Room for rows, where there is memory for it.
+// Makes room for rows, as far as memory allows.
 fn reserve_all(columns: &mut Vec<Column>, rows: usize)
     ensures { columns.new.items ≡ columns.old.items }
 {
@@ -85,7 +85,7 @@ fn remove_each(columns: &mut Vec<Column>, filled: usize, row: usize)
     }
 }
 
-// Adds a cell to each column. Where memory is refused the columns are as they were.
+// Adds a cell to each column. If memory runs out, the columns stay as they were.
 fn push_each(columns: &mut Vec<Column>, cells: &[Cell<'_>]) -> Result<(), AllocError>
     requires { FitsTypes (map (λ c. c.kind) columns.old.items) (map content_of cells.now) }
     ensures ok { OnOk result (columns.new.items ≡ grown_by (map content_of cells.now) columns.old.items) }
@@ -124,8 +124,9 @@ impl SegmentBuilder {
         })
     }
 
-    // A segment to follow this one, with columns of the same types and no rows yet. It has room, as far as memory is
-    // granted, for as many rows as a segment has, and for texts as long as this one's and an eighth more.
+    // A segment to follow this one, with columns of the same types and no rows yet. As far as
+    // memory allows, it has room for as many rows as a segment has, and for texts as long as this
+    // one's and an eighth more.
     pub(crate) fn next(&self) -> Result<SegmentBuilder, AllocError>
         ensures { IfOk result (λ b. b ≡ record { table = record self.now.table { rows = [] }; row = [] }) }
     {
@@ -156,14 +157,14 @@ impl SegmentBuilder {
         self.filled == 0 && self.rows >= SEGMENT_ROWS as u64
     }
 
-    // Makes room for more rows, as far as memory is granted. The segment stays as it is.
+    // Makes room for more rows, as far as memory allows. The segment stays the same.
     pub(crate) fn reserve(&mut self, rows: usize)
         ensures { self.new ≡ self.old }
     {
         reserve_all(&mut self.columns, rows);
     }
 
-    // Adds a cell to the row at hand. Where memory is refused nothing is changed.
+    // Adds a cell to the row at hand. If memory runs out, nothing is changed.
     #[inline]
     pub(crate) fn push_cell(&mut self, cell: Cell<'_>) -> Result<(), AllocError>
         requires { FitsAt self.old.table.types (length self.old.row) (content_of cell) }
@@ -204,7 +205,7 @@ impl SegmentBuilder {
         self.rows
     }
 
-    // Adds a row, and drops a row at hand. Where memory is refused nothing is changed.
+    // Adds a row, and drops a row at hand. If memory runs out, nothing is changed.
     pub(crate) fn push_row(&mut self, cells: &[Cell<'_>]) -> Result<(), AllocError>
         requires fits { FitsTypes self.old.table.types (map content_of cells.now) }
         requires room { length self.old.table.rows < 2 ^ 31 - 1 }

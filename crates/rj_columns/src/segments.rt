@@ -1,4 +1,4 @@
-//! Segments of a table one after another, and how the one of a row is found.
+//! The segments of a table one after another, and how to find the segment of a row.
 
 ghost use Rattle.std.specs.Prelude.{◌≡◌, ◌<◌, ◌+◌, ◌^◌, ◌++◌, ◌∷◌, [], length, map, IfErr, OnOk, OnErr};
 ghost use Rattle.rj_columns.specs.Segments.{IsFound};
@@ -22,7 +22,8 @@ pub(crate) struct Placed {
 /// Segments, one after another.
 pub(crate) struct Segments {
     placed: Vec<Placed>,
-    // For each row whose number is a multiple of `HINTED` a segment that begins at that row or before it.
+    // For each row whose number is a multiple of `HINTED`: a segment that begins at that row or
+    // before it.
     hints: Vec<usize>,
     rows: u64,
 }
@@ -71,7 +72,7 @@ impl Segments {
         self.rows
     }
 
-    // Adds a segment behind the others. Where memory is refused it is given back, and nothing is changed.
+    // Adds a segment after the others. If memory runs out, it is given back, and nothing is changed.
     pub(crate) fn push(&mut self, segment: Segment) -> Result<(), Segment>
         requires { length (rows_of_all self.old) + length segment.rows < 2 ^ 31 }
         ensures ok { OnOk result (self.new ≡ self.old ++ segment ∷ []) }
@@ -99,7 +100,7 @@ impl Segments {
         Ok(())
     }
 
-    // Adds other segments behind these. Where memory is refused some may have been added.
+    // Adds other segments after these. If memory runs out, some may have been added.
     pub(crate) fn append(&mut self, other: Segments) -> Result<(), AllocError>
         requires { length (rows_of_all self.old) + length (rows_of_all other) < 2 ^ 31 }
         ensures { OnOk result (self.new ≡ self.old ++ other) }
@@ -125,7 +126,7 @@ impl Segments {
         placed
     }
 
-    // The segment that has a row: it is the one of the hint, or one of the few behind it.
+    // The segment that has a row. It is the one of the hint, or one of the few after it.
     #[inline(always)]
     pub(crate) fn find(&self, row: u64) -> &Placed
         requires { row < length (rows_of_all self.now) }

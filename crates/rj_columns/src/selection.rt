@@ -12,8 +12,9 @@ use crate::table::Table;
 use std::alloc::{AllocError, Global};
 use std::marker::Model;
 
-/// The cells of some rows of a table at some of its columns, copied into columns of their own: what is read again and
-/// again lies close together. Places and columns count from 0, in the order in which they were selected.
+/// The cells of some rows of a table at some of its columns, copied into columns of their own, so
+/// that cells that are read often are close together. Places and columns count from 0, in the order
+/// in which they were selected.
 #[derive(Drop)]
 pub struct Selection {
     columns: Vec<Column>,
@@ -34,7 +35,8 @@ impl Model for Selection {
 }
 
 impl Selection {
-    /// The cell at a place of a column. A text is lent by the selection. Takes no memory.
+    /// The cell at a place of a column. A text is borrowed from the selection. It allocates no
+    /// memory.
     pub fn cell(&self, place: usize, col: usize) -> Cell<'_>
         requires col { col < length self.now }
         requires place { place < length (slice_index_or self.now col []) }
@@ -44,8 +46,8 @@ impl Selection {
         self.columns[col].get(place)
     }
 
-    /// Whether the cell at a place of a column equals the cell at a row and a column of a table: what
-    /// `are_equal_cells` says of the two, which aren't made. Takes no memory.
+    /// Whether the cell at a place of a column equals the cell at a row and a column of a table, as
+    /// `are_equal_cells` says. The two cells aren't made. It allocates no memory.
     #[inline]
     pub fn equals_cell(
         &self,
@@ -86,7 +88,7 @@ impl Table {
     ///
     /// # Errors
     ///
-    /// It fails only where memory is refused.
+    /// It fails only when memory runs out.
     pub fn select(
         &self,
         alloc: Global,

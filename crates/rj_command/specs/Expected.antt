@@ -13,11 +13,12 @@ use Rattle.rj_line.specs.declared.request.Request.{Request}
 abbrev pub IsExpected : Request → BoundJoin → TableValue → TableValue → Type 0
 IsExpected q join l r = IsAsExpected q.expectation (joined_of join l r)
 
--- it isn't, and this fault tells it
+-- it isn't, and this error says so
 abbrev pub IsUnexpected : Request → BoundJoin → TableValue → TableValue → Fault → Type 0
 IsUnexpected q join l r f = (f ≡ fault.NotAsExpected) × (IsExpected q join l r → ⊥)
 
--- what is told of a joined table, by whether it was found to be as expected, or that it couldn't be found out
+-- the error of a joined table, given whether it was found to be as expected, or that this couldn't
+-- be found out
 abbrev pub refusal_of : Result Bool AllocError → Result (Unit {0}) Fault
 refusal_of (Ok true) = Ok tt
 refusal_of (Ok false) = Err fault.NotAsExpected

@@ -1,4 +1,4 @@
--- The operands of a run: two tables and a join bound to them, or the first fault.
+-- The operands of a run: two tables and a join bound to them, or the first error.
 use Rattle.std.specs.Prelude.{◌≡◌, ◌≢◌, List, ℕ, Ok, Err}
 use Rattle.rj_columns.specs.Tables.{TableValue}
 use Rattle.rj_condition.specs.Bound.{bound}
@@ -15,14 +15,14 @@ use Rattle.rj_condition.specs.Clauses.{HasClause, IsFault}
 use Rattle.rj_condition.specs.declared.refused.ParseRefused.{ParseRefused}
 use Rattle.rj_condition.specs.declared.refused.ParseRefused.TheVariants as parse
 
--- the fault of a clause that can't be read
+-- the error of a clause that can't be read
 abbrev pub parse_fault : ParseRefused → Fault
 parse_fault (parse.Syntax byte) = fault.Syntax byte
 parse_fault parse.TooDeep = fault.TooDeep
 parse_fault parse.TooLong = fault.ClauseTooLong
 parse_fault parse.Memory = fault.Memory
 
--- the fault of a clause that can't be bound
+-- the error of a clause that can't be bound
 abbrev pub bind_fault : BindRefused → Fault
 bind_fault bind.UnknownColumn = fault.UnknownColumn
 bind_fault bind.AmbiguousColumn = fault.AmbiguousColumn
@@ -34,7 +34,7 @@ bind_fault bind.Memory = fault.Memory
 abbrev pub IsJoinOf : List ℕ → TableValue → TableValue → BoundJoin → Type 0
 IsJoinOf text l r join = (c : Clause) × HasClause text c × (bound c l r ≡ Ok join)
 
--- the fault of a text that has no clause, or of a clause that doesn't bind to the tables
+-- the error of a text that has no clause, or of a clause that doesn't bind to the tables
 pub data IsJoinFault (text : List ℕ) (l r : TableValue) : Fault → Type 0 where
   unread : (e : ParseRefused) → e ≢ parse.Memory → IsFault text e → IsJoinFault text l r (parse_fault e)
   unbound : (c : Clause) (e : BindRefused) → HasClause text c → bound c l r ≡ Err e → IsJoinFault text l r (bind_fault e)
@@ -45,7 +45,7 @@ pub record AreOperands (left right : List ℕ) (q : Request) (l r : TableValue) 
   pub right_read : IsTable q side.Right right r
   pub join_bound : IsJoinOf q.clause.now l r join
 
--- the first fault: of the left table, of the right one, of the clause
+-- the first error: of the left table, of the right one, of the clause
 pub data IsFirstFault (left right : List ℕ) (q : Request) : Fault → Type 0 where
   in_left : (f : Fault) → IsTableFault q side.Left left f → IsFirstFault left right q f
   in_right : (l : TableValue) (f : Fault) → IsTable q side.Left left l → IsTableFault q side.Right right f → IsFirstFault left right q f

@@ -1,4 +1,4 @@
--- What is made of two tables before what is chosen of their joined table is written. The program's own: no public contract speaks of it.
+-- What is made of two tables before what is chosen of their joined table is written. Internal: no public contract uses it.
 use Rattle.std.specs.Prelude.{◌≡◌, ℕ, List, map, string_bytes}
 use Rattle.rj_columns.specs.Contents.{Content}
 use Rattle.rj_engine.specs.Chosen.{chosen_view}
@@ -9,8 +9,8 @@ use Rattle.rj_command.specs.Runs.{AreNames, IsCounted, IsToldApart}
 use Rattle.rj_command.specs.declared.join.operands.Operands.{Operands}
 use Rattle.rj_command.specs.declared.join.running.Prepared.{Prepared}
 
--- the names of its columns, what is shown of it and what is counted of it are those that are asked for; it is as expected, and its nulls
--- can be told from its cells
+-- the names of its columns, what is shown of it and its statistics are those that are asked for; it
+-- is as expected, and its NULLs can be told from its cells
 pub record IsPrepared (value : List Content → ℕ) (q : Request) (o : Operands) (p : Prepared) : Type 0 where
   pub counted : IsCounted value q o.left o.right o.join p.stats
   pub expected : IsExpected q o.join o.left o.right

@@ -15,7 +15,8 @@ use Rattle.rj_engine.specs.declared.origin.Origin.TheVariants.{Coalesced, Left, 
 use Rattle.rj_line.specs.declared.request.Request.{Request}
 use Rattle.rj_settings.specs.declared.choice.Repeated.TheVariants.{Kept}
 
--- the type of the column that a column of the joined table comes from; of two coalesced ones, the left one
+-- the type of the column from which a column of the joined table comes; for two coalesced ones, the
+-- type of the left one
 abbrev pub type_of_column : TableValue → TableValue → Origin → ColumnType
 type_of_column l r (Coalesced a b) = unwrap_or (slice_get l.types a) kind.Text
 type_of_column l r (Left a) = unwrap_or (slice_get l.types a) kind.Text
@@ -35,9 +36,10 @@ written_table q names join l r = record {
   rows = (chosen_view q.choice join l r).cells;
 }
 
--- what it needs, so that it is read again by these null texts as it was: names that a table can have, which they are wherever repeated
--- ones are renamed, no more columns and rows than one can have, each coalesced column of one type, the text that is written for null among
--- the null texts, no cell that is one of these, and no byte order mark at the start
+-- what it needs to be read again by these NULL texts as it was: names that a table can have, which
+-- they are if repeated ones are renamed; no more columns and rows than a table can have; each
+-- coalesced column of one type; the text that is written for NULL among the NULL texts; no cell
+-- that is one of these; and no byte order mark at the start
 pub record IsReadable (q : Request) (nulls names : List (List ℕ)) (join : BoundJoin) (l r : TableValue) : Type 0 where
   pub lawful : q.choice.repeated ≡ Kept → name_fault [] names ≡ None
   pub some : 0 < length names

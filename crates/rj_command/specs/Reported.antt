@@ -14,13 +14,13 @@ use Rattle.rj_engine.specs.declared.reporting.JoinReport.{JoinReport}
 use Rattle.rj_command.specs.ShownTexts.{shown_text}
 use Rattle.rj_line.specs.declared.request.Request.{Request}
 
--- the lines of the rows and the pairs
+-- the lines of the rows and the matches
 abbrev pub counts_text : JoinReport → List ℕ
 counts_text x =
     codes "rows left " ++ (decimal x.left_rows ++ (codes " right " ++ (decimal x.right_rows ++ (10 ∷ (codes "pairs " ++ (decimal x.pairs
     ++ (codes " lone-left " ++ (decimal x.lone_left ++ (codes " lone-right " ++ decimal x.lone_right)))))))))
 
--- the lines of null and of repeated keys
+-- the lines of NULL and of repeated keys
 abbrev pub spread_text : KeyReport → List ℕ
 spread_text k =
     10 ∷ (codes "null-keys left " ++ (decimal k.left_nulls ++ (codes " right " ++ (decimal k.right_nulls ++ (10 ∷ (codes "repeated-keys left "
@@ -37,7 +37,7 @@ largest_text join l (Some g) =
     (10 ∷ (codes "largest-key left " ++ (decimal g.left ++ (codes " right " ++ decimal g.right))))
     ++ flat_map (λ c. cell_part l g.row c) (map (λ k. k.0) (keys_of join))
 
--- the lines of keys, of which there are none where a join has no keys
+-- the lines of keys; none if a join has no keys
 abbrev pub keys_text : BoundJoin → TableValue → Option KeyReport → List ℕ
 keys_text join l None = []
 keys_text join l (Some k) = spread_text k ++ largest_text join l k.largest
@@ -46,11 +46,11 @@ keys_text join l (Some k) = spread_text k ++ largest_text join l k.largest
 abbrev pub report_text : BoundJoin → TableValue → JoinReport → List ℕ
 report_text join l x = counts_text x ++ keys_text join l x.keys
 
--- the text is what is told of a join of two tables
+-- the text is the report of a join of two tables
 abbrev pub IsReportText : BoundJoin → TableValue → TableValue → List ℕ → Type 0
 IsReportText join l r text = (x : JoinReport) × IsReport join l r x × (text ≡ report_text join l x)
 
--- there is a report exactly where one is asked for, and it is that of the join
+-- there is a report exactly if one is asked for, and it is that of the join
 abbrev pub IsReported : Request → BoundJoin → TableValue → TableValue → Option (String Global) → Type 0
 IsReported q join l r None = q.report ≡ false
 IsReported q join l r (Some text) = (q.report ≡ true) × IsReportText join l r (string_bytes text)

@@ -34,8 +34,8 @@ use Rattle.rj_fault.specs.declared.fault.Side.TheVariants as side
 use Rattle.rj_command.specs.Sides.{nulls_of}
 use Rattle.rj_command.specs.declared.join.stats.Stats.{Stats}
 
--- these are the names that are asked for of the columns that are chosen: each is lawful, and none is like another one, where repeated ones
--- are renamed
+-- these are the names that are asked for of the chosen columns: each is valid, and no two are the
+-- same, if repeated ones are renamed
 pub record AreNames (q : Request) (join : BoundJoin) (l r : TableValue) (names : List (List ℕ)) : Type 0 where
   pub written : written_names q.choice.repeated (chosen_header q.choice join l r) ≡ Ok names
   pub many : length names ≡ length (chosen_header q.choice join l r)
@@ -45,23 +45,24 @@ pub record AreNames (q : Request) (join : BoundJoin) (l r : TableValue) (names :
 abbrev pub joined_text : List ℕ → BoundJoin → TableValue → TableValue → List ℕ
 joined_text null join l r = table_text null (header_of join l r) (view_of join l r).cells
 
--- the text of what is chosen of it, under these names; where nothing is chosen, that is the text of the joined table (`plain_text`)
+-- the text of what is chosen of it, under these names; if nothing is chosen, that is the text of
+-- the joined table (`plain_text`)
 abbrev pub chosen_text : Request → List (List ℕ) → BoundJoin → TableValue → TableValue → List ℕ
 chosen_text q names join l r = table_text q.out_null.now names (chosen_view q.choice join l r).cells
 
--- read strictly, rows have no cell that isn't null and is written as null is
+-- read strictly, rows have no cell that isn't NULL and is written as NULL is
 abbrev pub IsToldApart : Strictness → List ℕ → List (List Content) → Type 0
 IsToldApart strictness.Off null rows = Unit {0}
 IsToldApart strictness.On null rows = AreClear null rows
 IsToldApart strictness.Full null rows = AreClear null rows
 
--- read strictly, this fault tells the first such cell that they have
+-- read strictly, this error reports the first such cell that they have
 abbrev pub IsNullFault : Strictness → List ℕ → List (List Content) → Fault → Type 0
 IsNullFault strictness.Off null rows f = ⊥
 IsNullFault strictness.On null rows f = (row column : ℕ) × (f ≡ fault.AmbiguousNull row column) × IsFirstAmbiguous null rows row column
 IsNullFault strictness.Full null rows f = (row column : ℕ) × (f ≡ fault.AmbiguousNull row column) × IsFirstAmbiguous null rows row column
 
--- where the text that is written for null is a null text of a table, no cell of the table is that text
+-- if the text that is written for NULL is a NULL text of a table, no cell of the table is that text
 abbrev pub AreReadApart : Request → Operands → Type 0
 AreReadApart q o =
     (is_null_field (nulls_of q side.Left) q.out_null.now ≡ true → AreApart q.out_null.now o.left.rows)
@@ -72,9 +73,10 @@ abbrev pub hash_value : Hash → List Content → ℕ
 hash_value hash.Plain key = plain key
 hash_value hash.Mixed key = mixed (plain key)
 
--- how many members of each kind the joined table has, how many rows of each table were delivered to each partition of the
--- first pass (the rows with a key whose hash ends in the partition's bits), how many pieces the rows of the larger side of
--- each partition make, and, where it is asked for, what is told of the join
+-- how many members of each kind the joined table has, how many rows of each table were delivered to
+-- each partition of the first pass (the rows with a key whose hash ends in the partition's bits),
+-- how many pieces the rows of the larger side of each partition make, and, if it is asked for, the
+-- report of the join
 pub record IsCounted (value : List Content → ℕ) (q : Request) (l r : TableValue) (join : BoundJoin) (stats : Stats) : Type 0 where
   pub pairs : stats.pairs ≡ length (joined_of join l r).pairs
   pub lone_left : stats.lone_left ≡ length (joined_of join l r).lone_left
@@ -86,8 +88,8 @@ pub record IsCounted (value : List Content → ℕ) (q : Request) (l r : TableVa
   pub tells_pieces : stats.tells_pieces ≡ q.tells_pieces
   pub report : IsReported q join l r stats.report
 
--- the operands' joined table can be written: its columns have names, it is as expected, its nulls can be told from its cells, and this is
--- counted of it
+-- the operands' joined table can be written: its columns have names, it is as expected, its NULLs
+-- can be told from its cells, and these are its statistics
 pub record IsReady (value : List Content → ℕ) (q : Request) (o : Operands) (stats : Stats) : Type 0 where
   pub counted : IsCounted value q o.left o.right o.join stats
   pub expected : IsExpected q o.join o.left o.right
@@ -95,32 +97,33 @@ pub record IsReady (value : List Content → ℕ) (q : Request) (o : Operands) (
   pub names : List (List ℕ)
   pub named : AreNames q o.join o.left o.right names
 
--- something is counted of it
+-- it has some statistics
 abbrev pub CanBeWritten : (List Content → ℕ) → Request → Operands → Type 0
 CanBeWritten value q o = (stats : Stats) × IsReady value q o stats
 
--- the text of what is chosen of it was written behind what the writer had been told
+-- the text of what is chosen of it was written after what the writer already had
 abbrev pub WritesTables : (List Content → ℕ) → Request → Operands → Option (List ℕ) → Option (List ℕ) → Stats → Type 0
 WritesTables value q o before after stats = (j : IsReady value q o stats) × Appends before after (chosen_text q j.names o.join o.left o.right)
 
--- a column that is chosen is to be renamed and has no free name, and this fault tells the first one
+-- a chosen column is to be renamed and has no free name, and this error reports the first one
 abbrev pub IsNameFault : Request → BoundJoin → TableValue → TableValue → Fault → Type 0
 IsNameFault q join l r f = (column : ℕ) × (f ≡ fault.NoFreeName column)
     × (written_names q.choice.repeated (chosen_header q.choice join l r) ≡ Err (NoFreeName column))
 
--- what is told of a joined table before what is chosen of it is written: that, then that it isn't as expected, then a cell that can't be
--- told from null
+-- an error of a joined table before what is chosen of it is written: that one first, then that it
+-- isn't as expected, then a cell that can't be told from NULL
 abbrev pub IsResultFault : Request → BoundJoin → TableValue → TableValue → Fault → Type 0
 IsResultFault q join l r f =
     IsNameFault q join l r f
     ⊎ (((names : List (List ℕ)) × AreNames q join l r names)
     × (IsUnexpected q join l r f ⊎ (IsExpected q join l r × IsNullFault q.strict q.out_null.now (chosen_view q.choice join l r).cells f)))
 
--- why operands' joined table isn't written: that, want of memory, or that the writer failed
+-- why the operands' joined table isn't written: such an error, out of memory, or the writer failed
 abbrev pub IsUnwritten : Request → Operands → Fault → Type 0
 IsUnwritten q o f = (f ≡ fault.Memory) ⊎ ((f ≡ fault.WriteDevice) ⊎ IsResultFault q o.join o.left o.right f)
 
--- the text of what is chosen of the joined table of what the bytes denote, and what is counted of that table
+-- the text of what is chosen of the joined table of what the bytes denote, and that table's
+-- statistics
 pub record IsJoined (left right : List ℕ) (q : Request) (stats : Stats) (text : List ℕ) : Type 0 where
   pub l : TableValue
   pub r : TableValue
@@ -133,16 +136,16 @@ pub record IsJoined (left right : List ℕ) (q : Request) (stats : Stats) (text 
   pub named : AreNames q join l r names
   pub shown : text ≡ chosen_text q names join l r
 
--- that text was written behind what the writer had been told
+-- that text was written after what the writer already had
 abbrev pub WritesJoined : List ℕ → List ℕ → Request → Option (List ℕ) → Option (List ℕ) → Stats → Type 0
 WritesJoined left right q before after stats = (text : List ℕ) × IsJoined left right q stats text × Appends before after text
 
 -- there is such a text: the bytes denote two tables and the clause a join of them, and the joined table has names, is as expected, and its
--- nulls can be told from its cells
+-- NULLs can be told from its cells
 abbrev pub HasJoined : List ℕ → List ℕ → Request → Type 0
 HasJoined left right q = (stats : Stats) × (text : List ℕ) × IsJoined left right q stats text
 
--- the bytes denote two tables, of whose joined table this is told
+-- the bytes denote two tables, whose joined table has this error
 pub record IsFirstResultFault (left right : List ℕ) (q : Request) (f : Fault) : Type 0 where
   pub l : TableValue
   pub r : TableValue
@@ -150,6 +153,7 @@ pub record IsFirstResultFault (left right : List ℕ) (q : Request) (f : Fault) 
   pub operands : AreOperands left right q l r join
   pub told : IsResultFault q join l r f
 
--- the fault of a run: but for want of memory and a failed writer, it is the first one of the operands, or of their joined table
+-- the error of a run: out of memory, a failed writer, the first error of the operands, or that of
+-- their joined table
 abbrev pub IsRunFault : List ℕ → List ℕ → Request → Fault → Type 0
 IsRunFault left right q f = f ≢ fault.Memory → f ≢ fault.WriteDevice → IsFirstFault left right q f ⊎ IsFirstResultFault left right q f

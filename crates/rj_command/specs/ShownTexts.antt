@@ -1,4 +1,4 @@
--- How a report shows a text, the name of a column or what stands in a cell, so that it stands on one line.
+-- How a report shows a text (the name of a column or a cell) on one line.
 use Rattle.std.specs.Prelude.{ℕ, true, List, [], ◌∷◌, ◌++◌, ◌-◌, ◌/◌, ◌%◌, ◌==◌, ◌||◌, nat_lt, if◌then◌else◌, codes, decimal, encode_utf8, length, take}
 use Rattle.std.specs.Fmt.{digit_glyph}
 use Rattle.std.specs.List.{flat_map}
@@ -14,10 +14,10 @@ shown_char c =
 abbrev pub shown_part : List ℕ → List ℕ
 shown_part text = take (utf8_valid_len (take 60 text)) text
 
--- how many bytes stand behind them, where there are any
+-- how many bytes come after them, if there are any
 abbrev pub more_text : ℕ → List ℕ
 more_text n = if n == 0 then [] else codes " and " ++ (decimal n ++ codes " more bytes")
 
--- these characters between double quotes, and what stands behind them
+-- these characters between double quotes, and what comes after them
 unfoldable pub shown_text : List ℕ → List ℕ
 shown_text text = 34 ∷ (flat_map shown_char (chars (shown_part text)) ++ (34 ∷ more_text (length text - length (shown_part text))))

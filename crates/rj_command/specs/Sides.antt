@@ -1,4 +1,4 @@
--- What the bytes of a table's file denote, or their first fault.
+-- What the bytes of a table's file denote, or their first error.
 use Rattle.std.specs.Prelude.{◌≡◌, ◌≢◌, ◌&&◌, if◌then◌else◌, Bool, true, false, List, [], ◌∷◌, ℕ, Result, Ok, Err, Option, Some, None, option_map}
 use Rattle.csv.specs.Reading.{default_config, records, strip_bom}
 use Rattle.rj_columns.specs.Names.{empty_table}
@@ -25,7 +25,7 @@ use Rattle.rj_line.specs.declared.request.Request.{Request}
 use Rattle.rj_line.specs.declared.request.Strictness.{Strictness}
 use Rattle.rj_line.specs.declared.request.Strictness.TheVariants as strictness
 
--- the fault of a text that is not of RFC 4180's grammar
+-- the error of a text that is not of RFC 4180's grammar
 abbrev pub strict_fault : Side → StrictFault → Fault
 strict_fault s (strict.OpenQuote row column) = fault.OpenQuote s row column
 strict_fault s (strict.AfterQuote row column) = fault.AfterQuote s row column
@@ -39,28 +39,28 @@ abbrev pub types_of : Request → Side → List TypeEntry
 types_of q side.Left = q.left_types.items
 types_of q side.Right = q.right_types.items
 
--- the texts that stand for null in a table
+-- the texts that stand for NULL in a table
 abbrev pub nulls_of : Request → Side → List (List ℕ)
 nulls_of q side.Left = null_texts q.left_nulls.items
 nulls_of q side.Right = null_texts q.right_nulls.items
 
--- each text that stands for null, in either table or in what is written, may do so
+-- each text that stands for NULL, in either table or in what is written, may do so
 abbrev pub has_lawful_nulls : Request → Bool
 has_lawful_nulls q = are_null_texts (nulls_of q side.Left) && are_null_texts (nulls_of q side.Right) && is_null_text q.out_null.now
 
--- whether a header has no fault, or only another number of types
+-- whether a header has no error, or only another number of types
 abbrev pub stands : Result TableValue BuildRefused → Bool
 stands (Ok t) = true
 stands (Err build.TypeCount) = true
 stands (Err e) = false
 
--- the first name in a type list that means no column of the header, or one that an earlier entry names; faults of the header itself come
--- first, but for the count of types
+-- the first name in a type list that means no column of the header, or one that an earlier entry
+-- names; errors of the header itself come first, except the count of types
 abbrev pub type_fault : List TypeEntry → Side → List (List ℕ) → Option Fault
 type_fault entries s header =
     if stands (empty_table header (types_under entries header)) then option_map (fault.TypeName s) (name_fault entries header) else None
 
--- what is denoted, or the fault of a side
+-- what is denoted, or the error of a side
 abbrev pub told : Side → Result TableValue ReadRefused → Result TableValue Fault
 told s (Ok t) = Ok t
 told s (Err e) = Err (read_fault s e)
@@ -76,7 +76,8 @@ header_records q s (header ∷ rest) =
     told_first (type_fault (types_of q s) s header)
     (told s (records_read (header ∷ rest) (types_under (types_of q s) header) (nulls_of q s)))
 
--- the same, but that a null text which isn't lawful comes first, wherever it belongs. Faults of rows come last.
+-- the same, except that a NULL text which isn't valid comes first, whichever table it belongs to.
+-- Errors of rows come last.
 abbrev pub side_records : Request → Side → List (List (List ℕ)) → Result TableValue Fault
 side_records q s rs = if has_lawful_nulls q then header_records q s rs else Err fault.BadNull
 
@@ -84,12 +85,12 @@ side_records q s rs = if has_lawful_nulls q then header_records q s rs else Err 
 abbrev pub side_read : Request → Side → List ℕ → Result TableValue Fault
 side_read q s bytes = side_records q s (records default_config (strip_bom bytes))
 
--- a reading of these records, or memory is refused
+-- a reading of these records, or memory runs out
 abbrev pub IsReading : Request → Side → List (List (List ℕ)) → Result TableValue Fault → Type 0
 IsReading q s records (Ok t) = side_records q s records ≡ Ok t
 IsReading q s records (Err f) = f ≢ fault.Memory → side_records q s records ≡ Err f
 
--- the records that stand in lines
+-- the records that are in lines
 abbrev pub records_in_lines : List Line → List (List (List ℕ))
 records_in_lines lines = records_of (record { lines = lines; rest = None })
 
@@ -97,8 +98,8 @@ abbrev pub is_no_header : Fault → Bool
 is_no_header (fault.NoHeader s) = true
 is_no_header _ = false
 
--- the fault of a text that is not of the grammar, by what the records above denote: the first fault of theirs, or its own, also
--- where there is no header above
+-- the error of a text that is not of the grammar, given what the records above denote: their first
+-- error, or its own, also if there is no header above
 abbrev pub fault_below : Side → StrictFault → Result TableValue Fault → Fault
 fault_below s f (Ok t) = strict_fault s f
 fault_below s f (Err g) = if is_no_header g then strict_fault s f else g
@@ -107,26 +108,26 @@ fault_below s f (Err g) = if is_no_header g then strict_fault s f else g
 abbrev pub IsStrictTable : Bool → Request → Side → List ℕ → TableValue → Type 0
 IsStrictTable full q s bytes t = (file : File) × Derives First full (body_of First bytes) file × (side_records q s (records_of file) ≡ Ok t)
 
--- a fault of those records, or of a text that has no derivation
+-- an error of those records, or of a text that has no derivation
 pub data IsStrictFault (full : Bool) (q : Request) (s : Side) (bytes : List ℕ) : Fault → Type 0 where
   of_records : (file : File) (f : Fault) → Derives First full (body_of First bytes) file → side_records q s (records_of file) ≡ Err f
       → IsStrictFault full q s bytes f
   of_text : (f : StrictFault) (lines : List Line) → HasFault First full (body_of First bytes) f → AreAbove First (body_of First bytes) (row_at f) lines
       → IsStrictFault full q s bytes (fault_below s f (side_records q s (records_in_lines lines)))
 
--- the table that the bytes of a file denote, read so strictly
+-- the table that the bytes of a file denote, read as strictly as this
 abbrev pub IsTableBy : Strictness → Request → Side → List ℕ → TableValue → Type 0
 IsTableBy strictness.Off q s bytes t = side_read q s bytes ≡ Ok t
 IsTableBy strictness.On q s bytes t = IsStrictTable false q s bytes t
 IsTableBy strictness.Full q s bytes t = IsStrictTable true q s bytes t
 
--- the fault for which they denote none
+-- the error for which they denote none
 abbrev pub IsTableFaultBy : Strictness → Request → Side → List ℕ → Fault → Type 0
 IsTableFaultBy strictness.Off q s bytes f = side_read q s bytes ≡ Err f
 IsTableFaultBy strictness.On q s bytes f = IsStrictFault false q s bytes f
 IsTableFaultBy strictness.Full q s bytes f = IsStrictFault true q s bytes f
 
--- the table, and the fault, of a reading as strict as it is asked for
+-- the table, and the error, of a reading as strict as it is asked for
 abbrev pub IsTable : Request → Side → List ℕ → TableValue → Type 0
 IsTable q s bytes t = IsTableBy q.strict q s bytes t
 

@@ -1,4 +1,4 @@
--- The text of what a join counts.
+-- The text of the statistics of a join.
 use Rattle.std.specs.Prelude.{ℕ, if◌then◌else◌, List, [], ◌∷◌, ◌++◌, codes, decimal}
 use Rattle.std.specs.List.{flat_map}
 use Rattle.rj_command.specs.declared.join.stats.PartitionRows.{PartitionRows}
@@ -8,7 +8,7 @@ use Rattle.rj_command.specs.declared.join.stats.Stats.{Stats}
 abbrev pub partition_text : PartitionRows → List ℕ
 partition_text p = codes "partition " ++ (decimal p.number ++ (codes " left " ++ (decimal p.left ++ (codes " right " ++ decimal p.right))))
 
--- the line of the members of the joined table: kept pairs, and rows of either side in none
+-- the line of the members of the joined table: matches, and unmatched rows of either side
 abbrev pub written_text : Stats → List ℕ
 written_text s = codes "pairs " ++ (decimal s.pairs ++ (codes " lone-left " ++ (decimal s.lone_left ++ (codes " lone-right " ++ decimal s.lone_right))))
 
@@ -16,7 +16,8 @@ written_text s = codes "pairs " ++ (decimal s.pairs ++ (codes " lone-left " ++ (
 abbrev pub pieces_text : Stats → List ℕ
 pieces_text s = codes "pieces " ++ decimal s.pieces
 
--- a line for each partition, ended by LF, then that of the members of the joined table, and where it is asked for, on a line of its own, that of the pieces
+-- a line for each partition, ended by LF, then that of the members of the joined table, and if it
+-- is asked for, on a line of its own, that of the pieces
 abbrev pub stats_text : Stats → List ℕ
 stats_text s =
     flat_map (λ p. partition_text p ++ 10 ∷ []) s.partitions.items

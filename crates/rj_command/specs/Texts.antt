@@ -1,4 +1,4 @@
--- The texts of the rows of a joined table, run by run. The program's own: no public contract speaks of it.
+-- The texts of the rows of a joined table, run by run. Internal: no public contract uses it.
 use Rattle.std.specs.Prelude.{◌≡◌, ◌<◌, ◌==◌, ℕ, Bool, List, [], All, filter, length, map, slice_index_or}
 use Rattle.std.specs.List.{concat}
 use Rattle.std.specs.declared.alloc.Global.{Global}
@@ -19,7 +19,7 @@ whole_text v = concat (map (λ (t : Vec ℕ Global). t.items) v.items)
 abbrev pub cells_text : List ℕ → List (List Content) → List ℕ
 cells_text null rows = rows_text (map (map (shown null)) rows)
 
--- whether the left rows of a run stand in this segment
+-- whether the left rows of a run are in this segment
 abbrev pub is_of : ℕ → Run → Bool
 is_of segment run = run.segment == segment
 
@@ -43,11 +43,11 @@ no_table = record { names = []; types = []; rows = [] }
 abbrev pub text_in : List ℕ → Shown → List TableValue → TableValue → JoinedValue → Run → List ℕ
 text_in null s segments r v run = run_text null s (slice_index_or segments run.segment no_table) r v run
 
--- these texts stand for each segment, one for each of its runs, in their order
+-- there are these texts for each segment, one for each of its runs, in their order
 abbrev pub AreTextsOf : (Run → List ℕ) → List Run → List (Vec (Vec (Vec ℕ Global) Global) Global) → Type 0
 AreTextsOf text runs made =
     (k : ℕ) (d : Vec (Vec (Vec ℕ Global) Global) Global) → k < length made → map whole_text (slice_index_or made k d).items ≡ map text (filter (is_of k) runs)
 
--- so many texts stand for each segment
+-- there are this many texts for each segment
 abbrev pub AreCounted : List Run → List (Vec (Vec (Vec ℕ Global) Global) Global) → Type 0
 AreCounted runs made = (k : ℕ) (d : Vec (Vec (Vec ℕ Global) Global) Global) → k < length made → length (slice_index_or made k d).items ≡ length (filter (is_of k) runs)

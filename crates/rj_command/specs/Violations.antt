@@ -1,4 +1,4 @@
--- By what the joined table of two files isn't as expected.
+-- How the joined table of two files differs from what is expected.
 use Rattle.std.specs.Prelude.{ℕ, List, MatchOption, Option}
 use Rattle.rj_columns.specs.Tables.{TableValue}
 use Rattle.rj_condition.specs.declared.bound.BoundJoin.{BoundJoin}
@@ -9,7 +9,8 @@ use Rattle.rj_command.specs.Expected.{IsExpected}
 use Rattle.rj_command.specs.Operands.{AreOperands}
 use Rattle.rj_line.specs.declared.request.Request.{Request}
 
--- the bytes denote two tables, whose joined table is as expected where there is no violation, and else isn't by this one
+-- the bytes denote two tables, whose joined table is as expected if there is no violation, and else
+-- has this violation
 pub record HasViolation (left right : List ℕ) (q : Request) (found : Option Violation) : Type 0 where
   pub l : TableValue
   pub r : TableValue

@@ -1,4 +1,5 @@
-//! The run of a join, from the bytes of two tables to the bytes of their joined table; its command line, faults and statuses are handed on.
+//! Joins, from the bytes of two tables to the bytes of their joined table. The command line, errors
+//! and exit statuses are re-exported.
 #![tactic(auto)]
 
 mod join;

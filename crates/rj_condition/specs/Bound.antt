@@ -1,4 +1,4 @@
--- A clause bound to two tables: every name resolved to a table and a column, or the first fault (SQL-92, 7.5).
+-- A clause bound to two tables: every name resolved to a table and a column, or the first error (SQL-92, 7.5).
 use Rattle.std.specs.Prelude.{Result, Ok}
 use Rattle.rj_columns.specs.Tables.{TableValue}
 use Rattle.rj_condition.specs.Resolved.{and_then, bound_on}

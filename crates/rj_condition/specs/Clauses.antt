@@ -1,5 +1,5 @@
--- Clause: the syntax tree of a text, or its fault. A text over 65,536 bytes is too long; that is told first, then that it
--- is nested too deep, and then that it is no clause.
+-- Clause: the syntax tree of a text, or its error. A text over 65,536 bytes is too long; that is
+-- reported first, then that it is nested too deep, and then that it is no clause.
 use Rattle.std.specs.Prelude.{◌≡◌, ◌≢◌, ◌<◌, ◌≤◌, ◌++◌, ℕ, suc, true, false, List, length, slice_get, take, unwrap_or, Result, Ok, Err, MatchResult}
 use Rattle.rj_condition.specs.declared.token.Token.{Token}
 use Rattle.rj_condition.specs.declared.tree.Clause.{Clause}
@@ -24,11 +24,11 @@ HasClause text c = (ts : List Token) × (length text ≤ 65536) × Lexes text ts
 abbrev pub HasNoClause : List ℕ → Type 0
 HasNoClause text = (ts : List Token) × (length text ≤ 65536) × Lexes text ts × (is_deep ts ≡ false) × ((c : Clause) → Derives ts c → ⊥)
 
--- the tokens begin a clause: with some more behind them they are those of one
+-- the tokens begin a clause: with some more after them they are those of one
 abbrev pub BeginsClause : List Token → Type 0
 BeginsClause ts = (us : List Token) × (c : Clause) × Derives (ts ++ us) c
 
--- so many tokens begin a clause, and with the next one, if there is one, they begin none
+-- this many tokens begin a clause, and with the next one, if there is one, they begin none
 pub record IsStop (ts : List Token) (n : ℕ) : Type 0 where
   pub within : n ≤ length ts
   pub begins : BeginsClause (take n ts)
@@ -43,14 +43,14 @@ pub record IsStopByte (text : List ℕ) (byte : ℕ) : Type 0 where
   pub stop : IsStop tokens place
   pub at : byte ≡ unwrap_or (slice_get starts place) (length text)
 
--- The fault is the text's own, or memory ran out.
+-- The error is the text's own, or memory ran out.
 abbrev pub IsFault : List ℕ → ParseRefused → Type 0
 IsFault text refused.TooLong = IsTooLong text
 IsFault text refused.TooDeep = IsTooDeep text
 IsFault text (refused.Syntax byte) = HasNoClause text × IsStopByte text byte
 IsFault text refused.Memory = Unit {0}
 
--- The answer of a parser is the clause or the fault of the text, unless memory ran out.
+-- The answer of a parser is the clause or the error of the text, unless memory ran out.
 abbrev pub Parses : List ℕ → Result Clause ParseRefused → Type 0
 Parses text (Ok c) = HasClause text c
 Parses text (Err e) = IsFault text e

@@ -1,4 +1,4 @@
--- Decimals of a clause: at most 18 digits, as NUMERIC(18, scale) has (SQL-92, 5.3). The program's own: no public contract speaks of it.
+-- Decimals of a clause: at most 18 digits, as NUMERIC(18, scale) has (SQL-92, 5.3). Internal: no public contract uses it.
 use Rattle.std.specs.Prelude.{◌≡◌, ℕ, ℤ, Bool, true, false, Option, Some, None, refl}
 use Rattle.rj_condition.specs.Sizes.{is_short}
 use Rattle.rj_condition.specs.declared.decimal.DecimalLiteral.{DecimalLiteral}

@@ -1,4 +1,5 @@
--- Whether a bound join fits the types of two tables: each column is there, and what is compared is of one family, numbers or texts.
+-- Whether a bound join fits the types of two tables: each column exists, and what is compared is of
+-- one family, numbers or texts.
 use Rattle.std.specs.Prelude.{ℕ, ◌==◌, Bool, true, false, ◌&&◌, List, map, length, Option, None, Some, slice_get}
 use Rattle.std.specs.List.{list_all}
 use Rattle.rj_columns.specs.Contents.{Content, whole, decimal, word, IsInLimits}
@@ -32,7 +33,7 @@ literal_family (literal.Integer n) = family.Number
 literal_family (literal.Decimal d) = family.Number
 literal_family (literal.Text text) = family.Text
 
--- the family of an operand over these types of columns; None where there is no such column
+-- the family of an operand over these types of columns; None if there is no such column
 abbrev pub family_of : List ColumnType → List ColumnType → BoundOperand → Option TypeFamily
 family_of left right (operand.Left col) = family_in (slice_get left col)
 family_of left right (operand.Right col) = family_in (slice_get right col)
@@ -44,7 +45,7 @@ are_one_family (Some family.Number) (Some family.Number) = true
 are_one_family (Some family.Text) (Some family.Text) = true
 are_one_family a b = false
 
--- types differ where one is text and the other is not
+-- types differ if one is text and the other is not
 abbrev pub are_one_type : Option ColumnType → Option ColumnType → Bool
 are_one_type a b = are_one_family (family_in a) (family_in b)
 
@@ -52,7 +53,7 @@ abbrev pub has_family : Option TypeFamily → Bool
 has_family (Some f) = true
 has_family None = false
 
--- null, or of this family
+-- NULL, or of this family
 abbrev pub IsOfFamily : TypeFamily → Content → Type 0
 IsOfFamily family.Number (word s) = ⊥
 IsOfFamily family.Number x = Unit {0}
@@ -87,7 +88,7 @@ all_fit left right cs = list_all (λ b. b) (map (condition_fits left right) cs)
 abbrev pub pair_fits : List ColumnType → List ColumnType → ℕ × ℕ → Bool
 pair_fits left right p = are_one_type (slice_get left p.0) (slice_get right p.1)
 
--- each join column and its partner are there and of one family
+-- each join column and its partner exist and are of one family
 abbrev pub pairs_fit : List ColumnType → List ColumnType → List (Option ℕ) → Bool
 pairs_fit left right partners = list_all (pair_fits left right) (pairs_of partners)
 

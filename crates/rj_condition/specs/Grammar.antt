@@ -35,7 +35,7 @@ use Rattle.rj_condition.specs.declared.tree.Condition.TheVariants as tree
 use Rattle.rj_condition.specs.declared.tree.Clause.{Clause}
 use Rattle.rj_condition.specs.declared.tree.Clause.TheVariants as clause
 
--- the tokens, behind the keyword where it is there
+-- the tokens, after the keyword if it is there
 abbrev pub optional : Bool → Keyword → List Token → List Token
 optional true k ts = token.Keyword k ∷ ts
 optional false k ts = ts
@@ -92,7 +92,7 @@ pub data IsPredicate : List Token → Condition → List Token → Type 0 where
       IsOperand ts x (optional negated keyword.Not (token.Keyword keyword.In ∷ token.Sign sign.Open ∷ vs)) → IsOperands vs xs (token.Sign sign.Close ∷ us) →
       IsPredicate ts (tree.In x xs negated) us
 
--- one part stands for itself
+-- a single part is itself
 abbrev pub any_of : List Condition → Condition
 any_of (c ∷ []) = c
 any_of cs = tree.Any cs

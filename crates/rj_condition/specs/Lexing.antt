@@ -4,7 +4,8 @@ use Rattle.rj_condition.specs.declared.token.Token.{Token}
 use Rattle.rj_condition.specs.declared.token.Token.TheVariants as token
 use Rattle.rj_condition.specs.Tokens.{is_blank, IsToken}
 
--- `Lexes bytes ts`: the bytes are the tokens ts. Where no token begins, one that is unreadable ends the list.
+-- `Lexes bytes ts`: the bytes are the tokens ts. If no token begins somewhere, an unreadable one
+-- ends the list.
 pub data Lexes : List ℕ → List Token → Type 0 where
   nothing : Lexes [] []
   blank : (b : ℕ) (bs : List ℕ) (ts : List Token) → is_blank b ≡ true → Lexes bs ts → Lexes (b ∷ bs) ts

@@ -36,12 +36,12 @@ apart l r None y = None
 apart l r (Some x) None = None
 apart l r (Some x) (Some y) = if are_one_family (family_of l.types r.types x) (family_of l.types r.types y) then None else Some (x, y)
 
--- what is meant, where it can be taken
+-- what is meant, if it can be resolved
 abbrev pub taken : Result BoundOperand BindRefused → Option BoundOperand
 taken (Ok x) = Some x
 taken (Err e) = None
 
--- the operands of a comparison, where they differ
+-- the operands of a comparison, if they differ in family
 abbrev pub differ : TableValue → TableValue → Operand → Operand → Option Pair
 differ l r a b = apart l r (taken (resolved_operand l.names r.names a)) (taken (resolved_operand l.names r.names b))
 
@@ -64,7 +64,8 @@ differ_read l r (Ok p) = differ_in l r p.0
 abbrev pub differ_by_name : TableValue → TableValue → Name → Option Pair
 differ_by_name l r n = apart l r (option_map bound.Left (place l.names n)) (option_map bound.Right (place r.names n))
 
--- the first columns of NATURAL: left ones from this one on, called so, with those called alike
+-- the first columns of NATURAL, the left ones from this one on with this name, and the right ones
+-- of the same name
 abbrev pub first_common : TableValue → TableValue → ℕ → List (List ℕ) → Option Pair
 first_common l r i [] = None
 first_common l r i (n ∷ names) =
@@ -79,24 +80,24 @@ abbrev pub is_behind_point : List Token → ℕ → Bool
 is_behind_point ts zero = false
 is_behind_point ts (suc i) = is_point (slice_get ts i)
 
--- what a token begins in another clause than one of USING: NATURAL, or a predicate
+-- what a token begins in a clause without USING: NATURAL, or a predicate
 abbrev pub differ_on : TableValue → TableValue → List Token → ℕ → Option Pair
 differ_on l r ts i =
     if is_natural (slice_get ts i) then first_common l r 0 l.names
     else if is_behind_point ts i then None
     else differ_read l r (predicate_at (drop i ts))
 
--- the first operands that are compared at a token and differ
+-- the first operands that are compared at a token and differ in family
 abbrev pub differ_from : Bool → TableValue → TableValue → List Token → ℕ → Option Pair
 differ_from true l r ts i = option_and_then (differ_by_name l r) (name_of (slice_get ts i))
 differ_from false l r ts i = differ_on l r ts i
 
--- the first token at which operands differ
+-- the first token at which operands differ in family
 pub record IsFirstApart (l r : TableValue) (ts : List Token) (i : ℕ) (operands : Pair) : Type 0 where
   pub differ : differ_from (list_any is_using ts) l r ts i ≡ Some operands
   pub first : (k : ℕ) → k < i → differ_from (list_any is_using ts) l r ts k ≡ None
 
--- this is told of it: the byte at which it begins, and the operands
+-- its mismatch: the byte at which it begins, and the operands
 pub record IsToldApart (l r : TableValue) (ts : List Token) (starts : List ℕ) (found : Mismatch) : Type 0 where
   pub place : ℕ
   pub first : IsFirstApart l r ts place (found.first, found.second)

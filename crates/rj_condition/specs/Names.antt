@@ -10,7 +10,7 @@ use Rattle.rj_condition.specs.declared.bound.BoundOperand.TheVariants as bound
 use Rattle.rj_condition.specs.declared.refused.BindRefused.{BindRefused}
 use Rattle.rj_condition.specs.declared.refused.BindRefused.TheVariants as refused
 
--- whether the name means a column called so
+-- whether the name means a column with this name
 abbrev pub matches : Name → List ℕ → Bool
 matches name called = if name.delimited then bytes_eq name.text called else str_eq_ignore_ascii_case name.text called
 
@@ -18,7 +18,7 @@ matches name called = if name.delimited then bytes_eq name.text called else str_
 abbrev pub place : List (List ℕ) → Name → Option ℕ
 place names name = position_from (matches name) 0 names
 
--- an unqualified name stands in exactly one table
+-- an unqualified name is in exactly one table
 abbrev pub in_one : Option ℕ → Option ℕ → Result BoundOperand BindRefused
 in_one (Some i) (Some j) = Err refused.AmbiguousColumn
 in_one (Some i) None = Ok (bound.Left i)

@@ -5,8 +5,8 @@ use Rattle.rj_condition.specs.declared.token.Sign.TheVariants as sign
 use Rattle.rj_condition.specs.declared.token.Token.{Token}
 use Rattle.rj_condition.specs.declared.token.Token.TheVariants as token
 
--- The NOTs in a row: those that end with the token, and then those directly before each open parenthesis, the innermost
--- first. A parenthesis that closes closes the innermost, if any.
+-- The NOTs in a row: those that end with the token, and then those directly before each open
+-- parenthesis, the innermost first. A closing parenthesis closes the innermost, if any.
 abbrev pub runs_after : Token → List ℕ → List ℕ
 runs_after t [] = []
 runs_after (token.Keyword keyword.Not) (run ∷ runs) = (run + 1) ∷ runs
@@ -24,6 +24,6 @@ abbrev pub is_deep_from : List ℕ → List Token → Bool
 is_deep_from runs [] = false
 is_deep_from runs (t ∷ ts) = nat_lt 64 (depth (runs_after t runs)) || is_deep_from (runs_after t runs) ts
 
--- no parenthesis is open before the first token, and no NOT stands before it
+-- no parenthesis is open before the first token, and no NOT comes before it
 abbrev pub is_deep : List Token → Bool
 is_deep ts = is_deep_from (0 ∷ []) ts

@@ -1,4 +1,5 @@
--- The corresponding columns of USING and NATURAL (SQL-92, 7.5): for each left column the right one that it is joined with, if any.
+-- The corresponding columns of USING and NATURAL (SQL-92, 7.5): for each left column the right one
+-- with which it is joined, if any.
 use Rattle.std.specs.Prelude.{ℕ, List, [], ◌∷◌, ◌++◌, length, replicate, Option, None, Some, Result, Ok, Err, slice_get, slice_index_or, slice_set, is_some, if◌then◌else◌}
 use Rattle.std.specs.List.{position_from}
 use Rattle.std.specs.Str.{str_eq_ignore_ascii_case}

@@ -1,4 +1,5 @@
--- The reader's functions, on lists of tokens. The program's own: of public contracts that of `first_mismatch` alone speaks of `predicate_at`.
+-- The reader's functions, on lists of tokens. Internal: among public contracts only that of
+-- `first_mismatch` uses `predicate_at`.
 use Rattle.std.specs.Prelude.{◌≡◌, ℕ, zero, suc, List, [], ◌∷◌, ◌++◌, length, Option, Some, None, option_map, Result, Ok, Err, Bool, true, false, if◌then◌else◌}
 use Rattle.std.specs.Borrow.{Bor}
 use Rattle.std.specs.Str.{bytes_eq}
@@ -34,7 +35,7 @@ any_of = grammar.any_of
 abbrev pub all_of : List Condition → Condition
 all_of = grammar.all_of
 
--- a value and the tokens behind it, or how many tokens are left where reading stops
+-- a value and the tokens after it, or how many tokens are left where reading stops
 abbrev pub Read : Type 0 → Type 0
 Read A = Result (A × List Token) ℕ
 
@@ -65,7 +66,7 @@ abbrev pub view : {A : Type 0} → Option (A × Bor (List Token)) → Option (A 
 view (Some x) = Some (x.0, x.1.now)
 view None = None
 
--- the tokens behind a keyword, and behind a sign, if it comes next
+-- the tokens after a keyword, and after a sign, if it comes next
 abbrev pub same_keyword : Keyword → Keyword → Bool
 same_keyword j k = bytes_eq (spelling_of j) (spelling_of k)
 
@@ -80,16 +81,16 @@ unfoldable pub behind : Sign → List Token → Option (List Token)
 behind s (token.Sign r ∷ ts) = if same_sign r s then Some ts else None
 behind s _ = None
 
--- the tokens behind what has to come next
+-- the tokens after what has to come next
 abbrev pub expect : Option (List Token) → List Token → Read (Unit {0})
 expect (Some us) ts = Ok (tt, us)
 expect None ts = Err (length ts)
 
--- a value, where its parenthesis is closed
+-- a value, if its parenthesis is closed
 abbrev pub closed : {A : Type 0} → A → List Token → Read A
 closed x ts = expect (behind sign.Close ts) ts >>= λ u. Ok (x, u.1)
 
--- whether it came next, and the tokens behind it
+-- whether it came next, and the tokens after it
 abbrev pub optionally : Option (List Token) → List Token → Bool × List Token
 optionally (Some us) ts = (true, us)
 optionally None ts = (false, ts)
@@ -114,7 +115,7 @@ operand_at (token.Decimal d ∷ ts) = Ok (operand.Literal (literal.Decimal d), t
 operand_at (token.Text w ∷ ts) = Ok (operand.Literal (literal.Text w), ts)
 operand_at ts = column_at ts
 
--- goes on behind the separator, where it comes next
+-- goes on after the separator, if it comes next
 abbrev pub go_on : {A : Type 0} → Option (List Token) → Read A → (List Token → Read A) → Read A
 go_on None stop go = stop
 go_on (Some ts) stop go = go ts
@@ -220,7 +221,7 @@ abbrev pub suffix_of : Condition → List Token → Option (List Token) → Read
 suffix_of c us (Some vs) = truth_test_at c (opt keyword.Not vs)
 suffix_of c us None = Ok (c, us)
 
--- what stands behind a primary
+-- what comes after a primary
 unfoldable pub suffix : Condition → List Token → Read Condition
 suffix c us = suffix_of c us (after keyword.Is us)
 
@@ -286,7 +287,7 @@ by_inner ts None = by_left ts (after keyword.Left ts)
 unfoldable pub kind_at : List Token → JoinKind × List Token
 kind_at ts = by_inner ts (after keyword.Inner ts)
 
--- a type of a join, where JOIN stands behind it
+-- a type of a join, if JOIN comes after it
 abbrev pub joined : JoinKind × List Token → Read JoinKind
 joined p = expect (after keyword.Join p.1) p.1 >>= λ u. Ok (p.0, u.1)
 

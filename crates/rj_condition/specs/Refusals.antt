@@ -1,4 +1,5 @@
--- The bytes at which the tokens of a text begin, and the first column name among them that can't be taken.
+-- The bytes at which the tokens of a text begin, and the first column name among them that is
+-- refused.
 use Rattle.std.specs.Prelude.{ℕ, suc, ◌≡◌, ◌+◌, ◌-◌, ◌<◌, ◌==◌, Bool, true, false, List, [], ◌∷◌, length, Option, Some, None, option_map, option_and_then, Result, Ok, Err, if◌then◌else◌, slice_get, take}
 use Rattle.std.specs.List.{list_any}
 use Rattle.rj_condition.specs.declared.bound.BoundOperand.{BoundOperand}
@@ -69,7 +70,8 @@ using_refusal left ts None b = Some refused.UnknownColumn
 using_refusal left ts (Some i) None = Some refused.UnknownColumn
 using_refusal left ts (Some i) (Some j) = if is_named_in left ts i then Some refused.RepeatedUsing else None
 
--- why a column name can't be taken, over the names of the left and the right table and the tokens before it
+-- why a column name is refused, over the names of the left and the right table and the tokens
+-- before it
 abbrev pub refusal : Bool → List (List ℕ) → List (List ℕ) → List Token → ColumnName → Option BindRefused
 refusal true left right before column = using_refusal left before (place left column.name) (place right column.name)
 refusal false left right before column = reference_refusal left right column
@@ -78,13 +80,14 @@ refusal false left right before column = reference_refusal left right column
 abbrev pub refusal_at : Bool → List (List ℕ) → List (List ℕ) → List Token → ℕ → Option BindRefused
 refusal_at using left right ts i = option_and_then (refusal using left right (take i ts)) (column_at ts i)
 
--- the first token that names a column which can't be taken
+-- the first token that names a column which is refused
 pub record IsFirstRefused (left right : List (List ℕ)) (ts : List Token) (i : ℕ) (column : ColumnName) (e : BindRefused) : Type 0 where
   pub names : column_at ts i ≡ Some column
   pub refused : refusal (list_any is_using ts) left right (take i ts) column ≡ Some e
   pub first : (k : ℕ) → k < i → refusal_at (list_any is_using ts) left right ts k ≡ None
 
--- this is told of the first column name among the tokens that can't be taken: the byte at which it begins, itself, and why
+-- the refused column is the first refused column name among the tokens: the byte at which it
+-- begins, the name, and why
 pub record IsToldOf (left right : List (List ℕ)) (ts : List Token) (starts : List ℕ) (found : RefusedColumn) : Type 0 where
   pub place : ℕ
   pub column : ColumnName
@@ -93,7 +96,7 @@ pub record IsToldOf (left right : List (List ℕ)) (ts : List Token) (starts : L
   pub name : found.name ≡ column.name.text
   pub qualifier : found.qualifier ≡ option_map (λ n. n.text) column.qualifier
 
--- each column name among the tokens can be taken
+-- no column name among the tokens is refused
 abbrev pub AreTaken : List (List ℕ) → List (List ℕ) → List Token → Type 0
 AreTaken left right ts = (i : ℕ) → i < length ts → refusal_at (list_any is_using ts) left right ts i ≡ None
 

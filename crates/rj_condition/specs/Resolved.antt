@@ -1,4 +1,4 @@
--- A condition with its names resolved, or the first fault in the order of the text.
+-- A condition with its names resolved, or the first error in the order of the text.
 use Rattle.std.specs.Prelude.{ℕ, List, [], ◌∷◌, ◌++◌, map, Result, Ok, Err, if◌then◌else◌}
 use Rattle.rj_columns.specs.Tables.{TableValue}
 use Rattle.rj_condition.specs.Names.{resolved_operand}
@@ -13,7 +13,7 @@ use Rattle.rj_condition.specs.declared.refused.BindRefused.TheVariants as refuse
 abbrev pub Resolved : Type 0
 Resolved = Result BoundCondition BindRefused
 
--- go on where all went well so far
+-- goes on if all went well so far
 abbrev pub and_then : {A B : Type 0} → Result A BindRefused → (A → Result B BindRefused) → Result B BindRefused
 and_then (Ok x) f = f x
 and_then (Err e) f = Err e
@@ -23,7 +23,7 @@ abbrev pub onto : {A : Type 0} → List A → Result (List A) BindRefused → Re
 onto xs (Ok ys) = Ok (xs ++ ys)
 onto xs (Err e) = Err e
 
--- all of them, or the first fault
+-- all of them, or the first error
 abbrev pub all_ok : {A : Type 0} → List (Result A BindRefused) → Result (List A) BindRefused
 all_ok [] = Ok []
 all_ok (Ok x ∷ rs) = onto (x ∷ []) (all_ok rs)

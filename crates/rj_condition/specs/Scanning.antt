@@ -1,4 +1,4 @@
--- What the functions of the lexer find, on lists of bytes. The program's own, but for `quoted`.
+-- What the functions of the lexer find, on lists of bytes. Internal, but for `quoted`.
 use Rattle.std.specs.Prelude.{ℕ, ℤ, pos, negsuc, ◌^◌, ◌==◌, ◌||◌, ◌+◌, ◌&&◌, not, Bool, nat_lt, List, [], ◌∷◌, ◌++◌, Option, Some, None, take, drop, length, if◌then◌else◌, true, false}
 use Rattle.std.specs.Char.{is_ascii_alphabetic, is_ascii_digit}
 use Rattle.std.specs.List.{prefix_len, find}
@@ -15,7 +15,7 @@ use Rattle.rj_condition.specs.Tokens.{is_name_byte, spells, begins, begins_fract
 use Rattle.rj_condition.specs.Decimals.{decimal_of}
 use Rattle.rj_condition.specs.declared.decimal.DecimalLiteral.{DecimalLiteral}
 
--- a value found and what stands behind it
+-- a value found and what comes after it
 abbrev pub view : {A : Type 0} → Option (A × Bor (List ℕ)) → Option (A × List ℕ)
 view (Some p) = Some (p.0, p.1.now)
 view None = None
@@ -47,7 +47,7 @@ in_front found None = None
 abbrev pub is_other : ℕ → ℕ → Bool
 is_other q b = not (b == q)
 
--- a text behind its first quote, and what stands behind its last
+-- a text after its first quote, and what comes after its last
 unfoldable mutual
   pub quoted : ℕ → List ℕ → Option (List ℕ × List ℕ)
   quoted q [] = None
@@ -68,7 +68,7 @@ delimited_at None = None
 abbrev pub is_sign_of_number : ℕ → Bool
 is_sign_of_number b = b == 43 || b == 45
 
--- the bytes of a sign and of the digits behind it
+-- the bytes of a sign and of the digits after it
 unfoldable pub number_len : List ℕ → ℕ
 number_len [] = 0
 number_len (b ∷ bs) = if is_sign_of_number b then 1 + prefix_len is_ascii_digit bs else prefix_len is_ascii_digit (b ∷ bs)
@@ -82,7 +82,7 @@ fits_word (negsuc n) = nat_lt n (2 ^ 63)
 unfoldable pub is_integer : List ℕ → Bool
 is_integer w = nat_lt 0 (length (without_leading_sign w)) && all_ascii_digits (without_leading_sign w) && fits_word (signed_digits_value 10 w)
 
--- an integer, where it is in range and does not run into a word
+-- an integer, if it is in range and does not run into a word
 abbrev pub judged : List ℕ → List ℕ → Option (ℤ × List ℕ)
 judged w rest = if begins is_name_byte rest then None else if is_integer w then Some (signed_digits_value 10 w, rest) else None
 
@@ -90,7 +90,7 @@ abbrev pub as_integer : Option (ℤ × List ℕ) → Option (Token × List ℕ)
 as_integer (Some p) = Some (token.Integer p.0, p.1)
 as_integer None = None
 
--- a decimal, of the digits before and behind its point
+-- a decimal, of the digits before and after its point
 abbrev pub decimal_parts : List ℕ → List ℕ → Option DecimalLiteral
 decimal_parts before after =
     if is_integer (before ++ after) && nat_lt 0 (length (without_leading_sign before)) && nat_lt (length (without_leading_sign before) + length after) 19
@@ -100,7 +100,7 @@ abbrev pub with_rest : {A : Type 0} → Option A → List ℕ → Option (A × L
 with_rest (Some x) rest = Some (x, rest)
 with_rest None rest = None
 
--- what stands before a point, and a text behind it
+-- what comes before a point, and a text after it
 abbrev pub judged_decimal : List ℕ → List ℕ → List ℕ → Option (DecimalLiteral × List ℕ)
 judged_decimal before after rest = if begins is_name_byte rest then None else with_rest (decimal_parts before after) rest
 
@@ -111,14 +111,14 @@ abbrev pub as_decimal : Option (DecimalLiteral × List ℕ) → Option (Token ×
 as_decimal (Some p) = Some (token.Decimal p.0, p.1)
 as_decimal None = None
 
--- a number, by what stands behind its first digits
+-- a number, by what comes after its first digits
 abbrev pub number_behind : List ℕ → List ℕ → Option (Token × List ℕ)
 number_behind w rest = if begins_fraction rest then as_decimal (fraction_at w (drop 1 rest)) else as_integer (judged w rest)
 
 unfoldable pub number_at : List ℕ → Option (Token × List ℕ)
 number_at bs = number_behind (take (number_len bs) bs) (drop (number_len bs) bs)
 
--- the sign that stands behind `<`, and behind `>`
+-- the sign that comes after `<`, and after `>`
 unfoldable pub less_at : List ℕ → Sign × List ℕ
 less_at [] = (sign.Less, [])
 less_at (b ∷ bs) = if b == 62 then (sign.NotEqual, bs) else if b == 61 then (sign.LessOrEqual, bs) else (sign.Less, b ∷ bs)

@@ -74,13 +74,14 @@ doubled q (b ∷ bs) = if b == q then q ∷ q ∷ doubled q bs else b ∷ double
 abbrev pub in_quotes : ℕ → List ℕ → List ℕ
 in_quotes q t = q ∷ (doubled q t ++ q ∷ [])
 
--- a name that is delimited stands between double quotes and is not empty; another is an identifier and no keyword
+-- a delimited name is between double quotes and is not empty; any other is an identifier and no
+-- keyword
 abbrev pub IsNamed : Bool → List ℕ → List ℕ → Type 0
 IsNamed true t w = (w ≡ in_quotes 34 t) × (t ≢ [])
 IsNamed false t w = (w ≡ t) × IsIdentifier w × ((k : Keyword) → spells w k ≡ false)
 
--- An optional sign, digits, a point and digits, of which there are at most 18 in all. The scale is the count of those behind the point; the
--- units are the number that the digits write without it.
+-- An optional sign, digits, a point and digits, at most 18 digits in all. The scale is the count of
+-- those after the point; the units are the number that the digits write without it.
 abbrev pub IsDecimal : DecimalLiteral → List ℕ → Type 0
 IsDecimal d w =
     (before after : List ℕ) × (w ≡ before ++ 46 ∷ after) × IsNumeral 10 (without_leading_sign before) × IsNumeral 10 after
@@ -105,14 +106,14 @@ abbrev pub begins_fraction : List ℕ → Bool
 begins_fraction [] = false
 begins_fraction (b ∷ bs) = b == 46 && begins is_ascii_digit bs
 
--- a longer sign does not stand there
+-- no longer sign is there
 abbrev pub EndsSign : Sign → List ℕ → Type 0
 EndsSign sign.Less rest = begins (λ b. b == 61 || b == 62) rest ≡ false
 EndsSign sign.Greater rest = begins (λ b. b == 61) rest ≡ false
 EndsSign _ rest = Unit {0}
 
--- Longest match: what stands behind a token does not carry it on. A number does not run into a letter or an underscore, and an integer not
--- into a point and a digit.
+-- Longest match: what comes after a token doesn't continue it. A number doesn't run into a letter
+-- or an underscore, and an integer not into a point and a digit.
 abbrev pub Ends : Token → List ℕ → Type 0
 Ends (token.Keyword k) rest = begins is_name_byte rest ≡ false
 Ends (token.Name n) rest = begins (if n.delimited then (λ b. b == 34) else is_name_byte) rest ≡ false
@@ -122,6 +123,6 @@ Ends (token.Text t) rest = begins (λ b. b == 39) rest ≡ false
 Ends (token.Sign s) rest = EndsSign s rest
 Ends token.Unreadable rest = Unit {0}
 
--- the bytes begin with the token, and the rest stands behind it
+-- the bytes begin with the token, and the rest comes after it
 abbrev pub IsToken : List ℕ → Token → List ℕ → Type 0
 IsToken bytes t rest = (w : List ℕ) × (bytes ≡ w ++ rest) × IsSpelled t w × Ends t rest

@@ -17,7 +17,7 @@ use rj_columns::Table;
 use sqlite_items::Items;
 use std::alloc::Global;
 
-// What is bound, where its types fit.
+// What is bound, if its types fit.
 fn where_typed<T: Drop>(bound: T, typed: bool) -> Result<T, BindRefused>
     ensures { result ≡ (if typed then Ok bound else Err BindRefused.TypeMismatch) }
 {
@@ -28,7 +28,8 @@ fn where_typed<T: Drop>(bound: T, typed: bool) -> Result<T, BindRefused>
     }
 }
 
-// The condition bound to the two tables: all names come first, in the order of the text, then the types.
+// The condition bound to the two tables. All names come first, in the order of the text, then the
+// types.
 fn bind_condition(
     alloc: Global,
     condition: &Condition,
@@ -65,13 +66,13 @@ fn join_by_rule(
     }
 }
 
-/// The clause bound to two tables (SQL-92, 7.5).
+/// Binds the clause to two tables (SQL-92, 7.5).
 ///
 /// # Errors
 ///
-/// The first fault is told. For ON all column references are resolved in the order of the text, and then the types of
-/// all comparisons are tested; USING is tested name by name, for missing columns, repeats and types. A refusal for want
-/// of memory may come in place of any other.
+/// The first error. For ON all column references are resolved in the order of the text, and then
+/// the types of all comparisons are tested. USING is tested name by name, for missing columns,
+/// repeats and types. `Memory` may come in place of any other error.
 #[tactic(auto, unfolding(crate::specs::Bound::bound))]
 pub fn bind(
     alloc: Global,
@@ -82,7 +83,7 @@ pub fn bind(
     ensures ok { IfOk result (λ join. bound clause.now left.now right.now ≡ Ok join) }
     ensures fault { IfErr result (λ e. e ≢ BindRefused.Memory → bound clause.now left.now right.now ≡ Err e) }
 
-    // the tables are those that the join was bound to
+    // the tables are those to which the join was bound
     ensures fits { IfOk result (λ join. fits join left.now.types right.now.types ≡ true) }
 {
     match clause {

@@ -14,7 +14,7 @@ pub enum BoundOperand {
     Literal(Literal),
 }
 
-// By hand, so that a drop is one call in the proofs of those who hold an operand.
+// Written out, so that a drop is one call in the proofs of those who hold an operand.
 impl Drop for BoundOperand {
     fn drop(self) {
         match self {
@@ -25,7 +25,7 @@ impl Drop for BoundOperand {
     }
 }
 
-/// A search condition with its names resolved; its cases are those of `Condition`.
+/// A search condition with its names resolved. Its cases are those of `Condition`.
 #[derive(Drop)]
 pub enum BoundCondition {
     Compare {
@@ -68,7 +68,7 @@ pub enum Rule {
     Condition(BoundCondition),
 }
 
-// By hand, as that of an operand.
+// Written out, as for an operand.
 impl Drop for Rule {
     fn drop(self) {
         match self {
@@ -79,15 +79,15 @@ impl Drop for Rule {
     }
 }
 
-/// A join clause bound to two tables: which unmatched rows it adds, which pairs of rows it keeps, and which
-/// columns of the two tables are one join column.
+/// A join clause bound to two tables: which unmatched rows it adds, which pairs of rows it keeps,
+/// and which columns of the two tables are one join column.
 pub struct BoundJoin {
     pub(crate) kind: JoinKind,
     pub(crate) partners: Items<Option<usize>>,
     pub(crate) rule: Rule,
 }
 
-// By hand, as that of an operand.
+// Written out, as for an operand.
 impl Drop for BoundJoin {
     fn drop(self) {
         let BoundJoin {
@@ -106,8 +106,8 @@ impl BoundJoin {
         self.kind
     }
 
-    /// For each left column the right column that it is joined with by USING or NATURAL, if any; for ON and CROSS
-    /// there is none.
+    /// For each left column the right column with which USING or NATURAL joins it, if any. ON and
+    /// CROSS have none.
     pub fn partners(&self) -> &[Option<usize>]
         ensures { result.now ≡ partners_of self.now }
     {

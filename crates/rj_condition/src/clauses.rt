@@ -42,7 +42,7 @@ fn join(tokens: &[Token]) -> Result<(JoinKind, &[Token]), Stop>
     }
 }
 
-// Behind CROSS.
+// After CROSS.
 #[tactic(auto, unfolding(crate::specs::Reading::cross_at))]
 fn cross(tokens: &[Token]) -> Result<Clause, Stop>
     ensures { GivesWhole result (reading.cross_at tokens.now) }
@@ -53,7 +53,7 @@ fn cross(tokens: &[Token]) -> Result<Clause, Stop>
     }
 }
 
-// Behind NATURAL.
+// After NATURAL.
 #[tactic(auto, unfolding(crate::specs::Reading::natural_at))]
 fn natural(tokens: &[Token]) -> Result<Clause, Stop>
     ensures { GivesWhole result (reading.natural_at tokens.now) }
@@ -64,7 +64,7 @@ fn natural(tokens: &[Token]) -> Result<Clause, Stop>
     }
 }
 
-// Behind ON.
+// After ON.
 #[tactic(auto, unfolding(crate::specs::Reading::on_at))]
 fn on(alloc: Global, kind: JoinKind, tokens: &[Token]) -> Result<Clause, Stop>
     ensures { GivesWhole result (reading.on_at kind tokens.now) }
@@ -109,7 +109,7 @@ fn qualified(alloc: Global, tokens: &[Token]) -> Result<Clause, Stop>
 ///
 /// # Errors
 ///
-/// It answers `Syntax` where they are no clause, and `Memory` where a growth was refused.
+/// `Syntax` if they are no clause, `Memory` if memory ran out.
 #[tactic(auto, unfolding(crate::specs::Reading::clause_at))]
 pub fn clause(alloc: Global, tokens: &[Token]) -> Result<Clause, Stop>
     ensures { GivesWhole result (reading.clause_at tokens.now) }

@@ -1,5 +1,5 @@
-//! Conditions by recursive descent (SQL-92, 8.12). The limit bounds the turns and the nesting: the count of the tokens
-//! is enough.
+//! Conditions by recursive descent (SQL-92, 8.12). The limit bounds the loop turns and the nesting;
+//! the number of tokens is enough.
 
 ghost use Rattle.std.specs.Prelude.{◌≡◌, [], ◌∷◌};
 ghost use Rattle.rj_condition.specs.Reading.{Gives, factor_at, factors_at, term_at, terms_at, cond_at, group_at, test_at, primary_at, any_of, all_of};
@@ -14,7 +14,7 @@ use crate::truth::Truth;
 use sqlite_items::{Boxed, Items};
 use std::alloc::Global;
 
-// Conditions joined by OR: one stands for itself.
+// Conditions joined by OR. A single one is itself.
 fn any(mut conditions: Items<Condition>) -> Condition
     ensures { result ≡ any_of conditions }
 {
@@ -25,7 +25,7 @@ fn any(mut conditions: Items<Condition>) -> Condition
     }
 }
 
-// Conditions joined by AND: one stands for itself.
+// Conditions joined by AND. A single one is itself.
 fn all(mut conditions: Items<Condition>) -> Condition
     ensures { result ≡ all_of conditions }
 {
@@ -47,7 +47,7 @@ fn truth_of(keyword: Keyword) -> Option<Truth>
     }
 }
 
-// The truth value behind IS and perhaps NOT.
+// The truth value after IS and perhaps NOT.
 #[tactic(auto, unfolding(crate::specs::Reading::truth_at))]
 fn truth(tokens: &[Token]) -> Result<(Truth, &[Token]), Stop>
     ensures { Gives result (reading.truth_at tokens.now) }
@@ -84,7 +84,7 @@ fn truth_test(
     }
 }
 
-// `[IS [NOT] truth]`, behind a primary.
+// `[IS [NOT] truth]`, after a primary.
 #[tactic(auto, unfolding(crate::specs::Reading::suffix))]
 fn suffix(
     alloc: Global,
@@ -141,7 +141,7 @@ fn primary(alloc: Global, limit: usize, tokens: &[Token]) -> Result<(Condition, 
     }
 }
 
-// A condition behind an open parenthesis, and what closes it.
+// A condition after an open parenthesis, and what closes it.
 #[cycle(reading)]
 #[tactic(auto, unfolding(crate::specs::Reading::group_with))]
 fn group(alloc: Global, limit: usize, tokens: &[Token]) -> Result<(Condition, &[Token]), Stop>
@@ -208,11 +208,11 @@ fn terms(
     Err(Stop::Syntax(rest.len()))
 }
 
-/// The condition that comes next, and the tokens behind it.
+/// The condition that comes next, and the tokens after it.
 ///
 /// # Errors
 ///
-/// It answers `Syntax` where no condition within `limit` comes next, and `Memory` where a growth was refused.
+/// `Syntax` if no condition within `limit` comes next, `Memory` if memory ran out.
 #[cycle(reading)]
 #[tactic(auto, unfolding(crate::specs::Reading::cond_with))]
 pub fn condition(

@@ -46,7 +46,7 @@ pub struct Lexed {
     pub starts: Vec<u32>,
 }
 
-// By hand, so that a drop is one call in the proofs of those who hold tokens.
+// Written out, so that a drop is one call in the proofs of those who hold tokens.
 impl Drop for Lexed {
     fn drop(self) {
         let Lexed {
@@ -126,7 +126,7 @@ fn word(alloc: Global, text: &str) -> Result<(Token, &str), AllocError>
     }
 }
 
-// The text behind its first byte.
+// The text after its first byte.
 fn tail(text: &str) -> &str
     requires some { 0 < length text.now }
     requires ascii { slice_index text.now 0 < 128 }
@@ -142,12 +142,12 @@ fn plain_len(quote: u8, text: &[u8]) -> usize
     text.iter().take_while(|b| **b != quote).count()
 }
 
-/// A text behind its first quote: what it quotes, each quote in it written twice, and the text behind its last quote; or none
-/// where it isn't ended.
+/// Reads a text after its opening quote: what it quotes, where each quote inside is written twice,
+/// and the text after its closing quote. `None` if it isn't closed.
 ///
 /// # Errors
 ///
-/// It fails only where memory is refused.
+/// It fails only when memory runs out.
 #[tactic(auto)]
 pub fn quoted(alloc: Global, quote: u8, text: &str) -> Result<Option<(Word, &str)>, AllocError>
     requires { quote < 128 }
@@ -187,7 +187,7 @@ fn digits_len(text: &[u8]) -> usize
     text.iter().take_while(|b| b.is_ascii_digit()).count()
 }
 
-// How many bytes of a sign and of the digits behind it the text begins with.
+// How many bytes of a sign and of the digits after it the text begins with.
 #[tactic(auto, unfolding(crate::specs::Scanning::number_len))]
 fn number_len(text: &[u8]) -> usize
     ensures { result ≡ scanning.number_len text.now }
@@ -208,7 +208,7 @@ fn begins_with_fraction(text: &[u8]) -> bool
     }
 }
 
-// The integer that a text is, where it is in range and does not run into a word.
+// The integer that a text is, if it is in range and does not run into a word.
 fn integer<'a>(front: &str, rest: &'a str) -> Option<(i64, &'a str)>
     ensures { scanning.view result ≡ scanning.judged front.now rest.now }
 {
@@ -242,7 +242,7 @@ fn decimal_of(units: i64, scale: u8) -> Option<DecimalLiteral>
     }
 }
 
-// The decimal of a sign and digits before its point and digits behind it, if there are some and no more than 18.
+// The decimal of a sign and digits before its point and digits after it, if there are some and no more than 18.
 fn decimal_of_parts(
     alloc: Global,
     before: &str,
@@ -262,8 +262,8 @@ fn decimal_of_parts(
     }
 }
 
-// The decimal with these digits before its point, whose digits behind it the text begins with, where it does not run
-// into a word.
+// The decimal with these digits before its point. The text begins with the digits after it, and
+// they don't run into a word.
 #[tactic(auto, unfolding(crate::specs::Scanning::fraction_at))]
 fn fraction<'a>(
     alloc: Global,
@@ -282,7 +282,7 @@ fn fraction<'a>(
     }
 }
 
-// The sign that stands behind `<`.
+// The sign that comes after `<`.
 #[tactic(auto, unfolding(crate::specs::Scanning::less_at))]
 fn less(text: &str) -> (Sign, &str)
     ensures { scanning.less_at text.now ≡ (result.0, result.1.now) }
@@ -294,7 +294,7 @@ fn less(text: &str) -> (Sign, &str)
     }
 }
 
-// The sign that stands behind `>`.
+// The sign that comes after `>`.
 #[tactic(auto, unfolding(crate::specs::Scanning::greater_at))]
 fn greater(text: &str) -> (Sign, &str)
     ensures { scanning.greater_at text.now ≡ (result.0, result.1.now) }
@@ -305,7 +305,7 @@ fn greater(text: &str) -> (Sign, &str)
     }
 }
 
-// The sign of one byte that no longer sign begins with.
+// The sign of one byte that begins no longer sign.
 #[tactic(auto, unfolding(crate::specs::Scanning::mark_of))]
 fn mark_of(byte: u8) -> Option<Sign>
     ensures ascii { IsSome result → byte < 128 }
@@ -435,11 +435,11 @@ fn next_token(alloc: Global, text: &str) -> Result<Option<(Token, &str)>, AllocE
     }
 }
 
-/// The tokens of a text. Behind one that cannot be read there is no other.
+/// The tokens of a text. No token follows one that can't be read.
 ///
 /// # Errors
 ///
-/// It fails only where memory is refused.
+/// It fails only when memory runs out.
 pub fn lex(alloc: Global, text: &str) -> Result<Lexed, AllocError>
     requires { length text.now ≤ 65536 }
     ensures tokens { IfOk result (λ l. Lexes text.now l.tokens) }

@@ -1,5 +1,5 @@
-//! Join clauses of SQL-92: their syntax tree, parsed from a text, the names bound to two tables, the truth of a
-//! condition at two rows, and its split into keys and remainder.
+//! Join clauses of SQL-92: their syntax tree, parsed from a text; the names bound to two tables;
+//! the truth of a condition at two rows; and the split into keys and remainder.
 #![tactic(auto)]
 
 mod band;

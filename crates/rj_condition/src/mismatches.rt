@@ -1,4 +1,5 @@
-//! The first comparison of a clause that can't be made, since one operand is a number and the other a text.
+//! The first comparison of a clause that can't be made, since one operand is a number and the other
+//! a text.
 
 ghost use Rattle.std.specs.Prelude.{◌≡◌, ◌<◌, ◌≤◌, ℕ, IfOk, MatchOption, None, Some, length, option_map, slice_get};
 ghost use Rattle.std.specs.List.{list_any};
@@ -26,8 +27,8 @@ use std::alloc::{AllocError, Global};
 /// Two operands of a clause that can't be compared, since one is a number and the other a text.
 #[derive(Drop)]
 pub struct Mismatch {
-    /// The byte of the text, counted from 0, at which the comparison begins: that of a predicate's first operand, of a name of
-    /// USING, or of NATURAL.
+    /// The byte of the text, counted from 0, at which the comparison begins: at a predicate's first
+    /// operand, at a name of USING, or at NATURAL.
     pub at: u64,
     /// The operand that is compared.
     pub first: BoundOperand,
@@ -35,7 +36,7 @@ pub struct Mismatch {
     pub second: BoundOperand,
 }
 
-// Two operands, where both are there and they are of two families.
+// Two operands, if both are there and they are of two families.
 fn apart(
     x: Option<BoundOperand>,
     y: Option<BoundOperand>,
@@ -62,7 +63,7 @@ fn apart(
     }
 }
 
-// What an operand means, where it can be taken.
+// What an operand means, if it can be resolved.
 fn taken(
     alloc: Global,
     operand: &Operand,
@@ -78,7 +79,7 @@ fn taken(
     }
 }
 
-// The operands of a comparison, where they differ.
+// The operands of a comparison, if they differ in family.
 fn differ(
     alloc: Global,
     a: &Operand,
@@ -93,7 +94,7 @@ fn differ(
     Ok(apart(x, y, left, right))
 }
 
-// The operand of BETWEEN and the first bound from which it differs.
+// The operand of BETWEEN and the first bound from which it differs in family.
 fn differ_from_bounds(
     alloc: Global,
     operand: &Operand,
@@ -111,7 +112,7 @@ fn differ_from_bounds(
     }
 }
 
-// The operand of IN and the first member from which it differs.
+// The operand of IN and the first member from which it differs in family.
 fn differ_from_members(
     alloc: Global,
     operand: &Operand,
@@ -129,7 +130,7 @@ fn differ_from_members(
     Ok(None)
 }
 
-// The first operands that a predicate compares and that differ.
+// The first operands that a predicate compares and that differ in family.
 fn differ_in(
     alloc: Global,
     predicate: &Condition,
@@ -197,7 +198,7 @@ fn as_right(column: Option<usize>) -> Option<BoundOperand>
     }
 }
 
-// The columns of a name of USING, where they differ.
+// The columns of a name of USING, if they differ in family.
 fn differ_by_name(name: &Name, left: &Table, right: &Table) -> Option<(BoundOperand, BoundOperand)>
     ensures { result ≡ mismatches.differ_by_name left.now right.now name.now }
 {
@@ -206,7 +207,7 @@ fn differ_by_name(name: &Name, left: &Table, right: &Table) -> Option<(BoundOper
     apart(x, y, left, right)
 }
 
-// The first columns of NATURAL that differ.
+// The first columns of NATURAL that differ in family.
 fn first_common(left: &Table, right: &Table) -> Option<(BoundOperand, BoundOperand)>
     ensures { result ≡ mismatches.first_common left.now right.now 0 left.now.names }
 {
@@ -235,7 +236,7 @@ fn is_behind_point(tokens: &[Token], i: usize) -> bool
     i > 0 && is_point_at(tokens, i - 1)
 }
 
-// The first operands that are compared at a token of a clause without USING and that differ.
+// The first operands compared at a token of a clause without USING that differ in family.
 fn differ_on(
     alloc: Global,
     tokens: &[Token],
@@ -277,7 +278,7 @@ fn differ_from(
     }
 }
 
-// The first token at which operands differ, and these.
+// The first token at which operands differ in family, and these operands.
 fn first_apart(
     alloc: Global,
     tokens: &[Token],
@@ -296,7 +297,7 @@ fn first_apart(
     Ok(None)
 }
 
-// What is told of the first operands among tokens that differ.
+// The mismatch of the first operands among tokens that differ in family.
 fn told_apart(
     alloc: Global,
     tokens: &[Token],
@@ -318,13 +319,14 @@ fn told_apart(
     }
 }
 
-/// The first comparison in the text of a clause, over two tables, whose operands are of two families, a number and a text: a
-/// comparison of ON, where BETWEEN compares its operand with each bound and IN with each member, the two columns of a name of
-/// USING, or two columns of NATURAL. There is none where the operands of each comparison are of one family.
+/// The first comparison in the text of a clause, over two tables, of a number with a text. A
+/// comparison is one of ON, where BETWEEN compares its operand with each bound and IN with each
+/// member, or the two columns of a name of USING, or two columns of NATURAL. `None` if the operands
+/// of each comparison are of one family.
 ///
 /// # Errors
 ///
-/// It fails only where memory is refused.
+/// It fails only when memory runs out.
 pub fn first_mismatch(
     alloc: Global,
     text: &str,

@@ -28,7 +28,7 @@ fn is_same_ignoring_case(a: &str, b: &str) -> bool
     a.eq_ignore_ascii_case(b)
 }
 
-// Whether the name means a column called so.
+// Whether the name means a column with this name.
 fn is_name_of(name: &Name, called: &str) -> bool
     ensures { result ≡ matches name.now called.now }
 {
@@ -54,8 +54,8 @@ fn are_same_bytes_ignoring_case(a: &[u8], b: &[u8]) -> bool
 }
 
 impl Name {
-    /// Whether the name means a column whose name is these bytes: a regular one ignores ASCII case, a delimited one is exact
-    /// (SQL-92, 5.4).
+    /// Whether the name means a column whose name is these bytes. A regular name ignores ASCII
+    /// case, a delimited one is exact (SQL-92, 5.4).
     pub fn means(&self, called: &[u8]) -> bool
         ensures { result ≡ matches self.now called.now }
     {
@@ -80,7 +80,7 @@ pub(crate) fn column_named(table: &Table, name: &Name) -> Option<usize>
     None
 }
 
-// The column of the table that is called so, ignoring ASCII case.
+// The column of the table with this name, ignoring ASCII case.
 pub(crate) fn column_called(table: &Table, called: &str) -> Option<usize>
     ensures place { result ≡ position_from (str_eq_ignore_ascii_case called.now) 0 table.now.names }
     ensures within { IfSome result (λ i. i < length table.now.types) }
@@ -93,7 +93,7 @@ pub(crate) fn column_called(table: &Table, called: &str) -> Option<usize>
     None
 }
 
-// What an unqualified name means that stands in these columns: it stands in exactly one table.
+// What an unqualified name means that is in these columns. It has to be in exactly one table.
 fn in_one(left: Option<usize>, right: Option<usize>) -> Result<BoundOperand, BindRefused>
     ensures { result ≡ names.in_one left right }
 {

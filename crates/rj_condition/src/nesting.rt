@@ -12,7 +12,7 @@ const MOST: usize = 64;
 ///
 /// # Errors
 ///
-/// It fails only where memory is refused.
+/// It fails only when memory runs out.
 pub fn too_deep(alloc: Global, tokens: &[Token]) -> Result<bool, AllocError>
     ensures { IfOk result (λ yes. yes ≡ is_deep tokens.now) }
 {
@@ -34,7 +34,7 @@ fn total(runs: &[usize]) -> usize
     runs.iter().sum()
 }
 
-// The NOTs in a row behind one more token, the innermost first.
+// The NOTs in a row after one more token, the innermost first.
 fn step(runs: &mut Vec<usize>, token: &Token) -> Result<(), AllocError>
     requires some { 0 < length runs.old.items }
     requires low { length runs.old.items + sum runs.old.items ≤ 65 }

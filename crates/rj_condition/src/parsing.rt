@@ -19,16 +19,16 @@ const LONGEST: usize = 65_536;
 ///
 /// # Errors
 ///
-/// In this order: `TooLong` where the text is over 65,536 bytes, `TooDeep` where its parentheses and NOTs are nested over
-/// 64 deep, `Syntax` where it is no clause, with the byte of the first token that goes on with no clause. `Memory` where
-/// a growth was refused. The text stays as it is.
+/// In this order: `TooLong` if the text is over 65,536 bytes, `TooDeep` if its parentheses and NOTs
+/// are nested over 64 deep, `Syntax` if it is no clause, with the byte of the first token that no
+/// clause can have there. `Memory` if memory ran out. The text isn't changed.
 #[tactic(auto, using(crate::proofs::Answer::only, crate::proofs::Answer::long, crate::proofs::Answer::deep, crate::proofs::Answer::none))]
 pub fn parse(alloc: Global, text: &str) -> Result<Clause, ParseRefused>
-    // It is the clause of the text, or its fault.
+    // It is the clause of the text, or its error.
     ensures answer { Parses text.now result }
-    // A text has one clause at most, and where it has one, that is given, unless memory runs out.
+    // A text has at most one clause. If it has one, that is returned, unless memory runs out.
     ensures only { (c : Clause) → HasClause text.now c → IsAnswer result c }
-    // A fault of the text is told, unless memory runs out.
+    // An error of the text is reported, unless memory runs out.
     ensures too_long { IsTooLong text.now → Refuses result (λ e. e ≡ refused.TooLong) }
     ensures too_deep { IsTooDeep text.now → Refuses result (λ e. e ≡ refused.TooDeep) }
     ensures no_clause { HasNoClause text.now → Refuses result IsSyntax }
@@ -55,7 +55,8 @@ fn read(alloc: Global, text: &str) -> Result<Clause, ParseRefused>
     }
 }
 
-// Where the token starts of which so many are left, or the end of the text.
+// The byte at which the first of the last `left` tokens starts, or the end of the text if none are
+// left.
 fn fault_byte(starts: &[u32], left: usize, text_len: usize) -> usize
     requires { left ≤ length starts.now }
     ensures { result ≡ unwrap_or (slice_get starts.now (length starts.now - left)) text_len }

@@ -43,7 +43,7 @@ fn pair_named(
     }
 }
 
-/// No partner for any of so many columns.
+/// This many columns, none with a partner.
 pub(crate) fn without_partners(
     alloc: Global,
     columns: usize,
@@ -57,7 +57,7 @@ pub(crate) fn without_partners(
     Ok(partners)
 }
 
-/// The partners that USING names, or the first fault, name by name.
+/// The partners that USING names, or the first error, name by name.
 pub(crate) fn partners_named(
     alloc: Global,
     names: &[Name],
@@ -79,7 +79,7 @@ pub(crate) fn partners_named(
     Ok(partners)
 }
 
-// The partner of a left column of NATURAL, if it is of one type.
+// The partner of a left column of NATURAL, if both are of one type.
 fn common_column(
     partner: Option<usize>,
     i: usize,
@@ -101,7 +101,7 @@ fn common_column(
     }
 }
 
-/// The partners of one name, ignoring ASCII case, or the first fault.
+/// The partners of one name, ignoring ASCII case, or the first error.
 pub(crate) fn common_partners(
     alloc: Global,
     left: &Table,

@@ -105,7 +105,7 @@ fn operator(tokens: &[Token]) -> Option<(Comparison, &[Token])>
     }
 }
 
-// `[NOT] NULL`, behind an operand and IS.
+// `[NOT] NULL`, after an operand and IS.
 #[tactic(auto, unfolding(crate::specs::Reading::null_at))]
 fn null(operand: Operand, negated: bool, tokens: &[Token]) -> Result<(Condition, &[Token]), Stop>
     ensures { Gives result (reading.null_at operand (negated, tokens.now)) }
@@ -116,7 +116,7 @@ fn null(operand: Operand, negated: bool, tokens: &[Token]) -> Result<(Condition,
     }
 }
 
-// The bounds behind BETWEEN.
+// The bounds after BETWEEN.
 #[tactic(auto, unfolding(crate::specs::Reading::bounds_at))]
 fn bounds(
     alloc: Global,
@@ -142,7 +142,7 @@ fn bounds(
     ))
 }
 
-// The members behind IN.
+// The members after IN.
 #[tactic(auto, unfolding(crate::specs::Reading::members_at))]
 fn members(
     alloc: Global,
@@ -169,7 +169,7 @@ fn members(
     ))
 }
 
-// BETWEEN or IN, behind an operand and perhaps NOT.
+// BETWEEN or IN, after an operand and perhaps NOT.
 #[tactic(auto, unfolding(crate::specs::Reading::range_at))]
 fn range(
     alloc: Global,
@@ -216,11 +216,11 @@ fn test_of(alloc: Global, first: Operand, tokens: &[Token]) -> Result<(Condition
     }
 }
 
-/// The predicate that comes next, and the tokens behind it.
+/// The predicate that comes next, and the tokens after it.
 ///
 /// # Errors
 ///
-/// It answers `Syntax` where no predicate comes next, and `Memory` where a growth was refused.
+/// `Syntax` if no predicate comes next, `Memory` if memory ran out.
 #[tactic(auto, unfolding(crate::specs::Reading::predicate_at))]
 pub fn predicate(alloc: Global, tokens: &[Token]) -> Result<(Condition, &[Token]), Stop>
     ensures { Gives result (reading.predicate_at tokens.now) }

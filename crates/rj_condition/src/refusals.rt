@@ -1,4 +1,4 @@
-//! The first column name of a clause that can't be taken, and where it stands in the text.
+//! The first column name of a clause that is refused, and where it is in the text.
 
 ghost use Rattle.std.specs.Prelude.{◌≡◌, ◌<◌, ◌≤◌, ℕ, IfOk, MatchOption, None, Some, length, option_and_then, option_map, slice_get};
 ghost use Rattle.std.specs.List.{list_any};
@@ -16,16 +16,16 @@ use crate::word::Word;
 use rj_columns::Table;
 use std::alloc::{AllocError, Global};
 
-/// A column name of a clause that can't be taken.
+/// A column name of a clause that is refused.
 #[derive(Drop)]
 pub struct RefusedColumn {
     /// The byte of the text, counted from 0, at which the name begins.
     pub at: u64,
     /// The name, without the quotes of a delimited one.
     pub name: Word,
-    /// The name that stands before it and a point, if it is qualified.
+    /// The name before it and a point, if it is qualified.
     pub qualifier: Option<Word>,
-    /// Why it can't be taken.
+    /// Why it is refused.
     pub refused: BindRefused,
 }
 
@@ -80,7 +80,7 @@ pub(crate) fn are_using(tokens: &[Token]) -> bool
     tokens.iter().any(|token| is_using(token))
 }
 
-// Why a name of an ON clause can't be taken.
+// Why a name of an ON clause is refused, if it is.
 fn reference_refusal(
     qualifier: Option<&Name>,
     name: &Name,
@@ -113,7 +113,7 @@ fn is_named_in(tokens: &[Token], table: &Table, column: usize) -> bool
         .any(|token| is_name_of_column(token, table, column))
 }
 
-// Why a name of USING can't be taken behind these tokens.
+// Why a name of USING is refused after these tokens, if it is.
 fn using_refusal(before: &[Token], name: &Name, left: &Table, right: &Table) -> Option<BindRefused>
     ensures { result ≡ refusals.using_refusal left.now.names before.now (place left.now.names name.now) (place right.now.names name.now) }
 {
@@ -129,7 +129,7 @@ fn using_refusal(before: &[Token], name: &Name, left: &Table, right: &Table) -> 
     }
 }
 
-// Why the column that a token names can't be taken, if it names one.
+// Why the column that a token names is refused, if it names one and that is refused.
 fn refusal_at(
     tokens: &[Token],
     in_using: bool,
@@ -153,7 +153,7 @@ fn refusal_at(
     }
 }
 
-// The first token that names a column which can't be taken, and why it can't.
+// The first token that names a column which is refused, and why.
 fn first_refused(tokens: &[Token], left: &Table, right: &Table) -> Option<(usize, BindRefused)>
     ensures { MatchOption result
         ((i : ℕ) → i < length tokens.now → refusals.refusal_at (list_any refusals.is_using tokens.now) left.now.names right.now.names tokens.now i ≡ None)
@@ -192,7 +192,7 @@ pub(crate) fn start_at(starts: &[u32], i: usize) -> u64
     u64::from(starts[i])
 }
 
-// What is told of the first column name among tokens that can't be taken.
+// The first column name among tokens that is refused.
 fn refused_in(
     alloc: Global,
     tokens: &[Token],
@@ -221,12 +221,13 @@ fn refused_in(
     }))
 }
 
-/// The first column name in the text of an ON or a USING clause that can't be taken over two tables: for ON because it can't be
-/// resolved, for USING because a table has no such column or it is named before. There is none where each can be.
+/// The first column name in the text of an ON or a USING clause that is refused over two tables:
+/// for ON because it can't be resolved, for USING because a table has no such column or it was
+/// named before. `None` if none is refused.
 ///
 /// # Errors
 ///
-/// It fails only where memory is refused.
+/// It fails only when memory runs out.
 pub fn refused_column(
     alloc: Global,
     text: &str,

@@ -9,8 +9,9 @@ pub enum ParseRefused {
     TooLong,
     /// Parentheses and NOTs are nested over 64 deep.
     TooDeep,
-    /// The text is no clause: the first byte, counted from 0, of the first token with which the tokens so far begin
-    /// no clause, or the length of the text where the clause is unfinished at its end.
+    /// The text is no clause. The byte, counted from 0, is the first one of the first token with
+    /// which the tokens so far begin no clause. If the clause is unfinished at the end of the text,
+    /// it is the text's length.
     Syntax(u64),
     /// Memory ran out.
     Memory,
@@ -38,6 +39,6 @@ pub enum BindRefused {
     TypeMismatch,
     /// A left column that USING names twice.
     RepeatedUsing,
-    /// No memory.
+    /// Out of memory.
     Memory,
 }

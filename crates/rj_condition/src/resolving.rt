@@ -154,7 +154,7 @@ fn negation(alloc: Global, bound: BoundCondition) -> Result<BoundCondition, Bind
     Ok(BoundCondition::Not(boxed(alloc, bound)?))
 }
 
-// The condition with its names resolved, or the first fault in the order of the text.
+// The condition with its names resolved, or the first error in the order of the text.
 #[cycle(resolving)]
 pub(crate) fn resolve(
     alloc: Global,

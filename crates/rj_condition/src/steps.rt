@@ -1,4 +1,4 @@
-//! Steps of the reader: the next token, where it is the one wanted.
+//! Steps of the reader: the next token, if it is the wanted one.
 
 ghost use Rattle.std.specs.Prelude.{◌≡◌, [], ◌∷◌, IfOk, IsTrue, ◌↔◌, List};
 ghost use Rattle.rj_condition.specs.Reading.{Gives, GivesWhole, rest_view};
@@ -23,7 +23,7 @@ fn same_sign(found: Sign, wanted: Sign) -> bool
     found == wanted
 }
 
-// The tokens behind the keyword, if it comes next.
+// The tokens after the keyword, if it comes next.
 #[tactic(auto, unfolding(crate::specs::Reading::after))]
 pub fn after(tokens: &[Token], keyword: Keyword) -> Option<&[Token]>
     ensures { rest_view result ≡ reading.after keyword tokens.now }
@@ -40,7 +40,7 @@ pub fn after(tokens: &[Token], keyword: Keyword) -> Option<&[Token]>
     }
 }
 
-// The tokens behind the sign, if it comes next.
+// The tokens after the sign, if it comes next.
 #[tactic(auto, unfolding(crate::specs::Reading::behind))]
 pub fn behind(tokens: &[Token], sign: Sign) -> Option<&[Token]>
     ensures { rest_view result ≡ reading.behind sign tokens.now }
@@ -57,11 +57,11 @@ pub fn behind(tokens: &[Token], sign: Sign) -> Option<&[Token]>
     }
 }
 
-/// The value, and the tokens behind a closing parenthesis, which has to come next.
+/// The value, and the tokens after a closing parenthesis, which has to come next.
 ///
 /// # Errors
 ///
-/// It answers `Syntax` where no closing parenthesis comes next.
+/// `Syntax` if no closing parenthesis comes next.
 pub fn closed<T: Drop>(value: T, tokens: &[Token]) -> Result<(T, &[Token]), Stop>
     ensures { Gives result (reading.closed value tokens.now) }
 {
@@ -71,7 +71,7 @@ pub fn closed<T: Drop>(value: T, tokens: &[Token]) -> Result<(T, &[Token]), Stop
     }
 }
 
-// Whether the keyword comes next, and the tokens behind it.
+// Whether the keyword comes next, and the tokens after it.
 pub fn optional(tokens: &[Token], keyword: Keyword) -> (bool, &[Token])
     ensures { (result.0, result.1.now) ≡ reading.opt keyword tokens.now }
 {
@@ -81,11 +81,11 @@ pub fn optional(tokens: &[Token], keyword: Keyword) -> (bool, &[Token])
     }
 }
 
-/// The clause, where no tokens are left behind it.
+/// The clause, if no tokens are left after it.
 ///
 /// # Errors
 ///
-/// It answers `Syntax` where tokens are left.
+/// `Syntax` if tokens are left.
 pub fn whole(clause: Clause, rest: &[Token]) -> Result<Clause, Stop>
     ensures { GivesWhole result (reading.ended clause rest.now) }
 {
@@ -104,11 +104,11 @@ fn copied(alloc: Global, name: &Name) -> Result<Name, AllocError>
     })
 }
 
-/// The name that comes next, and the tokens behind it.
+/// The name that comes next, and the tokens after it.
 ///
 /// # Errors
 ///
-/// It answers `Syntax` where no name comes next, and `Memory` where a growth was refused.
+/// `Syntax` if no name comes next, `Memory` if memory ran out.
 #[tactic(auto, unfolding(crate::specs::Reading::name_at))]
 pub fn name(alloc: Global, tokens: &[Token]) -> Result<(Name, &[Token]), Stop>
     ensures { Gives result (reading.name_at tokens.now) }
@@ -119,11 +119,11 @@ pub fn name(alloc: Global, tokens: &[Token]) -> Result<(Name, &[Token]), Stop>
     }
 }
 
-/// The names with commas between that come next, and the tokens behind them.
+/// The names that come next, with commas between, and the tokens after them.
 ///
 /// # Errors
 ///
-/// It answers `Syntax` where no name comes next, at first or after a comma, and `Memory` where a growth was refused.
+/// `Syntax` if no name comes next, at first or after a comma, `Memory` if memory ran out.
 #[tactic(auto, using(crate::proofs::Turns::turns), unfolding(crate::specs::Reading::names_at, crate::specs::Reading::separated))]
 pub fn names(alloc: Global, tokens: &[Token]) -> Result<(Items<Name>, &[Token]), Stop>
     ensures { Gives result (reading.names_at tokens.now) }

@@ -6,7 +6,7 @@ use std::alloc::AllocError;
 #[derive(Clone, Copy)]
 pub enum Stop {
     Memory,
-    /// How many tokens were left where none goes on.
+    /// How many tokens were left at the first one that can't follow.
     Syntax(usize),
 }
 

@@ -86,6 +86,6 @@ pub enum Token {
     Decimal(DecimalLiteral),
     Text(Word),
     Sign(Sign),
-    /// Where no token begins. No token stands behind it.
+    /// No token begins here. No token comes after it.
     Unreadable,
 }

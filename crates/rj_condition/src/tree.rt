@@ -5,8 +5,8 @@ use crate::truth::Truth;
 use crate::word::Word;
 use sqlite_items::{Boxed, Items};
 
-/// Which unmatched rows a join adds, extended with nulls: none, those of the left table, of the right, of both
-/// (SQL-92, 7.5).
+/// Which unmatched rows a join adds, extended with NULLs: none, those of the left table, of the
+/// right, or of both (SQL-92, 7.5).
 #[derive(Clone, Copy, Debug, PartialEq, Eq)]
 pub enum JoinKind {
     /// None.
@@ -24,14 +24,14 @@ pub enum JoinKind {
 pub struct Name {
     /// The name as it is written, without the quotes of a delimited one.
     pub text: Word,
-    /// Whether it stood in quotes.
+    /// Whether it was in quotes.
     pub delimited: bool,
 }
 
 /// A column reference, perhaps qualified by the name of its table, `L` or `R` (SQL-92, 6.4).
 #[derive(Drop)]
 pub struct ColumnName {
-    /// The name of its table, where it is given.
+    /// The name of its table, if it is given.
     pub qualifier: Option<Name>,
     /// The name of the column.
     pub name: Name,
@@ -51,7 +51,7 @@ pub enum Operand {
     Literal(Literal),
 }
 
-// By hand, as that of a word.
+// Written out, as for a word.
 impl Drop for Operand {
     fn drop(self) {
         match self {
@@ -72,8 +72,8 @@ pub enum Comparison {
     GreaterOrEqual,
 }
 
-/// A search condition (SQL-92, 8.12). A run of ANDs is one list, and so is a run of ORs, so a tree is no deeper
-/// than its parentheses and NOTs.
+/// A search condition (SQL-92, 8.12). A run of ANDs is one list, and so is a run of ORs. So a tree
+/// is no deeper than its parentheses and NOTs.
 #[derive(Drop)]
 pub enum Condition {
     /// A comparison of two operands (SQL-92, 8.2).
@@ -116,8 +116,8 @@ pub enum Condition {
 
 /// A join clause (SQL-92, 7.5).
 ///
-/// Its conditions and names have no name outside this crate, so that `parse` alone makes them: no condition is nested
-/// deeper than 64 levels, whoever hands a clause to `bind`.
+/// Its conditions and names have no name outside this crate, so only `parse` makes them. So no
+/// condition that `bind` gets is nested deeper than 64 levels.
 pub enum Clause {
     /// CROSS JOIN: every pair of rows.
     Cross,
@@ -129,7 +129,7 @@ pub enum Clause {
     Using(JoinKind, Items<Name>),
 }
 
-// By hand, as that of a word.
+// Written out, as for a word.
 impl Drop for Clause {
     fn drop(self) {
         match self {

@@ -3,7 +3,7 @@
 ghost use Rattle.std.specs.Prelude.{◌≡◌, ◌-◌, ◌==◌, min, max};
 ghost use Rattle.rj_condition.specs.Truths.{truth_value, certain, negated_if};
 
-/// A truth value, the least first: AND is the least, OR the greatest (SQL-92, 8.12).
+/// A truth value, the least first. AND is the least, OR the greatest (SQL-92, 8.12).
 #[derive(Clone, Copy, Debug, PartialEq, Eq)]
 pub enum Truth {
     False,
@@ -52,7 +52,7 @@ impl Truth {
         }
     }
 
-    /// NOT where it is asked for.
+    /// NOT if it is asked for.
     pub fn negated_if(self, negated: bool) -> Truth
         ensures { truth_value result ≡ negated_if negated (truth_value self) }
     {

@@ -9,7 +9,8 @@ use crate::bound::{BoundCondition, BoundOperand};
 use crate::tree::Literal;
 use rj_columns::{ColumnType, Table};
 
-/// What a value is compared as (SQL-92, 8.2): numbers of all types with one another, and texts with texts.
+/// How a value is compared (SQL-92, 8.2): numbers of all types with one another, and texts with
+/// texts.
 #[derive(Clone, Copy)]
 pub(crate) enum TypeFamily {
     Number,

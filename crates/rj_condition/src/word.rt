@@ -6,13 +6,13 @@ use std::alloc::{AllocError, Global};
 use std::fmt;
 use std::marker::Model;
 
-/// The text of a name or of a literal, without its quotes; contracts see its bytes of UTF-8.
+/// The text of a name or of a literal, without its quotes. Contracts see its bytes of UTF-8.
 #[derive(Debug)]
 pub struct Word {
     text: String,
 }
 
-// By hand, so that a drop is one call in the proofs of those who hold a word.
+// Written out, so that a drop is one call in the proofs of those who hold a word.
 impl Drop for Word {
     fn drop(self) {
         let Word { text: _text } = self;
@@ -40,7 +40,7 @@ impl Word {
     ///
     /// # Errors
     ///
-    /// It fails only where memory is refused.
+    /// It fails only when memory runs out.
     pub fn new(alloc: Global, text: &str) -> Result<Word, AllocError>
         ensures { IfOk result (λ w. w ≡ text.now) }
     {

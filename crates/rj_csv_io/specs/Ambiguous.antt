@@ -1,11 +1,11 @@
--- Cells that a null text can't be told from: not null, and written as null is.
+-- Cells that can't be told from NULL in their text: not NULL, and written as NULL is.
 use Rattle.std.specs.Prelude.{ℕ, ◌-◌, ◌<◌, ◌≡◌, ◌≢◌, Bool, true, false, List}
 use Rattle.std.specs.Str.{bytes_eq}
 use Rattle.rj_columns.specs.Contents.{Content, nothing, whole, decimal, word}
 use Rattle.rj_columns.specs.Tables.{cell_in}
 use Rattle.rj_csv_io.specs.Shown.{shown}
 
--- a cell that isn't null and whose text is the null text
+-- a cell that isn't NULL and whose text is the NULL text
 abbrev pub is_ambiguous : List ℕ → Content → Bool
 is_ambiguous null nothing = false
 is_ambiguous null (whole n) = bytes_eq (shown null (whole n)) null

@@ -1,4 +1,4 @@
--- The cells of a block of rows, column by column. The program's own: no public contract speaks of it.
+-- The cells of a block of rows, column by column. Internal: no public contract uses it.
 use Rattle.std.specs.Prelude.{ℕ, zero, suc, ◌+◌, ◌-◌, ◌≡◌, ◌≤◌, List, [], ◌++◌, map, length}
 use Rattle.rj_columns.specs.Contents.{Content, content_of}
 use Rattle.rj_columns.specs.Tables.{part_of}

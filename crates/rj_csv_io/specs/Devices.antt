@@ -1,4 +1,4 @@
--- What clauses read of a writer or a reader of std whose failures are counted.
+-- What clauses know of a writer or a reader of std whose failures are counted.
 use Rattle.std.specs.Prelude.{ℕ}
 use Rattle.rj_csv_io.specs.declared.input.CountedReader.{CountedReader}
 use Rattle.rj_csv_io.specs.declared.output.CountedWriter.{CountedWriter}
@@ -19,6 +19,6 @@ reader_of c = c.reader
 abbrev pub read_failures_of : {R : Type 0} → CountedReader R → ℕ
 read_failures_of c = c.failures
 
--- about how many bytes it will give, as it was told
+-- about how many bytes it will give, as it was set
 abbrev pub likely_size_of : {R : Type 0} → CountedReader R → ℕ
 likely_size_of c = c.likely_size

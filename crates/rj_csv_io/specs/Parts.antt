@@ -9,11 +9,11 @@ use Rattle.rj_csv_io.specs.Tables.{read_records}
 use Rattle.rj_csv_io.specs.declared.refused.ReadRefused.{ReadRefused}
 use Rattle.rj_csv_io.specs.declared.refused.ReadRefused.TheVariants as refused
 
--- the fault at a row, where the rows count from the first one, or TooManyRows where there is no such row
+-- the error at a row, where rows count from the first one, or TooManyRows if there is no such row
 abbrev pub at_row : ℕ → ReadRefused → ReadRefused
 at_row row e = if nat_le row (2 ^ 31 - 1) then e else refused.TooManyRows
 
--- a fault of a part that has this many rows before it
+-- an error of a part that has this many rows before it
 abbrev pub moved : ℕ → ReadRefused → ReadRefused
 moved n refused.NoHeader = refused.NoHeader
 moved n (refused.BadName column) = refused.BadName column
@@ -28,22 +28,23 @@ moved n refused.BadNull = refused.BadNull
 moved n refused.ReadDevice = refused.ReadDevice
 moved n refused.Memory = refused.Memory
 
--- the records of rows in a text: all but the first one where that is the header
+-- the records of rows in a text: all, or all but the first one if that is the header
 abbrev pub row_records : Bool → List ℕ → List (List (List ℕ))
 row_records true text = drop 1 (records_in text)
 row_records false text = records_in text
 
--- the records under the header, which stands in the first of the texts
+-- the records under the header, which is in the first of the texts
 unfoldable pub under_header : List (List ℕ) → List (List (List ℕ))
 under_header [] = []
 under_header (text ∷ texts) = drop 1 (records_in text) ++ records_in_all texts
 
--- what the reading of records under a header gives: the table, or the first fault of the header and the records; or memory is refused
+-- the result of reading records under a header: the table, or the first error of the header and the
+-- records; or memory runs out
 abbrev pub IsReading : List (List ℕ) → List ColumnType → List (List ℕ) → List (List (List ℕ)) → Result TableValue ReadRefused → Type 0
 IsReading nulls types header records (Ok t) = (empty_table header types ≡ Ok record t { rows = [] }) × (read_rows nulls types [] records ≡ Ok t.rows)
 IsReading nulls types header records (Err e) = e ≢ refused.Memory → read_records nulls types (header ∷ records) ≡ Err e
 
--- each part is what the reading of its text gives
+-- each part is the result of reading its text
 abbrev pub AreReadings : List (List ℕ) → List ColumnType → List (List ℕ) → List (List ℕ) → List (Result TableValue ReadRefused) → Type 0
 AreReadings nulls types header texts parts = (i : ℕ) (d : Result TableValue ReadRefused) → i < length texts
     → IsReading nulls types header (row_records (i == 0) (slice_index_or texts i [])) (slice_index_or parts i d)

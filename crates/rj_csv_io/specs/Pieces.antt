@@ -9,13 +9,13 @@ use Rattle.rj_csv_io.specs.Cuts.{state_after}
 use Rattle.rj_csv_io.specs.Rows.{read_row}
 use Rattle.rj_csv_io.specs.declared.pieces.Header.{Header}
 
--- a line feed that ends a record stands before this place
+-- a line feed that ends a record comes before this place
 pub record IsLineEnd (text : List ℕ) (at : ℕ) : Type 0 where
   pub behind : 0 < at
   pub feed : slice_index_or text (at - 1) 0 ≡ 10
   pub ends : state_after st.StartRecord (take at text) ≡ st.StartRecord
 
--- the last place up to `end` behind such a line feed, or 0 where there is none
+-- the last place up to `end` after such a line feed, or 0 if there is none
 pub record IsLastEnd (text : List ℕ) (end last : ℕ) : Type 0 where
   pub within : last ≤ end
   pub here : (last ≡ 0) ⊎ IsLineEnd text last
@@ -25,7 +25,8 @@ pub record IsLastEnd (text : List ℕ) (end last : ℕ) : Type 0 where
 abbrev pub names_in : Header → List (List ℕ)
 names_in header = fields_of header.record
 
--- the records of rows in a piece, which has no byte order mark of its own: all but the first one where that is the header
+-- the records of rows in a piece, which has no byte order mark of its own: all, or all but the
+-- first one if that is the header
 abbrev pub piece_records : Bool → List ℕ → List (List (List ℕ))
 piece_records true text = drop 1 (records default_config text)
 piece_records false text = records default_config text

@@ -1,4 +1,4 @@
--- Cells and tables whose text reads back as what they are.
+-- Cells and tables that read back from their text.
 use Rattle.std.specs.Prelude.{ℕ, ◌≡◌, ◌≢◌, ◌<◌, ◌≤◌, ◌^◌, true, List, [], None, length, All, IsUtf8, FitsSigned}
 use Rattle.std.specs.Int.{w64}
 use Rattle.rj_columns.specs.Contents.{Content, nothing, whole, decimal, word}
@@ -14,12 +14,12 @@ IsHeld (whole n) = FitsSigned w64 n
 IsHeld (decimal units scale) = Unit {0}
 IsHeld (word s) = IsUtf8 s
 
--- a cell that is none of the null texts
+-- a cell that is none of the NULL texts
 abbrev pub IsNoneOf : List (List ℕ) → Content → Type 0
 IsNoneOf nulls x = (text : List ℕ) → is_null_field nulls text ≡ true → x ≢ word text
 
--- what a table needs, so that its text is read back by these null texts: a column, what every `Table` keeps, cells that a `Cell` can hold,
--- and no cell that is one of the null texts
+-- what a table needs to be read back from its text by these NULL texts: a column, what every
+-- `Table` keeps, cells that a `Cell` can hold, and no cell that is one of the NULL texts
 pub record CanReadBack (nulls : List (List ℕ)) (t : TableValue) : Type 0 where
   pub some : 0 < length t.names
   pub few : length t.names ≤ 256

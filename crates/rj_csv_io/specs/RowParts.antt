@@ -1,4 +1,4 @@
--- Rows in parts that follow each other, and the texts of the parts. The program's own: no public contract speaks of it.
+-- Rows in parts that follow each other, and the texts of the parts. Internal: no public contract uses it.
 use Rattle.std.specs.Prelude.{ℕ, ◌≡◌, ◌<◌, ◌+◌, ◌*◌, ◌/◌, ◌%◌, min, map, List, length, slice_index_or, Result, Ok, Err}
 use Rattle.std.specs.List.{concat}
 use Rattle.std.specs.declared.alloc.Global.{Global}
@@ -17,7 +17,7 @@ IsPartText null rows parts part (Ok v) =
     ≡ range_text null rows (part_start (length rows) parts part) (part_start (length rows) parts (part + 1))
 IsPartText null rows parts part (Err e) = Unit {0}
 
--- the texts of so many parts, in order; behind the last part there are no rows
+-- the texts of this many parts, in order; after the last part there are no rows
 abbrev pub ArePartTexts : {E : Type 0} → List ℕ → List (List Content) → ℕ → List (Result (Vec (Vec ℕ Global) Global) E) → Type 0
 ArePartTexts {E} null rows parts texts =
     (i : ℕ) (d : Result (Vec (Vec ℕ Global) Global) E) → i < length texts → IsPartText null rows parts i (slice_index_or texts i d)

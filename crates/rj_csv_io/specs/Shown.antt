@@ -5,7 +5,8 @@ use Rattle.csv.specs.Writing.{default_writer, row_text}
 use Rattle.rj_decimal.specs.Written.{text_of}
 use Rattle.rj_columns.specs.Contents.{Content, nothing, whole, decimal, word}
 
--- the text of a cell: null is the null text, a whole number has neither `+` nor leading zeros, and a decimal has its scale's digits after the point
+-- the text of a cell: NULL is the NULL text, a whole number has neither `+` nor leading zeros, and
+-- a decimal has its scale's digits after the point
 abbrev pub shown : List ℕ → Content → List ℕ
 shown null nothing = null
 shown null (whole n) = signed_decimal n

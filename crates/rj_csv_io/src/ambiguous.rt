@@ -1,4 +1,4 @@
-//! Cells whose text is that of null.
+//! Cells whose text is the same as that of NULL.
 
 ghost use Rattle.std.specs.Prelude.{◌≡◌, ◌<◌, ◌≤◌, ◌-◌, ◌+◌, ◌^◌, ℕ, false, IsTrue, IfOk, IfSome, MatchOption};
 ghost use Rattle.rj_columns.specs.Contents.{content_of};
@@ -10,7 +10,7 @@ use crate::block::{RowBlock, next_block, no_rows};
 use rj_columns::{Cell, RowSource};
 use std::alloc::{AllocError, Global};
 
-// Whether a cell that isn't null has the null text. Only a text can: a number has a digit, and no null text has one.
+// Whether a cell that isn't NULL has the NULL text. Only a text can: a number has a digit, and no NULL text has one.
 fn has_null_text(cell: Cell<'_>, null: &str) -> bool
     requires { IsTrue (is_null_text null.now) }
     ensures { result ≡ is_ambiguous null.now (content_of cell.entry) }
@@ -23,7 +23,7 @@ fn has_null_text(cell: Cell<'_>, null: &str) -> bool
     }
 }
 
-// The first cell of a block's row that isn't null and has the null text.
+// The first cell of a block's row that isn't NULL and has the NULL text.
 fn first_in_row<S: RowSource>(block: &RowBlock<'_>, source: &S, row: u64, null: &str) -> Option<u64>
     requires null { IsTrue (is_null_text null.now) }
     requires holds { Holds (S.contents source.now) (S.width source.now) block.now }
@@ -60,14 +60,15 @@ fn first_in_block<S: RowSource>(block: &RowBlock<'_>, source: &S, null: &str) ->
     None
 }
 
-/// The row and the column of the first cell of a source that isn't null and whose text is the null text, so that it would
-/// be read as null; rows come first, and both count from 1. There is none where each cell that isn't null is told from null.
+/// The row and the column of the first cell of a source that isn't NULL and whose text is the NULL
+/// text, so that it would be read as NULL. Rows come first, and both count from 1. `None` if there
+/// is no such cell.
 ///
-/// The rows are got in blocks, as they are to be written.
+/// The rows are read in blocks, as they are when they are written.
 ///
 /// # Errors
 ///
-/// Refuses only for want of memory.
+/// It fails only when memory runs out.
 pub fn first_ambiguous<S: RowSource>(
     alloc: Global,
     source: &S,

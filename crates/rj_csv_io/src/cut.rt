@@ -20,7 +20,7 @@ pub(crate) fn starts_with_bom(text: &[u8]) -> bool
     (text[0] == 0xEF) & (text[1] == 0xBB) & (text[2] == 0xBF)
 }
 
-/// A text without the byte order mark at its start, if it begins with one. It takes no memory.
+/// A text without the byte order mark that it may begin with. It allocates no memory.
 pub fn without_bom(text: &[u8]) -> &[u8]
     ensures { result.now ≡ strip_bom text.now }
 {
@@ -53,7 +53,7 @@ fn cut_after(text: &[u8], target: usize) -> Option<usize>
     None
 }
 
-/// Cuts a text into up to so many texts, of about one size, whose records are those of the text.
+/// Cuts a text into at most `count` texts, of about one size, whose records are those of the text.
 pub(crate) fn cut_text<'a>(
     alloc: Global,
     text: &'a [u8],

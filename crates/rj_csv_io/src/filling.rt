@@ -11,7 +11,8 @@ use std::alloc::Global;
 // How many bytes are asked of a device at once.
 const PIECE: usize = 65536;
 
-// Gets the next bytes of a device into a buffer, behind its first so many, and says how many they are.
+// Reads the next bytes of a device into a buffer, after its first `filled` bytes, and returns how
+// many they are.
 fn get_behind<I: Input>(input: &mut I, buffer: &mut [u8], filled: usize) -> Result<usize, Failed>
     requires failures { I.count input.old < 2 ^ 64 - 1 }
     requires room { filled < length buffer.old }
@@ -26,7 +27,7 @@ fn get_behind<I: Input>(input: &mut I, buffer: &mut [u8], filled: usize) -> Resu
     input.get(&mut buffer[filled..])
 }
 
-// Adds the next piece of a device's bytes, and says whether there was one.
+// Appends the next piece of a device's bytes. The answer is whether there was one.
 fn read_piece<I: Input>(input: &mut I, bytes: &mut Vec<u8>) -> Result<bool, ReadRefused>
     requires failures { I.count input.old < 2 ^ 64 - 1 }
     ensures bytes { OnOk result ((start : Option (List ℕ)) → Consumes start (I.tells input.old) bytes.old.items
@@ -52,13 +53,14 @@ fn read_piece<I: Input>(input: &mut I, bytes: &mut Vec<u8>) -> Result<bool, Read
     }
 }
 
-/// Adds the next bytes of a device to some, until these are at least so many or the device is at its end: whether it is
-/// at its end. Where any were read, they are less than 64 KiB more than so many.
+/// Reads the next bytes of a device and appends them, until there are at least `size` bytes or the
+/// device is at its end. The answer is whether it is at its end. If any bytes were read, there are
+/// less than `size` bytes plus 64 KiB.
 ///
 /// # Errors
 ///
-/// `ReadDevice` is answered where the device failed, `Memory` where a growth was refused; nothing is known then of how
-/// much was read.
+/// `ReadDevice` if the device failed, `Memory` if memory ran out. How much was read is unknown
+/// then.
 pub fn read_up_to<I: Input>(
     input: &mut I,
     bytes: &mut Vec<u8>,
@@ -83,7 +85,7 @@ pub fn read_up_to<I: Input>(
     Ok(false)
 }
 
-// An empty list with room for about so many bytes and a piece more, where that room can be had.
+// An empty list. As far as memory allows, it has room for about this many bytes and a piece more.
 fn likely_room(alloc: Global, size: u64) -> Vec<u8>
     ensures { result.items ≡ [] }
 {
@@ -96,8 +98,8 @@ fn likely_room(alloc: Global, size: u64) -> Vec<u8>
 ///
 /// # Errors
 ///
-/// `ReadDevice` is answered where the device failed, `Memory` where a growth was refused; nothing is known then of
-/// how much was read.
+/// `ReadDevice` if the device failed, `Memory` if memory ran out. How much was read is unknown
+/// then.
 pub fn read_all<I: Input>(alloc: Global, input: &mut I) -> Result<Vec<u8>, ReadRefused>
     requires { I.count input.old < 2 ^ 64 - 1 }
     ensures bytes { IfOk result (λ v. IfSome (I.tells input.old) (λ xs. v.items ≡ xs)) }

@@ -1,4 +1,4 @@
-//! What begins the reading of a table: its reader, its header, and the room for its rows.
+//! How the reading of a table begins: its reader, its header, and the room for its rows.
 
 ghost use Rattle.std.specs.Prelude.{◌≡◌, ◌≢◌, ◌≤◌, ◌*◌, [], length, map, IfOk, IfErr, Ok, Err, Some};
 ghost use Rattle.csv.specs.Reading.{default_config, records, strip_bom};
@@ -13,7 +13,7 @@ use csv::{ByteRecord, Reader, ReaderBuilder};
 use rj_columns::{BuildRefused, ColumnType, TableBuilder};
 use std::alloc::{AllocError, Global};
 
-// How many of the first bytes show how long a line is.
+// How many of the first bytes are used to estimate the length of a line.
 const SAMPLE: usize = 65536;
 
 /// A reader of all the records of these bytes.
@@ -56,7 +56,8 @@ fn refused_of(e: BuildRefused) -> ReadRefused
     }
 }
 
-/// About the rows of the bytes, by the lines of their first part; no more than have place.
+/// About how many rows the bytes have, estimated from the lines of their first part. No more than
+/// fit into the bytes.
 pub(crate) fn likely_rows(bytes: &[u8], columns: usize) -> usize
     ensures { result * columns ≤ length bytes.now }
 {

@@ -9,18 +9,18 @@ use std::io::{ErrorKind, Read};
 
 /// A device that gives bytes and counts its failures.
 pub trait Input {
-    // The bytes that it gives from here on, where it tells them.
+    // The bytes that it gives from here on, if it tells them.
     ghost tells: { Self → Option (List ℕ) } = { λ _. None };
 
     // How often it failed.
     ghost count: { Self → ℕ };
 
-    /// Fills the buffer from its start with the next bytes, and says how many they are. They are none
-    /// only where the buffer is empty or the device at its end.
+    /// Fills the buffer from its start with the next bytes, and returns how many they are. There
+    /// are none only if the buffer is empty or the device is at its end.
     ///
     /// # Errors
     ///
-    /// `Failed` is answered where the device failed, and adds one to the count of failures.
+    /// `Failed` if the device failed. This adds one to the count of failures.
     fn get(&mut self, buffer: &mut [u8]) -> Result<usize, Failed>
         requires { count self.old < 2 ^ 64 - 1 }
         ensures bound { IfOk result (λ k. k ≤ length buffer.new) }
@@ -29,19 +29,19 @@ pub trait Input {
         ensures kept { OnOk result (count self.new ≡ count self.old) }
         ensures failed { OnErr result (count self.new ≡ count self.old + 1) };
 
-    /// How often it failed so far.
+    /// How often it has failed so far.
     fn failures(&self) -> u64
         ensures { result ≡ count self.now };
 
-    /// About how many bytes it will give, or 0 where it can't tell. It promises nothing: it may give more bytes or
-    /// fewer.
+    /// About how many bytes it will give, or 0 if that isn't known. This is only a hint: it may
+    /// give more bytes or fewer.
     fn likely_size(&self) -> u64 {
         0
     }
 }
 
-/// A reader of std with the count of its failures. It tells the bytes that the reader tells, and
-/// reads again where a signal broke a read off.
+/// A reader of std with a count of its failures. It tells the bytes that the reader tells. It
+/// repeats a read that a signal interrupted.
 #[derive(Drop)]
 pub struct CountedReader<R: Read> {
     reader: R,
@@ -50,7 +50,7 @@ pub struct CountedReader<R: Read> {
 }
 
 impl<R: Read> CountedReader<R> {
-    /// The reader, with no failure so far; how many bytes it will give isn't known.
+    /// The reader, with no failure so far. How many bytes it will give isn't known.
     pub fn new(reader: R) -> CountedReader<R>
         ensures reader { reader_of result ≡ reader }
         ensures failures { read_failures_of result ≡ 0 }
@@ -59,8 +59,8 @@ impl<R: Read> CountedReader<R> {
         CountedReader::with_likely_size(reader, 0)
     }
 
-    /// The reader, with no failure so far, and about how many bytes it will give, so that [`read_all`] asks for
-    /// their room at once. The number changes nothing of what is read.
+    /// The reader, with no failure so far, and about how many bytes it will give, so that
+    /// [`read_all`] reserves their room at once. The number changes nothing of what is read.
     ///
     /// [`read_all`]: crate::read_all
     pub fn with_likely_size(reader: R, likely_size: u64) -> CountedReader<R>
@@ -76,7 +76,7 @@ impl<R: Read> CountedReader<R> {
     }
 }
 
-// The next bytes of a reader, by as many reads as signals break off.
+// The next bytes of a reader. Reads that a signal interrupts are repeated.
 fn read_some<R: Read>(reader: &mut R, buffer: &mut [u8]) -> Option<usize>
     ensures bound { IfSome result (λ k. k ≤ length buffer.new) }
     ensures bytes { IfSome result (λ k. Consumes (R.remaining reader.old) (R.remaining reader.new) (take k buffer.new)) }

@@ -12,36 +12,38 @@ ghost use Rattle.rj_csv_io.specs.Shown.{rows_text, shown, table_text};
 ghost use Rattle.rj_csv_io.specs.Tables.{are_null_texts, is_null_text, read_of, records_read};
 ghost use Rattle.rj_csv_io.specs.Typed.{is_null_field, read_cell};
 
-/// No cell of a table that was read is one of its null texts as a text: such a field was read as null.
+/// No text in a cell of a table that was read is one of its NULL texts: such a field was read as
+/// NULL.
 pub fn null_texts_read_as_null()
     ensures { (records : List (List (List ℕ))) (types : List ColumnType) (nulls : List (List ℕ)) (null : List ℕ) (t : TableValue)
         → is_null_field nulls null ≡ true → records_read records types nulls ≡ Ok t → AreApart null t.rows }
 {}
 
-/// Where no cell of rows is a null text as a text, each cell that isn't null is told from null, since no number has a null
-/// text.
+/// If no cell of rows is a NULL text as a text, each cell that isn't NULL differs from NULL in its
+/// text, since no number has a NULL text.
 pub fn told_apart()
     ensures { (null : List ℕ) (rows : List (List Content)) → is_null_text null ≡ true → AreApart null rows → AreClear null rows }
 {}
 
-/// The text of a cell reads back as the cell, where the text that is written for null is one of the reader's null texts and
-/// the cell, if it is a text, is none of them. A number never is.
+/// The text of a cell reads back as the cell, if the text that is written for NULL is one of the
+/// reader's NULL texts and the cell isn't a text that is one of them. A number never is.
 pub fn cells_read_back()
     ensures { (nulls : List (List ℕ)) (null : List ℕ) (kind : ColumnType) (x : Content)
         → are_null_texts nulls ≡ true → is_null_field nulls null ≡ true → FitsType kind x → IsHeld x → IsNoneOf nulls x
         → read_cell nulls kind (shown null x) ≡ Some x }
 {}
 
-/// A cell that was read, and is written, is read again as it was by the same type and null texts, where one of these is
-/// written for null.
+/// A cell that was read and is written reads back as it was, by the same type and NULL texts, if
+/// one of these is written for NULL.
 pub fn read_cells_read_back()
     ensures { (nulls : List (List ℕ)) (null : List ℕ) (kind : ColumnType) (field : List ℕ) (x : Content)
         → are_null_texts nulls ≡ true → is_null_field nulls null ≡ true → read_cell nulls kind field ≡ Some x
         → read_cell nulls kind (shown null x) ≡ Some x }
 {}
 
-/// The text of a table reads back as the table, by its types, where the text that is written for null is one of the reader's
-/// null texts, no text in a cell is one of them, and no byte order mark stands at the start, which a reader leaves out.
+/// The text of a table reads back as the table, by its types, if the text that is written for NULL
+/// is one of the reader's NULL texts, no text in a cell is one of them, and no byte order mark is
+/// at the start, which a reader would leave out.
 pub fn tables_read_back()
     ensures { (nulls : List (List ℕ)) (null : List ℕ) (t : TableValue)
         → are_null_texts nulls ≡ true → is_null_field nulls null ≡ true → CanReadBack nulls t
@@ -49,8 +51,8 @@ pub fn tables_read_back()
         → read_of (table_text null t.names t.rows) t.types nulls ≡ Ok t }
 {}
 
-/// A table that was read, and is written, is read again as it was by the same types and null texts, where one of these is
-/// written for null and no byte order mark stands at the start.
+/// A table that was read and is written reads back as it was, by the same types and NULL texts, if
+/// one of these is written for NULL and no byte order mark is at the start.
 pub fn read_tables_read_back()
     ensures { (bytes : List ℕ) (types : List ColumnType) (nulls : List (List ℕ)) (null : List ℕ) (t : TableValue)
         → read_of bytes types nulls ≡ Ok t → is_null_field nulls null ≡ true
@@ -58,7 +60,7 @@ pub fn read_tables_read_back()
         → read_of (table_text null t.names t.rows) types nulls ≡ Ok t }
 {}
 
-/// The same by other null texts, where no text in a cell is one of them.
+/// The same for other NULL texts, if no text in a cell is one of them.
 pub fn read_tables_read_back_by_others()
     ensures { (bytes : List ℕ) (types : List ColumnType) (known nulls : List (List ℕ)) (null : List ℕ) (t : TableValue)
         → read_of bytes types known ≡ Ok t → are_null_texts nulls ≡ true → is_null_field nulls null ≡ true
@@ -73,14 +75,14 @@ pub fn read_tables_hold_their_types()
         → records_read records types nulls ≡ Ok t → All (FitsTypes t.types) t.rows × All (All IsHeld) t.rows }
 {}
 
-/// The text of a table begins with a byte order mark only where its first name does.
+/// The text of a table begins with a byte order mark only if its first name does.
 pub fn mark_is_of_the_first_name()
     ensures { (null : List ℕ) (names : List (List ℕ)) (rows : List (List Content))
         → has_bom (slice_index_or names 0 []) ≡ false → has_bom (table_text null names rows) ≡ false }
 {}
 
-/// Texts of rows that follow each other are the text of all these rows, and behind the text of a header they are the text of
-/// a table.
+/// The texts of consecutive rows, one after another, are the text of all these rows. After the text
+/// of a header they are the text of a table.
 pub fn texts_follow_each_other()
     ensures none { rows_text [] ≡ [] }
     ensures rows { (null : List ℕ) (rows more : List (List Content))

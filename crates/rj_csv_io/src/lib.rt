@@ -1,6 +1,7 @@
-//! Tables read from CSV (RFC 4180, section 2), rows written as CSV, and the devices that bytes go to.
+//! Reads tables from CSV (RFC 4180, section 2), writes rows as CSV, and has the devices that bytes
+//! come from and go to.
 //!
-//! What [`read_table`] answers is fixed by `read_of`, and what [`write_rows`] puts by `table_text`.
+//! `read_of` defines what [`read_table`] answers, and `table_text` what [`write_rows`] writes.
 #![tactic(auto)]
 
 mod ambiguous;

@@ -1,11 +1,11 @@
-//! Which texts may stand for null.
+//! Which texts may stand for NULL.
 
 ghost use Rattle.std.specs.Prelude.{◌≡◌};
 ghost use Rattle.std.specs.List.{list_all};
 ghost use Rattle.rj_csv_io.specs.Tables.{are_null_texts, is_null_text, may_stand_in_null};
 ghost use Rattle.rj_csv_io.specs.Typed.{null_texts};
 
-// The longest null text, in bytes.
+// The longest NULL text, in bytes.
 const MAX_NULL: usize = 16;
 
 fn is_null_byte(byte: u8) -> bool
@@ -20,7 +20,7 @@ fn all_null_bytes(bytes: &[u8]) -> bool
     bytes.iter().all(|b| is_null_byte(*b))
 }
 
-/// Whether a text may stand for null: it has at most 16 bytes, all printable ASCII, and no digit, comma,
+/// Whether a text may stand for NULL: it has at most 16 bytes, all printable ASCII, and no digit, comma,
 /// double quote or space.
 pub fn is_lawful_null(null: &str) -> bool
     ensures { result ≡ is_null_text null.now }
@@ -35,7 +35,7 @@ fn all_lawful(nulls: &[&str]) -> bool
     nulls.iter().all(|null| is_lawful_null(null))
 }
 
-/// Whether each of these texts may stand for null.
+/// Whether each of these texts may stand for NULL.
 pub fn are_lawful_nulls(nulls: &[&str]) -> bool
     ensures { result ≡ are_null_texts (null_texts nulls.now) }
 {

@@ -12,7 +12,7 @@ pub struct Failed;
 
 /// A device that takes bytes and counts its failures.
 pub trait Output {
-    // The bytes that it tells it got, where it tells them.
+    // The bytes that it got, if it tells them.
     ghost told: { Self → Option (List ℕ) } = { λ _. None };
 
     // How often it failed.
@@ -22,21 +22,21 @@ pub trait Output {
     ///
     /// # Errors
     ///
-    /// `Failed` is answered where the device failed, and adds one to the count of failures. Nothing is known then of
-    /// how many of the bytes it took.
+    /// `Failed` if the device failed. This adds one to the count of failures. How many of the bytes
+    /// it took is unknown then.
     fn put(&mut self, bytes: &[u8]) -> Result<(), Failed>
         requires { count self.old < 2 ^ 64 - 1 }
         ensures ok { OnOk result (Appends (told self.old) (told self.new) bytes.now) }
         ensures kept { OnOk result (count self.new ≡ count self.old) }
         ensures failed { OnErr result (count self.new ≡ count self.old + 1) };
 
-    /// How often it failed so far.
+    /// How often it has failed so far.
     fn failures(&self) -> u64
         ensures { result ≡ count self.now };
 }
 
-/// A writer of std with the count of its failures. It tells the bytes that the writer tells, and
-/// writes again where a signal broke a write off.
+/// A writer of std with a count of its failures. It tells the bytes that the writer tells. It
+/// repeats a write that a signal interrupted.
 #[derive(Drop)]
 pub struct CountedWriter<W: Write> {
     writer: W,
@@ -67,7 +67,7 @@ impl<W: Write> CountedWriter<W> {
     }
 }
 
-// Writes all of the bytes, by as many writes as signals break off.
+// Writes all of the bytes. Writes that a signal interrupts are repeated.
 fn write_whole<W: Write>(writer: &mut W, bytes: &[u8]) -> Result<(), Failed>
     ensures { OnOk result (Appends (W.contents writer.old) (W.contents writer.new) bytes.now) }
 {
@@ -89,7 +89,7 @@ fn write_whole<W: Write>(writer: &mut W, bytes: &[u8]) -> Result<(), Failed>
     Err(Failed)
 }
 
-// Has the writer give on what it holds back, by as many flushes as signals break off.
+// Flushes the writer. Flushes that a signal interrupts are repeated.
 fn flush_whole<W: Write>(writer: &mut W) -> Result<(), Failed>
     ensures { OnOk result (Keeps (W.contents writer.old) (W.contents writer.new)) }
 {
@@ -106,7 +106,7 @@ fn flush_whole<W: Write>(writer: &mut W) -> Result<(), Failed>
     Err(Failed)
 }
 
-// Writes all of the bytes, and what the writer holds back of them.
+// Writes all of the bytes, and flushes the writer.
 fn write_through<W: Write>(writer: &mut W, bytes: &[u8]) -> Result<(), Failed>
     ensures { OnOk result (Appends (W.contents writer.old) (W.contents writer.new) bytes.now) }
 {

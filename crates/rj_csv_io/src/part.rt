@@ -28,7 +28,8 @@ pub(crate) fn header_of(alloc: Global, text: &[u8]) -> Result<Option<ByteRecord>
     Ok(Some(header))
 }
 
-// A reader of a text's records, but for the first one where that is the header; none where there are none.
+// A reader of a text's records, without the first one if that is the header. None if there are no
+// records.
 fn reader_of_part<'a>(
     alloc: Global,
     text: &'a [u8],
@@ -49,8 +50,8 @@ fn reader_of_part<'a>(
     Ok(Some(reader))
 }
 
-/// The table of a text's records under this header, which is the first of them where the text has it.
-/// The rows in a fault count from the text's first one.
+/// The table of a text's records under this header, which is the first record if the text has it.
+/// The rows in an error count from the text's first row.
 pub(crate) fn read_part(
     alloc: Global,
     text: &[u8],
@@ -68,7 +69,7 @@ pub(crate) fn read_part(
     rows_of_reader(alloc, reader, builder, nulls, types)
 }
 
-/// A fault of a part that has this many rows before it, with its row counted from the whole table's first one.
+/// An error of a part that has this many rows before it, with its row counted from the whole table's first one.
 pub(crate) fn moved_on(before: u64, fault: ReadRefused) -> ReadRefused
     requires { before < 2 ^ 31 }
     ensures { result ≡ moved before fault }

@@ -46,11 +46,12 @@ impl Header {
         }
     }
 
-    /// The header of a text, its byte order mark left out already: the first record, if there is one.
+    /// The header of a text whose byte order mark was left out already: the first record, if there
+    /// is one.
     ///
     /// # Errors
     ///
-    /// Refuses only for want of memory.
+    /// It fails only when memory runs out.
     pub fn of(alloc: Global, text: &[u8]) -> Result<Option<Header>, AllocError>
         ensures { IfOk result (λ o. MatchOption o (records default_config text.now ≡ [])
             (λ h. (rest : List (List (List ℕ))) × (records default_config text.now ≡ names_in h ∷ rest))) }
@@ -66,7 +67,7 @@ impl Header {
     ///
     /// # Errors
     ///
-    /// Refuses only for want of memory.
+    /// It fails only when memory runs out.
     pub fn names<'h>(&'h self, alloc: Global) -> Result<Vec<&'h [u8]>, AllocError>
         ensures { IfOk result (λ names. map (λ name. name.now) names.items ≡ names_in self.now) }
     {
@@ -84,8 +85,8 @@ impl Header {
     ///
     /// # Errors
     ///
-    /// Why there is none, as [`read_table`] tells it: too many columns, the names from left to right, the count of types.
-    /// `Memory` comes only where a growth was refused.
+    /// Why there is none, in the order of [`read_table`]: too many columns, the names from left to
+    /// right, the count of types. `Memory` comes only when memory ran out.
     ///
     /// [`read_table`]: crate::read_table
     pub fn table(&self, alloc: Global, types: &[ColumnType]) -> Result<Table, ReadRefused>
@@ -99,13 +100,15 @@ impl Header {
         }
     }
 
-    /// The rows of a piece of a text under this header, as a table. A piece begins and ends where a record does; the
-    /// text's own byte order mark is left out already, and the first piece has the header, which makes no row.
+    /// The rows of a piece of a text under this header, as a table. A piece begins and ends where a
+    /// record does. The text's own byte order mark was left out already. The first piece has the
+    /// header, which makes no row.
     ///
     /// # Errors
     ///
-    /// The fault of the header, as [`Header::table`] tells it, or the first fault of the piece's records, its row counted
-    /// from the piece's first one; or `Memory`, and then nothing is known of faults.
+    /// The error of the header, as [`Header::table`] reports it, or the first error of the piece's
+    /// records, whose row counts from the piece's first row. Or `Memory`: nothing is known of
+    /// errors then.
     pub fn read_piece(
         &self,
         alloc: Global,

@@ -1,11 +1,11 @@
-//! Where a text of CSV stands after its bytes, as far as quotes go.
+//! Where a text of CSV is after its bytes, as far as quotes go.
 
 ghost use Rattle.std.specs.Prelude.{◌≡◌, ◌<◌, ◌≤◌, ◌==◌, ℕ, false, length, take, slice_index};
 ghost use Rattle.rj_csv_io.specs.Cuts.{after_quote, after_run, is_open_place, place_after};
 
 use memchr::memchr;
 
-/// A place in a text: at the start of a field, in one, between quotes, after the quote that closed.
+/// A place in a text: at the start of a field, in one, between quotes, after the closing quote.
 #[derive(Clone, Copy, Debug, PartialEq, Eq)]
 pub(crate) enum ReaderPlace {
     Fresh,

@@ -13,15 +13,15 @@ use csv::Writer;
 use rj_columns::RowSource;
 use std::alloc::{AllocError, Global};
 
-/// The most bytes that a text asks room for before it has grown to them.
+/// The most bytes of room that a text reserves before it has grown to them.
 const MOST_ROOM: u64 = 1 << 30;
 
-/// The most rows whose records stand in one text of several, so that such a text finds room where the join's own lists
-/// stood before.
+/// The most rows whose records are in one text of several, so that such a text fits where the
+/// join's own lists were before.
 const TEXT_ROWS: u64 = 4096;
 
-// The fewest rows whose room is asked for at once: of fewer, the records that are written to find it take longer than the
-// growths that it spares.
+// The fewest rows whose room is reserved at once. For fewer, writing sample records to estimate it
+// takes longer than the growth that it saves.
 const LEAST_SAMPLED: u64 = 64 * BLOCK_ROWS;
 
 // Writes the record of the names.
@@ -45,7 +45,7 @@ pub(crate) fn text_of_header(alloc: Global, header: &[&str]) -> Result<Vec<u8>, 
     close_text(writer)
 }
 
-// Writes the record of a row whose cells stand in a block.
+// Writes the record of a row whose cells are in a block.
 fn write_row<S: RowSource>(
     writer: &mut Writer<Vec<u8>>,
     block: &RowBlock<'_>,
@@ -111,8 +111,8 @@ fn add_blocks<S: RowSource>(
     close_text(writer)
 }
 
-// About how many bytes the records of rows take, by those of a block amid them. Few rows ask for nothing, and so do rows
-// whose block can't be written for want of memory.
+// About how many bytes the records of rows take, estimated from a block amid them. The answer is 0
+// for few rows, and when memory runs out for the block.
 fn likely_room<S: RowSource>(alloc: Global, source: &S, from: u64, to: u64, null: &str) -> usize
     requires order { from ≤ to }
     requires within { to ≤ length (S.contents source.now) }
@@ -146,13 +146,13 @@ pub(crate) fn add_range<S: RowSource>(
     ensures { IfOk result (λ v. v.items ≡ text.items ++ range_text null.now (S.contents source.now) from to) }
 {
     let room = likely_room(alloc, source, from, to, null);
-    // Where this room is refused, the text still grows as it has to.
+    // If this room can't be had, the text still grows as it has to.
     let _ = text.reserve(room);
     add_blocks(alloc, text, source, from, to, null)
 }
 
-/// The records of a source's rows from one to another, in texts of so many rows that follow each other: at least one
-/// text, which is empty where there are no rows.
+/// The records of a source's rows from one to another, in consecutive texts of at most this many
+/// rows. There is at least one text, which is empty if there are no rows.
 pub(crate) fn texts_of_range<S: RowSource>(
     alloc: Global,
     source: &S,

@@ -1,4 +1,4 @@
-//! Reading a table in parts, each by a thread.
+//! Reading a table in parts, each by its own thread.
 
 ghost use Rattle.std.specs.Prelude.{◌≡◌, ◌≢◌, ◌<◌, length, map, IfOk, IfErr, OnOk, Ok, Err, IsTrue};
 ghost use Rattle.csv.specs.Records.{fields_of};
@@ -18,10 +18,10 @@ use rj_columns::{ColumnType, Table};
 use std::alloc::Global;
 use std::thread::{self, Threads};
 
-// The least bytes of a part: fewer take less time than a thread's start.
+// The least bytes of a part: fewer take less time than starting a thread.
 const LEAST_PART: usize = 262144;
 
-// The tables of the parts, in order, or the first fault of all.
+// The tables of the parts, in order, or the first error of all.
 fn tables_of_parts(
     alloc: Global,
     mut parts: Vec<Result<Table, ReadRefused>>,
@@ -56,8 +56,8 @@ fn tables_of_parts(
     Ok(tables)
 }
 
-// The table of the texts' records under the header, which is the first record of the first text. Each text is
-// read by a thread, all at a time.
+// The table of the texts' records under the header, which is the first record of the first text.
+// Each text is read by its own thread, all at a time.
 fn read_texts<R: Threads + Sync>(
     rt: &R,
     alloc: Global,
@@ -85,14 +85,15 @@ fn read_texts<R: Threads + Sync>(
     }
 }
 
-/// Reads a table as [`read_table`] does, in up to so many parts at a time, each by a thread. The calling thread reads one
-/// of them. No cell is copied as the parts become one table.
+/// Reads a table as [`read_table`] does, in up to `parts` parts at a time, each by its own thread.
+/// The calling thread reads one of them. No cell is copied when the parts become one table.
 ///
-/// A part has at least 256 KiB, so that no thread is started for few bytes. The answer doesn't depend on the parts.
+/// A part has at least 256 KiB, so that no thread is started for few bytes. The answer doesn't
+/// depend on the parts.
 ///
 /// # Errors
 ///
-/// They are those of [`read_table`], in the same order.
+/// Those of [`read_table`], in the same order.
 pub fn read_table_in_parts<R: Threads + Sync>(
     rt: &R,
     alloc: Global,

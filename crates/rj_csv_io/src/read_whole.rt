@@ -12,19 +12,22 @@ use csv::ByteRecord;
 use rj_columns::{ColumnType, Table};
 use std::alloc::Global;
 
-/// Reads a table from CSV (RFC 4180), or tells the first fault in it.
+/// Reads a table from CSV (RFC 4180), or reports the first error in it.
 ///
-/// Records are those that `csv` reads with comma, double quote, no trimming and its default line ends, after one
-/// byte order mark. The first is the header. A cell whose bytes equal one of the null texts is null; another is read as
-/// its column's type: an optional sign and decimal digits in the range of i64; a number of the numeric type, with
-/// an optional sign, digits, and perhaps a point and digits, of which those past the scale are zeros; or UTF-8 as
-/// it stands.
+/// Records are those that `csv` reads with comma, double quote, no trimming and its default line
+/// ends, after one byte order mark. The first is the header. A cell whose bytes equal one of the
+/// NULL texts is NULL. Any other is read as its column's type:
+///
+/// - `int`: an optional sign and decimal digits in the range of i64;
+/// - a numeric type: an optional sign, digits, and perhaps a point and digits, where those past the
+///   scale are zeros, and the number fits the type;
+/// - `text`: UTF-8, taken as it is.
 ///
 /// # Errors
 ///
-/// Faults are tested in this order: the null texts, no header, too many columns, the names from left to right, the
-/// count of types; then record by record too many rows, the record's length, and its cells from left to right.
-/// `Memory` is answered where a growth was refused, and then nothing is known of the faults.
+/// Errors are tested in this order: the NULL texts, no header, too many columns, the names from
+/// left to right, the count of types; then record by record too many rows, the record's length, and
+/// its cells from left to right. `Memory` if memory ran out: nothing is known of the errors then.
 pub fn read_table(
     alloc: Global,
     bytes: &[u8],

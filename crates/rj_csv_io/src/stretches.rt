@@ -1,4 +1,4 @@
-//! The last cut of a text that more bytes follow.
+//! The last place to cut a text that more bytes follow.
 
 ghost use Rattle.std.specs.Prelude.{◌≡◌, ◌==◌, ◌<◌, ◌≤◌, ◌-◌, ◌++◌, ℕ, List, false, length, take, drop, slice_index};
 ghost use Rattle.csv.specs.Reading.{default_config, records};
@@ -9,7 +9,7 @@ ghost use Rattle.rj_csv_io.specs.Pieces.{IsLastEnd};
 use crate::place::{ReaderPlace, is_open, scan};
 use memchr::{memchr, memrchr};
 
-// The end of the stretch that begins here: behind its first double quote, or where the text ends.
+// The end of the stretch that begins here: after its first double quote, or the text's end.
 fn stretch_end(text: &[u8], at: usize) -> usize
     requires { at < length text.now }
     ensures from { at < result }
@@ -22,7 +22,7 @@ fn stretch_end(text: &[u8], at: usize) -> usize
     }
 }
 
-// The last line end up to the end of a stretch, by the last one up to its start.
+// The last line end up to the end of a stretch, given the last one up to its start.
 fn later_end(text: &[u8], at: usize, next: usize, place: ReaderPlace, last: usize) -> usize
     requires order { at < next }
     requires within { next ≤ length text.now }
@@ -40,10 +40,10 @@ fn later_end(text: &[u8], at: usize, next: usize, place: ReaderPlace, last: usiz
     }
 }
 
-/// The last place of a text behind a line feed that ends a record, or 0 where there is none. The text begins where a
-/// record does, its byte order mark left out already. Whatever bytes follow the text, its records and theirs are those
-/// before the place and those from the place on. Only line feeds are looked at, so that a text whose lines end by lone
-/// carriage returns has no cut. It takes no memory.
+/// The last place of a text after a line feed that ends a record, or 0 if there is none. The text
+/// begins where a record does, without its byte order mark. Whatever bytes follow the text, the
+/// records of both are those before the place and those from the place on. Only line feeds count,
+/// so a text whose lines end in lone carriage returns has no such place. It allocates no memory.
 pub fn last_cut(text: &[u8]) -> usize
     ensures last { IsLastEnd text.now (length text.now) result }
     ensures only { (at : ℕ) → IsLastEnd text.now (length text.now) at → at ≡ result }

@@ -1,4 +1,4 @@
-//! The text of records, made by csv's writer in memory.
+//! The text of records, made in memory by the writer of `csv`.
 
 ghost use Rattle.std.specs.Prelude.{◌≡◌, ◌<◌, ◌+◌, ◌++◌, ◌∷◌, ◌^◌, ◌-◌, List, ℕ, [], length, OnOk, IfOk};
 ghost use Rattle.csv.specs.Writing.{default_writer, row_text};
@@ -12,7 +12,7 @@ use rj_columns::Cell;
 use rj_decimal::DecimalBuffer;
 use std::alloc::AllocError;
 
-/// A writer behind a text.
+/// A writer after a text.
 pub(crate) fn open_text(text: Vec<u8>) -> Writer<Vec<u8>>
     ensures { HasWritten result text.items [] }
 {

@@ -1,4 +1,4 @@
-//! Texts of rows that are made first, and are put under a header later.
+//! Texts of rows that are made first, and written under a header later.
 
 ghost use Rattle.std.specs.Prelude.{◌≡◌, ◌≢◌, ◌<◌, ◌+◌, ◌++◌, ◌-◌, ◌^◌, Err, map, IfOk, OnOk, OnErr};
 ghost use Rattle.std.specs.Io.KnownBytes.{Appends};
@@ -12,12 +12,12 @@ use crate::write::WriteRefused;
 use rj_columns::RowSource;
 use std::alloc::{AllocError, Global};
 
-/// The records of a source's rows, without a header, as [`write_rows`] writes them: in texts of up to 4,096 rows that
-/// follow each other. No row makes one text, which is empty.
+/// The records of a source's rows, without a header, as [`write_rows`] writes them, in consecutive
+/// texts of up to 4,096 rows. No row makes one text, which is empty.
 ///
 /// # Errors
 ///
-/// `AllocError` where a growth of a text was refused.
+/// It fails only when memory runs out.
 ///
 /// [`write_rows`]: crate::write_rows
 pub fn texts_of_rows<S: RowSource>(
@@ -54,15 +54,15 @@ fn put_under<O: Output>(output: &mut O, header: &[u8], texts: &[Vec<u8>]) -> Res
     put_all(output, texts)
 }
 
-/// Writes a header and, behind it, texts of rows as [`texts_of_rows`] makes them, one after the other.
+/// Writes a header and then texts of rows as [`texts_of_rows`] makes them, one after the other.
 ///
-/// The header's text is made first. Then it and each of the texts are put in order, each by a call of the device, up to the
-/// first call that fails.
+/// The header's text is made first. Then it and each of the texts are put in order, each by a call
+/// of the device, up to the first call that fails.
 ///
 /// # Errors
 ///
-/// `Memory` where a growth of the header's text was refused: the device is as it was. `WriteDevice` where the device
-/// failed: nothing is known of how much it took.
+/// `Memory` if memory ran out for the header's text: the device stays as it was. `WriteDevice` if
+/// the device failed: how much it took is unknown.
 pub fn write_texts<O: Output>(
     alloc: Global,
     output: &mut O,

@@ -13,9 +13,9 @@ use std::alloc::{AllocError, Global};
 /// Why rows were not written.
 #[derive(Clone, Copy, Debug, PartialEq, Eq)]
 pub enum WriteRefused {
-    /// A growth of the text was refused. Nothing was put.
+    /// Memory ran out for the text. Nothing was put.
     Memory,
-    /// The device failed. Nothing is known of how much of the text it took.
+    /// The device failed. How much of the text it took is unknown.
     WriteDevice,
 }
 
@@ -32,16 +32,16 @@ fn text_of_rows<S: RowSource>(
     add_range(alloc, text, source, 0, source.rows(), null)
 }
 
-/// Writes a header and the rows of a source as CSV (RFC 4180): a field with a comma, a double quote, CR or LF
-/// stands in double quotes, null is the null text, a decimal has exactly its scale's digits after the point, and
-/// each record ends with LF.
+/// Writes a header and the rows of a source as CSV (RFC 4180). A field with a comma, a double
+/// quote, CR or LF is in double quotes. NULL is the NULL text. A decimal has exactly its scale's
+/// digits after the point. Each record ends with LF.
 ///
 /// The whole text is made before it is put, by one call of the device.
 ///
 /// # Errors
 ///
-/// `Memory` where a growth of the text was refused: the device is as it was. `WriteDevice` where the device failed:
-/// nothing is known of how much it took.
+/// `Memory` if memory ran out for the text: the device stays as it was. `WriteDevice` if the device
+/// failed: how much it took is unknown.
 pub fn write_rows<O: Output, S: RowSource>(
     alloc: Global,
     output: &mut O,

@@ -1,4 +1,4 @@
-//! Writing a header and the rows of a source, whose texts several threads make.
+//! Writing a header and the rows of a source, with texts made by several threads.
 
 ghost use Rattle.std.specs.Prelude.{◌≡◌, ◌≢◌, ◌<◌, ◌≤◌, ◌+◌, ◌-◌, ◌^◌, length, max, map, IfOk, OnOk, Err, IsTrue};
 ghost use Rattle.std.specs.Io.KnownBytes.{Appends};
@@ -15,10 +15,11 @@ use rj_columns::RowSource;
 use std::alloc::{AllocError, Global};
 use std::thread::{self, Threads};
 
-// Fewer rows than these are no work for a thread of their own.
+// Fewer rows than these aren't worth a thread of their own.
 const LEAST_ROWS: u64 = 4096;
 
-// How many parts to make of rows: no more than asked for or than can have `LEAST_ROWS` each, and at least one.
+// How many parts the rows are divided into: no more than asked for, no more than can have
+// `LEAST_ROWS` each, and at least one.
 fn part_count(rows: u64, parts: usize) -> usize
     ensures some { 0 < result }
     ensures few { result ≤ max 1 parts }
@@ -26,7 +27,8 @@ fn part_count(rows: u64, parts: usize) -> usize
     (rows / LEAST_ROWS).min(parts as u64).max(1) as usize
 }
 
-// The first row of a part, where the parts differ by one row at most, or the number of rows behind the last part.
+// The first row of a part, or the number of rows after the last part. The parts differ by one row
+// at most.
 fn first_row(rows: u64, parts: u64, part: u64) -> u64
     requires parts { 0 < parts }
     requires part { part ≤ parts }
@@ -35,7 +37,7 @@ fn first_row(rows: u64, parts: u64, part: u64) -> u64
     rows / parts * part + part.min(rows % parts)
 }
 
-// The texts of a part of the rows; none behind the last part.
+// The texts of a part of the rows; none after the last part.
 fn part_texts<S: RowSource>(
     alloc: Global,
     source: &S,
@@ -55,7 +57,7 @@ fn part_texts<S: RowSource>(
     texts_of_range(alloc, source, from, to, null)
 }
 
-// The texts of all parts, where each was made.
+// The texts of all parts, if each was made.
 fn all_made<S: RowSource>(
     alloc: Global,
     mut made: Vec<Result<Vec<Vec<u8>>, AllocError>>,
@@ -76,8 +78,9 @@ fn all_made<S: RowSource>(
     Ok(texts)
 }
 
-// How many jobs make so many parts of rows. The last job is the starting thread's own, and has no part where the rows are
-// many: threads that start then take over the memory that ended ones gave back, and the starting thread has none of it.
+// How many jobs make this many parts of rows. The last job is the starting thread's own. If there
+// are many rows, it has no part: later threads reuse the memory that ended ones gave back, and the
+// starting thread has none of it.
 fn job_count(rows: u64, parts: usize) -> usize
     ensures enough { parts ≤ result }
     ensures few { result ≤ parts + 1 }
@@ -88,7 +91,7 @@ fn job_count(rows: u64, parts: usize) -> usize
     parts.saturating_add(1)
 }
 
-// The texts of a source's rows in so many parts, each by a thread.
+// The texts of a source's rows in this many parts, each by its own thread.
 fn texts_of_parts<R: Threads + Sync, S: RowSource + Sync>(
     rt: &R,
     alloc: Global,
@@ -108,16 +111,17 @@ fn texts_of_parts<R: Threads + Sync, S: RowSource + Sync>(
     all_made(alloc, made, source, null, parts)
 }
 
-/// Writes a header and the rows of a source as `write_rows` does, with the texts of shares of the rows made by up
-/// to so many threads. Few rows take fewer threads.
+/// Writes a header and the rows of a source as `write_rows` does. Up to `parts` threads make the
+/// texts of shares of the rows. Few rows take fewer threads.
 ///
-/// A share's text is made in texts of up to 4,096 rows, and all texts are made before the first is put. Then the header's
-/// and each share's are put in order, each by a call of the device, up to the first call that fails.
+/// The text of a share is made in texts of up to 4,096 rows, and all texts are made before the
+/// first is put. Then the header's and each share's are put in order, each by a call of the device,
+/// up to the first call that fails.
 ///
 /// # Errors
 ///
-/// `Memory` where a growth of a text was refused: the device is as it was. `WriteDevice` where the device failed:
-/// nothing is known of how much it took.
+/// `Memory` if memory ran out for a text: the device stays as it was. `WriteDevice` if the device
+/// failed: how much it took is unknown.
 pub fn write_rows_in_parts<R: Threads + Sync, O: Output, S: RowSource + Sync>(
     rt: &R,
     alloc: Global,

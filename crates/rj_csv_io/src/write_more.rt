@@ -1,4 +1,4 @@
-//! Writing the rows of a source behind others.
+//! Writing the rows of a source after others.
 
 ghost use Rattle.std.specs.Prelude.{◌≡◌, ◌≢◌, ◌<◌, ◌+◌, ◌^◌, ◌-◌, map, IsTrue, OnOk, IfOk};
 ghost use Rattle.std.specs.Io.KnownBytes.{Appends};
@@ -18,7 +18,7 @@ fn text_of_more<S: RowSource>(alloc: Global, source: &S, null: &str) -> Result<V
     add_range(alloc, Vec::new(alloc), source, 0, source.rows(), null)
 }
 
-/// Writes the rows of a source as [`write_rows`] does, without a header: behind others of the same columns. No row puts
+/// Writes the rows of a source as [`write_rows`] does, without a header: after others of the same columns. No row puts
 /// nothing.
 ///
 /// # Errors

@@ -9,7 +9,7 @@ use Rattle.rj_decimal.specs.Numbers.{Number}
 abbrev pub ends_with_zero : ℤ → Bool
 ends_with_zero units = int_eq (int_rem units (pos 10)) (pos 0)
 
--- the units without the zeros that they end with, as far as these stand after the point
+-- the units without the trailing zeros, as far as these are after the point
 unfoldable pub without_zeros : ℤ → ℕ → Number
 without_zeros units zero = record { units = units; scale = 0 }
 without_zeros units (suc scale) = if ends_with_zero units then without_zeros (int_div units (pos 10)) scale else record { units = units; scale = suc scale }
@@ -22,7 +22,7 @@ least_of x = without_zeros x.units x.scale
 abbrev pub IsLeast : Number → Type 0
 IsLeast x = 0 < x.scale → ends_with_zero x.units ≡ false
 
--- the units modulo 2^64 where the least scale is 0, else those times 31 and the scale added, modulo 2^64
+-- the units modulo 2^64 if the least scale is 0, else those times 31 plus the scale, modulo 2^64
 abbrev pub hash_of_least : Number → ℕ
 hash_of_least x = if x.scale == 0 then cast_unsigned w64 x.units else (cast_unsigned w64 x.units * 31 + x.scale) % 2 ^ 64
 

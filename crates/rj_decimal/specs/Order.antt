@@ -1,4 +1,4 @@
--- How two numbers compare, exactly: m / 10^s stands to n / 10^t as m * 10^t to n * 10^s.
+-- How two numbers compare, exactly: m / 10^s compares to n / 10^t as m * 10^t does to n * 10^s.
 use Rattle.std.specs.Prelude.{Bool}
 use Rattle.std.specs.declared.cmp.Ordering.{Ordering}
 use Rattle.std.specs.Ordering.{int_cmp, int_eq}

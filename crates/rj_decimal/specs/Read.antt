@@ -4,12 +4,12 @@ use Rattle.std.specs.Str.{all_ascii_digits}
 use Rattle.rj_decimal.specs.Numbers.{Number}
 use Rattle.std.specs.Str.Parse.{starts_with_minus, without_leading_sign, digits_value}
 
--- what stands before the first point, or all where there is none
+-- what is before the first point, or all if there is none
 abbrev pub before_point : List ℕ → List ℕ
 before_point [] = []
 before_point (c ∷ cs) = if c == 46 then [] else c ∷ before_point cs
 
--- what stands after the first point, or nothing where there is none
+-- what is after the first point, or nothing if there is none
 abbrev pub after_point : List ℕ → List ℕ
 after_point [] = []
 after_point (c ∷ cs) = if c == 46 then cs else after_point cs
@@ -69,7 +69,7 @@ units_in scale text = signed_size text (size_at scale (before_point (without_lea
 abbrev pub numeric_of : ℕ → ℕ → List ℕ → Option ℤ
 numeric_of precision scale text = if is_numeric_text precision scale text then Some (units_in scale text) else None
 
--- the number that a text writes: all its digits are units, and as many stand after the point as the scale says
+-- the number that a text writes: all its digits are units, and as many come after the point as the scale says
 abbrev pub number_in : List ℕ → Number
 number_in text = record {
   units = signed_size text (digits_value 10 (before_point (without_leading_sign text) ++ after_point (without_leading_sign text)));

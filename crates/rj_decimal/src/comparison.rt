@@ -17,7 +17,8 @@ fn finer_units(units: i64, digits: u8) -> i128
     i128::from(units) * i128::from(power_of_ten(digits))
 }
 
-/// The units of a decimal in a scale of at least its own and at most 18: the value stays.
+/// The units of a decimal in another scale. The scale is at least its own and at most 18. The value
+/// stays the same.
 #[inline]
 #[tactic(auto, using(crate::proofs::Orders::same_as_finer))]
 pub fn rescale(decimal: Decimal, scale: u8) -> i128

@@ -2,21 +2,21 @@
 
 ghost use Rattle.std.specs.Prelude.{◌≡◌, ◌↔◌, ◌≤◌, pos, IsSome, IfSome};
 
-/// The number units / 10^scale. The scale is at most 18. A whole number of 64 bits is one with the scale 0.
+/// The number units / 10^scale. The scale is at most 18. A whole number of 64 bits has the scale 0.
 ///
-/// `==` says whether units and scale are the same; two that differ may be one value (1.5 and 1.50), as `compare`
-/// says.
+/// `==` compares units and scale. Two decimals that differ may be one value (1.5 and 1.50):
+/// `compare` compares values.
 #[derive(Clone, Copy, Debug, PartialEq, Eq)]
 pub struct Decimal {
     /// The value times 10^scale.
     pub units: i64,
-    /// How many digits stand after the point, 0 to 18.
+    /// How many digits are after the point, 0 to 18.
     pub scale: u8,
     pub ghost in_range: { scale ≤ 18 },
 }
 
 impl Decimal {
-    /// The decimal with these units and this scale, or none where the scale is above 18.
+    /// The decimal with these units and this scale, or none if the scale is above 18.
     pub fn new(units: i64, scale: u8) -> Option<Decimal>
         ensures range { IsSome result ↔ (scale ≤ 18) }
         ensures units { IfSome result (λ d. d.units ≡ units) }

@@ -24,7 +24,7 @@ fn tenth(units: i64) -> i64
     units / 10
 }
 
-// Drops the zeros that the digits after the point end with.
+// Drops the trailing zeros after the point.
 fn drop_zeros(decimal: Decimal) -> Decimal
     ensures { number_of result ≡ least_of (number_of decimal) }
 {
@@ -37,8 +37,8 @@ fn drop_zeros(decimal: Decimal) -> Decimal
     Decimal { units, scale }
 }
 
-/// The same value in its least scale: without the zeros that its digits after the point end with. Equal values have
-/// one least form, and values with one least form are equal.
+/// The same value in its least scale, without trailing zeros after the point. Equal values have one
+/// least form, and values with one least form are equal.
 pub fn least(decimal: Decimal) -> Decimal
     ensures form { number_of result ≡ least_of (number_of decimal) }
     ensures value { are_same (number_of decimal) (number_of result) ≡ true }
@@ -48,8 +48,9 @@ pub fn least(decimal: Decimal) -> Decimal
     drop_zeros(decimal)
 }
 
-/// The hash of a decimal. With u and t the units and the scale of its least form it is u modulo 2^64 where t is 0,
-/// else u * 31 + t modulo 2^64. Equal values have one hash, whatever their scales.
+/// The hash of a decimal. Let u and t be the units and the scale of its least form. The hash is u
+/// modulo 2^64 if t is 0, else u * 31 + t modulo 2^64. Equal values have one hash, whatever their
+/// scales.
 #[inline]
 pub fn hash(decimal: Decimal) -> u64
     ensures value { result ≡ hash_of (number_of decimal) }

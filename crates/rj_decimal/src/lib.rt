@@ -1,9 +1,9 @@
 //! Exact decimals (SQL-92 4.4.1, exact numeric).
 //!
-//! A `Decimal` is units and a scale, with the value units / 10^scale; a whole number of 64 bits is one, with the
-//! scale 0. A `NumericType` is the precision and the scale of a column. Decimals of any two scales compare by value
-//! (`compare`), equal ones have one least form (`least`) and one hash (`hash`). `read_numeric` and `DecimalBuffer` are
-//! their texts.
+//! A `Decimal` is units and a scale, with the value units / 10^scale. A whole number of 64 bits has
+//! the scale 0. A `NumericType` is the precision and the scale of a column. `compare` compares
+//! decimals of any two scales by value. Equal decimals have one least form (`least`) and one hash
+//! (`hash`). `read_numeric` reads their texts, and `DecimalBuffer` writes them.
 #![tactic(auto)]
 
 mod comparison;

@@ -22,7 +22,7 @@ fn without_sign(text: &[u8]) -> &[u8]
     }
 }
 
-// The place of the first point, or the text's length where there is none.
+// The place of the first point, or the text's length if there is none.
 fn point_of(text: &[u8]) -> usize
     ensures inside { result ≤ length text.now }
     ensures before { before_point text.now ≡ take result text.now }
@@ -139,9 +139,10 @@ fn units_in_type(text: &[u8], kind: NumericType) -> Option<i64>
     }
 }
 
-/// The value that a text writes, if it is one of a numeric type, in the type's scale: an optional sign, one or more digits, and perhaps a
-/// point and one or more digits, where the digits past the type's scale are zeros and the value times 10^scale is
-/// below 10^precision in size. None exactly where the text is no such value. Zeros may stand before a number.
+/// The value that a text writes, in the scale of a numeric type, if it is a value of the type. The
+/// text is an optional sign, one or more digits, and perhaps a point and one or more digits.
+/// Leading zeros are allowed. The digits past the type's scale are zeros, and the value times
+/// 10^scale is below 10^precision in size. `None` exactly if the text is no such value.
 pub fn read_numeric(text: &[u8], kind: NumericType) -> Option<Decimal>
     ensures units { option_map (λ d. d.units) result ≡ numeric_of kind.precision kind.scale text.now }
     ensures scale { IfSome result (λ d. d.scale ≡ kind.scale) }

@@ -8,7 +8,7 @@ ghost use Rattle.rj_decimal.specs.Written.{fraction_text, last_digits, text_of};
 // A sign, a digit, a point and the 255 digits of the largest scale: no text is longer.
 const LONGEST: usize = 258;
 
-/// Room for the text of one number, to be used again for the next.
+/// A buffer for the text of one number, reused for the next.
 #[derive(Drop)]
 pub struct DecimalBuffer {
     bytes: [u8; LONGEST],
@@ -26,7 +26,7 @@ fn split_digit(number: u128) -> (u128, u8)
     }
 }
 
-// Writes the last digits of a number before a place, and tells the number without them.
+// Writes the last digits of a number before a place, and returns the number without them.
 fn put_digits(bytes: &mut [u8], end: usize, count: usize, number: u128) -> u128
     requires room { count ≤ end }
     requires end { end ≤ length bytes.old }
@@ -42,7 +42,7 @@ fn put_digits(bytes: &mut [u8], end: usize, count: usize, number: u128) -> u128
     rest
 }
 
-// Writes the digits of a number before a place, and tells where they begin.
+// Writes the digits of a number before a place, and returns where they begin.
 fn put_number(bytes: &mut [u8], end: usize, number: u64) -> usize
     requires some { 2 ≤ end }
     requires end { end ≤ length bytes.old }
@@ -81,7 +81,8 @@ fn put_wide(bytes: &mut [u8], end: usize, number: u128) -> usize
     put_number(bytes, at, rest as u64)
 }
 
-// Writes the point and the digits after it to the end of the bytes, and tells where they begin and the whole part.
+// Writes the point and the digits after it to the end of the bytes, and returns where they begin
+// and the whole part.
 fn put_fraction(bytes: &mut [u8; LONGEST], scale: u8, size: u128) -> (usize, u128)
     ensures inside { result.0 ≤ 258 }
     ensures room { 257 ≤ result.0 + scale }
@@ -98,7 +99,7 @@ fn put_fraction(bytes: &mut [u8; LONGEST], scale: u8, size: u128) -> (usize, u12
     (point, whole)
 }
 
-// Writes the text of a number to the end of the bytes, and tells where it begins.
+// Writes the text of a number to the end of the bytes, and returns where it begins.
 fn put_text(bytes: &mut [u8; LONGEST], units: i128, scale: u8) -> usize
     ensures inside { result ≤ 258 }
     ensures text { drop result bytes.new ≡ text_of scale units }
@@ -113,16 +114,16 @@ fn put_text(bytes: &mut [u8; LONGEST], units: i128, scale: u8) -> usize
 }
 
 impl DecimalBuffer {
-    /// An empty room.
+    /// An empty buffer.
     pub fn new() -> DecimalBuffer {
         DecimalBuffer {
             bytes: [0; LONGEST],
         }
     }
 
-    /// The text of the number units / 10^scale: `-` where it is below zero, no leading zeros but for one before the
-    /// point, and exactly `scale` digits after it; scale 0 has no point. A numeric type of this scale that has room
-    /// for the value reads it back.
+    /// The text of the number units / 10^scale: `-` if it is below zero, no leading zeros but for
+    /// one before the point, and exactly `scale` digits after it. Scale 0 has no point. A numeric
+    /// type of this scale that has room for the value reads it back.
     pub fn format(&mut self, units: i128, scale: u8) -> &[u8]
         ensures text { result.now ≡ text_of scale units }
         ensures back { (p : ℕ) → p ≤ 18 → unsigned_abs units < 10 ^ p → numeric_of p scale result.now ≡ Some units }

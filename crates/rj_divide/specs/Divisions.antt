@@ -18,35 +18,36 @@ use Rattle.rj_divide.specs.declared.refused.DivideRefused.TheVariants as refused
 abbrev pub part_text : List ℕ → (List Content → ℕ) → ℕ → ℕ → List (List Content) → List ℕ
 part_text null part p first rows = rows_text (map (map (shown null)) (part_rows part p first rows))
 
--- each part's output got the text of its rows behind what it had, where it tells what it got
+-- each part's output got the text of its rows after what it already had, if it tells what it got
 abbrev pub AreAppended : List ℕ → (List Content → ℕ) → ℕ → List (List Content) → List (Option (List ℕ)) → List (Option (List ℕ)) → Type 0
 AreAppended null part first rows before after = (p : ℕ) → p < length before
     → Appends (slice_index_or before p None) (slice_index_or after p None) (part_text null part p first rows)
 
--- the text that is written for null: the first of those that stand for it, or the empty one where there are none
+-- the text that is written for NULL: the first of those that stand for it, or the empty one if
+-- there are none
 abbrev pub written_null : List (List ℕ) → List ℕ
 written_null nulls = slice_index_or nulls 0 []
 
--- how rows are divided: the texts that stand for null, the types of the columns, the part of a row, and the place of the first one
+-- how rows are divided: the texts that stand for NULL, the types of the columns, the part of a row, and the place of the first one
 pub record Dividing : Type 0 where
   pub nulls : List (List ℕ)
   pub types : List ColumnType
   pub part : List Content → ℕ
   pub first : ℕ
 
--- what a division asks for, whose route tells the parts so
+-- the parameters of a division whose route chooses these parts
 abbrev pub dividing : {R : Type 0} → (R → List Content → ℕ) → Division R → Dividing
 dividing part division = record { nulls = null_texts division.nulls.now; types = division.types.now; part = part division.route.now; first = division.first }
 
--- the same behind so many rows
+-- the same after this many rows
 abbrev pub after_rows : ℕ → Dividing → Dividing
 after_rows n d = record d { first = d.first + n }
 
--- the table without rows that the header begins with the types, or why it begins none
+-- the table without rows that the header and the types make, or why they make none
 abbrev pub table_begun : {R : Type 0} → Division R → Result TableValue BuildRefused
 table_begun division = empty_table (names_in division.header.now) division.types.now
 
--- these records are rows, so many of them, and each part's output got the text of its rows
+-- these records are rows, this many of them, and each part's output got the text of its rows
 pub record IsDivided (d : Dividing) (records : List (List (List ℕ))) (before after : List (Option (List ℕ))) (count : ℕ) : Type 0 where
   pub rows : List (List Content)
   pub read : AreRows d.nulls d.types records rows
@@ -62,7 +63,7 @@ counts_after (Err refused.ReadDevice) counts = counts
 counts_after (Err (refused.WriteDevice p)) counts = slice_set counts p (slice_index_or counts p 0 + 1)
 counts_after (Err refused.Memory) counts = counts
 
--- a fault of an output among so many, or of memory
+-- an error of one of this many outputs, or of memory
 abbrev pub IsPutFault : ℕ → DivideRefused → Type 0
 IsPutFault outputs (refused.Read f) = ⊥
 IsPutFault outputs refused.TooLong = ⊥

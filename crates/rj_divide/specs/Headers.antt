@@ -23,11 +23,11 @@ types_with t = t.types ++ kind.Int ∷ []
 abbrev pub header_text : TableValue → List ℕ → List ℕ
 header_text t name = row_text default_writer (names_with t name)
 
--- each output got this text behind what it had, where it tells what it got
+-- each output got this text after what it already had, if it tells what it got
 abbrev pub HaveText : List ℕ → List (Option (List ℕ)) → List (Option (List ℕ)) → Type 0
 HaveText text before after = (p : ℕ) → p < length before → Appends (slice_index_or before p None) (slice_index_or after p None) text
 
--- why a header is not written: the columns make no table, or an output failed
+-- why a header is not written: the columns don't make a table, or an output failed
 abbrev pub IsHeaderFault : TableValue → List ℕ → ℕ → DivideRefused → Type 0
 IsHeaderFault t name outputs (refused.Read f) = (b : BuildRefused) × (empty_table (names_with t name) (types_with t) ≡ Err b) × (f ≡ of_begun b)
 IsHeaderFault t name outputs refused.TooLong = ⊥

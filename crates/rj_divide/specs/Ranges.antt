@@ -14,23 +14,24 @@ unfoldable pub range_records : Bool → ℕ → List ℕ → List ℕ → List (
 range_records is_first from [] text = piece_records is_first (drop from text)
 range_records is_first from (cut ∷ cuts) text = piece_records is_first (slice_range text from cut) ++ range_records false cut cuts text
 
--- each place stands at least so far behind the one before
+-- each place is at least this far after the one before
 unfoldable pub RiseBy : ℕ → ℕ → List ℕ → Type 0
 RiseBy size from [] = Unit {0}
 RiseBy size from (cut ∷ cuts) = (from + size ≤ cut) × RiseBy size cut cuts
 
--- a place where the text can be cut: behind the header, and behind a line feed that ends a record
+-- a place where the text can be cut: after the header, and after a line feed that ends a record
 pub record IsCutPlace (text : List ℕ) (at : ℕ) : Type 0 where
   pub within : at ≤ length text
   pub line : IsLineEnd text at
   pub header : records default_config (take at text) ≢ []
 
--- between two places a line feed ends a record in each run of so many bytes
+-- between two places a line feed ends a record in each run of this many bytes
 abbrev pub EndIn : List ℕ → ℕ → ℕ → ℕ → Type 0
 EndIn text from to run = (at : ℕ) → from ≤ at → at + run ≤ to → (end : ℕ) × (at < end) × (end ≤ at + run) × IsLineEnd text end
 
--- a range that ends soon behind each place in it, so many bytes or more from its begin, where the text can be cut: where a record
--- ends in each run of so many bytes, within a block, twice such a run and 64 KiB
+-- a range that ends soon after each place in it, at least this many bytes from its beginning, where
+-- the text can be cut: if a record ends in each run of some number of bytes, within a block, twice
+-- such a run and 64 KiB
 abbrev pub IsShort : ℕ → ℕ → List ℕ → ℕ → ℕ → Type 0
 IsShort size block text from to = (at run : ℕ) → from + size ≤ at → IsCutPlace text at → EndIn text from to run → to ≤ at + block + 2 * run + 2 ^ 16
 
@@ -39,16 +40,17 @@ unfoldable pub AreShort : ℕ → ℕ → List ℕ → ℕ → List ℕ → Type
 AreShort size block text from [] = Unit {0}
 AreShort size block text from (to ∷ ends) = IsShort size block text from to × AreShort size block text to ends
 
--- places in a text, each so far behind the one before, that cut it into ranges: the records of the ranges are those of the
--- text, the first range has the header, and each range, the last one too, ends soon behind where it could
+-- places in a text, each this far after the one before, that cut it into ranges: the records of the
+-- ranges are those of the text, the first range has the header, and each range, the last one too,
+-- ends soon after where it could
 pub record AreCuts (size block : ℕ) (text : List ℕ) (cuts : List ℕ) : Type 0 where
   pub rise : RiseBy size 0 cuts
   pub places : All (IsCutPlace text) cuts
   pub records : piece_records true text ≡ range_records true 0 cuts text
   pub short : AreShort size block text 0 (cuts ++ length text ∷ [])
 
--- the bytes that were read for a piece behind those that were there: where there are more, a block, twice as many as the first
--- ones, in which no record ends, and 64 KiB at most
+-- the bytes that were read for a piece after those that were there: if there are more, at most a
+-- block, twice the first bytes, in which no record ends, and 64 KiB
 pub record IsReadFor (block : ℕ) (old bytes : List ℕ) : Type 0 where
   pub front : take (length old) bytes ≡ old
   pub plain : ℕ
@@ -56,8 +58,8 @@ pub record IsReadFor (block : ℕ) (old bytes : List ℕ) : Type 0 where
   pub none : IsLastEnd bytes plain 0
   pub most : length old < length bytes → length bytes ≤ block + 2 * plain + 2 ^ 16
 
--- bytes of a text that can be a piece of it: no more of them than a block, twice as many as the first ones, in which no record ends,
--- and 64 KiB
+-- bytes of a text that can be a piece of it: at most a block, twice the first bytes, in which no
+-- record ends, and 64 KiB
 pub record IsPiece (block : ℕ) (text piece : List ℕ) : Type 0 where
   pub above : List ℕ
   pub below : List ℕ
@@ -72,7 +74,7 @@ unfoldable pub RiseTo : ℕ → ℕ → List ℕ → ℕ → Type 0
 RiseTo size from [] last = from ≡ last
 RiseTo size from (cut ∷ cuts) last = (from + size ≤ cut) × RiseTo size cut cuts last
 
--- a text whose first bytes, which were looked at, are taken away: no place for a cut was passed
+-- a text whose first bytes, which were looked at, are removed: no place for a cut was passed
 pub record IsCutting (size block : ℕ) (text : List ℕ) (tells : Option (List ℕ)) (now : Cutting) (pieces : ℕ) : Type 0 where
   pub front : IsTaken text tells now.bytes.items pieces
   pub place : now.place ≡ length front.taken
@@ -85,7 +87,7 @@ pub record IsCutting (size block : ℕ) (text : List ℕ) (tells : Option (List 
   pub short : AreShort size block text 0 now.cuts.items
   pub passed : (at : ℕ) → now.last + size ≤ at → IsCutPlace text at → now.place ≤ at
 
--- why a text is not cut: a fault of its device or of memory, or its length
+-- why a text is not cut: an error of its device or of memory, or its length
 abbrev pub IsCutFault : List ℕ → DivideRefused → Type 0
 IsCutFault text (refused.Read f) = ⊥
 IsCutFault text refused.TooLong = 2 ^ 64 - 1 ≤ length text

@@ -2,8 +2,8 @@
 use Rattle.std.specs.Prelude.{ℕ, List, [], Option, option_map, if◌then◌else◌}
 use Rattle.rj_divide.specs.declared.stored.StoredPart.{StoredPart}
 
--- what was put to a part, where its store tells what it holds: nothing before the first time, whatever it holds then, and later all
--- that it holds
+-- what was put to a part, if its store tells what it holds: nothing before the first time, whatever
+-- it holds then, and later all that it holds
 abbrev pub told_of : {S W : Type 0} → (S → Option (List ℕ)) → StoredPart S W → Option (List ℕ)
 told_of holds part = if part.is_begun then holds part.store else option_map (λ _. []) (holds part.store)
 

@@ -1,9 +1,9 @@
--- A text whose first bytes are taken away. The program's own: no public contract speaks of it.
+-- A text whose first bytes are removed. Internal: no public contract uses it.
 use Rattle.std.specs.Prelude.{ℕ, ◌+◌, ◌≡◌, ◌≤◌, List, ◌++◌, length, Option, Some}
 use Rattle.rj_csv_io.specs.Pieces.{IsLineEnd}
 
--- a text whose first bytes are taken away, in at least so many pieces: the others are those that were read, in which no record ends,
--- and those that the device tells
+-- a text whose first bytes are removed, in at least this many pieces: the others are those that
+-- were read, in which no record ends, and those that the device tells
 pub record IsTaken (text : List ℕ) (tells : Option (List ℕ)) (bytes : List ℕ) (pieces : ℕ) : Type 0 where
   pub left : List ℕ
   pub told : tells ≡ Some left

@@ -26,8 +26,8 @@ pub(crate) struct Cutting {
     pub(crate) last: u64,
 }
 
-// Goes on to the end of the next piece, and cuts the text there where that is far enough behind the last cut: whether the
-// piece was the last one, behind which there is nothing to cut.
+// Reads to the end of the next piece, and cuts the text there if that is far enough after the last
+// cut. The answer is whether the piece was the last one, after which there is nothing to cut.
 fn cut_next<I: Input>(
     alloc: Global,
     input: &mut I,
@@ -70,17 +70,19 @@ fn cut_next<I: Input>(
     Ok(false)
 }
 
-/// Places where a text with a header can be cut into ranges, so that the records of the ranges are those of the text. Each
-/// is behind a line feed that ends a record, and at least `size` bytes behind the one before; the first is behind the header.
-/// A text's own byte order mark is left out already.
+/// Finds places where a text with a header can be cut into ranges, so that the records of the
+/// ranges are those of the text. Each place is after a line feed that ends a record, and at least
+/// `size` bytes after the one before. The first is after the header. The text's own byte order mark
+/// was left out already.
 ///
-/// The text is read to its end, in pieces of about `block` bytes, or more where a record is longer; only the ends of pieces are
-/// places. So where a record ends in each run of so many bytes, a range, the last one too, ends at most `block` bytes, twice
-/// such a run and 64 KiB behind the first place, `size` bytes or more from its begin, where it could.
+/// The text is read to its end, in pieces of about `block` bytes, or more if a record is longer.
+/// Only the ends of pieces are places. Take the first place in a range, `size` bytes or more from
+/// its beginning, where it could end. If a record ends in each run of n bytes, the range ends at
+/// most `block` + 2n bytes and 64 KiB after that place. This holds for the last range too.
 ///
 /// # Errors
 ///
-/// `ReadDevice` where the device failed; `TooLong` where the text has 2^64 - 1 bytes or more; `Memory`.
+/// `ReadDevice` if the device failed; `TooLong` if the text has 2^64 - 1 bytes or more; `Memory`.
 pub fn find_cuts<I: Input>(
     alloc: Global,
     input: &mut I,

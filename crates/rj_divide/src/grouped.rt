@@ -42,7 +42,7 @@ fn routes_of<R: Route>(
 ///
 /// # Errors
 ///
-/// Refuses only for want of memory.
+/// It fails only when memory runs out.
 pub(crate) fn group_rows<R: Route>(
     alloc: Global,
     table: &Table,

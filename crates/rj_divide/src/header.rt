@@ -53,7 +53,7 @@ fn bytes_of<'a>(alloc: Global, names: &[&'a str]) -> Result<Vec<&'a [u8]>, Alloc
     Ok(all)
 }
 
-// Why columns make no table.
+// Why columns don't make a table.
 fn fault_of_columns(e: BuildRefused) -> DivideRefused
     ensures memory { e ≡ BuildRefused.Memory → result ≡ DivideRefused.Memory }
     ensures fault { e ≢ BuildRefused.Memory → result ≡ DivideRefused.Read (of_begun e) }
@@ -119,13 +119,14 @@ fn header_of(alloc: Global, table: &Table, name: &str) -> Result<Vec<u8>, Divide
     }
 }
 
-/// Puts a header to each output: the record of a table's names and of one more, that of the places. It says how many bytes
-/// the record has. The columns and that of the places could be those of a table.
+/// Puts a header to each output: the record of a table's names and of one more, which is the name
+/// of the places. The answer is how many bytes the record has. The columns and that of the places
+/// have to be those of a valid table.
 ///
 /// # Errors
 ///
-/// Why the columns are none of a table, as the reading of a file with this header would tell it; `WriteDevice` where an
-/// output failed; `Memory`. The outputs may have got the header then.
+/// Why the columns don't make a table, as reading a file with this header would report it;
+/// `WriteDevice` if an output failed; `Memory`. Some outputs may have got the header by then.
 pub fn write_headers<O: Output>(
     alloc: Global,
     table: &Table,

@@ -1,10 +1,10 @@
-//! A law of divisions: the function does nothing, and its contract is a fact about all texts.
+//! A law of divisions. The function does nothing; its contract is a theorem about all texts.
 
 ghost use Rattle.std.specs.Prelude.{◌≡◌, ◌+◌, ◌++◌, [], ℕ, List, Option, length};
 ghost use Rattle.rj_divide.specs.Divisions.{Dividing, IsDivided, after_rows};
 
-/// No record is divided where nothing is put; and records that were divided, and then those behind them, their places counted
-/// on, are divided as one.
+/// If no record is divided, nothing is put. If records are divided, and then those after them, with
+/// their places counted on, this is the same as dividing all of them at once.
 pub fn divided_in_turn()
     ensures none { (d : Dividing) (told : List (Option (List ℕ))) → IsDivided d [] told told 0 }
     ensures turn { (d : Dividing) (records more : List (List (List ℕ))) (before between after : List (Option (List ℕ))) (m n : ℕ)

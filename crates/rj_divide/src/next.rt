@@ -19,14 +19,15 @@ pub struct Piece {
     pub is_last: bool,
 }
 
-/// Adds the next bytes of a device to some, until there is a line feed that ends a record or the device is at its end: the piece
-/// up to the last such end, or all where the device is at its end. At least a block is read, and twice as many bytes as
-/// before where there is no such end in them; and less than 64 KiB more.
+/// Reads the next bytes of a device and appends them, until there is a line feed that ends a record
+/// or the device is at its end. The answer is the piece up to the last such line feed, or all bytes
+/// if the device is at its end. It reads at least a block. If no record ends in that, it reads up
+/// to twice as many bytes as it had, and so on. It reads less than 64 KiB more than needed.
 ///
 /// # Errors
 ///
-/// `ReadDevice` is answered where the device failed, `Memory` where a growth was refused; nothing is known then of how
-/// much was read.
+/// `ReadDevice` if the device failed, `Memory` if memory ran out. How much was read is unknown
+/// then.
 pub fn next_piece<I: Input>(
     input: &mut I,
     bytes: &mut Vec<u8>,
@@ -70,7 +71,7 @@ pub fn next_piece<I: Input>(
     }
 }
 
-/// Takes the first bytes away.
+/// Removes the first bytes.
 pub(crate) fn drop_front(bytes: &mut Vec<u8>, end: usize)
     requires { end ≤ vec_len bytes.old }
     ensures { bytes.new.items ≡ drop end bytes.old.items }

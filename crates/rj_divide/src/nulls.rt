@@ -1,4 +1,4 @@
-//! The null texts of two sides.
+//! The NULL texts of two sides.
 
 ghost use Rattle.std.specs.Prelude.{◌≡◌, ◌&&◌, true};
 ghost use Rattle.rj_csv_io.specs.Tables.{are_null_texts, is_null_text};
@@ -7,8 +7,8 @@ ghost use Rattle.rj_divide.specs.Divisions.{written_null};
 
 use rj_csv_io::are_lawful_nulls;
 
-/// Whether the null texts of the side that is divided are lawful, the one that is written among them, and so are those of the
-/// other side.
+/// Whether all NULL texts of the side that is divided are valid, the written one among them, and
+/// also those of the other side.
 #[tactic(auto, using(crate::proofs::NullFacts::written_lawful))]
 pub fn have_lawful_nulls(nulls: &[&str], others: &[&str]) -> bool
     ensures both { result ≡ (are_null_texts (null_texts nulls.now) && are_null_texts (null_texts others.now)) }

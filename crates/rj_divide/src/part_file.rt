@@ -7,7 +7,7 @@ use crate::stored::PartStore;
 use rj_csv_io::Failed;
 use std::fs::{Files, OpenOptions};
 
-// How a file is opened anew: it is made where it isn't there, and emptied where it is.
+// How a file is opened anew: it is made if it doesn't exist, and emptied if it does.
 fn emptying() -> OpenOptions
     ensures { result ≡ with_truncate (with_create (with_write new_options true) true) true }
 {
@@ -16,7 +16,7 @@ fn emptying() -> OpenOptions
     options
 }
 
-// How a file is opened to be written behind what it holds.
+// How a file is opened to be written after what it holds.
 fn appending() -> OpenOptions
     ensures { result ≡ with_append new_options true }
 {
@@ -25,7 +25,7 @@ fn appending() -> OpenOptions
     options
 }
 
-/// The file of a part. Of what it holds it tells nothing, as std's files tell nothing of that.
+/// The file of a part. It tells nothing of its content, as std's files don't either.
 #[derive(Drop)]
 pub struct PartFile<'r, R: Files> {
     rt: &'r R,

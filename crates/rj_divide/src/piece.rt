@@ -23,10 +23,10 @@ pub struct Division<'a, R: Route> {
     pub header: &'a Header,
     /// The types of its columns.
     pub types: &'a [ColumnType],
-    /// The texts that stand for null. The first of them is written for null, and the empty text where there are none;
-    /// [`rj_csv_io::is_lawful_null`] has to allow it.
+    /// The texts that stand for NULL. The first of them is written for NULL, or the empty text if
+    /// there are none. [`rj_csv_io::is_lawful_null`] has to allow it.
     pub nulls: &'a [&'a str],
-    /// What tells the part of a row.
+    /// Gives the part of a row.
     pub route: &'a R,
     /// The place of the first row, at most 2^62.
     pub first: u64,
@@ -35,7 +35,7 @@ pub struct Division<'a, R: Route> {
 // How many rows a text may have.
 const MOST_ROWS: u64 = 1 << 61;
 
-// The text that is written for null.
+// The text that is written for NULL.
 fn written_null<'a>(nulls: &[&'a str]) -> &'a str
     ensures { result.now ≡ written_null (null_texts nulls.now) }
 {
@@ -45,7 +45,7 @@ fn written_null<'a>(nulls: &[&'a str]) -> &'a str
     nulls[0]
 }
 
-// A fault of a piece that has so many rows before it.
+// An error of a piece that has this many rows before it.
 fn fault_behind(before: u64, fault: ReadRefused) -> DivideRefused
     requires { before ≤ 2 ^ 61 }
     ensures fault { row_told fault < 2 ^ 63 → result ≡ fault_behind before fault }
@@ -67,15 +67,16 @@ fn fault_behind(before: u64, fault: ReadRefused) -> DivideRefused
     }
 }
 
-/// Puts each row of a piece of a text, with its place, to the output of its part, and says how many rows it has. So many
-/// rows stand before it; the first piece begins with the header. A piece begins and ends where a record does, and the text's
-/// own byte order mark is left out already.
+/// Puts each row of a piece of a text, with its place, to the output of its part. The answer is how
+/// many rows it has. `before` rows come before it; the first piece begins with the header. A piece
+/// begins and ends where a record does. The text's own byte order mark was left out already.
 ///
 /// # Errors
 ///
-/// The reason why the header and the types make no table, as [`Header::table`] tells it; the outputs are unchanged then. Else
-/// the first fault of the piece's records, its row counted from the text's first one; `TooLong`; or `WriteDevice` where an
-/// output failed: the outputs may have got rows. `Memory` may come in place of each of these.
+/// The reason why the header and the types don't make a table, as [`Header::table`] reports it; the
+/// outputs are unchanged then. Else the first error of the piece's records, whose row counts from
+/// the text's first one; `TooLong`; or `WriteDevice` if an output failed. The outputs may have got
+/// rows. `Memory` may come in place of each of these.
 pub fn divide_piece<O: Output, R: Route>(
     alloc: Global,
     division: &Division<'_, R>,

@@ -8,8 +8,8 @@ use rj_columns::{Cell, RowSource, Table};
 use std::alloc::AllocError;
 use std::marker::Model;
 
-/// Some rows of a table, each with its place as a last cell, a whole number: the number of the row, counted on from the
-/// place of the table's first row. No cell is copied.
+/// Some rows of a table, each with its place as a last cell, a whole number. The place is the
+/// number of the row, counted on from the place of the table's first row. No cell is copied.
 pub(crate) struct PlacedRows<'a> {
     table: &'a Table,
     rows: &'a [u32],
@@ -48,7 +48,7 @@ impl<'a> PlacedRows<'a> {
     }
 }
 
-// The cell of a row in a column, or its place where the column is behind those of the table.
+// The cell of a row in a column, or its place if the column is after those of the table.
 fn placed_cell<'a>(table: &'a Table, first: u64, row: u32, col: usize) -> Cell<'a>
     requires row { row < length table.now.rows }
     requires col { col < length table.now.types + 1 }

@@ -1,4 +1,4 @@
-//! What tells the part of a row.
+//! Choosing the part of a row.
 
 ghost use Rattle.std.specs.Prelude.{◌≡◌, ◌<◌, ℕ, List, length, slice_index_or, []};
 ghost use Rattle.rj_columns.specs.Contents.{Content};
@@ -6,7 +6,7 @@ ghost use Rattle.rj_columns.specs.declared.cell.ColumnType.{ColumnType};
 
 use rj_columns::Table;
 
-/// Tells to which part a row belongs. Parts count from 0.
+/// Chooses the part of a row. Parts count from 0.
 pub trait Route {
     // The part of a row of these cells.
     ghost part: { Self → List Content → ℕ };
@@ -14,7 +14,7 @@ pub trait Route {
     // How many parts there are.
     ghost count: { Self → ℕ };
 
-    // It can tell of rows of these types.
+    // It can be used for rows of these types.
     ghost fits: { Self → List ColumnType → Type 0 };
 
     /// How many parts there are.

@@ -12,22 +12,22 @@ pub trait PartStore: Drop {
     /// What takes bytes while the store is open.
     type Writer: Write + Drop;
 
-    // The bytes that it holds while it is closed, where it tells them.
+    // The bytes that it holds while it is closed, if it tells them.
     ghost holds: { Self → Option (List ℕ) } = { λ _. None };
 
-    /// Opens it, and takes away all that it holds.
+    /// Opens it, and empties it.
     ///
     /// # Errors
     ///
-    /// `Failed` where it can't be opened.
+    /// `Failed` if it can't be opened.
     fn begin(&self) -> Result<Self::Writer, Failed>
         ensures { IfOk result (λ w. IfSome (holds self.now) (λ _. Self.Writer.contents w ≡ Some [])) };
 
-    /// Opens it, to be written behind what it holds.
+    /// Opens it, to be written after what it holds.
     ///
     /// # Errors
     ///
-    /// `Failed` where it can't be opened.
+    /// `Failed` if it can't be opened.
     fn resume(&self) -> Result<Self::Writer, Failed>
         ensures { IfOk result (λ w. IfSome (holds self.now) (λ text. Self.Writer.contents w ≡ Some text)) };
 
@@ -36,8 +36,9 @@ pub trait PartStore: Drop {
         ensures { IfSome (holds self.old) (λ _. holds self.new ≡ Self.Writer.contents writer) };
 }
 
-/// A part as a device that takes bytes. Its store is open only while something is put, so that there can be more parts than a
-/// process may have open files. What the store held before is gone once something is put, and then it holds what was put alone.
+/// A part as a device that takes bytes. Its store is open only while something is put, so that
+/// there can be more parts than a process may have open files. When something is put for the first
+/// time, what the store held before is dropped. From then on it holds only what was put.
 #[derive(Drop)]
 pub struct StoredPart<S: PartStore> {
     store: S,
@@ -46,7 +47,7 @@ pub struct StoredPart<S: PartStore> {
 }
 
 impl<S: PartStore> StoredPart<S> {
-    /// A part in this store, to which nothing was put and which didn't fail yet.
+    /// A part in this store, to which nothing was put and which hasn't failed.
     pub fn new(store: S) -> StoredPart<S>
         ensures told { told_of S.holds result ≡ option_map (λ _. []) (S.holds store) }
         ensures failures { put_failures_of result ≡ 0 }
@@ -58,7 +59,7 @@ impl<S: PartStore> StoredPart<S> {
         }
     }
 
-    // Opens the store: behind what was put, or empty where nothing was put yet.
+    // Opens the store: after what was put, or empty if nothing was put yet.
     fn open(&self) -> Result<S::Writer, Failed>
         ensures { IfOk result (λ w. IfSome (S.holds self.now.store) (λ text. S.Writer.contents w ≡ Some (if self.now.is_begun then text else []))) }
     {
@@ -69,7 +70,7 @@ impl<S: PartStore> StoredPart<S> {
         }
     }
 
-    // Puts bytes behind those that were put before.
+    // Puts bytes after those that were put before.
     fn append(&mut self, bytes: &[u8]) -> Result<(), Failed>
         ensures ok { OnOk result (Appends (told_of S.holds self.old) (told_of S.holds self.new) bytes.now) }
         ensures kept { self.new.failures ≡ self.old.failures }

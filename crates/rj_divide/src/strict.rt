@@ -1,4 +1,5 @@
-//! Dividing a range of a file whose text has to be of RFC 4180's grammar: each block is checked, and then divided.
+//! Dividing a range of a file whose text has to be of RFC 4180's grammar. Each block is checked,
+//! and then divided.
 
 ghost use Rattle.std.specs.Io.KnownBytes.{IsAtEnd};
 ghost use Rattle.std.specs.Prelude.{◌≡◌, ◌<◌, ◌≤◌, ◌+◌, ◌-◌, ◌^◌, ℕ, Bool, true, false, Ok, Err, All, IfErr, IfOk, IfSome, IsTrue, OnOk, length, map};
@@ -27,7 +28,7 @@ use rj_strict::{
 };
 use std::alloc::{AllocError, Global};
 
-// A fault of a block that has so many rows before it.
+// An error of a block that has this many rows before it.
 fn strict_behind(before: u64, fault: StrictFault) -> StrictFault
     requires { before + row_at fault < 2 ^ 64 }
     ensures { result ≡ strict_behind before fault }
@@ -42,7 +43,7 @@ fn strict_behind(before: u64, fault: StrictFault) -> StrictFault
     }
 }
 
-// A text that stands under one name, with a name above it and `""` in each of its empty lines.
+// A text under a header of one name, with a name above it and `""` in each of its empty lines.
 fn quote_below_name(alloc: Global, text: &[u8]) -> Result<Vec<u8>, AllocError>
     requires { (names : ℕ) × (full : Bool) × (file : File) × (names ≤ 1) × Derives (Above names) full text.now file }
     ensures { IfOk result (λ v. (names : ℕ) (full : Bool) (file : File) → names ≤ 1 → Derives (Above names) full text.now file
@@ -100,16 +101,18 @@ fn divide_derived<W: Route, O: Output>(
     )
 }
 
-/// Checks that a block of a text is of RFC 4180's grammar, and puts each of its rows, with its place, to the output of its part:
-/// the records of the block's one derivation. The block begins where a record does, below the header, and so many rows stand
-/// before it. Where it is full its last record has its line's end. It says how many rows there are.
+/// Checks that a block of a text is of RFC 4180's grammar, and puts each of its rows, with its
+/// place, to the output of its part. The rows are the records of the block's one derivation. The
+/// block begins where a record does, below the header, and `before` rows come before it. If `full`
+/// is set, its last record needs its line end. The answer is how many rows there are.
 ///
 /// # Errors
 ///
-/// The reason why the header and the types make no table, as `Header::table` tells it, where no rows stand before; the outputs
-/// are unchanged then. Else the first fault of the block: of its rows, or the place where it stops being of the grammar, below
-/// rows without a fault; or `TooLong`; or `WriteDevice` where an output failed: the outputs may have got rows. `Memory` may come
-/// in place of each of these.
+/// If no rows come before, the reason why the header and the types don't make a table, as
+/// `Header::table` reports it; the outputs are unchanged then. Else the first error of the block:
+/// of its rows, or the place where it stops being of the grammar, below rows without an error; or
+/// `TooLong`; or `WriteDevice` if an output failed. The outputs may have got rows. `Memory` may
+/// come in place of each of these.
 pub fn divide_block<W: Route, O: Output>(
     alloc: Global,
     division: &Division<'_, W>,
@@ -151,7 +154,7 @@ pub fn divide_block<W: Route, O: Output>(
     }
 }
 
-// What is left of a range that is divided.
+// The state of a range that is being divided.
 #[derive(Drop)]
 struct Rest {
     // The bytes that were read and aren't divided yet.
@@ -160,7 +163,7 @@ struct Rest {
     rows: u64,
 }
 
-// Divides the next block of a range: whether it was the last one.
+// Divides the next block of a range. The answer is whether it was the last one.
 fn divide_next<I: Input, W: Route, O: Output>(
     alloc: Global,
     input: &mut I,
@@ -197,7 +200,7 @@ fn divide_next<I: Input, W: Route, O: Output>(
         Ok(piece) => piece,
         Err(refused) => return Err(BlockRefused::Divided(refused)),
     };
-    // (a block that isn't the last one ends behind a line's end)
+    // (a block that isn't the last one ends after a line end)
     let whole = full | !piece.is_last;
     let text = &rest.bytes[..piece.end];
     let rows = match divide_block(alloc, division, text, whole, rest.rows, outputs) {
@@ -209,15 +212,18 @@ fn divide_next<I: Input, W: Route, O: Output>(
     Ok(piece.is_last)
 }
 
-/// Divides a range of a file, its header left out, whose text has to be of RFC 4180's grammar, block by block, as
-/// [`divide_block`] says of each. Where it is full its last record has its line's end. It says how many rows there are.
+/// Divides a range of a file, without its header, whose text has to be of RFC 4180's grammar. It
+/// goes block by block, each as in [`divide_block`]. If `full` is set, the last record needs its
+/// line end. The answer is how many rows there are.
 ///
 /// # Errors
 ///
-/// The reason why the header and the types make no table, as `Header::table` tells it; the outputs are unchanged then. Else the
-/// first fault of the range, whatever its blocks are: of its rows, or the place where it stops being of the grammar, its row
-/// counted from the range's first one; `TooLong`; or `WriteDevice` where an output failed: the outputs may have got rows.
-/// `ReadDevice` where the device that gives bytes failed, and `Memory`, may come in place of each of these.
+/// The reason why the header and the types don't make a table, as `Header::table` reports it; the
+/// outputs are unchanged then. Else the first error of the range, whatever its blocks are: of its
+/// rows, or the place where it stops being of the grammar, with its row counted from the range's
+/// first one; `TooLong`; or `WriteDevice` if an output failed. The outputs may have got rows.
+/// `ReadDevice` (the device that gives bytes failed) and `Memory` may come in place of each of
+/// these.
 pub fn divide_strictly<I: Input, W: Route, O: Output>(
     alloc: Global,
     input: &mut I,
@@ -238,11 +244,12 @@ pub fn divide_strictly<I: Input, W: Route, O: Output>(
     ensures reads { I.count input.new ≡ block_reads result (I.count input.old) }
     ensures writes { map O.count outputs.new ≡ block_counts result (map O.count outputs.old) }
 
-    // where the header and the types go together, as `Header::table` tells, an error comes for this alone
+    // if the header and the types go together, as `Header::table` says, an error comes only for
+    // this
     ensures fault { IfErr result (λ e. (t : TableValue) → table_begun division.now ≡ Ok t
         → IfSome (I.tells input.old) (λ text. IsRangeFault (dividing W.part division.now) block full text (length outputs.old) e)) }
 
-    // where they don't, nothing is divided, and it is told why they don't
+    // if they don't, nothing is divided, and the reason is reported
     ensures begins { OnOk result ((t : TableValue) × (table_begun division.now ≡ Ok t)) }
     ensures refusal { IfErr result (λ e. (b : BuildRefused) → table_begun division.now ≡ Err b → IsBlockRefusal b e) }
     ensures untouched { (b : BuildRefused) → table_begun division.now ≡ Err b → outputs.new ≡ outputs.old }

@@ -37,11 +37,13 @@ fn put_rows<O: Output>(
     write_more_rows(alloc, output, &placed, null)
 }
 
-/// Puts each row of a table, with its place, to the output of its part, in order. The first row has the place `first`.
+/// Puts each row of a table, with its place, to the output of its part, in order. The first row has
+/// the place `first`.
 ///
 /// # Errors
 ///
-/// `WriteDevice` is answered where an output failed, `Memory` where a growth was refused; outputs may have got rows then.
+/// `WriteDevice` if an output failed, `Memory` if memory ran out. Outputs may have got rows by
+/// then.
 pub(crate) fn divide_table<O: Output, R: Route>(
     alloc: Global,
     table: &Table,

@@ -19,7 +19,7 @@ use crate::route::Route;
 use rj_csv_io::{Header, Input, Output};
 use std::alloc::{AllocError, Global};
 
-/// What is left of a text that is divided.
+/// The state of a text that is being divided.
 #[derive(Drop)]
 pub(crate) struct Rest {
     /// The bytes that were read and aren't divided yet.
@@ -30,7 +30,7 @@ pub(crate) struct Rest {
     pub(crate) is_first: bool,
 }
 
-/// Whether the header is still to come behind a piece.
+/// Whether the header is still to come after a piece.
 pub(crate) fn is_header_ahead(
     alloc: Global,
     text: &[u8],
@@ -47,7 +47,7 @@ pub(crate) fn is_header_ahead(
     }
 }
 
-// Divides the first bytes of the rest, and takes them away.
+// Divides the first bytes of the rest, and removes them.
 fn divide_front<O: Output, R: Route>(
     alloc: Global,
     division: &Division<'_, R>,
@@ -88,7 +88,7 @@ fn divide_front<O: Output, R: Route>(
     Ok(())
 }
 
-// Divides the next piece of a text: whether it was the last one.
+// Divides the next piece of a text. The answer is whether it was the last one.
 fn divide_next<I: Input, O: Output, R: Route>(
     alloc: Global,
     input: &mut I,
@@ -129,18 +129,20 @@ fn divide_next<I: Input, O: Output, R: Route>(
     }
 }
 
-/// Divides the rows of a text, or of a range of one that begins and ends where a record does, among the outputs of their
-/// parts: each gets its rows in order, as CSV, with the row's place as one more whole number. A text's own byte order mark
-/// is left out already, and `is_first` says whether the header stands in it. It says how many rows there are.
+/// Divides the rows of a text, or of a range of one that begins and ends where a record does, among
+/// the outputs of their parts. Each output gets its rows in order, as CSV, with the row's place as
+/// one more whole number. The text's own byte order mark was left out already, and `is_first` says
+/// whether the header is in it. The answer is how many rows there are.
 ///
-/// The text is read in pieces of about `block` bytes, or more where a record is longer.
+/// The text is read in pieces of about `block` bytes, or more if a record is longer.
 ///
 /// # Errors
 ///
-/// The reason why the header and the types make no table, as [`Header::table`] tells it; the outputs are unchanged then.
-/// Else the first fault of a record, its row counted from the text's first one; `TooLong`; or `WriteDevice` where an output
-/// failed: the outputs may have got rows. `ReadDevice` where the device that gives bytes failed, and `Memory`, may come in
-/// place of each of these.
+/// The reason why the header and the types don't make a table, as [`Header::table`] reports it; the
+/// outputs are unchanged then. Else the first error of a record, whose row counts from the text's
+/// first one; `TooLong`; or `WriteDevice` if an output failed. The outputs may have got rows.
+/// `ReadDevice` (the device that gives bytes failed) and `Memory` may come in place of each of
+/// these.
 pub fn divide<I: Input, O: Output, R: Route>(
     alloc: Global,
     input: &mut I,
@@ -161,11 +163,12 @@ pub fn divide<I: Input, O: Output, R: Route>(
     ensures reads { I.count input.new ≡ reads_after result (I.count input.old) }
     ensures writes { map O.count outputs.new ≡ counts_after result (map O.count outputs.old) }
 
-    // where the header and the types go together, as `Header::table` tells, an error comes for this alone
+    // if the header and the types go together, as `Header::table` says, an error comes only for
+    // this
     ensures fault { IfErr result (λ e. (t : TableValue) → table_begun division.now ≡ Ok t
         → IfSome (I.tells input.old) (λ text. IsDivisionFault (dividing R.part division.now) block is_first text (length outputs.old) e)) }
 
-    // where they don't, nothing is divided, and it is told why they don't
+    // if they don't, nothing is divided, and the reason is reported
     ensures begins { OnOk result ((t : TableValue) × (table_begun division.now ≡ Ok t)) }
     ensures refusal { IfErr result (λ e. (b : BuildRefused) → table_begun division.now ≡ Err b → IsHeaderRefusal b e) }
     ensures untouched { (b : BuildRefused) → table_begun division.now ≡ Err b → outputs.new ≡ outputs.old }

@@ -16,7 +16,8 @@ use Rattle.rj_engine.specs.Origins.{origins_of}
 use Rattle.rj_engine.specs.Join.{rows_in}
 use Rattle.rj_engine.specs.Results.{result_of}
 
--- the scale of the values of a type, which is how many decimal places they have: none in a whole number, and none where there is no such column
+-- the scale of the values of a type, which is how many decimal places they have: none in a whole
+-- number, and none if there is no such column
 abbrev pub scale_of : Option ColumnType → ℕ
 scale_of None = 0
 scale_of (Some kind.Int) = 0
@@ -27,29 +28,29 @@ scale_of (Some kind.Text) = 0
 abbrev pub coalesced_scale : TableValue → TableValue → ℕ → ℕ → ℕ
 coalesced_scale l r a b = max (scale_of (slice_get l.types a)) (scale_of (slice_get r.types b))
 
--- members that follow each other, in order
+-- consecutive members, in order
 abbrev pub members_rows : Members → List JoinedRow
 members_rows m = rows_in (record { pairs = m.pairs.now; lone_left = m.lone_left.now; lone_right = m.lone_right.now })
 
--- the cell of the left row, null where that is missing
+-- the cell of the left row, or NULL if that is missing
 abbrev pub left_cell : TableValue → JoinedRow → ℕ → Content
 left_cell t (Both i j) col = cell_of t i col
 left_cell t (LeftOnly i) col = cell_of t i col
 left_cell t (RightOnly j) col = nothing
 
--- the cell of the right row, null where that is missing
+-- the cell of the right row, or NULL if that is missing
 abbrev pub right_cell : TableValue → JoinedRow → ℕ → Content
 right_cell t (Both i j) col = cell_of t j col
 right_cell t (LeftOnly i) col = nothing
 right_cell t (RightOnly j) col = cell_of t j col
 
--- the cell of a member in a column: a coalesced one is the first that is not null, in the greater scale
+-- the cell of a member in a column: a coalesced one is the first that is not NULL, in the greater scale
 abbrev pub joined_cell : TableValue → TableValue → JoinedRow → Origin → Content
 joined_cell l r row (Coalesced a b) = in_scale (coalesced_scale l r a b) (coalesced (left_cell l row a) (right_cell r row b))
 joined_cell l r row (Left a) = left_cell l row a
 joined_cell l r row (Right b) = right_cell r row b
 
--- the scale in which a column's cells are given, which only a coalesced one asks
+-- the scale in which a column's cells are given; only a coalesced column needs it
 abbrev pub shown_scale : TableValue → TableValue → Origin → ℕ
 shown_scale l r (Coalesced a b) = coalesced_scale l r a b
 shown_scale l r (Left a) = 0
@@ -89,23 +90,23 @@ view_of join l r = record {
 abbrev pub IsScaledWithin : ℕ → Content → Type 0
 IsScaledWithin scale x = IsInLimits x × HasScaleWithin scale x
 
--- the left row is there
+-- the left row exists
 abbrev pub IsLeftRow : TableValue → JoinedRow → Type 0
 IsLeftRow t (Both i j) = i < length t.rows
 IsLeftRow t (LeftOnly i) = i < length t.rows
 IsLeftRow t (RightOnly j) = Unit {0}
 
--- the right row is there
+-- the right row exists
 abbrev pub IsRightRow : TableValue → JoinedRow → Type 0
 IsRightRow t (Both i j) = j < length t.rows
 IsRightRow t (LeftOnly i) = Unit {0}
 IsRightRow t (RightOnly j) = j < length t.rows
 
--- the rows of a member are there
+-- the rows of a member exist
 abbrev pub IsMemberOf : TableValue → TableValue → JoinedRow → Type 0
 IsMemberOf l r row = IsLeftRow l row × IsRightRow r row
 
--- the columns are there
+-- the columns exist
 abbrev pub IsColumnOf : TableValue → TableValue → Origin → Type 0
 IsColumnOf l r (Coalesced a b) = (a < length l.types) × (b < length r.types)
 IsColumnOf l r (Left a) = a < length l.types

@@ -6,11 +6,11 @@ use Rattle.rj_settings.specs.declared.expectation.Matching.{Matching}
 use Rattle.rj_settings.specs.declared.expectation.Matching.TheVariants as matching
 use Rattle.rj_engine.specs.Join.{JoinedValue, rows_in}
 
--- no number stands twice
+-- no number occurs twice
 abbrev pub AreDistinct : List ℕ → Type 0
 AreDistinct numbers = AllPairs (λ a b. a ≢ b) numbers
 
--- each left row is in at most one of the kept pairs, or each right row, or both
+-- each left row is in at most one of the matches, or each right row, or both
 abbrev pub AreMatched : Option Matching → List (ℕ × ℕ) → Type 0
 AreMatched None pairs = Unit {0}
 AreMatched (Some matching.ManyToOne) pairs = AreDistinct (map (λ p. p.0) pairs)

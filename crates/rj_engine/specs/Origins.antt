@@ -10,11 +10,11 @@ abbrev pub is_column : ℕ → Option ℕ → Bool
 is_column j None = false
 is_column j (Some k) = k == j
 
--- the left columns that are no join columns
+-- the left columns that aren't join columns
 abbrev pub other_lefts : List (Option ℕ) → List ℕ
 other_lefts partners = filter (λ i. not (is_some (slice_index_or partners i None))) (range_with_len 0 (length partners))
 
--- the right columns that are no join columns
+-- the right columns that aren't join columns
 abbrev pub other_rights : List (Option ℕ) → ℕ → List ℕ
 other_rights partners width = filter (λ j. not (list_any (is_column j) partners)) (range_with_len 0 width)
 

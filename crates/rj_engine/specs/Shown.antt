@@ -1,4 +1,5 @@
--- What is shown of a joined table, and its rows in runs, each of which has its left rows in one segment of the left table.
+-- What is shown of a joined table, and its rows in runs, each of which has its left rows in one
+-- segment of the left table.
 use Rattle.std.specs.Prelude.{◌≡◌, ℕ, ◌+◌, ◌-◌, ◌<◌, ◌≤◌, List, [], ◌∷◌, All, map, length, take, drop}
 use Rattle.rj_columns.specs.Tables.{TableValue, rows_of_all}
 use Rattle.rj_engine.specs.declared.joined.JoinedRow.{JoinedRow}
@@ -51,7 +52,7 @@ run_view s t r v run = record {
   width = length s.origins.items;
 }
 
--- a run stands among the members that are shown, and their rows and columns are those of its segment and of the right table
+-- a run is among the members that are shown, and their rows and columns are those of its segment and of the right table
 abbrev pub IsRunWithin : TableValue → TableValue → JoinedValue → Shown → Run → Type 0
 IsRunWithin t r v s run =
     (run.from ≤ run.to) × (run.to ≤ length (shown_rows s.chosen v)) × All (IsMemberOf t r) (run_rows s v run) × HasColumnsOf t r s
@@ -60,7 +61,7 @@ IsRunWithin t r v s run =
 abbrev pub start_of : List TableValue → ℕ → ℕ
 start_of segments k = length (rows_of_all (take k segments))
 
--- a run of some of these rows, whose left rows stand in its segment
+-- a run of some of these rows, whose left rows are in its segment
 pub record IsRunOf (segments : List TableValue) (rows : List JoinedRow) (run : Run) : Type 0 where
   pub segment : run.segment < length segments
   pub first : run.first ≡ start_of segments run.segment

@@ -1,4 +1,4 @@
-//! The cells of a column, at members that follow each other.
+//! The cells of a column, at consecutive members.
 
 ghost use Rattle.std.specs.Prelude.{◌≡◌, ◌<◌, ◌≤◌, ◌-◌, ◌++◌, All, OnOk, length, map, slice_get};
 ghost use Rattle.rj_columns.specs.Contents.{content_of, nothing};
@@ -15,7 +15,7 @@ use crate::marks::{PairSide, row_on};
 use rj_columns::{Cell, Table, in_scale};
 use std::alloc::AllocError;
 
-// Adds the cells of a column at these rows of a table, whose first one has this number.
+// Adds the cells of a column at these rows of a table whose first row has this number.
 fn add_rows<'s>(
     cells: &mut Vec<Cell<'s>>,
     table: &'s Table,
@@ -34,7 +34,8 @@ fn add_rows<'s>(
     Ok(())
 }
 
-// Adds the cells of a column at the rows of these pairs on a side, in a table whose first row has this number.
+// Adds the cells of a column at the rows of these pairs on a side, in a table whose first row has
+// this number.
 fn add_side<'s>(
     cells: &mut Vec<Cell<'s>>,
     table: &'s Table,
@@ -54,7 +55,7 @@ fn add_side<'s>(
     Ok(())
 }
 
-// Adds a null for each of these rows.
+// Adds a NULL for each of these rows.
 fn add_nulls(cells: &mut Vec<Cell<'_>>, rows: &[u32]) -> Result<(), AllocError>
     ensures { OnOk result (map content_of cells.new.items ≡ map content_of cells.old.items ++ map (λ i. nothing) rows.now) }
 {
@@ -64,8 +65,8 @@ fn add_nulls(cells: &mut Vec<Cell<'_>>, rows: &[u32]) -> Result<(), AllocError>
     Ok(())
 }
 
-/// Adds the cells of a column of the left table, or of a segment of it, whose first row has this number: null where a member
-/// has no left row.
+/// Adds the cells of a column of the left table, or of a segment of it whose first row has this
+/// number. A member without a left row has NULL.
 pub(crate) fn add_left<'s>(
     cells: &mut Vec<Cell<'s>>,
     left: &'s Table,
@@ -84,7 +85,7 @@ pub(crate) fn add_left<'s>(
     Ok(())
 }
 
-/// Adds the cells of a column of the right table: null where a member has no right row.
+/// Adds the cells of a column of the right table. A member without a right row has NULL.
 pub(crate) fn add_right<'s>(
     cells: &mut Vec<Cell<'s>>,
     right: &'s Table,
@@ -102,7 +103,7 @@ pub(crate) fn add_right<'s>(
     Ok(())
 }
 
-// The cell at a row, in a scale that its column's values have at most.
+// The cell at a row, given in a scale that is at least that of its column.
 #[tactic(auto, using(crate::proofs::Scaled::fits_scaled, crate::proofs::Scaled::wider))]
 fn cell_in_scale<'s>(table: &'s Table, row: u32, col: usize, scale: u8) -> Cell<'s>
     requires row { row < length table.now.rows }
@@ -113,7 +114,8 @@ fn cell_in_scale<'s>(table: &'s Table, row: u32, col: usize, scale: u8) -> Cell<
     in_scale(table.cell(u64::from(row), col), scale)
 }
 
-// Adds the cells of a column at these rows of a table, whose first one has this number, in a scale that its values have at most.
+// Adds the cells of a column at these rows of a table whose first row has this number, given in a
+// scale that is at least that of the column.
 fn add_rows_in_scale<'s>(
     cells: &mut Vec<Cell<'s>>,
     table: &'s Table,
@@ -135,8 +137,8 @@ fn add_rows_in_scale<'s>(
     Ok(())
 }
 
-// The first cell of a pair that is not null, in the greater scale. The right row is looked at only where the left cell
-// is null.
+// The first cell of a pair that is not NULL, in the greater scale. The right row is looked at only
+// if the left cell is NULL.
 #[tactic(auto, using(crate::proofs::Scaled::fits_scaled, crate::proofs::Scaled::wider, crate::proofs::Scaled::small_coalesced))]
 fn coalesced_cell<'s>(
     left: &'s Table,
@@ -182,8 +184,8 @@ fn add_coalesced_pairs<'s>(
     Ok(())
 }
 
-/// Adds the cells of two coalesced columns: the first that is not null, in the greater scale. The left table's first row has
-/// this number.
+/// Adds the cells of two coalesced columns: the first that is not NULL, in the greater scale. The
+/// left table's first row has this number.
 pub(crate) fn add_coalesced<'s>(
     cells: &mut Vec<Cell<'s>>,
     left: &'s Table,

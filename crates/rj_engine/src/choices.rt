@@ -1,4 +1,5 @@
-//! Laws of what is chosen of a joined table: the functions do nothing, and their contracts are facts about every joined table.
+//! Laws of what is chosen of a joined table. The functions do nothing; their contracts are theorems
+//! about every joined table.
 
 ghost use Rattle.std.specs.Prelude.{◌≡◌, ◌≤◌, ℕ, List, true, All, length};
 ghost use Rattle.std.specs.List.Sorted.{IsPermutation};
@@ -13,20 +14,21 @@ ghost use Rattle.rj_engine.specs.Naming.{HasLawfulNames};
 ghost use Rattle.rj_engine.specs.Results.{result_of};
 ghost use Rattle.rj_settings.specs.declared.choice.Choice.{Choice};
 
-/// Where all rows are chosen in their own order, and all columns, what is written is the joined table itself.
+/// If all rows are chosen in their own order, and all columns, the joined table itself is written.
 pub fn plain_choice()
     ensures header { (choice : Choice) (join : BoundJoin) (l r : TableValue) → is_plain choice ≡ true → chosen_header choice join l r ≡ header_of join l r }
     ensures view { (choice : Choice) (join : BoundJoin) (l r : TableValue) → is_plain choice ≡ true → chosen_view choice join l r ≡ view_of join l r }
 {}
 
-/// The order of the left rows has the same members: those of the joined table, each as often, and so of any list of members
-/// whose left rows are among the first `m`.
+/// The order of the left rows has the same members as the joined table, each as often. The same
+/// holds for any list of members whose left rows are among the first `m`.
 pub fn left_order()
     ensures members { (join : BoundJoin) (l r : TableValue) → IsPermutation (result_of join l r) (by_left_row (length l.rows) (result_of join l r)) }
     ensures rows { (m : ℕ) (rows : List JoinedRow) → All (λ row. left_place m row ≤ m) rows → IsPermutation rows (by_left_row m rows) }
 {}
 
-/// The names of the columns that are chosen of a joined table are lawful, each of them, where those of its two tables are.
+/// Each name of the columns that are chosen of a joined table is valid if the names of its two
+/// tables are.
 pub fn chosen_names_are_lawful()
     ensures { (choice : Choice) (join : BoundJoin) (l r : TableValue) → fits join l.types r.types ≡ true → HasLawfulNames l → HasLawfulNames r
         → All (λ n. is_name n ≡ true) (chosen_header choice join l r) }

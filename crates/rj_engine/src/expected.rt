@@ -12,7 +12,7 @@ use rj_condition::BoundJoin;
 use rj_settings::{Expectation, Matching};
 use std::alloc::{AllocError, Global};
 
-// Whether no row of a side, of so many, stands in two of the pairs.
+// Whether none of this many rows of a side is in two of the matches.
 fn are_distinct(
     alloc: Global,
     pairs: &[(u32, u32)],
@@ -33,7 +33,7 @@ fn are_distinct(
     Ok(true)
 }
 
-// Whether the pairs, of so many left and right rows, are matched so.
+// Whether the matches are as the matching asks, given how many left and right rows there are.
 fn are_matched(
     alloc: Global,
     pairs: &[(u32, u32)],
@@ -66,12 +66,13 @@ pub(crate) fn has_at_most(joined: &Joined, most: Option<u32>) -> bool
     }
 }
 
-/// Whether the joined table of these tables by this join is as expected: how many rows it has, and in how many kept pairs a row
-/// is.
+/// Whether the joined table of these tables by this join is as expected, in how many rows it has
+/// and in how many matches a row is.
 ///
 /// # Errors
 ///
-/// Refuses only for want of memory, of which it asks a byte for each row of a side that may be in one pair only.
+/// It fails only when memory runs out. It takes a byte for each row of a side that may be in one
+/// match only.
 pub fn is_as_expected(
     alloc: Global,
     left: &Table,

@@ -18,13 +18,13 @@ const MAX_NAME: usize = 128;
 
 const MAX_MARKS: usize = 128;
 
-/// Why a header has no names to be written.
+/// Why no names can be written for a header.
 #[derive(Clone, Copy, Debug, PartialEq, Eq)]
 pub enum NamingRefused {
-    /// The name of this column, counted from 1, stands before it already, and with each number of marks it is longer than
-    /// 128 bytes or like another name.
+    /// The name of this column, counted from 1, repeats an earlier one, and with any number of
+    /// marks it is longer than 128 bytes or the same as another name.
     NoFreeName(u64),
-    /// A growth was refused.
+    /// Out of memory.
     Memory,
 }
 
@@ -38,14 +38,14 @@ impl From<AllocError> for NamingRefused {
     }
 }
 
-// Whether two names are alike, ASCII case ignored.
+// Whether two names are the same, ignoring ASCII case.
 fn are_alike(name: &str, other: &str) -> bool
     ensures { result ≡ str_eq_ignore_ascii_case name.now other.now }
 {
     name.eq_ignore_ascii_case(other)
 }
 
-// Whether a name of the header is this one, ASCII case ignored.
+// Whether a name of the header is this one, ignoring ASCII case.
 fn is_among(names: &[&str], name: &str) -> bool
     ensures { result ≡ is_among (map (λ n. n.now) names.now) name.now }
 {
@@ -57,7 +57,7 @@ fn is_among(names: &[&str], name: &str) -> bool
     false
 }
 
-// Whether a name that was written is this one, ASCII case ignored.
+// Whether a name that was written is this one, ignoring ASCII case.
 fn is_written(names: &[String], name: &str) -> bool
     ensures { result ≡ is_among (map string_bytes names.now) name.now }
 {
@@ -94,7 +94,7 @@ fn with_mark(alloc: Global, name: &str, repeated: Repeated<'_>) -> Result<String
     }
 }
 
-// One text behind another.
+// One text after another.
 fn joined_texts(alloc: Global, first: &str, second: &str) -> Result<String, AllocError>
     ensures { IfOk result (λ s. string_bytes s ≡ first.now ++ second.now) }
 {
@@ -123,7 +123,8 @@ fn free_name(
     Ok(None)
 }
 
-// The name that is written behind those that were: the header's own one, or a free one where it stands before already.
+// The name that is written after those that were: the header's own one, or a free one if it repeats
+// an earlier one.
 fn next_name(
     alloc: Global,
     header: &[&str],
@@ -142,7 +143,7 @@ fn next_name(
     Ok(Some(String::from_str(alloc, name)?))
 }
 
-// Adds a name behind those that were written.
+// Adds a name after those that were written.
 fn add_name(written: &mut Vec<String>, name: String) -> Result<(), AllocError>
     ensures { OnOk result (written.new.items ≡ written.old.items ++ name ∷ []) }
 {
@@ -180,14 +181,16 @@ fn own_names(alloc: Global, header: &[&str]) -> Result<Vec<String>, AllocError>
     Ok(names)
 }
 
-/// The names under which the columns of a header are written, from left to right. A name that stands before already, ASCII
-/// case ignored, is written as it is, or with marks: its table's letter and a point before it, or a suffix behind it, once or
-/// as often as it takes until no other name is like it. A header's names have 1 to 128 bytes, and so have those written.
+/// The names under which the columns of a header are written, from left to right. A name that
+/// repeats an earlier one, ignoring ASCII case, is written unchanged or with marks: its table's
+/// letter and a point before it, or a suffix after it. The mark is put once or as often as it takes
+/// until no other name is the same. A header's names have 1 to 128 bytes, and so have the written
+/// ones.
 ///
 /// # Errors
 ///
-/// `NoFreeName` with the first column whose name is repeated and has no such name of at most 128 bytes. `Memory` only where a
-/// growth was refused.
+/// `NoFreeName` with the first column whose name is repeated and has no free name of at most 128
+/// bytes. `Memory` only when memory ran out.
 pub fn written_names(
     alloc: Global,
     header: &[&str],
@@ -202,8 +205,9 @@ pub fn written_names(
     }
 }
 
-/// The names that are written where repeated ones are renamed are those of a table: a file with them as its header is never
-/// refused for its names. They are as many as the header's, and a name that doesn't stand before already is as it was.
+/// If repeated names are renamed, the written names are those of a table: a file with them as its
+/// header is never refused for its names. They are as many as the header's, and a name that doesn't
+/// repeat an earlier one stays unchanged.
 pub fn written_names_are_lawful()
     ensures many { (repeated : Repeated) (header names : List (List ℕ)) → written_names repeated header ≡ Ok names → length names ≡ length header }
     ensures lawful { (repeated : Repeated) (header names : List (List ℕ)) → repeated ≢ Repeated.Kept → All (λ n. is_name n ≡ true) header
@@ -212,7 +216,7 @@ pub fn written_names_are_lawful()
         → is_among (take column header) (slice_index_or header column []) ≡ false → slice_index_or names column [] ≡ slice_index_or header column [] }
 {}
 
-/// The names of a joined table's columns are lawful, each of them, where those of its two tables are.
+/// Each name of a joined table's columns is valid if the names of its two tables are.
 pub fn header_names_are_lawful()
     ensures { (join : BoundJoin) (l r : TableValue) → fits join l.types r.types ≡ true → HasLawfulNames l → HasLawfulNames r
         → All (λ n. is_name n ≡ true) (header_of join l r) }

@@ -19,8 +19,8 @@ pub(crate) enum Origin {
     Right(usize),
 }
 
-/// The columns of a joined table (SQL-92, 7.5): join columns in the order of the left table, other left columns, other
-/// right columns.
+/// The columns of a joined table (SQL-92, 7.5): join columns in the order of the left table, other
+/// left columns, other right columns.
 #[tactic(auto, unfolding(crate::specs::Origins::origins_of))]
 pub(crate) fn origins(
     alloc: Global,
@@ -36,7 +36,7 @@ pub(crate) fn origins(
     Ok(found)
 }
 
-// Whether a column is written: a coalesced one stands for both tables.
+// Whether a column is written. A coalesced one belongs to both tables.
 fn is_of_columns(columns: ColumnChoice, origin: Origin) -> bool
     ensures { result ≡ is_of_columns columns origin }
 {
@@ -77,7 +77,7 @@ fn add_pairs(found: &mut Vec<Origin>, partners: &[Option<usize>]) -> Result<(), 
     Ok(())
 }
 
-// Adds the left columns that are no join columns.
+// Adds the left columns that aren't join columns.
 fn add_lefts(found: &mut Vec<Origin>, partners: &[Option<usize>]) -> Result<(), AllocError>
     ensures { OnOk result (found.new.items ≡ found.old.items ++ map (λ i. origin.Left i) (other_lefts partners.now)) }
 {
@@ -87,7 +87,7 @@ fn add_lefts(found: &mut Vec<Origin>, partners: &[Option<usize>]) -> Result<(), 
     Ok(())
 }
 
-// Adds the right columns that are no join columns.
+// Adds the right columns that aren't join columns.
 fn add_rights(
     found: &mut Vec<Origin>,
     partners: &[Option<usize>],
@@ -101,7 +101,7 @@ fn add_rights(
     Ok(())
 }
 
-// Adds a column where it is wanted.
+// Adds a column if it is wanted.
 fn add_if(found: &mut Vec<Origin>, wanted: bool, origin: Origin) -> Result<(), AllocError>
     ensures { OnOk result (found.new.items ≡ found.old.items ++ (if wanted then origin ∷ [] else [])) }
 {

@@ -1,4 +1,4 @@
-//! What is told of a join beside its rows.
+//! The numbers of a join that are reported beside its rows.
 
 ghost use Rattle.std.specs.Prelude.{◌≡◌, IfOk, true};
 ghost use Rattle.rj_condition.specs.Fits.{fits};
@@ -12,24 +12,24 @@ use rj_columns::Table;
 use rj_condition::{BoundJoin, split};
 use std::alloc::{AllocError, Global};
 
-/// What is told of a join beside its rows.
+/// The numbers of a join that are reported beside its rows.
 #[derive(Clone, Copy, Debug, PartialEq, Eq)]
 pub struct JoinReport {
     /// How many rows the left table has.
     pub left_rows: u64,
     /// How many rows the right table has.
     pub right_rows: u64,
-    /// How many pairs of a left and a right row are kept.
+    /// How many matches there are.
     pub pairs: u64,
-    /// How many left rows are in no kept pair, whatever the type of the join.
+    /// How many left rows are unmatched, whatever the type of the join.
     pub lone_left: u64,
-    /// How many right rows are in none.
+    /// How many right rows are unmatched.
     pub lone_right: u64,
-    /// What is told of the keys, where the join has keys.
+    /// The counts of the keys, if the join has keys.
     pub keys: Option<KeyReport>,
 }
 
-// What is told of the keys of a join, where it has keys.
+// The counts of the keys of a join, if it has keys.
 fn keys_told(
     alloc: Global,
     left: &Table,
@@ -57,15 +57,17 @@ fn keys_told(
     Ok(Some(told))
 }
 
-/// What is told of a join of two tables beside its rows: how many rows the tables have, how many pairs are kept and how many rows
-/// of each table are in none of them, and, where it has keys, how many rows have a null in their key, how many keys stand in more
-/// than one row, and the group of equal keys that makes the most pairs. Rows with one key are found by hashes, as in the join.
+/// The numbers of a join of two tables that are reported beside its rows: how many rows the tables
+/// have, how many matches there are, and how many rows of each table are unmatched. If the join has
+/// keys, there is also how many rows have a NULL in their key, how many keys are in more than one
+/// row, and the group of equal keys with the most pairs. Rows with one key are found by hashes, as
+/// in the join.
 ///
-/// The tables are those that the join was bound to, and `joined` is what was joined of them.
+/// The tables are those to which the join was bound, and `joined` is their join.
 ///
 /// # Errors
 ///
-/// Refuses only for want of memory.
+/// It fails only when memory runs out.
 pub fn report(
     alloc: Global,
     left: &Table,

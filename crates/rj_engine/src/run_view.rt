@@ -1,4 +1,4 @@
-//! The rows of cells of a run, lent by a segment of the left table and by the right table.
+//! The rows of cells of a run, borrowed from a segment of the left table and from the right table.
 
 ghost use Rattle.std.specs.Prelude.{◌≡◌, ◌<◌, ◌≤◌, ◌+◌, ◌-◌, ◌++◌, All, OnOk, Some, length, map, slice_get};
 ghost use Rattle.rj_columns.specs.Contents.{content_of};
@@ -12,7 +12,8 @@ use rj_columns::{Cell, RowSource, Table};
 use std::alloc::AllocError;
 use std::marker::Model;
 
-/// The rows of cells of a run, lent by a segment of the left table and by the right table: no cell is copied.
+/// The rows of cells of a run, borrowed from a segment of the left table and from the right table.
+/// No cell is copied.
 #[derive(Drop)]
 pub struct RunView<'a> {
     segment: &'a Table,
@@ -34,7 +35,7 @@ impl<'a> Model for RunView<'a> {
 }
 
 impl<'a> RunView<'a> {
-    /// The rows of a run, whose left rows stand in this segment.
+    /// The rows of a run, whose left rows are in this segment.
     pub fn open(
         segment: &'a Table,
         right: &'a Table,

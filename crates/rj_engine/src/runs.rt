@@ -1,4 +1,4 @@
-//! The members that are shown, cut into runs whose left rows stand in one segment of the left table.
+//! The members that are shown, cut into runs whose left rows are in one segment of the left table.
 
 ghost use Rattle.std.specs.Prelude.{◌≡◌, ◌≢◌, ◌<◌, ◌≤◌, ◌+◌, ◌^◌, [], All, IfOk, IsTrue, ◌↔◌, Some, length, slice_get, take};
 ghost use Rattle.std.specs.Option.{ForSome};
@@ -15,7 +15,7 @@ use std::alloc::{AllocError, Global};
 // The most rows of a run.
 const MOST_ROWS: usize = 65536;
 
-/// Members that are shown and follow each other, whose left rows stand in one segment of the left table.
+/// Consecutive members that are shown, whose left rows are in one segment of the left table.
 #[derive(Clone, Copy)]
 pub struct Run {
     pub(crate) segment: usize,
@@ -65,7 +65,7 @@ fn segment_with(segments: &[Table], row: u32) -> usize
     unreachable!()
 }
 
-// The segment in which a member's left row stands, or, where it has none, the one whose turn it is.
+// The segment that has a member's left row or, if it has none, the one whose turn it is.
 fn segment_of(segments: &[Table], row: JoinedRow, turn: usize) -> usize
     requires some { segments.now ≢ [] }
     requires few { length (rows_of_all segments.now) < 2 ^ 31 }
@@ -91,8 +91,8 @@ fn stands_within(first: u32, end: u32, row: JoinedRow) -> bool
     }
 }
 
-// Where a run ends that begins at a place: at the next member whose left row doesn't stand within, or where it has as many
-// members as a run can have.
+// Where a run ends that begins at a place: at the next member whose left row isn't within, or when
+// it has as many members as a run can have.
 fn end_of_run(joined: &Joined, shown: &Shown, from: usize, first: u32, end: u32) -> usize
     requires from { from < length (shown_rows shown.now.chosen joined.now.members) }
     requires begins { ForSome (slice_get (shown_rows shown.now.chosen joined.now.members) from) (StandsWithin first end) }
@@ -132,12 +132,13 @@ fn next_run(segments: &[Table], joined: &Joined, shown: &Shown, from: usize, tur
     }
 }
 
-/// The members that are shown, cut into runs that follow each other: the left rows of each stand in one segment of the left
-/// table, and it has at most 65,536 members. Members without a left row go with the segments in turn.
+/// The members that are shown, cut into consecutive runs. The left rows of a run are in one segment
+/// of the left table, and a run has at most 65,536 members. Members without a left row go with the
+/// segments in turn.
 ///
 /// # Errors
 ///
-/// Refuses only for want of memory.
+/// It fails only when memory runs out.
 pub fn cut_runs(
     alloc: Global,
     segments: &[Table],

@@ -1,4 +1,4 @@
-//! What is shown of a joined table, apart from its two tables.
+//! What is shown of a joined table, without its two tables.
 
 ghost use Rattle.std.specs.Prelude.{◌≡◌, ◌<◌, ◌≤◌, ◌++◌, All, IfOk, OnOk, Some, length, map, slice_get, slice_index_or, true};
 ghost use Rattle.rj_columns.specs.Contents.{content_of};
@@ -19,10 +19,10 @@ use rj_condition::BoundJoin;
 use rj_settings::Choice;
 use std::alloc::{AllocError, Global};
 
-/// What is shown of a joined table: which of its members, in which order, and which of its columns. It holds no cell and no
-/// table, so that the left table can be taken apart.
+/// What is shown of a joined table: which of its members, in which order, and which of its columns.
+/// It holds no cell and no table, so the left table can be taken apart.
 pub struct Shown {
-    // The members that are shown, where they aren't all of the joined table in its order.
+    // The members that are shown, unless these are all of the joined table in its order.
     pub(crate) chosen: Option<Vec<JoinedRow>>,
     pub(crate) origins: Vec<Origin>,
     // The scale of each column that is coalesced.
@@ -63,13 +63,13 @@ impl Shown {
         })
     }
 
-    /// What a choice asks for of a joined table of these tables by this join, which was bound to them: the rows that are
-    /// chosen, with the columns that are chosen. Names aren't heeded. Where not all rows are chosen in their own order, a row
-    /// takes 12 bytes.
+    /// What a choice asks for of a joined table of these tables by this join, which was bound to
+    /// them: the chosen rows, with the chosen columns. Names play no part. Unless all rows are
+    /// chosen in their own order, a row takes 12 bytes.
     ///
     /// # Errors
     ///
-    /// Refuses only for want of memory.
+    /// It fails only when memory runs out.
     pub fn choose(
         alloc: Global,
         left: &Table,
@@ -94,8 +94,8 @@ impl Shown {
     }
 }
 
-/// Adds the cells of a column at the members that are shown, from one place up to another. The left table is a segment,
-/// whose first row has this number.
+/// Adds the cells of a column at the members that are shown, from one place up to another. The left
+/// table is a segment whose first row has this number.
 pub(crate) fn add_shown<'s>(
     cells: &mut Vec<Cell<'s>>,
     left: &'s Table,
@@ -126,7 +126,7 @@ pub(crate) fn add_shown<'s>(
     }
 }
 
-// Adds the cells of members that follow each other in a column that is given in this scale.
+// Adds the cells of consecutive members in a column that is given in this scale.
 fn add_members<'s>(
     cells: &mut Vec<Cell<'s>>,
     left: &'s Table,
@@ -149,7 +149,7 @@ fn add_members<'s>(
     }
 }
 
-/// A member whose left row is counted from this one on. No left row stands before it.
+/// A member whose left row is counted from this one on. Its left row isn't before it.
 pub(crate) fn counted_from(first: u32, row: JoinedRow) -> JoinedRow
     ensures { result ≡ counted_from first row }
 {
@@ -208,7 +208,7 @@ fn add_chosen<'s>(
     Ok(())
 }
 
-// The cell of the left row, null where that is missing.
+// The cell of the left row, or NULL if that is missing.
 #[tactic(auto, using(crate::proofs::Scaled::fits_scaled))]
 fn cell_of_left<'a>(left: &'a Table, row: JoinedRow, col: usize) -> Cell<'a>
     requires row { IsLeftRow left.now row }
@@ -223,7 +223,7 @@ fn cell_of_left<'a>(left: &'a Table, row: JoinedRow, col: usize) -> Cell<'a>
     }
 }
 
-// The cell of the right row, null where that is missing.
+// The cell of the right row, or NULL if that is missing.
 #[tactic(auto, using(crate::proofs::Scaled::fits_scaled))]
 fn cell_of_right<'a>(right: &'a Table, row: JoinedRow, col: usize) -> Cell<'a>
     requires row { IsRightRow right.now row }

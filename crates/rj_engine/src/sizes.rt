@@ -6,7 +6,7 @@ ghost use Rattle.rj_engine.specs.Partitioned.{rows_from};
 use rj_ledger::Ledger;
 use std::alloc::{AllocError, Global};
 
-/// How many rows so many senders from the first delivered, or 2^64 - 1 where there are more.
+/// How many rows this many senders from the first delivered, or 2^64 - 1 if there are more.
 pub(crate) fn delivered_rows(ledger: &Ledger, first: u32, count: u32) -> u64
     requires { (first + count ≤ length ledger.now.senders) × (first + count ≤ 128) }
     ensures { result ≡ min (rows_from first count ledger.now) (2 ^ 64 - 1) }
@@ -18,7 +18,7 @@ pub(crate) fn delivered_rows(ledger: &Ledger, first: u32, count: u32) -> u64
     rows
 }
 
-/// How many rows so many senders from the first delivered to each partition.
+/// How many rows this many senders from the first delivered to each partition.
 pub(crate) fn delivered_sizes(
     alloc: Global,
     ledgers: &[Ledger],

@@ -1,4 +1,4 @@
-//! The header and the cells of a joined table, lent by its two tables.
+//! The header and the cells of a joined table, borrowed from its two tables.
 
 ghost use Rattle.std.specs.Prelude.{◌≡◌, ◌<◌, ◌≤◌, ◌++◌, map, length, true, Some, slice_get, IfOk, OnOk, All};
 ghost use Rattle.rj_columns.specs.Contents.{content_of};
@@ -17,7 +17,7 @@ use rj_settings::Choice;
 use std::alloc::{AllocError, Global};
 use std::marker::Model;
 
-/// The rows of cells of a joined table, lent by its two tables: no cell is copied.
+/// The rows of cells of a joined table, borrowed from its two tables. No cell is copied.
 pub struct View<'a> {
     left: &'a Table,
     right: &'a Table,
@@ -53,7 +53,7 @@ impl<'a> View<'a> {
     ///
     /// # Errors
     ///
-    /// Refuses only for want of memory.
+    /// It fails only when memory runs out.
     pub fn open(
         alloc: Global,
         left: &'a Table,
@@ -74,12 +74,13 @@ impl<'a> View<'a> {
         })
     }
 
-    /// The rows of a joined table of these tables by this join, which was bound to them: those that are chosen, with the
-    /// columns that are chosen. Names aren't heeded. Where not all rows are chosen in their own order, a row takes 12 bytes.
+    /// The rows of a joined table of these tables by this join, which was bound to them: the chosen
+    /// rows, with the chosen columns. Names play no part. Unless all rows are chosen in their own
+    /// order, a row takes 12 bytes.
     ///
     /// # Errors
     ///
-    /// Refuses only for want of memory.
+    /// It fails only when memory runs out.
     pub fn choose(
         alloc: Global,
         left: &'a Table,
@@ -138,7 +139,7 @@ impl<'a> RowSource for View<'a> {
 ///
 /// # Errors
 ///
-/// Refuses only for want of memory.
+/// It fails only when memory runs out.
 pub fn header<'a>(
     alloc: Global,
     left: &'a Table,
@@ -153,11 +154,12 @@ pub fn header<'a>(
     Ok(names)
 }
 
-/// The names of those columns that are chosen of the joined table of these tables by this join, which was bound to them.
+/// The names of the chosen columns of the joined table of these tables by this join, which was
+/// bound to them.
 ///
 /// # Errors
 ///
-/// Refuses only for want of memory.
+/// It fails only when memory runs out.
 pub fn chosen_header<'a>(
     alloc: Global,
     left: &'a Table,
@@ -190,7 +192,7 @@ fn names_of<'a>(
     Ok(names)
 }
 
-// The name of a column: a join column has the left table's.
+// The name of a column. A join column has the left table's name.
 fn name_at<'a>(left: &'a Table, right: &'a Table, origin: Origin) -> &'a str
     requires { IsColumnOf left.now right.now origin }
     ensures { result.now ≡ name_of left.now right.now origin }

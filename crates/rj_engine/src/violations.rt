@@ -1,4 +1,4 @@
-//! By what a joined table isn't as expected.
+//! How a joined table differs from what is expected.
 
 ghost use Rattle.std.specs.Prelude.{◌≡◌, ◌<◌, ◌↔◌, ℕ, All, IfOk, IsTrue, MatchOption, Some, length, map, slice_index};
 ghost use Rattle.rj_engine.specs.Expected.{AreDistinct, AreMatched, IsAsExpected};
@@ -14,18 +14,18 @@ use rj_condition::BoundJoin;
 use rj_settings::{Expectation, Matching};
 use std::alloc::{AllocError, Global};
 
-/// By what a joined table isn't as expected.
+/// How a joined table differs from what is expected.
 #[derive(Clone, Copy, Debug, PartialEq, Eq)]
 pub enum Violation {
-    /// It has so many rows.
+    /// It has this many rows.
     Rows(u64),
-    /// This left row, counted from 0, is in so many kept pairs.
+    /// This left row, counted from 0, is in this many matches.
     LeftRow(u32, u64),
-    /// This right row, counted from 0, is in so many kept pairs.
+    /// This right row, counted from 0, is in this many matches.
     RightRow(u32, u64),
 }
 
-// How often each number below the count stands among the numbers, all of which are below it.
+// How often each number below the count is among the numbers, all of which are below it.
 fn occurrences(alloc: Global, numbers: &[u32], count: u32) -> Result<Vec<u64>, AllocError>
     requires { All (λ n. n < count) numbers.now }
     ensures len { IfOk result (λ v. length v.items ≡ count) }
@@ -38,7 +38,8 @@ fn occurrences(alloc: Global, numbers: &[u32], count: u32) -> Result<Vec<u64>, A
     Ok(counts)
 }
 
-// The least number that stands more than once among the numbers, all of which are below the count, and how often it does.
+// The least number that occurs more than once among the numbers, and how often it does. All numbers
+// are below the count.
 fn first_repeated(
     alloc: Global,
     numbers: &[u32],
@@ -65,7 +66,7 @@ fn rows_on(alloc: Global, pairs: &[(u32, u32)], side: PairSide) -> Result<Vec<u3
     Ok(rows)
 }
 
-// The first left row that is in more than one of the pairs.
+// The first left row that is in more than one of the matches.
 fn left_violation(
     alloc: Global,
     pairs: &[(u32, u32)],
@@ -81,7 +82,7 @@ fn left_violation(
     }
 }
 
-// The first right row that is in more than one of the pairs.
+// The first right row that is in more than one of the matches.
 fn right_violation(
     alloc: Global,
     pairs: &[(u32, u32)],
@@ -97,7 +98,7 @@ fn right_violation(
     }
 }
 
-// The first left row that is in more than one of the pairs, or else the first right one.
+// The first left row that is in more than one of the matches, or else the first right one.
 fn either_violation(
     alloc: Global,
     pairs: &[(u32, u32)],
@@ -117,7 +118,8 @@ fn either_violation(
     }
 }
 
-// The first row by which the pairs, of so many left and right rows, aren't matched so.
+// The first row that is in more matches than the matching allows, given how many left and right
+// rows there are.
 fn pair_violation(
     alloc: Global,
     pairs: &[(u32, u32)],
@@ -136,14 +138,15 @@ fn pair_violation(
     }
 }
 
-/// By what the joined table of these tables by this join isn't as expected: how many rows it has, where these are too many, and
-/// else the first row that is in more kept pairs than one, with their number: where neither a left nor a right row may be, a left
-/// one before a right one. There is none exactly where the joined table is as expected.
+/// How the joined table of these tables by this join differs from what is expected. It is the
+/// number of rows, if there are too many, or else the first row that is in more than one match,
+/// with their number. If neither a left nor a right row may be, a left one comes before a right
+/// one. `None` exactly if the joined table is as expected.
 ///
 /// # Errors
 ///
-/// Refuses only for want of memory, of which it asks eight bytes for each row of a side that may be in one pair only, and four for
-/// each pair.
+/// It fails only when memory runs out. It takes eight bytes for each row of a side that may be in
+/// one match only, and four for each match.
 pub fn first_violation(
     alloc: Global,
     left: &Table,

@@ -23,7 +23,7 @@ Queue = Slotted (Option Posted) (Doing Posted Trace) (Turns InOrder) Global
 abbrev pub where_at : Exchange → ℕ → ℕ → Where
 where_at e p k = record { partition = p; lane = k; lanes = e.lanes; outboxes = e.outboxes }
 
--- the queues lie by partition, then lane
+-- the queues are in the order of partition, then lane
 abbrev pub queue_of : Exchange → Parcel → ℕ
 queue_of e x = x.partition * e.lanes + x.number % e.lanes
 
@@ -33,7 +33,7 @@ sent_of s = (view s.pass).sent
 abbrev pub taken_of : Stub → List Posted
 taken_of s = (view s.pass).taken
 
--- what the first outboxes, which have ended, sent, as far as the token was told
+-- what the first outboxes, which have ended, sent, as far as the token knows
 abbrev pub heard_of : Stub → List (List Parcel)
 heard_of s = (view s.pass).known
 
@@ -80,11 +80,12 @@ pub record HasHeard (e : Exchange) (n : ℕ) (i : Inbox) : Type 0 where
 abbrev pub sent_before : Exchange → Parcel → Outbox → List Parcel
 sent_before e x o = slice_index_or (sent_by_queue o) (queue_of e x) []
 
--- the outbox has sent the parcel to its queue, behind the others, and nothing else
+-- the outbox has sent the parcel to its queue, after the others, and nothing else
 abbrev pub SendsOneMore : Exchange → Parcel → Outbox → Outbox → Type 0
 SendsOneMore e x old new = sent_by_queue new ≡ slice_set (sent_by_queue old) (queue_of e x) (sent_before e x old ++ x ∷ [])
 
--- at one moment the queue of the parcel held as many as its capacity, and those of this outbox among them were the last that it had sent there
+-- at one moment the queue of the parcel held as many as its capacity, and those of this outbox
+-- among them were the last that it had sent there
 abbrev pub WasFull : Exchange → Parcel → Outbox → Type 0
 WasFull e x o = Held e.capacity (HeldAt (where_at e x.partition (x.number % e.lanes)) o.number (sent_before e x o))
 
@@ -96,7 +97,8 @@ known_at_lane e i k = taker (where_at e i.partition k) e.outboxes (slice_index_o
 abbrev pub WasEmpty : Exchange → Inbox → ℕ → Type 0
 WasEmpty e i k = Held 0 (Left (known_at_lane e i k))
 
--- the inbox has taken the parcel at the lane, behind the others, and nothing else: it is some outbox's, belongs there, and was the first that was left
+-- the inbox has taken the parcel at the lane, after the others, and nothing else: it is some
+-- outbox's, belongs there, and was the first that was left
 abbrev pub TakesOneMore : Exchange → ℕ → Parcel → Inbox → Inbox → Type 0
 TakesOneMore e k x old new = (o : ℕ) × (taken_by_lane new ≡ slice_set (taken_by_lane old) k (slice_index_or (taken_by_lane old) k [] ++ posted_by o x ∷ []))
     × Belongs (where_at e old.partition k) (posted_by o x) × Next (known_at_lane e old k) (posted_by o x)
@@ -112,13 +114,13 @@ IsInboxAt e p i = IsInboxOf e i × (i.partition ≡ p)
 abbrev pub AreAllOutboxes : Exchange → List Outbox → Type 0
 AreAllOutboxes e os = (length os ≡ e.outboxes) × ((o : ℕ) (d : Outbox) → o < e.outboxes → IsOutboxAt e o (slice_index_or os o d))
 
--- of what outboxes leave, the stubs for partition p, by outbox, then lane
+-- the stubs that outboxes leave for partition p, by outbox, then lane
 pub record AreStubsLeftAt (e : Exchange) (p : ℕ) (os : List Outbox) (ss : List Stub) : Type 0 where
   pub many : length ss ≡ e.outboxes * e.lanes
   pub each : (o k : ℕ) (d : Outbox) (s : Stub) → o < e.outboxes → k < e.lanes
       → slice_index_or ss (o * e.lanes + k) s ≡ slice_index_or (slice_index_or os o d).stubs.items (p * e.lanes + k) s
 
--- of what one outbox leaves, the stubs for partition p, lane by lane
+-- the stubs that one outbox leaves for partition p, lane by lane
 pub record AreStubsLeftBy (e : Exchange) (p : ℕ) (o : Outbox) (ss : List Stub) : Type 0 where
   pub many : length ss ≡ e.lanes
   pub each : (k : ℕ) (s : Stub) → k < e.lanes → slice_index_or ss k s ≡ slice_index_or o.stubs.items (p * e.lanes + k) s
@@ -142,7 +144,8 @@ IsAllSent lanes ss k xs = (o : ℕ) → of o xs ≡ slice_index_or (map sent_of 
 abbrev pub PostedVec : Type 0
 PostedVec = Vec Posted Global
 
--- a list for each lane: what the inbox took there, followed by it, is all that the outboxes, which left these stubs, sent there
+-- a list for each lane: what the inbox took there, followed by it, is all that the outboxes, which
+-- left these stubs, sent there
 abbrev pub AreRestsOf : Exchange → Inbox → List Stub → List PostedVec → Type 0
 AreRestsOf e i ss rests = (length rests ≡ e.lanes)
     × ((k : ℕ) (v : PostedVec) → k < e.lanes → IsAllSent e.lanes ss k (slice_index_or (taken_by_lane i) k [] ++ (slice_index_or rests k v).items))
@@ -151,7 +154,8 @@ AreRestsOf e i ss rests = (length rests ≡ e.lanes)
 abbrev pub BelongToLanes : Exchange → ℕ → List PostedVec → Type 0
 BelongToLanes e p rests = (k : ℕ) (v : PostedVec) → k < e.lanes → All (Belongs (where_at e p k)) (slice_index_or rests k v).items
 
--- of each lane the inbox has heard of one list more: what the next outbox, which left these stubs, sent there
+-- for each lane the inbox has heard of one more list: what the next outbox, which left these stubs,
+-- sent there
 abbrev pub HearsOf : Exchange → List Stub → Inbox → Inbox → Type 0
 HearsOf e ss old new = (k : ℕ) → k < e.lanes
     → slice_index_or (heard_by_lane new) k [] ≡ slice_index_or (heard_by_lane old) k [] ++ slice_index_or (map sent_of ss) k [] ∷ []
@@ -166,7 +170,8 @@ abbrev pub AreOpenedInboxes : Exchange → ℕ → List Inbox → Type 0
 AreOpenedInboxes e n is = (p : ℕ) (i : Inbox) → p < n → IsInboxOf e (slice_index_or is p i) × ((slice_index_or is p i).partition ≡ p)
     × ((k : ℕ) (s : Stub) → k < e.lanes → taken_of (slice_index_or (slice_index_or is p i).ends.items k s) ≡ [])
 
--- an exchange of so many outboxes and partitions, with all its boxes, and nothing was posted or taken
+-- an exchange of this many outboxes and partitions, with all its boxes, and nothing was posted or
+-- taken
 abbrev pub IsOpened : Exchange → List Outbox → List Inbox → ℕ → ℕ → Type 0
 IsOpened e os is outboxes partitions = (e.outboxes ≡ outboxes) × (e.partitions ≡ partitions) × (length os ≡ outboxes) × (length is ≡ partitions)
     × AreOpenedOutboxes e outboxes partitions os × AreOpenedInboxes e partitions is

@@ -25,7 +25,7 @@ pub record Drawing (k : Plan) (s : State (Unit {0}) Draw) : Type 0 where
 abbrev pub opening_view : Plan → Draw
 opening_view k = draw k.limit k.seats [] 0
 
--- a draw gives the number found, where it is below the limit
+-- a draw gives the number found, if it is below the limit
 abbrev pub drew : Step (Unit {0}) → Me (Unit {0}) Draw → ℕ → Me (Unit {0}) Draw → Type 0
 drew st m r m' =
     (r < m.0.limit → m'.0 ≡ draw m.0.limit m.0.parts (m.0.drawn ++ r ∷ []) m.0.nones)

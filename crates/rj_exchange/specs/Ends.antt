@@ -1,4 +1,4 @@
--- What the steps at the end of an inbox say. The program's own: no public contract speaks of it.
+-- What the steps at the end of an inbox say. Internal: no public contract uses it.
 use Rattle.std.specs.Prelude.{◌≡◌, ℕ, zero, suc, ◌<◌, ◌≤◌, ◌+◌, ◌*◌, List, [], ◌∷◌, ◌++◌, map, length, slice_index_or, All, vec_capacity}
 use Rattle.crossbeam_queue.specs.Passes.{view, IsPassOf}
 use Rattle.rj_ledger.specs.declared.parcel.Parcel.{Parcel}
@@ -7,7 +7,7 @@ use Rattle.rj_exchange.specs.declared.boxes.Exchange.{Exchange}
 use Rattle.rj_exchange.specs.Passing.{taker, IsTakerTrace, Belongs, Interleaves}
 use Rattle.rj_exchange.specs.Boxes.{Queue, PostedVec, sent_of, taken_of, IsStubOf}
 
--- the queue of partition p and lane k, where there is one
+-- the queue of partition p and lane k, if there is one
 abbrev pub lane_queue : Exchange → ℕ → ℕ → Queue → Queue
 lane_queue e p k l = slice_index_or e.queues.items (p * e.lanes + k) l
 
@@ -37,12 +37,12 @@ IsSender o l s = IsStubOf (view s.pass).place o l s
 abbrev pub BeginWithSenders : Exchange → ℕ → ℕ → List Stub → Type 0
 BeginWithSenders e p o ss = (e.lanes ≤ length ss) × ((k : ℕ) (l : Queue) (s : Stub) → k < e.lanes → IsSender o (lane_queue e p k l) (slice_index_or ss k s))
 
--- it knows of one outbox more
+-- it knows of one more outbox
 abbrev pub IsGrown : Queue → Stub → Stub → Stub → Type 0
 IsGrown l old stub new = IsPassOf l new.pass
     × (view new.pass ≡ taker (view old.pass).place (view old.pass).made (view old.pass).taken ((view old.pass).known ++ sent_of stub ∷ []))
 
--- lane by lane, each token of an inbox knows of one outbox more, whose tokens begin the list ss
+-- lane by lane, each token of an inbox knows of one more outbox, whose tokens begin the list ss
 abbrev pub AreGrown : Exchange → ℕ → List Stub → List Stub → List Stub → Type 0
 AreGrown e p old ss new = (length new ≡ e.lanes)
     × ((k : ℕ) (l : Queue) (s t u : Stub) → k < e.lanes
@@ -63,7 +63,7 @@ AllKnow e p old ss new = (length new ≡ e.lanes)
     × ((k : ℕ) (l : Queue) (s u : Stub) → k < e.lanes
     → Knows (lane_queue e p k l) (slice_index_or old k s) (known_of e.lanes ss k e.outboxes) (slice_index_or new k u))
 
--- an empty list with room for so many parcels
+-- an empty list with room for this many parcels
 abbrev pub IsRoom : ℕ → PostedVec → Type 0
 IsRoom cap v = (v.items ≡ []) × (cap ≤ vec_capacity v)
 

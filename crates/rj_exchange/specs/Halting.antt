@@ -9,7 +9,7 @@ use Rattle.rj_exchange.specs.Totals.{total}
 abbrev pub halt_token : ℕ → ℕ → ℕ → HaltToken
 halt_token parts raises sees = record { parts = parts; raises = raises; sees = sees }
 
--- the word is raised exactly where some seat raised it; where a seat has seen it raised, it is raised
+-- the word is raised exactly if some seat raised it; if a seat has seen it raised, it is raised
 pub record Halting (seats : ℕ) (s : State (Unit {0}) HaltToken) : Type 0 where
   pub one_word : length s.words ≡ 1
   pub parts : total (λ v. v.parts) s.views ≡ seats

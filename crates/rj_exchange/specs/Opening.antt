@@ -1,4 +1,4 @@
--- What the steps of the opening of an exchange say. The program's own: no public contract speaks of it.
+-- What the steps of the opening of an exchange say. Internal: no public contract uses it.
 use Rattle.std.specs.Prelude.{◌≡◌, ℕ, ◌<◌, List, [], ◌∷◌, ◌++◌, length, slice_index_or}
 use Rattle.crossbeam_queue.specs.Passes.{view, IsPassOf, ruled_capacity}
 use Rattle.rj_exchange.specs.declared.queue.Where.{Where}

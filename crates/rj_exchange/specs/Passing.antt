@@ -72,7 +72,8 @@ pub record Passing (items : List Posted) (views : List Trace) : Type 0 where
 abbrev pub HeldAt : Where → ℕ → List Parcel → List Posted → Type 0
 HeldAt p k sent items = All (Belongs p) items × ((before : List Parcel) × (sent ≡ before ++ of k items))
 
--- of each outbox whose end the taker has heard of, the list has all that it sent; where it has heard of all of them, it has that and no more
+-- of each outbox of whose end the taker has heard, the list has all that it sent; if it has heard
+-- of all of them, it has that and no more
 abbrev pub HasAllHeard : Trace → List Posted → Type 0
 HasAllHeard v xs = ((k : ℕ) → k < length v.known → of k xs ≡ slice_index_or v.known k []) × (length v.known ≡ v.made → Interleaves v.known xs)
 

@@ -27,7 +27,7 @@ stripes_drawn_by s = (view s.pass).drawn
 abbrev pub stripes_put_by : StripeSeat → List Stripe
 stripes_put_by s = (view s.pass).put
 
--- h of each stripe that the seats drew, or put back, added up
+-- the sum of h over the stripes that the seats drew, or put back
 abbrev pub drew_in_all : (Stripe → ℕ) → List StripeSeat → ℕ
 drew_in_all h ss = total (λ s. total h (stripes_drawn_by s)) ss
 

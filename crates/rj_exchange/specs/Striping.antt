@@ -1,4 +1,4 @@
--- The rule of the stripe queue: each number below the limit stands once in the queue or with one seat.
+-- The rule of the stripe queue: each number below the limit occurs once in the queue or with one seat.
 use Rattle.std.specs.Prelude.{◌≡◌, ℕ, zero, suc, ◌+◌, ◌-◌, ◌<◌, ◌≤◌, ◌==◌, cond, List, [], ◌∷◌, ◌++◌}
 use mathlib.Core.Option.{some}
 use lib.ListN.{get_elem?}
@@ -17,7 +17,7 @@ abbrev pub below : ℕ → List ℕ
 below zero = []
 below (suc m) = below m ++ m ∷ []
 
--- what the queue is opened with: each number below m, with count 0
+-- the content of the queue at its opening: each number below m, with count 0
 abbrev pub opening : ℕ → List Stripe
 opening zero = []
 opening (suc m) = opening m ++ stripe m 0 ∷ []
@@ -27,7 +27,7 @@ abbrev pub without : ℕ → List ℕ → List ℕ
 without x [] = []
 without x (y ∷ ys) = cond (y == x) ys (y ∷ without x ys)
 
--- h of each number that the queue holds, added up
+-- the sum of h over the numbers in the queue
 abbrev pub total_queued : (ℕ → ℕ) → List Stripe → ℕ
 total_queued h items = total (λ s. h s.number) items
 
@@ -35,8 +35,8 @@ total_queued h items = total (λ s. h s.number) items
 abbrev pub FitsShare : ℕ → ℕ → StripeShare → Type 0
 FitsShare n m v = (v.parts ≡ 0 → (v.held ≡ []) × (v.drawn ≡ []) × (v.put ≡ [])) × (0 < v.parts → (v.limit ≡ n) × (v.seats ≡ m))
 
--- each number is once with a seat or in the queue; and what was drawn, with what the queue holds, is what was put in: at the opening or by a seat.
--- Sums for every h say "each as often".
+-- each number is once with a seat or in the queue; and what was drawn, with what the queue holds,
+-- is what was put in: at the opening or by a seat. Sums for every h say "each as often".
 pub record Striping (items : List Stripe) (views : List StripeShare) : Type 0 where
   pub limit : ℕ
   pub seats : ℕ
@@ -51,8 +51,9 @@ first_share = share 0 1 1 [] [] []
 abbrev pub no_share : StripeShare
 no_share = share 0 0 0 [] [] []
 
--- what a seat learns of the queue: what it holds and what is queued are numbers below the limit, each at most once.
--- Where it has every part, each is there once, and what it drew, with what is queued, is what it put back and what the queue was opened with
+-- what a seat learns of the queue: what it holds and what is queued are numbers below the limit,
+-- each at most once. If it has every part, each is there once, and what it drew, with what is
+-- queued, is what it put back and the content of the queue at its opening.
 abbrev pub Accounts : StripeShare → List Stripe → Type 0
 Accounts v items = ((h : ℕ → ℕ) → total h v.held + total_queued h items ≤ total_below h v.limit)
     × (v.parts ≡ v.seats → (h : ℕ → ℕ) → total h v.held + total_queued h items ≡ total_below h v.limit)
@@ -62,7 +63,7 @@ Accounts v items = ((h : ℕ → ℕ) → total h v.held + total_queued h items 
 abbrev pub Drew : StripeShare → Stripe → StripeShare → Type 0
 Drew v x w = (w ≡ share v.limit v.seats v.parts (v.held ++ x.number ∷ []) (v.drawn ++ x ∷ []) v.put) × (x.number < v.limit)
 
--- what a push tells: the seat holds the number no more
+-- what a push tells: the seat no longer holds the number
 abbrev pub Gave : StripeShare → Stripe → StripeShare → Type 0
 Gave v x w = w ≡ share v.limit v.seats v.parts (without x.number v.held) v.drawn (v.put ++ x ∷ [])
 

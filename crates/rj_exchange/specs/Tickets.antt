@@ -34,7 +34,7 @@ AreAllSeats t ss = (length ss ≡ seats_of t) × All (IsSeatOf t) ss
 abbrev pub AnySpent : List Seat → Type 0
 AnySpent ss = (i : ℕ) × (s : Seat) × (get_elem? ss i ≡ some s) × IsSpent s
 
--- how often x stands in the list
+-- how often x is in the list
 abbrev pub times : ℕ → List ℕ → ℕ
 times x xs = total (λ y. if y == x then 1 else 0) xs
 

@@ -12,8 +12,8 @@ mod calls;
 mod ends;
 mod open;
 
-/// The token of all that an outbox posted to one queue, or that an inbox took of it. It has no bytes: what it stands
-/// for is in the proofs alone.
+/// The token of all that an outbox posted to one queue, or that an inbox took from it. It has no
+/// bytes: its meaning is in the proofs alone.
 #[derive(Drop)]
 pub struct Stub {
     pass: Pass<Posted, Trace>,
@@ -46,7 +46,7 @@ pub struct Inbox {
     ends: Vec<Stub>,
 }
 
-/// The queue was full at a moment of the call. Nothing was posted, and the parcel comes back.
+/// The queue was full at a moment of the call. Nothing was posted, and the parcel is returned.
 #[derive(Drop)]
 pub struct Full(pub Parcel);
 

@@ -6,7 +6,8 @@ use std::alloc::Global;
 
 mod calls;
 
-/// What a seat knows: its part of the right to know the whole, and whether it has raised the word and has seen it raised. No value of it is made.
+/// What a seat knows: its part of the right to know the whole, and whether it has raised the word
+/// and has seen it raised. No value of it exists at run time.
 pub struct HaltToken {
     pub parts: u64,
     pub raises: u64,
@@ -68,7 +69,7 @@ pub struct Halt {
     ghost some_seat: { 1 ≤ table.shared.key },
 }
 
-/// A right to raise the [`Halt`] that it was opened with, and to look at it.
+/// A right to raise the [`Halt`] with which it was opened, and to look at it.
 #[derive(Drop)]
 pub struct HaltSeat {
     seat: Seat<(), HaltToken>,

@@ -1,12 +1,14 @@
-//! The exchange between threads: ruled queues for parcels, tickets, a halt word, and stripes that are drawn and put back.
+//! The exchange between threads: queues with a rule for parcels, tickets, a halt word, and stripes
+//! that are drawn and put back.
 //!
-//! Everything here is shared by `&`. What a thread knows lies in a token of its own: an [`Outbox`], an [`Inbox`], a [`Seat`],
-//! a [`HaltSeat`] or a [`StripeSeat`]. Each step of a call is one step on one queue or one atomic word, and a rule over that
-//! queue or word and all tokens stands between any two steps, whatever the schedule of the threads. Where all tokens are
-//! handed in, `finish` tells what the rule says of them together.
+//! Everything here is shared by `&`. What a thread knows is in a token of its own: an [`Outbox`],
+//! an [`Inbox`], a [`Seat`], a [`HaltSeat`] or a [`StripeSeat`]. Each step of a call is one step on
+//! one queue or one atomic word. A rule over that queue or word and all tokens holds between any
+//! two steps, whatever the schedule of the threads. Once all tokens are handed in, `finish` tells
+//! what the rule says of them together.
 //!
-//! Every call asks boxes, stubs and seats that were opened with the value that they are used with. The functions of `laws` do
-//! nothing: their contracts are facts that callers conclude from.
+//! Every call needs boxes, stubs and seats that were opened with the value with which they are
+//! used. The functions of `laws` do nothing; their contracts are theorems that callers use.
 #![tactic(auto)]
 
 mod boxes;

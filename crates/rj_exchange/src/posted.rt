@@ -1,4 +1,4 @@
-//! What a queue holds.
+//! The content of a queue.
 use rj_ledger::Parcel;
 
 /// A parcel with the number of the outbox that posted it.

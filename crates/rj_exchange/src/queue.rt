@@ -1,4 +1,5 @@
-//! One queue of parcels, under the rule that what was taken, and then what it holds, interleaves what each outbox posted.
+//! One queue of parcels. Its rule: what was taken, and then what it holds, interleaves what each
+//! outbox posted.
 use crate::posted::Posted;
 use crossbeam_queue::protocol::{Join, Lesson, Outcome, Protocol, Split};
 use crossbeam_queue::{Pass, RuledArrayQueue};
@@ -18,9 +19,9 @@ pub struct Where {
     pub outboxes: u32,
 }
 
-/// What a pass knows. No value of it is made.
-/// One that sends has an outbox's number, and what this outbox sent. The one that takes knows how many senders were made,
-/// what it took, and of the first senders, which have ended, what they sent in all.
+/// What a pass knows. No value of it exists at run time. A pass that sends has an outbox's number,
+/// and what this outbox sent. The one that takes knows how many senders were made, what it took,
+/// and what the first senders, which have ended, sent in all.
 pub struct Trace {
     pub place: Where,
     pub placed: bool,
@@ -33,7 +34,7 @@ pub struct Trace {
     pub known: LinkedList<LinkedList<Parcel>>,
 }
 
-/// Names the place that a queue is given as it is made.
+/// Names the place that a queue gets when it is made.
 pub trait QueuePlace {
     ghost use Rattle.rj_exchange.specs.declared.queue.Where.{Where};
 

@@ -1,4 +1,4 @@
-//! Stripes: numbers that threads draw from one ruled queue and put back, each with a count.
+//! Stripes: numbers that threads draw from one queue with a rule and put back, each with a count.
 ghost use Rattle.std.specs.Prelude.{◌≡◌, ◌≤◌};
 ghost use Rattle.crossbeam_queue.specs.Passes.{ruled_capacity};
 
@@ -16,8 +16,9 @@ pub struct Stripe {
     pub count: u32,
 }
 
-/// What a seat knows: the limit, how many seats there are, its part of the right to know the whole, the numbers that it
-/// holds, and what it drew and put back so far. No value of it is made.
+/// What a seat knows: the limit, how many seats there are, its part of the right to know the whole,
+/// the numbers that it holds, and what it drew and put back so far. No value of it exists at run
+/// time.
 pub struct StripeShare {
     pub limit: u32,
     pub seats: u32,
@@ -27,7 +28,7 @@ pub struct StripeShare {
     pub put: LinkedList<Stripe>,
 }
 
-/// Names the limit and the seats that a queue is given as it is made.
+/// Names the limit and the seats that a queue gets when it is made.
 pub trait Lot {
     ghost use Rattle.std.specs.Prelude.{ℕ};
 
@@ -133,7 +134,7 @@ pub struct Stripes {
     ghost some_seat: { 1 ≤ seats },
 }
 
-/// A right to draw and to put back, of the [`Stripes`] that it was opened with.
+/// A right to draw from, and to put back to, the [`Stripes`] with which it was opened.
 #[derive(Drop)]
 pub struct StripeSeat {
     pass: Pass<Stripe, StripeShare>,

@@ -7,15 +7,15 @@ use std::collections::LinkedList;
 
 mod calls;
 
-/// What the rule is told when the tickets are opened.
+/// What the rule knows from the opening of the tickets.
 #[derive(Clone, Copy)]
 pub struct Plan {
     pub limit: u64,
     pub seats: u32,
 }
 
-/// What a seat knows: the limit, its part of the right to know the whole, the numbers that it drew, and how many of its steps drew
-/// nothing. No value of it is made.
+/// What a seat knows: the limit, its part of the right to know the whole, the numbers that it drew,
+/// and how many of its steps drew nothing. No value of it exists at run time.
 pub struct Draw {
     pub limit: u64,
     pub parts: u64,
@@ -69,7 +69,8 @@ pub struct Tickets {
     ghost few: { (1 ≤ table.shared.key.seats) × (table.shared.key.seats ≤ 256) },
 }
 
-/// A right to draw from the [`Tickets`] that it was opened with. Once it was answered `None` it is spent.
+/// A right to draw from the [`Tickets`] with which it was opened. After the answer `None` it is
+/// spent.
 #[derive(Drop)]
 pub struct Seat {
     seat: TableSeat<(), Draw>,

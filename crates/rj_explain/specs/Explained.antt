@@ -1,4 +1,5 @@
--- What is told of each fault, by what was read. The words are those of `Lines`; that nothing is told says that there is no such place.
+-- The lines for each error, by what was read. The words are those of `Lines`. No lines mean that
+-- there is no such place.
 use Rattle.std.specs.Prelude.{ℕ, ◌≡◌, ◌<◌, ◌⊎◌, ◌-◌, ◌==◌, Bool, false, true, List, [], ◌∷◌, codes, length, Option, None, Some, Result, Ok, Err, if◌then◌else◌, slice_get}
 use Rattle.std.specs.declared.alloc.Global.{Global}
 use Rattle.std.specs.declared.vec.Vec.{Vec}
@@ -46,7 +47,7 @@ abbrev pub types_of : Side → Inputs → List TypeEntry
 types_of side.Left inputs = inputs.request.now.left_types.items
 types_of side.Right inputs = inputs.request.now.right_types.items
 
--- the last line of a file has to have its end
+-- the last line of a file needs its line end
 abbrev pub is_full : Strictness → Bool
 is_full strictness.Off = false
 is_full strictness.On = false
@@ -64,7 +65,8 @@ abbrev pub names_of : Option Header → List (List ℕ)
 names_of None = []
 names_of (Some header) = names_in header
 
--- Both counts of names and types. Which name has no type, and what is said of separators, no definition says.
+-- Both counts of names and types. No definition says which name has no type, nor what is said of
+-- separators.
 abbrev pub IsCountTold : List TypeEntry → List (List ℕ) → List ℕ → Type 0
 IsCountTold entries names lines =
     (untyped : Option (List ℕ)) × (separator : List ℕ) × (lines ≡ count_line (length names) (length (types_under entries names)) untyped separator)
@@ -78,7 +80,7 @@ abbrev pub IsTypeNameTold : Side → Inputs → List ℕ → Type 0
 IsTypeNameTold s inputs lines =
     ((header_names (file_of s inputs) ≡ []) × (lines ≡ [])) ⊎ (lines ≡ names_line (header_names (file_of s inputs)))
 
--- the file that stands in a text, or what stands above the place where it stops being one
+-- the file that is in a text, or what is above the place where it stops being one
 abbrev pub IsReadStrictly : List ℕ → File → Type 0
 IsReadStrictly text file =
     Derives First false (body_of First text) file
@@ -99,7 +101,8 @@ abbrev pub text_in : Option (Vec ℕ Global) → List ℕ → List ℕ
 text_in None file = strip_bom file
 text_in (Some own) file = strip_bom own.items
 
--- what is told of a row, by the line of the text on which it begins, the names of the header and its fields
+-- the lines for a row, by the line of the text on which it begins, the names of the header and its
+-- fields
 abbrev pub IsRowTold : List ℕ → ℕ → (ℕ → List (List ℕ) → List (List ℕ) → Type 0) → List ℕ → Type 0
 IsRowTold text row tells lines =
     ((HasNoRow text 0 ⊎ HasNoRow text row) × (lines ≡ []))
@@ -119,7 +122,7 @@ abbrev pub IsRaggedTold : Side → ℕ → Inputs → List ℕ → Type 0
 IsRaggedTold s row inputs lines =
     IsToldOfRow s row (λ line names fields. lines ≡ ragged_line line (length fields) (length names)) inputs lines
 
--- a row that is in so many kept pairs, and what stands in its key
+-- a row that is in this many matches, and what is in its key
 abbrev pub IsPairedTold : Side → ℕ → ℕ → Inputs → List ℕ → Type 0
 IsPairedTold s row pairs inputs lines =
     IsToldOfRow s row (λ line names fields. (key : List ℕ) × (lines ≡ row_line s row pairs line key)) inputs lines
@@ -128,7 +131,7 @@ IsPairedTold s row pairs inputs lines =
 abbrev pub column_name : List (List ℕ) → ℕ → ℕ → Option (List ℕ)
 column_name names row column = if row == 0 then None else at_column column names
 
--- what is told of the place where a text stops being of the grammar
+-- the lines for the place where a text stops being of the grammar
 abbrev pub IsGrammarTold : Bool → List ℕ → Option (List ℕ) → List ℕ → List ℕ → Type 0
 IsGrammarTold full text name why lines =
     (((file : File) × Derives First full (body_of First text) file) × (lines ≡ []))
@@ -146,7 +149,7 @@ abbrev pub AreColumns : Side → Inputs → Option TableValue → Type 0
 AreColumns s inputs None = (header_names (file_of s inputs) ≡ []) ⊎ ((e : BuildRefused) × (columns_in s inputs ≡ Err e))
 AreColumns s inputs (Some table) = columns_in s inputs ≡ Ok table
 
--- what is told over the columns of both sides
+-- the lines over the columns of both sides
 abbrev pub IsToldOfColumns : Inputs → (TableValue → TableValue → Type 0) → List ℕ → Type 0
 IsToldOfColumns inputs tells lines =
     ((AreColumns side.Left inputs None ⊎ AreColumns side.Right inputs None) × (lines ≡ []))
@@ -156,7 +159,7 @@ IsToldOfColumns inputs tells lines =
 abbrev pub IsToldOfName : RefusedColumn → List ℕ → Type 0
 IsToldOfName found lines = (more : List ℕ) × (lines ≡ clause_line found more)
 
--- what is told of the first name of a clause that can't be taken
+-- the lines for the first name of a clause that is refused
 abbrev pub IsRefusalTold : List ℕ → List ℕ → TableValue → TableValue → Type 0
 IsRefusalTold clause lines left right =
     (((65536 < length clause) ⊎ IsTaken clause left.names right.names) × (lines ≡ []))
@@ -165,7 +168,7 @@ IsRefusalTold clause lines left right =
 abbrev pub IsNameTold : Inputs → List ℕ → Type 0
 IsNameTold inputs lines = IsToldOfColumns inputs (IsRefusalTold inputs.request.now.clause.now lines) lines
 
--- what is told of the first comparison that can't be made
+-- the lines for the first comparison that can't be made
 abbrev pub IsToldOfPair : Mismatch → List ℕ → Type 0
 IsToldOfPair pair lines = (first second : List ℕ) × (lines ≡ mismatch_line first second pair.at)
 
@@ -181,13 +184,13 @@ IsMismatchTold inputs lines = IsToldOfColumns inputs (IsApartTold inputs.request
 abbrev pub IsJoinOf : List ℕ → TableValue → TableValue → BoundJoin → Type 0
 IsJoinOf clause left right join = (c : Clause) × HasClause clause c × (bound c left right ≡ Ok join)
 
--- the names under which the columns that are chosen of it are written
+-- the names under which its chosen columns are written
 pub record AreNamesWritten (request : Request) (left right : TableValue) (names : List (List ℕ)) : Type 0 where
   pub join : BoundJoin
   pub asked : IsJoinOf request.clause.now left right join
   pub written : written_names request.choice.repeated (chosen_header request.choice join left right) ≡ Ok names
 
--- what is told of a cell of the result that would be read as null
+-- the lines for a cell of the result that would be read as NULL
 abbrev pub IsCellOfResultTold : Request → ℕ → ℕ → List ℕ → TableValue → TableValue → Type 0
 IsCellOfResultTold request row column lines left right =
     (lines ≡ [])
@@ -196,7 +199,7 @@ IsCellOfResultTold request row column lines left right =
 abbrev pub IsNullTold : ℕ → ℕ → Inputs → List ℕ → Type 0
 IsNullTold row column inputs lines = IsToldOfColumns inputs (IsCellOfResultTold inputs.request.now row column lines) lines
 
--- what is told of a fault of the grammar
+-- the lines for an error of the grammar
 abbrev pub IsStrictExplained : Fault → Inputs → List ℕ → Type 0
 IsStrictExplained (fault.OpenQuote s row column) inputs lines = IsStrictTold s row column (codes "no quote closes the field that one opens here") inputs lines
 IsStrictExplained (fault.AfterQuote s row column) inputs lines =
@@ -209,7 +212,7 @@ IsStrictExplained (fault.EmptyLine s row) inputs lines = IsStrictTold s row 0 (c
 IsStrictExplained (fault.CutShort s row) inputs lines = IsStrictTold s row 0 (codes "it has no line end") inputs lines
 IsStrictExplained _ inputs lines = lines ≡ []
 
--- What is told of a fault. Of E11 no definition says it.
+-- The lines for an error. No definition fixes those of E11.
 abbrev pub IsExplained : Fault → Inputs → List ℕ → Type 0
 IsExplained (fault.BadName s column) inputs lines = lines ≡ name_line (at_column column (header_names (file_of s inputs)))
 IsExplained (fault.RepeatedName s column) inputs lines =

@@ -1,4 +1,4 @@
--- The lines that explain a fault, by the places that they tell.
+-- The lines that explain an error, by the places in them.
 use Rattle.std.specs.Prelude.{ℕ, ◌+◌, ◌-◌, List, [], ◌∷◌, ◌++◌, codes, decimal, length, map, Option, None, Some, slice_get, slice_index_or}
 use Rattle.std.specs.List.{position_from}
 use Rattle.std.specs.Str.{str_eq_ignore_ascii_case}
@@ -11,7 +11,7 @@ use Rattle.rj_types.specs.declared.entry.TypeEntry.{TypeEntry}
 use Rattle.rj_explain.specs.Places.{at_column}
 use Rattle.rj_explain.specs.Shown.{listed, shown, wanted_word}
 
--- a line that tells a line of the file, and what stands behind that
+-- a line that names a line of the file, and what comes after that
 abbrev pub file_line : ℕ → List ℕ → List ℕ
 file_line line more = codes "  line " ++ (decimal line ++ (codes " of the file" ++ more))
 
@@ -20,7 +20,7 @@ abbrev pub cell_line : ℕ → List ℕ → List ℕ → ColumnType → List ℕ
 cell_line line name value kind =
     file_line line (codes ", column " ++ (shown name ++ (codes ": " ++ (shown value ++ (codes " is no " ++ (wanted_word kind ++ 10 ∷ []))))))
 
--- the same, where the row has the column
+-- the same, if the row has the column
 abbrev pub cell_told : ℕ → Option ColumnType → Option (List ℕ) → Option (List ℕ) → List ℕ
 cell_told line None name value = []
 cell_told line (Some kind) None value = []
@@ -36,17 +36,17 @@ cell_of_row entries column line names fields =
 abbrev pub ragged_line : ℕ → ℕ → ℕ → List ℕ
 ragged_line line fields names = file_line line (codes ": " ++ (decimal fields ++ (codes " fields under " ++ (decimal names ++ (codes " names" ++ 10 ∷ [])))))
 
--- a place in a file that is of no grammar: the column's name, where there is one, and why
+-- a place in a file that isn't of the grammar: the column's name, if there is one, and why
 abbrev pub grammar_line : ℕ → Option (List ℕ) → List ℕ → List ℕ
 grammar_line line None why = file_line line (codes ": " ++ (why ++ 10 ∷ []))
 grammar_line line (Some name) why = file_line line (codes ", column " ++ (shown name ++ (codes ": " ++ (why ++ 10 ∷ []))))
 
--- a name that no column may have, and its length in bytes
+-- an invalid name, and its length in bytes
 abbrev pub name_line : Option (List ℕ) → List ℕ
 name_line None = []
 name_line (Some name) = codes "  the name is " ++ (shown name ++ (codes ", of " ++ (decimal (length name) ++ (codes " bytes" ++ 10 ∷ []))))
 
--- a name that stands twice, with the first column that is called so, counted from 1, and its spelling
+-- a name that occurs twice, with the first column of this name, counted from 1, and its spelling
 abbrev pub repeated_line : List ℕ → ℕ → List ℕ → List ℕ
 repeated_line name first other =
     codes "  " ++ (shown name ++ (codes " is the name of column " ++ (decimal first ++ (codes " too, " ++ (shown other ++ 10 ∷ [])))))
@@ -60,7 +60,8 @@ abbrev pub repeated_told : List (List ℕ) → Option (List ℕ) → List ℕ
 repeated_told names None = []
 repeated_told names (Some name) = repeated_at names name (position_from (str_eq_ignore_ascii_case name) 0 names)
 
--- how many names and types there are, the first name without a type, where there is one, and what is said of separators
+-- how many names and types there are, the first name without a type, if there is one, and the words
+-- about separators
 abbrev pub count_line : ℕ → ℕ → Option (List ℕ) → List ℕ → List ℕ
 count_line names types None separator = codes "  " ++ (decimal names ++ (codes " names, " ++ (decimal types ++ (codes " types" ++ 10 ∷ separator))))
 count_line names types (Some name) separator =
@@ -71,20 +72,20 @@ count_line names types (Some name) separator =
 abbrev pub names_line : List (List ℕ) → List ℕ
 names_line names = codes "  the header has " ++ (listed (map shown names) ++ 10 ∷ [])
 
--- a row that is in so many kept pairs, and what stands in its columns
+-- a row that is in this many matches, and what is in its columns
 abbrev pub row_line : Side → ℕ → ℕ → ℕ → List ℕ → List ℕ
 row_line side row pairs line fields =
     codes "  " ++ (side_text side ++ (codes " row " ++ (decimal row ++ (codes ", line " ++ (decimal line ++ (codes " of the file, is in "
     ++ (decimal pairs ++ (codes " kept pairs" ++ (fields ++ 10 ∷ [])))))))))
 
--- a cell of the result that would be read as null
+-- a cell of the result that would be read as NULL
 abbrev pub null_line : ℕ → Option (List ℕ) → List ℕ → List ℕ
 null_line row None text = []
 null_line row (Some name) text =
     codes "  row " ++ (decimal row ++ (codes " of the result, column " ++ (shown name ++ (codes ": " ++ (shown text
     ++ (codes " is a text, and null is written so too" ++ 10 ∷ []))))))
 
--- a name of the clause with the byte at which it begins, and what stands behind that
+-- a name of the clause with the byte at which it begins, and what comes after that
 abbrev pub clause_line : RefusedColumn → List ℕ → List ℕ
 clause_line found more = codes "  " ++ (shown found.name ++ (codes " at byte " ++ (decimal found.at ++ (codes " of the clause" ++ more))))
 
@@ -92,10 +93,10 @@ clause_line found more = codes "  " ++ (shown found.name ++ (codes " at byte " +
 abbrev pub mismatch_line : List ℕ → List ℕ → ℕ → List ℕ
 mismatch_line first second at = codes "  " ++ (first ++ (codes ", " ++ (second ++ (codes ", at byte " ++ (decimal at ++ (codes " of the clause" ++ 10 ∷ []))))))
 
--- an entry of a type list that is none, and what it has to be
+-- an invalid entry of a type list, and what it has to be
 abbrev pub entry_line : List ℕ → List ℕ → List ℕ
 entry_line entry why = codes "  " ++ (shown entry ++ (codes ": " ++ (why ++ 10 ∷ [])))
 
--- what is told of a list whose entries are entries, each by itself
+-- the line for a list whose entries are valid, each by itself
 abbrev pub mixed_line : List ℕ
 mixed_line = codes "  a name stands before each type or before none, and * before one at most" ++ 10 ∷ []

@@ -1,4 +1,4 @@
--- What is told of a type list that is none.
+-- The lines for an invalid type list.
 use Rattle.std.specs.Prelude.{ℕ, ◌≡◌, ◌⊎◌, List}
 use Rattle.rj_fault.specs.declared.fault.Fault.{Fault}
 use Rattle.rj_fault.specs.declared.fault.Fault.TheVariants as fault
@@ -10,10 +10,11 @@ use Rattle.rj_explain.specs.Lines.{entry_line, mixed_line}
 abbrev pub IsNoList : List ℕ → Type 0
 IsNoList text = (entries : List TypeEntry) → IsTypeList text entries → ⊥
 
--- an entry that is none by itself, and what it has to be; or, in other words, that the entries don't go together
+-- an entry that is invalid by itself, and what it has to be; or, in other words, that the entries
+-- don't go together
 abbrev pub IsListTold : List ℕ → Type 0
 IsListTold lines = ((entry why : List ℕ) × IsNoList entry × (lines ≡ entry_line entry why)) ⊎ (lines ≡ mixed_line)
 
--- what is told of the words of a command line: of a type list that is none
+-- the lines for the words of a command line: for an invalid type list
 abbrev pub AreWordsTold : Fault → List ℕ → Type 0
 AreWordsTold told lines = ((s : Side) × (told ≡ fault.BadTypeList s)) × IsListTold lines

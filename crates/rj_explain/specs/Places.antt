@@ -1,4 +1,4 @@
--- Where the record of a row stands in a text of CSV as the library `csv` reads it, and on which line of the file (RFC 4180, section 2).
+-- Where the record of a row is in a text of CSV as the library `csv` reads it, and on which line of the file (RFC 4180, section 2).
 use Rattle.std.specs.Prelude.{ℕ, zero, suc, ◌≡◌, ◌⊎◌, ◌+◌, ◌≤◌, ◌==◌, ◌||◌, Bool, List, [], Option, None, Some, length, take, drop, slice_get}
 use Rattle.std.specs.List.{count_by, prefix_len}
 use Rattle.csv.specs.Machine.{Read, next_record}
@@ -26,7 +26,7 @@ abbrev pub EndsFirst : List ℕ → ℕ → Type 0
 EndsFirst text end =
     (fields : List (List ℕ)) × (s : State) × IsBetween s × (next_record default_config st.StartRecord [] [] text ≡ Some (fields, s, drop end text))
 
--- so many records of the text stand before this place, the header being one
+-- this many records of the text come before this place, the header being one
 pub record StandsAt (text : List ℕ) (row at : ℕ) : Type 0 where
   pub before : List (List (List ℕ))
   pub state : State
@@ -42,7 +42,7 @@ HasNoRow text row = (all : List (List (List ℕ))) × AreRecords default_config 
 abbrev pub is_line_end : ℕ → Bool
 is_line_end c = (c == 13) || (c == 10)
 
--- the place of the first byte from there on that ends no line
+-- the place of the first byte from there on that isn't part of a line end
 abbrev pub first_byte : List ℕ → ℕ → ℕ
 first_byte text at = at + prefix_len is_line_end (drop at text)
 
@@ -50,7 +50,8 @@ first_byte text at = at + prefix_len is_line_end (drop at text)
 abbrev pub line_of : List ℕ → ℕ → ℕ
 line_of text at = count_by (λ c. c == 10) (take at text) + 1
 
--- the record of a row, which has so many records before it, its fields, and the line on which its first byte stands
+-- the record of a row, which has this many records before it, its fields, and the line on which its
+-- first byte is
 pub record IsRow (text : List ℕ) (row line : ℕ) (fields : List (List ℕ)) : Type 0 where
   pub at : ℕ
   pub stands : StandsAt text row at
@@ -59,7 +60,7 @@ pub record IsRow (text : List ℕ) (row line : ℕ) (fields : List (List ℕ)) :
   pub fields_of_it : read.0 ≡ fields
   pub on_line : line ≡ line_of text (first_byte text at)
 
--- what stands at a column, counted from 1
+-- what is at a column, counted from 1
 abbrev pub at_column : {A : Type 0} → ℕ → List A → Option A
 at_column zero xs = None
 at_column (suc i) xs = slice_get xs i

@@ -1,4 +1,4 @@
--- How bytes of a file, texts, types and names are shown, each so that it stands on one line.
+-- How bytes of a file, texts, types and names are shown, each on one line.
 use Rattle.std.specs.Prelude.{ℕ, true, Bool, List, [], ◌∷◌, ◌++◌, ◌-◌, ◌/◌, ◌%◌, ◌==◌, ◌||◌, nat_lt, if◌then◌else◌, codes, decimal, encode_utf8, length, take, Option, None, Some}
 use Rattle.std.specs.Fmt.{digit_glyph}
 use Rattle.std.specs.List.{flat_map}
@@ -19,7 +19,7 @@ shown_char c = if nat_lt c 32 || (c == 127) then byte_text c else encode_utf8 c
 unfoldable pub literal_char : ℕ → List ℕ
 literal_char c = if c == 39 then codes "''" else shown_char c
 
--- where the whole is no UTF-8, a byte that is no printable ASCII by its digits
+-- if the whole isn't UTF-8, a byte that isn't printable ASCII by its digits
 unfoldable pub shown_byte : ℕ → List ℕ
 shown_byte b = if nat_lt b 32 || nat_lt 126 b then byte_text b else encode_utf8 b
 
@@ -27,7 +27,7 @@ shown_byte b = if nat_lt b 32 || nat_lt 126 b then byte_text b else encode_utf8 
 abbrev pub shown_part : List ℕ → List ℕ
 shown_part text = take (utf8_valid_len (take 60 text)) text
 
--- how many bytes stand behind what is shown, where there are any
+-- how many bytes come after what is shown, if there are any
 abbrev pub more_text : ℕ → List ℕ
 more_text n = if n == 0 then [] else codes " and " ++ (decimal n ++ codes " more bytes")
 
@@ -38,7 +38,7 @@ is_text bytes = utf8_valid_len bytes == length bytes
 abbrev pub shown_text : List ℕ → List ℕ
 shown_text text = 34 ∷ (flat_map shown_char (chars (shown_part text)) ++ (34 ∷ more_text (length text - length (shown_part text))))
 
--- bytes that are no UTF-8 between double quotes
+-- bytes that aren't UTF-8 between double quotes
 abbrev pub shown_bytes : List ℕ → List ℕ
 shown_bytes bytes = 34 ∷ (flat_map shown_byte (take 60 bytes) ++ (34 ∷ more_text (length bytes - 60)))
 
@@ -67,7 +67,7 @@ abbrev pub listed : List (List ℕ) → List ℕ
 listed [] = []
 listed (n ∷ ns) = n ++ flat_map (λ m. codes ", " ++ m) ns
 
--- of more than 20 the first ones, and how many more there are
+-- if there are more than 20, the first ones, and how many more there are
 abbrev pub names_text : List (List ℕ) → List ℕ
 names_text names =
     listed (take 20 names) ++ (if nat_lt 20 (length names) then codes " and " ++ (decimal (length names - 20) ++ codes " more") else [])

@@ -7,7 +7,7 @@ use Rattle.rj_strict.specs.Reading.{body_of}
 use Rattle.rj_strict.specs.declared.fault.StrictFault.{StrictFault}
 use Rattle.rj_strict.specs.declared.header.Header.TheVariants.{First}
 
--- one more than the line feeds in the lines above the row that has the text's fault
+-- one more than the line feeds in the lines above the row that has the text's error
 pub record IsFaultLine (full : Bool) (text : List ℕ) (line : ℕ) : Type 0 where
   pub fault : StrictFault
   pub lines : List Line

@@ -34,7 +34,7 @@ fn kind_at(
     }
 }
 
-// The line that tells a cell, and that it isn't what its column's type asks for.
+// The line that shows a cell, and says that it isn't of its column's type.
 fn cell_line(
     alloc: Global,
     line: u64,
@@ -59,11 +59,11 @@ pub(crate) struct HeaderAndRow {
     pub(crate) row: Row,
 }
 
-/// Both, where the text has them.
+/// Both, if the text has them.
 ///
 /// # Errors
 ///
-/// It fails only where memory is refused.
+/// It fails only when memory runs out.
 pub(crate) fn header_and_row(
     alloc: Global,
     text: &[u8],
@@ -81,7 +81,7 @@ pub(crate) fn header_and_row(
     }
 }
 
-// What is told of a cell in a row at hand.
+// The line for a cell in a row at hand.
 fn lines_of_cell(
     alloc: Global,
     inputs: &Inputs<'_, '_>,
@@ -104,11 +104,12 @@ fn lines_of_cell(
     }
 }
 
-/// What is told of a cell that isn't of its column's type: the line of its row, the column's name, the cell and the type.
+/// The lines for a cell that isn't of its column's type: the line of its row, the column's name,
+/// the cell and the type.
 ///
 /// # Errors
 ///
-/// It fails only where memory is refused.
+/// It fails only when memory runs out.
 pub(crate) fn cell_lines(
     alloc: Global,
     inputs: &Inputs<'_, '_>,
@@ -125,7 +126,7 @@ pub(crate) fn cell_lines(
     }
 }
 
-// The line that tells both lengths.
+// The line that gives both lengths.
 fn ragged_line(alloc: Global, found: &HeaderAndRow) -> Result<String, AllocError>
     ensures { IfOk result (λ s. string_bytes s
         ≡ lines.ragged_line found.now.row.line (length (names_in found.now.row.record)) (length (names_in found.now.header.record))) }
@@ -135,11 +136,11 @@ fn ragged_line(alloc: Global, found: &HeaderAndRow) -> Result<String, AllocError
     format!(in alloc; "  line {line} of the file: {fields} fields under {names} names\n")
 }
 
-/// What is told of a row whose length isn't the header's: its line, and both lengths.
+/// The lines for a row whose length isn't the header's: its line, and both lengths.
 ///
 /// # Errors
 ///
-/// It fails only where memory is refused.
+/// It fails only when memory runs out.
 pub(crate) fn ragged_lines(
     alloc: Global,
     inputs: &Inputs<'_, '_>,

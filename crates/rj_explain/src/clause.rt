@@ -1,4 +1,4 @@
-//! Names of a clause that can't be taken.
+//! Names of a clause that are refused.
 
 ghost use Rattle.std.specs.Prelude.{◌≡◌, ◌⊎◌, ◌∷◌, [], ◌++◌, codes, IfOk, MatchOption, None, Ok, string_bytes};
 ghost use Rattle.std.specs.Option.{option_copied};
@@ -18,7 +18,7 @@ use rj_fault::Side;
 use rj_types::types_under;
 use std::alloc::{AllocError, Global};
 
-// How long a clause is at most.
+// The most bytes of a clause.
 const LONGEST: usize = 65_536;
 
 /// The table without rows whose columns are those of a side's file, if there is one.
@@ -75,7 +75,7 @@ pub(crate) fn columns_of_both(
     }
 }
 
-// What is told of a name: the byte at which it begins, and these words.
+// The line for a name: the byte at which it begins, and these words.
 fn name_line(alloc: Global, found: &RefusedColumn, words: &str) -> Result<String, AllocError>
     ensures { IfOk result (λ s. string_bytes s ≡ clause_line found.now words.now) }
 {
@@ -86,7 +86,7 @@ fn name_line(alloc: Global, found: &RefusedColumn, words: &str) -> Result<String
     format!(in alloc; "  {name} at byte {at} of the clause{words}")
 }
 
-// What is said of a name that neither table has.
+// The words for a name that neither table has.
 fn words_of_both(
     alloc: Global,
     columns: &BothColumns,
@@ -107,7 +107,7 @@ fn words_of_both(
     format!(in alloc; "; left has {left}; right has {right}{meant}\n")
 }
 
-// What is said of a name that a side's table doesn't have, beside the names that it has.
+// The words for a name that a side's table doesn't have: the names that it has.
 fn words_of_side(
     alloc: Global,
     side: Side,
@@ -122,7 +122,8 @@ fn words_of_side(
     format!(in alloc; "; {side} {has} {names}{meant}\n")
 }
 
-// What is said of a name behind a qualifier that is no table's name. One that differs from it by its case is delimited.
+// The words for a name after a qualifier that is no table's name. If it differs from one by its
+// case alone, it is delimited.
 fn words_of_no_table(alloc: Global, qualifier: &str) -> Result<String, AllocError> {
     let why = if qualifier.eq_ignore_ascii_case("L") || qualifier.eq_ignore_ascii_case("R") {
         ": between double quotes a name matches exactly"
@@ -135,7 +136,7 @@ fn words_of_no_table(alloc: Global, qualifier: &str) -> Result<String, AllocErro
     format!(in alloc; " stands behind {qualifier}, which is neither L nor R{why}\n")
 }
 
-// The table that a qualifier names: where it isn't delimited, upper and lower case are one.
+// The table that a qualifier names. Unless it is delimited, case is ignored.
 fn side_of(qualifier: &str, delimited: bool) -> Option<Side> {
     match qualifier {
         "L" => Some(Side::Left),
@@ -146,7 +147,7 @@ fn side_of(qualifier: &str, delimited: bool) -> Option<Side> {
     }
 }
 
-// Whether a delimited name and a point stand before a byte of a clause.
+// Whether a delimited name and a point come before a byte of a clause.
 fn is_behind_delimited(clause: &str, at: u64) -> bool {
     let Some((before, _)) = clause.split_at_checked(at as usize) else {
         return false;
@@ -157,7 +158,7 @@ fn is_behind_delimited(clause: &str, at: u64) -> bool {
     }
 }
 
-// What is said of a name behind a qualifier that can't be found.
+// The words for a name after a qualifier that can't be resolved.
 fn words_of_qualified(
     alloc: Global,
     clause: &str,
@@ -204,7 +205,7 @@ fn lacking_side(columns: &BothColumns, name: &Name) -> Option<Side> {
     }
 }
 
-// What is said of a name without a qualifier that can't be found: in USING one table may have it.
+// The words for an unqualified name that can't be resolved. In USING one table may have it.
 fn words_of_bare(
     alloc: Global,
     clause: &str,
@@ -228,7 +229,7 @@ fn words_of_bare(
     words_of_both(alloc, columns, meant)
 }
 
-// What is said of a name that can't be found.
+// The words for a name that can't be resolved.
 fn words_of_unknown(
     alloc: Global,
     clause: &str,
@@ -241,7 +242,7 @@ fn words_of_unknown(
     }
 }
 
-// What is said of a name that can't be taken.
+// The words for a name that is refused.
 fn words_of(
     alloc: Global,
     clause: &str,
@@ -257,7 +258,7 @@ fn words_of(
     String::from_str(alloc, words)
 }
 
-// What is told of a name that can't be taken: the byte at which it begins, and what is said of it.
+// The line for a name that is refused: the byte at which it begins, and the words for it.
 fn refused_line(
     alloc: Global,
     clause: &str,
@@ -270,7 +271,7 @@ fn refused_line(
     name_line(alloc, found, words.as_str())
 }
 
-// What is told of the first name of a clause that can't be taken, if there is one.
+// The line for the first name of a clause that is refused, if there is one.
 fn first_refused_line(
     alloc: Global,
     clause: &str,
@@ -287,11 +288,12 @@ fn first_refused_line(
     }
 }
 
-/// What is told of the first name of the clause that can't be taken: the byte at which it begins, and the names that there are.
+/// The lines for the first name of the clause that is refused: the byte at which it begins, and the
+/// names that there are.
 ///
 /// # Errors
 ///
-/// It fails only where memory is refused.
+/// It fails only when memory runs out.
 pub(crate) fn name_lines(alloc: Global, inputs: &Inputs<'_, '_>) -> Result<String, AllocError>
     ensures { IfOk result (λ s. IsNameTold inputs.now (string_bytes s)) }
 {

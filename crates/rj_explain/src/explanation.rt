@@ -1,4 +1,4 @@
-//! The lines that explain a fault.
+//! The lines that explain an error.
 
 ghost use Rattle.std.specs.Prelude.{IfOk, string_bytes};
 ghost use Rattle.rj_explain.specs.Explained.{IsExplained, IsStrictExplained};
@@ -27,7 +27,7 @@ const EMPTY: &str = "it is empty, under more than one name";
 
 const CUT_SHORT: &str = "it has no line end";
 
-// The lines of a fault of RFC 4180's grammar; of others there are none.
+// The lines for an error of RFC 4180's grammar; for other errors there are none.
 fn explain_grammar(
     alloc: Global,
     fault: &Fault,
@@ -54,12 +54,13 @@ fn explain_grammar(
     }
 }
 
-/// The lines that say more of a fault than its own line does, each with two blanks in front and its line end: where the fault is,
-/// and what stands there. Of a fault of which there is no more to say they are none.
+/// The lines that say more about an error than its own line does: where the error is, and what is
+/// there. Each has two blanks in front and its line end. There are none for an error of which there
+/// is no more to say.
 ///
 /// # Errors
 ///
-/// It fails only where memory is refused.
+/// It fails only when memory runs out.
 pub fn explain(alloc: Global, fault: &Fault, inputs: &Inputs<'_, '_>) -> Result<String, AllocError>
     ensures { IfOk result (λ s. IsExplained fault.now inputs.now (string_bytes s)) }
 {

@@ -19,7 +19,7 @@ use rj_fault::Side;
 use rj_types::{Label, TypeEntry, types_under};
 use std::alloc::{AllocError, Global};
 
-// The line that tells a name that no column may have, and its length in bytes.
+// The line that shows an invalid name, and its length in bytes.
 fn name_line(alloc: Global, name: Option<&[u8]>) -> Result<String, AllocError>
     ensures { IfOk result (λ s. string_bytes s ≡ lines.name_line (option_copied name.entry)) }
 {
@@ -32,11 +32,11 @@ fn name_line(alloc: Global, name: Option<&[u8]>) -> Result<String, AllocError>
     }
 }
 
-/// What is told of a name that no column may have: the name and its length.
+/// The lines for an invalid name: the name and its length.
 ///
 /// # Errors
 ///
-/// It fails only where memory is refused.
+/// It fails only when memory runs out.
 pub(crate) fn bad_name_lines(
     alloc: Global,
     inputs: &Inputs<'_, '_>,
@@ -51,14 +51,14 @@ pub(crate) fn bad_name_lines(
     }
 }
 
-// Whether two names are one, upper and lower case being one.
+// Whether two names are the same, ignoring ASCII case.
 fn are_alike(name: &[u8], other: &[u8]) -> bool
     ensures { result ≡ str_eq_ignore_ascii_case name.now other.now }
 {
     name.eq_ignore_ascii_case(other)
 }
 
-// The first of these names that is like this one.
+// The first of these names that is the same as this one.
 fn first_named(names: &[&[u8]], name: &[u8]) -> Option<usize>
     ensures place { result ≡ position_from (str_eq_ignore_ascii_case name.now) 0 (map (λ n. n.now) names.now) }
     ensures within { IfSome result (λ i. i < length names.now) }
@@ -71,7 +71,7 @@ fn first_named(names: &[&[u8]], name: &[u8]) -> Option<usize>
     None
 }
 
-// The line that tells a name that stands twice, the column of the first one and its spelling.
+// The line that shows a name that occurs twice, the column of the first one and its spelling.
 fn repeated_line(alloc: Global, names: &[&[u8]], name: &[u8]) -> Result<String, AllocError>
     ensures { IfOk result (λ s. string_bytes s ≡ repeated_at (map (λ n. n.now) names.now) name.now
         (position_from (str_eq_ignore_ascii_case name.now) 0 (map (λ n. n.now) names.now))) }
@@ -83,7 +83,7 @@ fn repeated_line(alloc: Global, names: &[&[u8]], name: &[u8]) -> Result<String, 
     format!(in alloc; "  {name} is the name of column {first} too, {other}\n")
 }
 
-// What is told of the name at a column, if there is one.
+// The line for the name at a column, if there is one.
 fn lines_of_repeated(alloc: Global, header: &Header, column: u64) -> Result<String, AllocError>
     ensures { IfOk result (λ s. string_bytes s ≡ repeated_told (names_in header.now) (at_column column (names_in header.now))) }
 {
@@ -94,11 +94,11 @@ fn lines_of_repeated(alloc: Global, header: &Header, column: u64) -> Result<Stri
     repeated_line(alloc, names.as_slice(), name)
 }
 
-/// What is told of a name that stands twice: both spellings, and the column of the first.
+/// The lines for a name that occurs twice: both spellings, and the column of the first.
 ///
 /// # Errors
 ///
-/// It fails only where memory is refused.
+/// It fails only when memory runs out.
 pub(crate) fn repeated_name_lines(
     alloc: Global,
     inputs: &Inputs<'_, '_>,
@@ -120,7 +120,7 @@ fn are_places(entries: &[TypeEntry]) -> bool {
     })
 }
 
-// The first name to which a list gives no type.
+// The first name without a type in a list.
 fn first_untyped<'h>(
     alloc: Global,
     entries: &[TypeEntry],
@@ -140,7 +140,7 @@ fn first_untyped<'h>(
     Ok(None)
 }
 
-// What is told of a header of one name that has the separators of another kind of file in it.
+// The line for a header of one name that contains the separators of another kind of file.
 fn separator_line(alloc: Global, names: &[&[u8]]) -> Result<String, AllocError> {
     let [name] = names else {
         return Ok(String::new(alloc));
@@ -157,7 +157,7 @@ fn separator_line(alloc: Global, names: &[&[u8]]) -> Result<String, AllocError> 
     )
 }
 
-// The line that tells how many names and types there are, and the first name without a type.
+// The line with the numbers of names and types, and the first name without a type.
 fn count_line(
     alloc: Global,
     names: usize,
@@ -178,7 +178,7 @@ fn count_line(
     }
 }
 
-// What is told of these names and these entries of a list.
+// The lines for these names and these entries of a list.
 fn lines_of_count(
     alloc: Global,
     entries: &[TypeEntry],
@@ -192,11 +192,12 @@ fn lines_of_count(
     count_line(alloc, names.len(), types, untyped, separator.as_str())
 }
 
-/// What is told of a header that has more or fewer names than there are types: both counts, and the first name without a type.
+/// The lines for a header that has more or fewer names than there are types: both counts, and the
+/// first name without a type.
 ///
 /// # Errors
 ///
-/// It fails only where memory is refused.
+/// It fails only when memory runs out.
 pub(crate) fn type_count_lines(
     alloc: Global,
     inputs: &Inputs<'_, '_>,
@@ -211,7 +212,7 @@ pub(crate) fn type_count_lines(
     lines_of_count(alloc, inputs.types(side), names.as_slice())
 }
 
-// The line that tells names.
+// The line that lists names.
 fn names_line(alloc: Global, names: &[&[u8]]) -> Result<String, AllocError>
     ensures { IfOk result (λ s. string_bytes s ≡ lines.names_line (map (λ n. n.now) names.now)) }
 {
@@ -225,11 +226,12 @@ fn names_line(alloc: Global, names: &[&[u8]]) -> Result<String, AllocError>
     Ok(list)
 }
 
-/// What is told of a name in a type list that means no column of the header: the names that the header has.
+/// The lines for a name in a type list that means no column of the header: the names that the
+/// header has.
 ///
 /// # Errors
 ///
-/// It fails only where memory is refused.
+/// It fails only when memory runs out.
 pub(crate) fn type_name_lines(
     alloc: Global,
     inputs: &Inputs<'_, '_>,

@@ -1,4 +1,4 @@
-//! What a run had read when its fault was found.
+//! What a run had read when its error was found.
 
 ghost use Rattle.std.specs.Prelude.{◌≡◌, IfOk};
 ghost use Rattle.csv.specs.Reading.{strip_bom};
@@ -12,7 +12,7 @@ use rj_strict::{Header, above_fault, check, quote_empty_lines};
 use rj_types::TypeEntry;
 use std::alloc::{AllocError, Global};
 
-/// What a run had read when its fault was found.
+/// What a run had read when its error was found.
 #[derive(Clone, Copy)]
 pub struct Inputs<'a, 'r> {
     /// The bytes of the left table's file.
@@ -44,7 +44,7 @@ impl<'a, 'r> Inputs<'a, 'r> {
         }
     }
 
-    /// Whether the last line of a file has to have its end.
+    /// Whether the last line of a file needs its line end.
     pub(crate) fn is_full(&self) -> bool
         ensures { result ≡ explained.is_full self.now.request.now.strict }
     {
@@ -58,18 +58,19 @@ impl<'a, 'r> Inputs<'a, 'r> {
     ///
     /// # Errors
     ///
-    /// It fails only where memory is refused.
+    /// It fails only when memory runs out.
     pub(crate) fn header(&self, alloc: Global, side: Side) -> Result<Option<Names>, AllocError>
         ensures { IfOk result (λ o. names_of o ≡ header_names (file_of side self.now)) }
     {
         Names::of(alloc, without_bom(self.file(side)))
     }
 
-    /// The text of a side as its records are read, where that isn't the file's own: read strictly, an empty line is a record.
+    /// The text from which a side's records are read, if that isn't the file's own. If files are
+    /// read strictly, an empty line is a record.
     ///
     /// # Errors
     ///
-    /// It fails only where memory is refused.
+    /// It fails only when memory runs out.
     pub(crate) fn quoted_text(
         &self,
         alloc: Global,
@@ -84,7 +85,8 @@ impl<'a, 'r> Inputs<'a, 'r> {
     }
 }
 
-// The lines of a text above the place where it stops being of the grammar, with `""` in each empty one.
+// The lines of a text above the place where it stops being of the grammar, with `""` in each empty
+// one.
 fn quoted_lines(alloc: Global, text: &[u8]) -> Result<Vec<u8>, AllocError>
     ensures { IfOk result (λ v. IsQuotedText text.now (strip_bom v.items)) }
 {
@@ -94,7 +96,8 @@ fn quoted_lines(alloc: Global, text: &[u8]) -> Result<Vec<u8>, AllocError>
     }
 }
 
-/// The text of a side's records, of which this is the one with its empty lines quoted, if it is another one.
+/// The text of a side's records: the one with its empty lines quoted, if there is one, or the
+/// file's own.
 pub(crate) fn text_of<'t>(quoted: &'t Option<Vec<u8>>, file: &'t [u8]) -> &'t [u8]
     ensures { result.now ≡ text_in quoted.now file.now }
 {

@@ -1,4 +1,4 @@
-//! Columns of the result, and rows that are in more pairs than is expected.
+//! Columns of the result, and rows that are in more matches than expected.
 
 ghost use Rattle.std.specs.Prelude.{◌≡◌, ◌-◌, IfOk, IfSome, List, Ok, ℕ, map, slice_get, string_bytes, true};
 ghost use Rattle.rj_condition.specs.Fits.{fits};
@@ -19,7 +19,7 @@ use rj_fault::Side;
 use rj_line::Request;
 use std::alloc::{AllocError, Global};
 
-// The join that a clause asks of two tables, if it is one.
+// The join that a clause asks of two tables, if it is valid.
 fn join_of(
     alloc: Global,
     clause: &str,
@@ -38,7 +38,7 @@ fn join_of(
     }
 }
 
-// The names under which the columns that are chosen of a join are written, if they can be.
+// The names under which the chosen columns of a join are written, if they can be.
 fn names_of(
     alloc: Global,
     columns: &BothColumns,
@@ -56,7 +56,7 @@ fn names_of(
     }
 }
 
-// The same of the join that is asked for, if it is one.
+// The same for the join that is asked for, if it is valid.
 fn names_of_result(
     alloc: Global,
     inputs: &Inputs<'_, '_>,
@@ -70,7 +70,7 @@ fn names_of_result(
     }
 }
 
-// The line that tells of a cell under these names.
+// The line for a cell under these names.
 fn null_text_line(
     alloc: Global,
     names: &[String],
@@ -96,7 +96,7 @@ fn null_text_line(
     )
 }
 
-// What is told of such a cell, by the columns of both tables.
+// The lines for such a cell, by the columns of both tables.
 fn lines_of_null_text(
     alloc: Global,
     inputs: &Inputs<'_, '_>,
@@ -118,12 +118,12 @@ fn lines_of_null_text(
     }
 }
 
-/// What is told of a cell of the result whose text is the one that is written for null: its row, the name of its column, counted
-/// from 1, and the text.
+/// The lines for a cell of the result whose text is the one that is written for NULL: its row, the
+/// name of its column, counted from 1, and the text.
 ///
 /// # Errors
 ///
-/// It fails only where memory is refused.
+/// It fails only when memory runs out.
 pub(crate) fn null_text_lines(
     alloc: Global,
     inputs: &Inputs<'_, '_>,
@@ -147,7 +147,7 @@ fn keys_on(alloc: Global, join: &BoundJoin, side: Side) -> Result<Vec<usize>, Al
     }
 }
 
-// The same of the join that is asked for, by the columns of both tables.
+// The same for the join that is asked for, by the columns of both tables.
 fn keys_of_join(
     alloc: Global,
     inputs: &Inputs<'_, '_>,
@@ -172,7 +172,7 @@ fn key_columns(
     }
 }
 
-// The names of these columns, counted from 0, and what stands under each in a row.
+// The names of these columns, counted from 0, and what is under each in a row.
 fn fields_text(
     alloc: Global,
     found: &HeaderAndRow,
@@ -195,7 +195,7 @@ fn fields_text(
     Ok(text)
 }
 
-// The line that tells a row that is in so many kept pairs, and what stands in its key.
+// The line for a row that is in this many matches, and what is in its key.
 fn paired_line(
     alloc: Global,
     side: Side,
@@ -211,7 +211,7 @@ fn paired_line(
     )
 }
 
-// What is told of a row at hand, whose key stands in these columns.
+// The lines for a row at hand, whose key is in these columns.
 fn lines_of_paired(
     alloc: Global,
     found: &HeaderAndRow,
@@ -226,12 +226,12 @@ fn lines_of_paired(
     paired_line(alloc, side, row, pairs, found.row.line, key.as_str())
 }
 
-/// What is told of a row of a side's table, counted from 1, that is in so many kept pairs: the line of the file on which it
-/// begins, and what stands in the key's columns.
+/// The lines for a row of a side's table, counted from 1, that is in this many matches: the line of
+/// the file on which it begins, and what is in the key's columns.
 ///
 /// # Errors
 ///
-/// It fails only where memory is refused.
+/// It fails only when memory runs out.
 pub fn explain_row(
     alloc: Global,
     inputs: &Inputs<'_, '_>,

@@ -1,8 +1,10 @@
-//! What stands where a join ended by a fault: the lines that `--explain` adds to the fault's own line.
+//! The lines that `--explain` adds after the line of an error: where it is, what is there, and what
+//! may have been meant.
 //!
-//! A line is a function of the fault and of what was read. The definitions in `specs/` say what it tells: the lines of a file, the
-//! columns, names and fields, the bytes of a clause, and the words round them. What is said of a name that can't be found, of a text
-//! that is no clause and of an entry of a type list that is none is only tested.
+//! A line is a function of the error and of what was read. The definitions in `specs/` fix its
+//! content: the lines of a file, the columns, names and fields, the bytes of a clause, and the
+//! words around them. Only tested are the words for a name that can't be resolved, for a text that
+//! isn't a clause, and for an invalid entry of a type list.
 #![tactic(auto)]
 
 mod cells;

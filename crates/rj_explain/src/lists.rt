@@ -1,4 +1,4 @@
-//! Texts that are no type list.
+//! Texts that aren't type lists.
 
 ghost use Rattle.std.specs.Prelude.{◌≡◌, IfOk, IfSome, string_bytes};
 ghost use Rattle.rj_fault.specs.declared.fault.Fault.TheVariants as faults;
@@ -10,7 +10,7 @@ use rj_fault::{Fault, Side};
 use rj_types::read_list;
 use std::alloc::{AllocError, Global};
 
-// How many bytes of a list stand before its first comma that is in neither quotes nor parentheses.
+// How many bytes of a list come before its first comma that is in neither quotes nor parentheses.
 fn entry_len(list: &[u8]) -> usize {
     let (mut quoted, mut nested) = (false, false);
     for i in 0..list.len() {
@@ -25,7 +25,7 @@ fn entry_len(list: &[u8]) -> usize {
     list.len()
 }
 
-// The first entry that is none by itself.
+// The first entry that is invalid by itself.
 fn bad_entry(alloc: Global, list: &str) -> Result<Option<&str>, AllocError>
     ensures { IfOk result (λ o. IfSome o (λ entry. IsNoList entry.now)) }
 {
@@ -45,7 +45,7 @@ fn bad_entry(alloc: Global, list: &str) -> Result<Option<&str>, AllocError>
     Ok(None)
 }
 
-// What a numeric type's precision and scale have to be, of which this is the text.
+// Why this text isn't the precision and scale of a numeric type.
 fn why_no_numeric(numbers: &str) -> &'static str {
     let (precision, scale) = match numbers.split_once(',') {
         Some(pair) => pair,
@@ -64,7 +64,7 @@ fn why_no_numeric(numbers: &str) -> &'static str {
     }
 }
 
-// Why an entry is none.
+// Why an entry is invalid.
 fn why_no_entry(entry: &str) -> &'static str {
     let word = match entry.rsplit_once('=') {
         Some((_, word)) => word,
@@ -79,7 +79,7 @@ fn why_no_entry(entry: &str) -> &'static str {
     }
 }
 
-// The line that tells an entry, and what it has to be.
+// The line that shows an entry, and what it has to be.
 fn entry_line(alloc: Global, entry: &str, why: &str) -> Result<String, AllocError>
     ensures { IfOk result (λ s. string_bytes s ≡ lines.entry_line entry.now why.now) }
 {
@@ -89,11 +89,11 @@ fn entry_line(alloc: Global, entry: &str, why: &str) -> Result<String, AllocErro
     format!(in alloc; "  {entry}: {why}\n")
 }
 
-/// What is told of a text that is no type list: the first entry that is none, and what it has to be.
+/// The lines for a text that isn't a type list: the first invalid entry, and what it has to be.
 ///
 /// # Errors
 ///
-/// It fails only where memory is refused.
+/// It fails only when memory runs out.
 pub fn explain_list(alloc: Global, list: &str) -> Result<String, AllocError>
     ensures { IfOk result (λ s. IsListTold (string_bytes s)) }
 {
@@ -124,7 +124,7 @@ fn list_of<'w>(words: &[&'w str], option: &str) -> Option<&'w str> {
     None
 }
 
-// The side whose type list is none, if that is the fault.
+// The side whose type list is invalid, if that is the error.
 fn side_of_list(fault: &Fault) -> Option<Side>
     ensures { IfSome result (λ side. fault.now ≡ faults.BadTypeList side) }
 {
@@ -142,12 +142,12 @@ fn types_option(side: Side) -> &'static str {
     }
 }
 
-/// What is told of a fault of the command line that these words are: of a list of types that is none. Of other faults there is no
-/// more to say.
+/// The lines for an error of the command line with these words, if the error is an invalid type
+/// list. For other errors there is no more to say.
 ///
 /// # Errors
 ///
-/// It fails only where memory is refused.
+/// It fails only when memory runs out.
 pub fn explain_words(
     alloc: Global,
     words: &[&str],

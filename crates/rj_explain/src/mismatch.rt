@@ -12,7 +12,7 @@ use rj_decimal::DecimalBuffer;
 use std::alloc::{AllocError, Global};
 use std::{fmt, str};
 
-// How long a clause is at most.
+// The most bytes of a clause.
 const LONGEST: usize = 65_536;
 
 // An operand with its type: a column with its table's letter, or a literal as a clause writes it.
@@ -103,7 +103,7 @@ fn typed_text(
     format!(in alloc; "{typed}")
 }
 
-// The line that tells of two operands that can't be compared.
+// The line for two operands that can't be compared.
 fn mismatch_line(
     alloc: Global,
     found: &Mismatch,
@@ -117,7 +117,8 @@ fn mismatch_line(
     format!(in alloc; "  {first}, {second}, at byte {at} of the clause\n")
 }
 
-// What is told of the first comparison of a clause whose operands are a number and a text, if there is one.
+// The line for the first comparison of a clause whose operands are a number and a text, if there is
+// one.
 fn first_mismatch_line(
     alloc: Global,
     clause: &str,
@@ -134,12 +135,12 @@ fn first_mismatch_line(
     }
 }
 
-/// What is told of the first comparison of the clause whose operands are a number and a text: both with their types, and the
-/// byte at which it begins.
+/// The lines for the first comparison of the clause whose operands are a number and a text: both
+/// with their types, and the byte at which it begins.
 ///
 /// # Errors
 ///
-/// It fails only where memory is refused.
+/// It fails only when memory runs out.
 pub(crate) fn mismatch_lines(alloc: Global, inputs: &Inputs<'_, '_>) -> Result<String, AllocError>
     ensures { IfOk result (λ s. IsMismatchTold inputs.now (string_bytes s)) }
 {

@@ -1,4 +1,4 @@
-//! Names of columns: those that a header has, and the one that was perhaps meant.
+//! Names of columns: those that a header has, and the one that may have been meant.
 
 ghost use Rattle.std.specs.Prelude.{◌≡◌, ◌≤◌, ◌==◌, [], if◌then◌else◌, codes, IfOk, IfSome, Some, length, take};
 ghost use Rattle.std.specs.Fmt.{WritesOnOk};
@@ -15,7 +15,7 @@ use strsim::damerau_levenshtein;
 // How many names are listed.
 const MOST: usize = 20;
 
-/// What stands before a name in a list.
+/// What comes before a name in a list.
 pub(crate) fn before_name(column: usize) -> &'static str
     ensures { result.now ≡ (if column == 0 then [] else codes ", ") }
 {
@@ -34,7 +34,8 @@ fn write_names<W: fmt::Write>(f: &mut fmt::Formatter<W>, table: &Table, count: u
     Ok(())
 }
 
-/// The names of a table's columns, with commas between; of more than 20 the first ones, and how many more there are.
+/// The names of a table's columns, with commas between. If there are more than 20, it is the first
+/// ones, and how many more there are.
 #[derive(Clone, Copy)]
 pub(crate) struct NamesOf<'t> {
     pub(crate) table: &'t Table,
@@ -54,7 +55,7 @@ impl fmt::Display for NamesOf<'_> {
     }
 }
 
-// How many edits lead from one name to another, upper and lower case being one.
+// How many edits lead from one name to another, ignoring case.
 fn distance(alloc: Global, from: &str, to: &str) -> Result<usize, AllocError>
     ensures { IfOk result (λ count. AreEdits (lowered from.now) (lowered to.now) count) }
 {
@@ -64,11 +65,12 @@ fn distance(alloc: Global, from: &str, to: &str) -> Result<usize, AllocError>
     Ok(count)
 }
 
-/// The name of a table that is nearest to another one: at most two edits away, and half as many as the other one has bytes.
+/// The name of a table that is nearest to another one: at most two edits away, and at most half as
+/// many as the other one has bytes.
 ///
 /// # Errors
 ///
-/// It fails only where memory is refused.
+/// It fails only when memory runs out.
 pub(crate) fn nearest<'t>(
     alloc: Global,
     wanted: &str,

@@ -1,4 +1,4 @@
-//! Where the record of a row stands in a text of CSV, and on which line.
+//! Where the record of a row is in a text of CSV, and on which line.
 
 ghost use Rattle.std.specs.Prelude.{◌≡◌, ◌<◌, ◌≤◌, ◌==◌, [], length, drop, take, IfSome, IfNone, MatchOption};
 ghost use Rattle.std.specs.List.{count_by, prefix_len};
@@ -9,8 +9,8 @@ ghost use Rattle.csv.specs.declared.parser.State.TheVariants as st;
 ghost use Rattle.rj_explain.specs.Places.{EndsFirst, HasNoRow, StandsAt, state_of};
 ghost use Rattle.rj_explain.specs.Places as places;
 
-/// Where a reader stands: before a record, at the start of a further field, in one, between quotes, behind the quote that
-/// closed, and behind a CR that ended a record.
+/// Where a reader is: before a record, at the start of a further field, in a field, between quotes,
+/// after the closing quote, and after a CR that ended a record.
 #[derive(Clone, Copy, Debug, PartialEq, Eq)]
 pub(crate) enum Standing {
     Record,
@@ -27,7 +27,7 @@ fn is_line_end(byte: u8) -> bool
     (byte == b'\r') | (byte == b'\n')
 }
 
-// Behind a byte that is no quote, outside quotes.
+// After a byte that is no quote, outside quotes.
 fn behind_plain(byte: u8) -> Standing
     ensures { state_of result ≡ (machine.in_field default_config byte).0 }
 {
@@ -39,7 +39,7 @@ fn behind_plain(byte: u8) -> Standing
     }
 }
 
-// Behind a byte at the start of a field.
+// After a byte at the start of a field.
 fn behind_start(byte: u8) -> Standing
     ensures { state_of result ≡ (machine.start_field default_config byte).0 }
 {
@@ -49,7 +49,7 @@ fn behind_start(byte: u8) -> Standing
     behind_plain(byte)
 }
 
-// Behind one more byte.
+// After one more byte.
 fn behind(standing: Standing, byte: u8) -> Standing
     ensures { state_of result ≡ (machine.step default_config (state_of standing) byte).0 }
 {
@@ -98,7 +98,8 @@ fn ends_at_end(standing: Standing) -> bool
     }
 }
 
-// How many bytes the first record of a text takes, with the line ends before it; none where there is no record.
+// How many bytes the first record of a text takes, with the line ends before it; none if there is
+// no record.
 fn first_record(text: &[u8]) -> Option<usize>
     ensures within { IfSome result (λ end. end ≤ length text.now) }
     ensures record { MatchOption result (next_record default_config st.StartRecord [] [] text.now ≡ None) (EndsFirst text.now) }
@@ -117,8 +118,8 @@ fn first_record(text: &[u8]) -> Option<usize>
     }
 }
 
-/// The place in a text, its byte order mark left out already, behind the records that stand before the one of this row: the
-/// header has row 0. There is none where the text has fewer records.
+/// The place in a text after the records that come before the one of this row. The header has row
+/// 0. The text's byte order mark was left out already. `None` if the text has fewer records.
 pub(crate) fn place_of_row(text: &[u8], row: u64) -> Option<usize>
     ensures within { IfSome result (λ at. at ≤ length text.now) }
     ensures place { MatchOption result (HasNoRow text.now row) (StandsAt text.now row) }
@@ -133,7 +134,7 @@ pub(crate) fn place_of_row(text: &[u8], row: u64) -> Option<usize>
     Some(at)
 }
 
-// How many line ends stand at the start of a text.
+// How many line ends are at the start of a text.
 fn line_ends(text: &[u8]) -> usize
     ensures count { result ≡ prefix_len places.is_line_end text.now }
     ensures within { result ≤ length text.now }
@@ -148,7 +149,7 @@ pub(crate) fn line_feeds(text: &[u8]) -> usize
     text.iter().filter(|b| **b == b'\n').count()
 }
 
-/// The line, counted from 1, of the first byte from a place on that ends no line.
+/// The line, counted from 1, of the first byte from a place on that isn't part of a line end.
 pub(crate) fn line_from(text: &[u8], at: usize) -> u64
     requires { at ≤ length text.now }
     ensures { result ≡ places.line_of text.now (places.first_byte text.now at) }

@@ -1,4 +1,4 @@
-//! The record of a row, with the line that it begins on.
+//! The record of a row, with the line on which it begins.
 
 ghost use Rattle.std.specs.Prelude.{◌≡◌, IfOk, MatchOption};
 ghost use Rattle.std.specs.Option.{option_copied};
@@ -12,18 +12,18 @@ use std::alloc::{AllocError, Global};
 /// The record of a row.
 #[derive(Drop)]
 pub struct Row {
-    /// The line of the text, counted from 1, that its first byte stands on.
+    /// The line of the text, counted from 1, on which its first byte is.
     pub line: u64,
     /// Its fields, which are read as the names of a header are.
     pub record: Header,
 }
 
-/// The record of a row in a text of CSV, as the library `csv` reads it; the text's byte order mark is left out already. The
-/// header has row 0. There is none where the text has no such record.
+/// The record of a row in a text of CSV, as the library `csv` reads it. The text's byte order mark
+/// was left out already. The header has row 0. `None` if the text has no such record.
 ///
 /// # Errors
 ///
-/// It fails only where memory is refused.
+/// It fails only when memory runs out.
 pub fn find_row(alloc: Global, text: &[u8], row: u64) -> Result<Option<Row>, AllocError>
     ensures { IfOk result (λ o. MatchOption o (HasNoRow text.now row) (λ r. IsRow text.now row r.line (names_in r.record))) }
 {
@@ -39,11 +39,11 @@ pub fn find_row(alloc: Global, text: &[u8], row: u64) -> Result<Option<Row>, All
     }
 }
 
-/// The field of a record at a column, counted from 1, if it has so many.
+/// The field of a record at a column, counted from 1, if it has that many.
 ///
 /// # Errors
 ///
-/// It fails only where memory is refused.
+/// It fails only when memory runs out.
 pub fn field_at<'r>(
     alloc: Global,
     fields: &'r Header,

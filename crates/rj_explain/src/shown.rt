@@ -13,8 +13,9 @@ use std::{fmt, str};
 // How many bytes are shown of a text.
 const MOST: usize = 60;
 
-/// Bytes of a file between double quotes: control bytes, and all bytes that are no ASCII where the whole isn't UTF-8, as `\xNN`. Of
-/// more than 60 bytes the first ones are shown, and how many more there are.
+/// Bytes of a file between double quotes. Control bytes are shown as `\xNN`, and so are all bytes
+/// that aren't ASCII if the whole isn't UTF-8. Of more than 60 bytes the first ones are shown, and
+/// how many more there are.
 #[derive(Clone, Copy)]
 pub struct Shown<'a> {
     /// What is shown.
@@ -71,7 +72,7 @@ fn write_literal<W: fmt::Write>(f: &mut fmt::Formatter<W>, text: &str) -> fmt::R
     Ok(())
 }
 
-// Writes a byte of what is no text.
+// Writes a byte of what isn't a text.
 #[tactic(auto, unfolding(crate::specs::Shown::shown_byte))]
 fn write_loose_byte<W: fmt::Write>(f: &mut fmt::Formatter<W>, byte: u8) -> fmt::Result
     ensures { WritesOnOk W.write_str_gives f.old result (shown_byte byte) f.new }
@@ -83,7 +84,7 @@ fn write_loose_byte<W: fmt::Write>(f: &mut fmt::Formatter<W>, byte: u8) -> fmt::
     write!(f, "{character}")
 }
 
-// Writes bytes that are no text.
+// Writes bytes that aren't a text.
 fn write_loose_bytes<W: fmt::Write>(f: &mut fmt::Formatter<W>, bytes: &[u8]) -> fmt::Result
     ensures { WritesOnOk W.write_str_gives f.old result (flat_map shown_byte bytes.now) f.new }
 {
@@ -93,7 +94,7 @@ fn write_loose_bytes<W: fmt::Write>(f: &mut fmt::Formatter<W>, bytes: &[u8]) -> 
     Ok(())
 }
 
-// Writes how many bytes stand behind what is shown, where there are any.
+// Writes how many bytes come after what is shown, if there are any.
 fn write_more<W: fmt::Write>(f: &mut fmt::Formatter<W>, count: usize) -> fmt::Result
     ensures { WritesOnOk W.write_str_gives f.old result (more_text count) f.new }
 {
@@ -152,7 +153,7 @@ fn write_shown_text<W: fmt::Write>(f: &mut fmt::Formatter<W>, text: &str) -> fmt
     write_more(f, text.len().saturating_sub(part.len()))
 }
 
-// Writes bytes that are no text between double quotes.
+// Writes bytes that aren't a text between double quotes.
 fn write_shown_bytes<W: fmt::Write>(f: &mut fmt::Formatter<W>, bytes: &[u8]) -> fmt::Result
     ensures { WritesOnOk W.write_str_gives f.old result (shown_bytes bytes.now) f.new }
 {
@@ -174,8 +175,8 @@ impl fmt::Display for Shown<'_> {
     }
 }
 
-/// A text literal as a clause writes it: between single quotes, each quote in it written twice. Control bytes and what is beyond 60
-/// bytes are shown as of other texts.
+/// A text literal as a clause writes it: between single quotes, with each quote in it doubled.
+/// Control bytes and what is beyond 60 bytes are shown as in other texts.
 #[derive(Clone, Copy)]
 pub(crate) struct ShownText<'a> {
     pub(crate) text: &'a str,

@@ -21,13 +21,13 @@ use rj_fault::Side;
 use rj_strict::{Header, above_fault, check};
 use std::alloc::{AllocError, Global};
 
-/// The line, counted from 1, on which the row begins where a text stops being of the grammar, or none exactly where the text is of
-/// the grammar.
+/// The line, counted from 1, on which the row begins in which a text stops being of the grammar.
+/// `None` exactly if the text is of the grammar.
 pub fn line_of_fault(text: &[u8], full: bool) -> Option<u64>
-    // What is answered is so.
+    // Each answer is right.
     ensures none { IfNone result ((file : File) × Derives First full (body_of First text.now) file) }
     ensures line { IfSome result (IsFaultLine full text.now) }
-    // What is so is answered.
+    // Each right answer is given.
     ensures each_file { (file : File) → Derives First full (body_of First text.now) file → result ≡ None }
     ensures each_fault { (fault : StrictFault) → HasFault First full (body_of First text.now) fault → IsSome result }
 {
@@ -40,7 +40,7 @@ pub fn line_of_fault(text: &[u8], full: bool) -> Option<u64>
     }
 }
 
-// The name of a column of a row, which is under the header where its number isn't 0.
+// The name of a column of a row. A row is under the header unless its number is 0.
 fn name_in_row<'h>(
     alloc: Global,
     header: &'h Option<Names>,
@@ -55,7 +55,7 @@ fn name_in_row<'h>(
     }
 }
 
-// The line that tells such a place, and why it is one.
+// The line that shows such a place, and the reason.
 fn grammar_line(
     alloc: Global,
     line: u64,
@@ -73,7 +73,7 @@ fn grammar_line(
     }
 }
 
-// What is told of a text by the name of the column where it stops being of the grammar.
+// The lines for a text, by the name of the column where it stops being of the grammar.
 fn lines_of_place(
     alloc: Global,
     text: &[u8],
@@ -89,12 +89,12 @@ fn lines_of_place(
     }
 }
 
-/// What is told of the place where a side's file stops being of the grammar: in a column counted from 1, or in none where it is
-/// 0. Behind it stands why.
+/// The lines for the place where a side's file stops being of the grammar, and the reason. The
+/// column counts from 1; 0 means no column.
 ///
 /// # Errors
 ///
-/// It fails only where memory is refused.
+/// It fails only when memory runs out.
 pub(crate) fn grammar_lines(
     alloc: Global,
     inputs: &Inputs<'_, '_>,

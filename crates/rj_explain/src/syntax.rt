@@ -7,7 +7,7 @@ use crate::shown::Shown;
 use rj_condition::{ParseRefused, parse, quoted};
 use std::alloc::{AllocError, Global};
 
-// What may stand in a clause, and what it is called.
+// What may be in a clause, and what it is called.
 const WORDS: [(&str, &str); 26] = [
     ("a", "a column"),
     ("1", "a literal"),
@@ -48,7 +48,7 @@ fn may_follow(alloc: Global, text: &str, word: &str) -> Result<bool, AllocError>
     }
 }
 
-// What may stand behind a text that a clause begins with.
+// What may come after a text that a clause begins with.
 fn wanted(alloc: Global, text: &str) -> Result<String, AllocError> {
     let mut list = String::new(alloc);
     for (word, called) in &WORDS {
@@ -77,7 +77,8 @@ fn word_len(text: &[u8]) -> usize {
     text.iter().take_while(|b| is_name_byte(**b)).count()
 }
 
-// How many bytes of a number without its sign the text begins with, letters that run into it among them.
+// How many bytes of a number without its sign the text begins with, including letters that run into
+// it.
 fn number_len(text: &[u8]) -> usize {
     let whole = word_len(text);
     match text.get(whole..) {
@@ -88,7 +89,8 @@ fn number_len(text: &[u8]) -> usize {
     }
 }
 
-// How many bytes stand between quotes, with them, that a text begins with, or none where they aren't closed.
+// How many bytes the quoted text takes that a text begins with, its quotes included, or 0 if they
+// aren't closed.
 fn quoted_len(alloc: Global, quote: u8, text: &str) -> Result<usize, AllocError>
     requires { quote < 128 }
 {
@@ -101,7 +103,8 @@ fn quoted_len(alloc: Global, quote: u8, text: &str) -> Result<usize, AllocError>
     })
 }
 
-// How many bytes the token takes that a text begins with, where it isn't one byte or a character that no token begins with.
+// How many bytes the token takes that a text begins with, unless it is one byte or a character that
+// begins no token.
 fn long_token_len(alloc: Global, text: &str) -> Result<usize, AllocError> {
     Ok(match text.as_bytes() {
         [b'<', b'>' | b'=', ..] | [b'>', b'=', ..] => 2,
@@ -114,13 +117,14 @@ fn long_token_len(alloc: Global, text: &str) -> Result<usize, AllocError> {
     })
 }
 
-// How many bytes the token takes that a text begins with; of what is no token its first character.
+// How many bytes the token takes that a text begins with. If there is no token, it is its first
+// character.
 fn token_len(alloc: Global, text: &str) -> Result<usize, AllocError> {
     let first = text.chars().next().map_or(0, char::len_utf8);
     Ok(first.max(long_token_len(alloc, text)?))
 }
 
-// The part of a clause round a byte, and under it a mark at that byte.
+// The part of a clause around a byte, and under it a mark at that byte.
 fn marked(alloc: Global, clause: &str, byte: usize) -> Result<String, AllocError> {
     let (mut shown, mut mark) = (
         String::from_str(alloc, "  ")?,
@@ -138,11 +142,12 @@ fn marked(alloc: Global, clause: &str, byte: usize) -> Result<String, AllocError
     format!(in alloc; "{shown}\n{mark}^\n")
 }
 
-/// What is told of a text that stops being a clause at a byte: what stands there, what might stand there, and the text with a mark.
+/// The lines for a text that stops being a clause at a byte: what is there, what might be there,
+/// and the text with a mark.
 ///
 /// # Errors
 ///
-/// It fails only where memory is refused.
+/// It fails only when memory runs out.
 pub(crate) fn syntax_lines(
     alloc: Global,
     inputs: &Inputs<'_, '_>,

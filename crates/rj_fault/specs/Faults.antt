@@ -1,4 +1,4 @@
--- The texts of the sides, the exit statuses, and the faults of what is written.
+-- The texts of the sides, the exit statuses, and the errors of what is written.
 use Rattle.std.specs.Prelude.{◌≡◌, ◌⊎◌, ℕ, List, Option, Some, None, codes}
 use Rattle.clap.specs.Values.{kind_of}
 use Rattle.clap.specs.declared.error.Error.{Error}
@@ -24,12 +24,12 @@ refused_status DisplayHelp = 0
 refused_status DisplayVersion = 0
 refused_status _ = 2
 
--- what `clap` tells is help or the version
+-- what `clap` prints is help or the version
 abbrev pub IsAskedFor : Option Error → Type 0
 IsAskedFor None = ⊥
 IsAskedFor (Some e) = refused_status (kind_of e) ≡ 0
 
--- the fault of a table that can't be read
+-- the error of a table that can't be read
 abbrev pub read_fault : Side → ReadRefused → Fault
 read_fault s read.NoHeader = fault.NoHeader s
 read_fault s (read.BadName column) = fault.BadName s column
@@ -44,7 +44,7 @@ read_fault s read.BadNull = fault.BadNull
 read_fault s read.ReadDevice = fault.ReadDevice s
 read_fault s read.Memory = fault.Memory
 
--- the fault of rows that can't be written
+-- the error of rows that can't be written
 abbrev pub write_fault : WriteRefused → Fault
 write_fault write.Memory = fault.Memory
 write_fault write.WriteDevice = fault.WriteDevice
@@ -91,12 +91,12 @@ status_of fault.TwoStandardInputs = 2
 status_of (fault.OutputIsInput side) = 6
 status_of fault.NotAsExpected = 7
 
--- what `clap` tells in place of the fault
+-- what `clap` prints in place of the error
 abbrev pub clap_error_of : Fault → Option Error
 clap_error_of (fault.CommandLine e) = Some e
 clap_error_of _ = None
 
--- the fault of an error of `clap`'s: want of memory exactly where it is of that kind
+-- the error for an error of `clap`: out of memory exactly if it is of that kind
 abbrev pub fault_by : ErrorKind → Error → Fault
 fault_by OutOfMemory e = fault.Memory
 fault_by _ e = fault.CommandLine e
@@ -104,6 +104,6 @@ fault_by _ e = fault.CommandLine e
 abbrev pub clap_fault : Error → Fault
 clap_fault e = fault_by (kind_of e) e
 
--- the fault is want of memory, or that the writer failed
+-- memory ran out, or the writer failed
 abbrev pub IsOfWriting : Fault → Type 0
 IsOfWriting f = (f ≡ fault.Memory) ⊎ (f ≡ fault.WriteDevice)

@@ -1,4 +1,4 @@
-//! Telling why a program ended without its output.
+//! How a program reports why it ended without its output.
 
 ghost use Rattle.std.specs.Prelude.{◌≡◌, ◌⊎◌, ℕ, Option, Some, false, is_ok, true};
 ghost use Rattle.std.specs.Option.{option_copied};
@@ -17,23 +17,24 @@ pub trait ExitReason: Display + Drop {
     // What `clap` prints in place of the line, if it does.
     ghost of_clap: { Self → Option Error };
 
-    // That standard output couldn't be written.
+    // The reason that standard output couldn't be written.
     ghost unwritten: { Self };
 
-    /// The exit status. It takes no memory.
+    /// The exit status. It allocates no memory.
     fn status(&self) -> u8
         ensures { result ≡ exit self.now };
 
-    /// What `clap` prints in place of the line, where it refused the words, or where they ask for help or for the version.
+    /// What `clap` prints in place of the line, if it refused the words, or if they ask for help or
+    /// for the version.
     fn by_clap(&self) -> Option<&Error>
         ensures { option_copied result ≡ of_clap self.now };
 
-    /// That standard output couldn't be written.
+    /// The reason that standard output couldn't be written.
     fn failed_write() -> Self
         ensures { result ≡ unwritten };
 }
 
-// Prints the line, and gives the exit status.
+// Prints the line, and returns the exit status.
 fn tell_line<T: ExitReason>(rt: &impl Eprint, reason: &T) -> u8
     ensures { result ≡ T.exit reason.now }
 {
@@ -41,8 +42,8 @@ fn tell_line<T: ExitReason>(rt: &impl Eprint, reason: &T) -> u8
     reason.status()
 }
 
-// The exit status behind what `clap` tells, by what printing it answered: help and the version that couldn't be printed end as a
-// failed write, which is told.
+// The exit status after `clap` printed its text, given how printing went. If help or the version
+// couldn't be printed, that is reported, and the status is that of a failed write.
 fn status_by_clap<T: ExitReason>(
     rt: &impl Eprint,
     reason: &T,
@@ -60,8 +61,9 @@ fn status_by_clap<T: ExitReason>(
     tell_line(rt, &T::failed_write())
 }
 
-/// Prints why there is no output on standard error, or help or the version on standard output, and gives the exit status.
-/// Where help or the version couldn't be printed, the status is that of a failed write.
+/// Prints on standard error why there is no output, or on standard output help or the version, and
+/// returns the exit status. If help or the version couldn't be printed, the status is that of a
+/// failed write.
 pub fn tell<R: Print + Eprint, T: ExitReason>(rt: &R, reason: &T) -> u8
     ensures { (result ≡ T.exit reason.now) ⊎ (IsAskedFor (T.of_clap reason.now) × (result ≡ T.exit T.unwritten)) }
 {

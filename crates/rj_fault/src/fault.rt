@@ -29,8 +29,9 @@ impl fmt::Display for Side {
     }
 }
 
-/// Why a run gave no output. Its text is the line that the program prints, without its line end. Rows and columns count from 1, the
-/// first row being the record after the header, which has row 0; bytes of a clause count from 0.
+/// Why a run gave no output. Its text is the line that the program prints, without its line end.
+/// Rows and columns count from 1. Row 1 is the record after the header, and the header has row 0.
+/// Bytes of a clause count from 0.
 #[derive(Debug, Drop, Error)]
 pub enum Fault {
     /// `clap` refused the words of the command line, or they ask for help or for the version. The text is that of `clap`.
@@ -42,17 +43,17 @@ pub enum Fault {
     /// A type list has another form than `int,num(9,2),text` or `id=int,*=text`.
     #[error("radixjoin: bad type list {0}")]
     BadTypeList(Side),
-    /// More than four texts are to stand for null in a table.
+    /// More than four texts are to stand for NULL in a table.
     #[error("radixjoin: more than four null texts {0}")]
     TooManyNulls(Side),
-    /// A list of kinds of rows has another form than `pairs,lone-left,lone-right`, names a kind twice, or has both `pairs` and
-    /// `matched-left`.
+    /// A list of kinds of rows isn't of the form `pairs,lone-left,lone-right`, names a kind twice,
+    /// or has both `pairs` and `matched-left`.
     #[error("radixjoin: bad list of rows")]
     BadRows,
-    /// Left rows that are in a pair are to be written, and not the columns of the left table alone.
+    /// Matched left rows are to be written, but not only the columns of the left table.
     #[error("radixjoin: --rows matched-left needs --columns left")]
     MatchedLeftColumns,
-    /// A text that is to be added to a repeated name has no byte, or more than 16.
+    /// A text to be added to a repeated name has no byte, or more than 16.
     #[error("radixjoin: bad suffix of repeated names")]
     BadSuffix,
     /// A file has no record at all.
@@ -61,13 +62,13 @@ pub enum Fault {
     /// A header name has no byte, more than 128 bytes, or isn't UTF-8; its column counts from 1.
     #[error("radixjoin: E2 BadName {0} column {1}")]
     BadName(Side, u64),
-    /// A header name stands twice, where ASCII case is ignored; the column is the later one.
+    /// A header name occurs twice, ignoring ASCII case. The column is the later one.
     #[error("radixjoin: E3 RepeatedName {0} column {1}")]
     RepeatedName(Side, u64),
     /// The types and the header differ in number.
     #[error("radixjoin: E4 TypeCount {0}")]
     TypeCount(Side),
-    /// A row has another length than the header; the first row after the header is row 1.
+    /// A row has another length than the header. The first row after the header is row 1.
     #[error("radixjoin: E5 RaggedRow {0} row {1}")]
     RaggedRow(Side, u64),
     /// A cell of an int column isn't an integer of 64 bits.
@@ -82,7 +83,7 @@ pub enum Fault {
     /// A table has more than 256 columns.
     #[error("radixjoin: E9 TooManyColumns {0}")]
     TooManyColumns(Side),
-    /// A null text isn't lawful.
+    /// A NULL text isn't valid.
     #[error("radixjoin: E10 BadNull")]
     BadNull,
     /// The clause can't be read past this byte, counted from 0.
@@ -91,7 +92,7 @@ pub enum Fault {
     /// The clause nests more than 64 levels.
     #[error("radixjoin: E12 TooDeep")]
     TooDeep,
-    /// A name or qualifier of the clause is no column's.
+    /// A name or qualifier of the clause belongs to no column.
     #[error("radixjoin: E13 UnknownColumn")]
     UnknownColumn,
     /// An unqualified name of the clause is a column of both tables.
@@ -100,28 +101,29 @@ pub enum Fault {
     /// The clause compares a number with a text.
     #[error("radixjoin: E15 TypeMismatch")]
     TypeMismatch,
-    /// A column stands twice in USING.
+    /// A column occurs twice in USING.
     #[error("radixjoin: E16 RepeatedUsing")]
     RepeatedUsing,
     /// The clause has more than 65,536 bytes.
     #[error("radixjoin: E17 ClauseTooLong")]
     ClauseTooLong,
-    /// Memory was refused, or a thread couldn't be started.
+    /// Memory ran out, or a thread couldn't be started.
     #[error("radixjoin: E18 Memory")]
     Memory,
     /// A file can't be opened or read.
     #[error("radixjoin: E19 ReadDevice {0}")]
     ReadDevice(Side),
-    /// The result couldn't be written: its file can't be made or put in its place, or a write failed.
+    /// The result couldn't be written: its file can't be made or renamed, or a write failed.
     #[error("radixjoin: E20 WriteDevice")]
     WriteDevice,
-    /// A quoted field isn't closed at the file's end. This fault and the next five, to E26, are told where files are read strictly.
+    /// A quoted field isn't closed at the file's end. This error and the next five, to E26, are
+    /// reported only if files are read strictly.
     #[error("radixjoin: E21 OpenQuote {0} row {1} column {2}")]
     OpenQuote(Side, u64, u64),
-    /// A byte other than a comma, a double quote, CR and LF stands behind a closing quote.
+    /// A byte other than a comma, a double quote, CR and LF comes after a closing quote.
     #[error("radixjoin: E22 AfterQuote {0} row {1} column {2}")]
     AfterQuote(Side, u64, u64),
-    /// A double quote stands in a field that doesn't begin with one.
+    /// A double quote is in a field that doesn't begin with one.
     #[error("radixjoin: E23 BareQuote {0} row {1} column {2}")]
     BareQuote(Side, u64, u64),
     /// No LF follows a CR outside quotes.
@@ -133,15 +135,15 @@ pub enum Fault {
     /// The last record has no line end.
     #[error("radixjoin: E26 CutShort {0} row {1}")]
     CutShort(Side, u64),
-    /// A name in a type list means no column of the header, or one that an entry before it names.
+    /// A name in a type list means no column of the header, or one that an earlier entry names.
     #[error("radixjoin: E27 TypeName {0} \"{1}\"")]
     TypeName(Side, Word),
-    /// A cell of the result isn't null, and its text is the one that is written for null; its row and column are those of the
-    /// result, counted from 1.
+    /// A cell of the result isn't NULL, and its text is the one that is written for NULL. Its row
+    /// and column are those of the result, counted from 1.
     #[error("radixjoin: E28 AmbiguousNull row {0} column {1}")]
     AmbiguousNull(u64, u64),
-    /// The name of a column of the result stands before it already, and there is no free name in its place; the column is that of the
-    /// result, counted from 1.
+    /// The name of a column of the result repeats an earlier one, and there is no free name in its
+    /// place. The column is that of the result, counted from 1.
     #[error("radixjoin: E31 NoFreeName column {0}")]
     NoFreeName(u64),
     /// Both tables are to be read from standard input.
@@ -150,7 +152,7 @@ pub enum Fault {
     /// A file to be read is the one that is written.
     #[error("radixjoin: E29 OutputIsInput {0}")]
     OutputIsInput(Side),
-    /// The joined table isn't as it was expected to be: a row is in more kept pairs, or there are more rows.
+    /// The joined table isn't as expected: a row is in more matches, or there are more rows.
     #[error("radixjoin: E30 NotAsExpected")]
     NotAsExpected,
 }
@@ -218,8 +220,9 @@ impl ExitReason for Fault {
 }
 
 impl Fault {
-    /// The exit status of a program that ends by this fault: 0 for help and the version, 2 for the command line, 3 for input, 4 for the clause, 5 for
-    /// memory, 6 for a device, 7 for a joined table that isn't as expected. It takes no memory.
+    /// The exit status of a program that ends with this error: 0 for help and the version, 2 for
+    /// the command line, 3 for input, 4 for the clause, 5 for memory, 6 for a device, 7 for a
+    /// joined table that isn't as expected. It allocates no memory.
     pub fn status(&self) -> u8
         ensures { result ≡ status_of self.now }
     {

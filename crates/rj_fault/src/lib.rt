@@ -1,4 +1,5 @@
-//! Why a program of this repository ended without its output, how that is told, and the words that it was started with.
+//! Why a program of this repository ended without its output, how it reports that, and the words
+//! with which it was started.
 #![tactic(auto)]
 
 mod exit_reason;

@@ -1,4 +1,4 @@
-//! The faults for which tables can't be read.
+//! The errors of tables that can't be read.
 
 ghost use Rattle.std.specs.Prelude.{◌≡◌};
 ghost use Rattle.rj_fault.specs.Faults.{read_fault};
@@ -6,7 +6,7 @@ ghost use Rattle.rj_fault.specs.Faults.{read_fault};
 use crate::fault::{Fault, Side};
 use rj_csv_io::ReadRefused;
 
-/// The fault that a table of this side can't be read for.
+/// The error of this side's table, by why it can't be read.
 pub fn fault_of_read(side: Side, refused: ReadRefused) -> Fault
     ensures { result ≡ read_fault side refused }
 {

@@ -1,4 +1,4 @@
--- What a clause reads of the reader of a stream by its name.
+-- What a clause knows of the reader of a stream by its name.
 use Rattle.std.specs.Prelude.{ℕ, List, Option}
 use Rattle.rj_files.specs.declared.named.StreamReader.{StreamReader}
 use Rattle.rj_files.specs.declared.named.StreamReader.TheVariants.{File, Input}

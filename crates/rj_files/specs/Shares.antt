@@ -7,11 +7,11 @@ use Rattle.rj_files.specs.declared.progress.Cuts.{Cuts}
 abbrev pub bounded : ℕ → ℕ
 bounded n = min n (2 ^ 64 - 1)
 
--- how many parts of so many rows the rows make
+-- how many parts of this many rows the rows make
 abbrev pub parts : ℕ → ℕ → ℕ
 parts rows size = if size == 0 then 0 else div_ceil rows size
 
--- so many of these rows as this is of all, and never more than there are
+-- the same share of these rows as this is of all, and never more than there are
 abbrev pub share : ℕ → ℕ → ℕ → ℕ
 share rows this all = if all == 0 then 0 else min (bounded (rows * this) / all) rows
 
@@ -23,7 +23,7 @@ lists c = bounded (bounded (c.workers * 2) * c.partitions)
 abbrev pub parcels : Cuts → ℕ → ℕ
 parcels c rows = bounded (lists c * bounded (parts (parts rows (lists c)) c.block + 1))
 
--- the rows that were handed to partitions, where so many parcels were posted
+-- the rows that were handed to partitions, when this many parcels were posted
 abbrev pub handed : Cuts → ℕ → ℕ → ℕ
 handed c rows posted = share rows posted (parcels c rows)
 
@@ -31,6 +31,6 @@ handed c rows posted = share rows posted (parcels c rows)
 abbrev pub piece_rows : Cuts → ℕ → ℕ
 piece_rows c rows = min (parts rows (bounded (c.workers * 4))) c.piece
 
--- the rows that were joined, where so many partitions were, and so many pieces of the next one
+-- the rows that were joined, after this many partitions and this many pieces of the next one
 abbrev pub joined : Cuts → ℕ → ℕ → ℕ → ℕ
 joined c rows behind pieces = min (bounded (share rows behind c.partitions + bounded (pieces * piece_rows c rows))) rows

@@ -12,16 +12,17 @@ use Rattle.rj_fault.specs.declared.fault.Side.TheVariants as side
 use Rattle.rj_line.specs.declared.line.Line.{Line}
 use Rattle.rj_suggest.specs.Suggested.{IsSuggestFault, IsSuggestedList}
 
--- these are all bytes of a stream: those that it tells; where it tells nothing, they may be any
+-- these are all bytes of a stream: those that it tells; if it tells nothing, they may be any
 abbrev pub AreBytesOf : Option (List ℕ) → List ℕ → Type 0
 AreBytesOf told bytes = IfSome told (λ xs. bytes ≡ xs)
 
--- a side's stream can't be opened or read to its end, or memory was refused
+-- a side's stream can't be opened or read to its end, or memory ran out
 abbrev pub IsUnread : Side → Fault → Type 0
 IsUnread s f = (f ≡ fault.Memory) ⊎ (f ≡ fault.ReadDevice s)
 
--- what a line asks for of two tables' bytes was written behind what the writer had been told: the text of what is chosen of their joined
--- table, of which statistics are told, or with `--count` the line of the numbers of its members
+-- what a line asks for of two tables' bytes was written after what the writer already had: the text
+-- of what is chosen of their joined table, with its statistics, or with `--count` the line of the
+-- numbers of its members
 abbrev pub WritesAsked : Line → List ℕ → List ℕ → Option (List ℕ) → Option (List ℕ) → Option Stats → Type 0
 WritesAsked line l r before after (Some stats) = (line.count ≡ false) × WritesJoined l r line.request before after stats
 WritesAsked line l r before after None = (line.count ≡ true) × WritesCounts l r line.request before after
@@ -39,18 +40,19 @@ WritesOf line left right before after stats =
 abbrev pub IsWrittenOf : Line → Option (List ℕ) → Option (List ℕ) → Option Stats → Type 0
 IsWrittenOf line left right stats = (before after : Option (List ℕ)) × WritesOf line left right before after stats
 
--- why it isn't written: want of memory, a failed writer, a stream that can't be read, or the fault of their bytes
+-- why it isn't written: out of memory, a failed writer, a stream that can't be read, or the error
+-- of their bytes
 abbrev pub IsFaultOf : Line → Option (List ℕ) → Option (List ℕ) → Fault → Type 0
 IsFaultOf line left right f =
     IsOfWriting f ⊎ (IsUnread side.Left f ⊎ (IsUnread side.Right f
     ⊎ ((l r : List ℕ) × AreBytesOf left l × AreBytesOf right r × IsAskedFault line l r f)))
 
--- a list of types that a stream's bytes suggest was written behind what the writer had been told
+-- a list of types that a stream's bytes suggest was written after what the writer already had
 abbrev pub WritesSuggested : List (List ℕ) → Option (List ℕ) → Option (List ℕ) → Option (List ℕ) → Type 0
 WritesSuggested nulls told before after =
     (bytes list : List ℕ) × AreBytesOf told bytes × IsSuggestedList bytes nulls list × Appends before after list
 
--- why none is made: the stream can't be read, or the fault of its bytes
+-- why none is made: the stream can't be read, or the error of its bytes
 abbrev pub IsUnsuggested : List (List ℕ) → Option (List ℕ) → Fault → Type 0
 IsUnsuggested nulls told f =
     IsUnread side.Left f ⊎ ((bytes : List ℕ) × AreBytesOf told bytes × (f ≢ fault.Memory → IsSuggestFault bytes nulls f))

@@ -1,4 +1,5 @@
-//! The file of `--output`, which has the whole result in the end, or what it had before.
+//! The file of `--output`, which is written atomically: it has the whole result, or what it had
+//! before.
 
 ghost use Rattle.std.specs.Prelude.{◌≡◌, IfErr};
 ghost use Rattle.rj_fault.specs.Faults.{IsOfWriting};
@@ -9,25 +10,25 @@ use std::fs::{self, Files, Metadata, OpenFile, OpenOptions};
 use std::io::{self, ErrorKind};
 use std::path::Path;
 
-// How many symbolic links are followed, as many as Linux follows.
+// How many symbolic links are followed: as many as Linux follows.
 const LINKS: u32 = 40;
 
-// How many names are tried for a new file: a run that was killed may have left a file behind.
+// How many names are tried for a new file. A run that was killed may have left a file behind.
 const NAMES: u32 = 1000;
 
-// The longest name that a new file's name repeats, so that this has no more than 255 bytes.
+// The longest name that a new file's name repeats, so that the new name has no more than 255 bytes.
 const LONGEST: usize = 200;
 
 /// What becomes of a file once the result is written to it.
 #[derive(Drop)]
 pub(crate) enum Draft {
-    /// It is a new file of this name beside the target, and takes the target's place.
+    /// It is a new file of this name in the target's folder, and takes the target's place.
     Replacing { name: String, target: String },
-    /// It is a pipe or a device, and got the bytes as they came.
+    /// It is a pipe or a device, and gets the bytes as they come.
     Stream,
 }
 
-/// Why there is no file to write to, with the system's error where it told one.
+/// Why there is no file to write to, with the system's error if there is one.
 #[derive(Drop)]
 pub(crate) struct Unwritten {
     pub(crate) fault: Fault,
@@ -42,7 +43,7 @@ impl From<Fault> for Unwritten {
     }
 }
 
-// What an error is that the system tells of the file.
+// Why a file can't be written, by the system's error.
 fn unwritten_by(error: io::Error) -> Unwritten
     ensures { IsOfWriting result.fault }
 {
@@ -56,7 +57,7 @@ fn unwritten_by(error: io::Error) -> Unwritten
     }
 }
 
-// A file name in the folder of a path; a name that begins with a slash stands for itself.
+// A file name in the folder of a path. A name that begins with a slash is taken as it is.
 fn in_folder_of(alloc: Global, path: &str, name: &str) -> Result<String, Fault>
     ensures { IfErr result IsOfWriting }
 {
@@ -66,7 +67,7 @@ fn in_folder_of(alloc: Global, path: &str, name: &str) -> Result<String, Fault>
     }
 }
 
-// The path that a path leads to by symbolic links, whether a file stands there or not.
+// The path to which a path leads by symbolic links, whether a file is there or not.
 fn followed<R: Files + AllocGlobal>(rt: &R, path: &str) -> Result<String, Fault>
     ensures { IfErr result IsOfWriting }
 {
@@ -82,7 +83,7 @@ fn followed<R: Files + AllocGlobal>(rt: &R, path: &str) -> Result<String, Fault>
     Err(Fault::WriteDevice)
 }
 
-// A name for a new file beside the target.
+// A name for a new file in the target's folder.
 fn draft_name(alloc: Global, target: &str, number: u32) -> Result<String, Fault>
     ensures { IfErr result IsOfWriting }
 {
@@ -103,12 +104,13 @@ fn is_special(found: &io::Result<Metadata>) -> bool {
 }
 
 impl Draft {
-    /// A file to which a result for this output is written: a new one beside it, or where a pipe or a device stands there, that
-    /// one. It is told before anything is read that no such file can be made.
+    /// Opens a file to which a result for this output is written: a new one in the same folder, or
+    /// the pipe or device that is there. So it is known before anything is read whether such a file
+    /// can be made.
     ///
     /// # Errors
     ///
-    /// `WriteDevice` where there is none, and then nothing is left of it; `Memory` where a growth was refused.
+    /// `WriteDevice` if it can't be made: nothing is left of it. `Memory` if memory ran out.
     pub(crate) fn open<R: Files + AllocGlobal>(
         rt: &R,
         output: &str,
@@ -124,7 +126,7 @@ impl Draft {
         Draft::beside(rt, followed(rt, output)?)
     }
 
-    // A new file beside the target, under the first name that is free.
+    // A new file in the target's folder, under the first name that is free.
     fn beside<R: Files + AllocGlobal>(rt: &R, target: String) -> Result<(Draft, R::File), Unwritten>
         ensures { IfErr result (λ refused. IsOfWriting refused.fault) }
     {
@@ -143,11 +145,12 @@ impl Draft {
         Err(Unwritten::from(Fault::WriteDevice))
     }
 
-    /// Brings the file to the disk and puts it in the target's place.
+    /// Syncs the file to the disk and renames it to the target.
     ///
     /// # Errors
     ///
-    /// `WriteDevice` where one of the two isn't done: the target is as it was, and the new file is removed.
+    /// `WriteDevice` if one of the two fails: the target stays as it was, and the new file is
+    /// removed.
     pub(crate) fn finish<R: Files>(self, rt: &R, file: R::File) -> Result<(), Unwritten>
         ensures { IfErr result (λ refused. refused.fault ≡ Fault.WriteDevice) }
     {
@@ -170,7 +173,7 @@ impl Draft {
         }
     }
 
-    /// Removes the file, since nothing is to take the target's place.
+    /// Removes the file, when nothing is to take the target's place.
     pub(crate) fn discard<R: Files>(self, rt: &R) {
         if let Draft::Replacing { name, target: _ } = self {
             let _ = fs::remove_file(rt, name.as_str());

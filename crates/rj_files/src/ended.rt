@@ -6,7 +6,7 @@ ghost use Rattle.rj_fault.specs.Faults.{IsAskedFor, clap_error_of, status_of};
 use rj_fault::{Fault, tell};
 use std::alloc::AllocError;
 
-/// Why there is no output, and what explains it, as lines.
+/// Why there is no output, and the lines that explain it, if there are any.
 #[derive(Drop)]
 pub struct Ended {
     fault: Fault,
@@ -32,7 +32,7 @@ impl From<AllocError> for Ended {
 }
 
 impl Ended {
-    /// A fault with the lines that explain it, where there was memory for them.
+    /// An error with the lines that explain it, if there was memory for them.
     pub fn explained(fault: Fault, lines: Result<String, AllocError>) -> Ended
         ensures fault { result.fault ≡ fault }
         ensures lines { IfOk lines (λ text. result.lines ≡ Some text) }
@@ -47,7 +47,7 @@ impl Ended {
         }
     }
 
-    /// The fault and the lines.
+    /// The error and the lines.
     pub(crate) fn into_parts(self) -> (Fault, Option<String>)
         ensures { result ≡ (self.fault, self.lines) }
     {
@@ -56,8 +56,9 @@ impl Ended {
     }
 }
 
-/// Prints why there is no output, and what explains it, on standard error, and gives the exit status: that of the fault, or where help
-/// or the version was asked for and couldn't be printed, that of a failed write.
+/// Prints on standard error why there is no output, and what explains it. The answer is the exit
+/// status: that of the error or, if help or the version was asked for and couldn't be printed, that
+/// of a failed write.
 pub fn tell_ended<R: Print + Eprint>(rt: &R, ended: &Ended) -> u8
     ensures { (result ≡ status_of ended.now.fault) ⊎ (IsAskedFor (clap_error_of ended.now.fault) × (result ≡ status_of Fault.WriteDevice)) }
 {

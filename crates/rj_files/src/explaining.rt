@@ -1,4 +1,4 @@
-//! `--explain`: what is told of a fault behind its own line.
+//! `--explain`: the lines that are added after the line of an error.
 
 ghost use Rattle.std.specs.Prelude.{◌≡◌, IfOk, IfSome, length, string_bytes};
 ghost use Rattle.rj_files.specs.Texts.{memory_text};
@@ -15,7 +15,8 @@ use std::sync::Wait;
 use std::thread::Threads;
 use std::time::Clock;
 
-// What explains a fault of the command line, where it can be explained and this is asked for among the words.
+// The lines that explain an error of the command line, if it can be explained and the words ask for
+// it.
 fn explain_line(
     alloc: Global,
     words: &[&str],
@@ -31,7 +32,8 @@ fn explain_line(
 ///
 /// # Errors
 ///
-/// As `read_line` tells them; a list of types that is none is explained where `--explain` is one of the words.
+/// Those of `read_line`. A list of types that is invalid is explained if `--explain` is one of the
+/// words.
 pub fn read_words_of_line<'a>(alloc: Global, words: &'a [&'a str]) -> Result<Line<'a>, Ended> {
     match read_line(alloc, words) {
         Ok(line) => Ok(line),
@@ -42,7 +44,7 @@ pub fn read_words_of_line<'a>(alloc: Global, words: &'a [&'a str]) -> Result<Lin
     }
 }
 
-// What is told of what isn't as expected.
+// The lines that say how a joined table isn't as expected.
 fn lines_of_violation(
     alloc: Global,
     inputs: &Inputs<'_, '_>,
@@ -56,7 +58,8 @@ fn lines_of_violation(
     explain_row(alloc, inputs, side, u64::from(row).saturating_add(1), pairs)
 }
 
-// What is told of a joined table that isn't as expected. It is joined once more, since nothing was kept of it.
+// The lines of a joined table that isn't as expected. It is joined once more, since nothing was
+// kept of it.
 fn violation_lines<R: AllocGlobal + Threads + Wait + Clock + Sync>(
     rt: &R,
     inputs: &Inputs<'_, '_>,
@@ -69,7 +72,7 @@ fn violation_lines<R: AllocGlobal + Threads + Wait + Clock + Sync>(
     }
 }
 
-// What is told of want of memory in a join of two tables of so many bytes.
+// The lines for running out of memory in a join of two tables of these numbers of bytes.
 fn memory_lines(alloc: Global, left: usize, right: usize) -> Result<String, AllocError>
     ensures { IfOk result (λ text. string_bytes text ≡ memory_text left right) }
 {
@@ -78,7 +81,7 @@ fn memory_lines(alloc: Global, left: usize, right: usize) -> Result<String, Allo
     )
 }
 
-// What is told of a fault of a join of two tables.
+// The lines that explain an error of a join of two tables.
 fn lines_of<R: AllocGlobal + Threads + Wait + Clock + Sync>(
     rt: &R,
     fault: &Fault,
@@ -94,7 +97,7 @@ fn lines_of<R: AllocGlobal + Threads + Wait + Clock + Sync>(
     }
 }
 
-/// A fault of a join of two tables, explained.
+/// An error of a join of two tables, explained.
 pub(crate) fn explained<R: AllocGlobal + Threads + Wait + Clock + Sync>(
     rt: &R,
     fault: Fault,
@@ -108,7 +111,8 @@ pub(crate) fn explained<R: AllocGlobal + Threads + Wait + Clock + Sync>(
     Ended::explained(fault, lines)
 }
 
-/// The fault of a result that can't be written, explained where that is asked for: by the output's name and the system's words.
+/// The error of a result that can't be written, explained if that is asked for, with the output's
+/// name and the system's words.
 pub(crate) fn unwritten(
     alloc: Global,
     line: &Line<'_>,
@@ -131,7 +135,7 @@ fn is_unwritten(fault: &Fault) -> bool {
     }
 }
 
-/// The same of an end that may be another one, which then is as it was.
+/// The same for an end that may have another error, which then stays as it was.
 pub(crate) fn with_write_error(
     alloc: Global,
     line: &Line<'_>,

@@ -7,8 +7,8 @@ ghost use Rattle.rj_files.specs.Streams.{IsAskedFault, WritesAsked};
 
 use crate::ended::Ended;
 use crate::explaining::{explained, with_write_error};
-use crate::noting::Noting;
 use crate::progress::Progress;
+use crate::recording::ErrorRecordingWriter;
 use crate::watched::WatchedWriter;
 use rj_command::{Line, Stats, count, run, run_owned};
 use rj_csv_io::{CountedWriter, Output};
@@ -28,7 +28,7 @@ pub(crate) struct Tables {
 }
 
 impl Tables {
-    // The same bytes once more.
+    // A copy of the bytes.
     fn copied(&self) -> Result<Tables, AllocError>
         ensures { IfOk result (λ tables. (tables.left.items ≡ self.now.left.items) × (tables.right.items ≡ self.now.right.items)) }
     {
@@ -38,7 +38,7 @@ impl Tables {
     }
 }
 
-// Joins two tables, and writes the joined table. The bytes are kept for what is told of a fault.
+// Joins two tables, and writes the joined table. The bytes are kept to explain an error.
 fn join_explained<R, O>(
     rt: &R,
     line: &Line<'_>,
@@ -69,7 +69,7 @@ where
     }
 }
 
-// Joins two tables, and writes the joined table, explained where that is asked for.
+// Joins two tables, and writes the joined table. An error is explained if that is asked for.
 fn join_tables<R, O>(
     rt: &R,
     line: &Line<'_>,
@@ -96,7 +96,7 @@ where
     }
 }
 
-// Counts the rows of two tables' joined table. The bytes are kept for what is told of a fault.
+// Counts the rows of two tables' joined table. The bytes are kept to explain an error.
 fn count_explained<R, O>(
     rt: &R,
     line: &Line<'_>,
@@ -130,7 +130,7 @@ where
     }
 }
 
-// Counts the rows of two tables' joined table, explained where that is asked for.
+// Counts the rows of two tables' joined table. An error is explained if that is asked for.
 fn count_tables<R, O>(
     rt: &R,
     line: &Line<'_>,
@@ -157,7 +157,7 @@ where
     }
 }
 
-// Writes what the line asks for. The statistics are given where that is the joined table.
+// Writes what the line asks for. There are statistics if that is the joined table.
 fn write_asked<R, O>(
     rt: &R,
     line: &Line<'_>,
@@ -185,11 +185,13 @@ where
     }
 }
 
-/// Writes what the line asks for of two tables, and gives the writer back. The statistics are given where that is the joined table.
+/// Writes what the line asks for of two tables, and returns the writer. There are statistics if
+/// that is the joined table.
 ///
 /// # Errors
 ///
-/// Those of `run` or `count` of `rj_command`, explained where that is asked for. The writer is as it was but after `WriteDevice`.
+/// Those of `run` or `count` of `rj_command`, explained if that is asked for. The writer stays as
+/// it was, except after `WriteDevice`.
 pub(crate) fn write_tables<R, W>(
     rt: &R,
     line: &Line<'_>,
@@ -204,7 +206,7 @@ where
     ensures fault { IfErr result.0 (λ ended. IsAskedFault line.now tables.left.items tables.right.items ended.fault) }
     ensures unchanged { IfErr result.0 (λ ended. ended.fault ≢ Fault.WriteDevice → result.1 ≡ writer) }
 {
-    let mut writer = CountedWriter::new(Noting::new(WatchedWriter::new(progress, writer)));
+    let mut writer = CountedWriter::new(ErrorRecordingWriter::new(WatchedWriter::new(progress, writer)));
     let written = write_asked(rt, line, progress, tables, &mut writer);
     let (writer, error) = writer.into_inner().into_parts();
     let writer = writer.into_inner();

@@ -1,5 +1,7 @@
-//! Joins of two streams: what two readers give is read, joined and written, or one fault told; with drafts of files, the lines that explain
-//! a fault, and what is shown of how far a run is. [`write_streams`] says it all of streams, [`write_output`] brings it to files.
+//! Joins of two streams: what two readers give is read, joined and written, or one error is
+//! reported. It also has the drafts of output files, the lines that explain an error, and the
+//! progress of a run. [`write_streams`] has the contract for streams, and [`write_output`] uses it
+//! for files.
 #![tactic(auto)]
 
 mod draft;
@@ -9,10 +11,10 @@ mod joining;
 mod lists;
 mod message;
 mod named;
-mod noting;
 mod outputs;
 mod progress;
 mod reading;
+mod recording;
 mod streams;
 mod suggesting;
 mod watched;

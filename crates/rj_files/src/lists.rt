@@ -1,4 +1,4 @@
-//! Lists of types that stand in files: `@FILE` in the place of a list.
+//! Lists of types that are in files: `@FILE` in the place of a list.
 
 use crate::named::open_file;
 use crate::reading::{OpenStream, read_bytes, unopened};
@@ -47,7 +47,8 @@ fn list_of<R: Files + AllocGlobal>(rt: &R, file: &str, side: Side) -> Result<Str
     list_of_lines(rt.alloc(), bytes.as_slice(), side)
 }
 
-// A word in whose place a list is put if it names a file of one. The side is that of the word before, where it is such an option.
+// A word, with the list of a file in its place if it names such a file. The side is that of the
+// word before, if that is such an option.
 fn with_its_list<R: Files + AllocGlobal>(
     rt: &R,
     word: String,
@@ -65,12 +66,12 @@ fn with_its_list<R: Files + AllocGlobal>(
     }
 }
 
-/// The words of the command line with each list of types that a file has in the place of `@FILE`.
+/// The words of the command line, where each `@FILE` is replaced by the list of types in that file.
 ///
 /// # Errors
 ///
-/// A file that can't be read is `ReadDevice` of its side, and one whose list isn't text `BadTypeList`. `Memory` comes only where
-/// a growth was refused.
+/// `ReadDevice` of the side if a file can't be read, and `BadTypeList` if its list isn't text.
+/// `Memory` comes only when memory ran out.
 pub fn read_lists<R: Files + AllocGlobal>(
     rt: &R,
     words: Vec<String>,

@@ -1,28 +1,30 @@
-//! The lines that show how far a run is.
+//! The lines that show the progress of a run.
 
 ghost use Rattle.std.specs.Prelude.{◌≡◌, ◌/◌};
 
 use rj_fault::Side;
 use std::fmt;
 
-/// What stands in the place of a line, with the cursor at its beginning: blanks for as many characters as the longest line has.
+/// Clears a line, with the cursor at its beginning: blanks for as many characters as the longest
+/// line has.
 pub(crate) const CLEARED: &str =
     "\r                                                                        \r";
 
-/// How far a run is.
+/// The progress of a run.
 #[derive(Clone, Copy)]
 pub(crate) enum Message {
-    /// So many bytes were read of the file of a side, of about so many, or of none where that isn't known.
+    /// `bytes` bytes of a side's file were read, of about `size` bytes; `size` is 0 if that isn't
+    /// known.
     File { side: Side, bytes: u64, size: u64 },
     /// A table is read from the bytes of a side's file.
     NamedStream { side: Side, bytes: u64 },
-    /// About so many rows of both tables were handed to partitions.
+    /// About `done` rows of both tables were handed to partitions.
     Partitioned { done: u64, rows: u64 },
-    /// About so many rows of the larger table were joined.
+    /// About `done` rows of the larger table were joined.
     Joined { done: u64, rows: u64 },
-    /// The text of so many rows is made.
+    /// The text of `rows` rows is made.
     Writing { rows: u64 },
-    /// So many bytes of it were written.
+    /// `bytes` bytes of it were written.
     Written { rows: u64, bytes: u64 },
 }
 
@@ -30,7 +32,7 @@ pub(crate) enum Message {
 #[derive(Clone, Copy)]
 struct Grouped(u64);
 
-// The numbers by which a number of 64 bits is parted into its groups of three digits.
+// The numbers that divide a number of 64 bits into its groups of three digits.
 const GROUPS: [u64; 7] = [
     1_000_000_000_000_000_000,
     1_000_000_000_000_000,
@@ -63,7 +65,7 @@ fn megabytes(bytes: u64) -> Grouped
     Grouped(bytes / 1_000_000)
 }
 
-// How many rows are done, about, of all.
+// About how many rows are done, of all.
 fn write_share<W: fmt::Write>(
     f: &mut fmt::Formatter<W>,
     step: &str,

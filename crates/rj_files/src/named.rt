@@ -9,14 +9,14 @@ use std::alloc::{AllocError, Global};
 use std::fs::{self, Files, OpenFile};
 use std::io::{self, Read};
 
-/// Whether the name of an input stands for standard input, or that of an output for standard output.
+/// Whether a name means standard input (of an input) or standard output (of an output).
 pub(crate) fn is_standard_stream(name: &str) -> bool
     ensures { result ≡ bytes_eq name.now (codes "-") }
 {
     name == "-"
 }
 
-/// The stream of a name: the file of this name, or standard input where it is `-`.
+/// The stream of a name: the file of this name, or standard input if it is `-`.
 #[derive(Drop)]
 pub struct NamedStream<'a, R> {
     rt: &'a R,
@@ -50,7 +50,7 @@ impl<F: Read, I: Read> Read for StreamReader<F, I> {
     }
 }
 
-/// A file, and about how many bytes it has, or none where that isn't known.
+/// A file, and about how many bytes it has, or 0 if that isn't known.
 pub(crate) fn open_file<R: Files>(rt: &R, name: &str) -> io::Result<OpenStream<R::File>> {
     let reader = fs::open(rt, name)?;
     let likely_size = match reader.metadata() {
@@ -74,7 +74,8 @@ fn why_unread<R: Files>(rt: &R, name: &str) -> Option<io::Error> {
     }
 }
 
-/// The name of a file and the system's words, without the number that it has for them, or the name alone where it tells nothing.
+/// The name of a file and the system's words, without the number that it has for them, or only the
+/// name if there are none.
 pub(crate) fn told_by_system(
     alloc: Global,
     name: &str,

@@ -1,4 +1,4 @@
-//! Where the result is written to: standard output, or a file that is none of the tables.
+//! Where the result is written: to standard output, or to a file that is none of the tables.
 
 ghost use Rattle.std.specs.Prelude.{◌≡◌, IfOk, IfErr, option_map, unwrap_or};
 ghost use Rattle.rj_files.specs.Outputs.{file_of};
@@ -20,12 +20,12 @@ use std::sync::Wait;
 use std::thread::Threads;
 use std::time::Clock;
 
-// What the system shows of the files that standard input reads and that standard output writes.
+// The paths by which the system shows the files of standard input and standard output.
 const STANDARD_INPUT: &str = "/proc/self/fd/0";
 
 const STANDARD_OUTPUT: &str = "/proc/self/fd/1";
 
-/// The file that the result of a line is written to, or none where that is standard output.
+/// The file to which the result of a line is written, or none if that is standard output.
 pub(crate) fn output_of<'a>(line: &Line<'a>) -> Option<&'a str>
     ensures { option_map (λ name. name.now) result ≡ file_of (option_map (λ name. name.now) line.now.output) }
 {
@@ -35,14 +35,14 @@ pub(crate) fn output_of<'a>(line: &Line<'a>) -> Option<&'a str>
     }
 }
 
-// The name by which the system shows what the result of a line is written to.
+// The path by which the system shows where the result of a line is written.
 fn shown_output<'a>(line: &Line<'a>) -> &'a str
     ensures { result.now ≡ unwrap_or (file_of (option_map (λ name. name.now) line.now.output)) STANDARD_OUTPUT.now }
 {
     output_of(line).unwrap_or(STANDARD_OUTPUT)
 }
 
-// What the system tells of a file, or none where it tells nothing.
+// The system's metadata of a file, or none if there is none.
 fn told_of<R: Files>(rt: &R, name: &str) -> Result<Option<Metadata>, Fault> {
     match fs::metadata(rt, name) {
         Ok(metadata) => Ok(Some(metadata)),
@@ -68,12 +68,13 @@ fn refuse_input<R: Files>(rt: &R, output: &str, name: &str, side: Side) -> Resul
     }
 }
 
-/// Refuses two tables of a line that can't be read, before anything of them is.
+/// Refuses two tables of a line that can't be read, before anything of them is read.
 ///
 /// # Errors
 ///
-/// `TwoStandardInputs` where both are standard input; `OutputIsInput` of the side whose file is the one that is written, as far as the
-/// system tells, by whatever name. `Memory` comes only where the system has none.
+/// `TwoStandardInputs` if both are standard input. `OutputIsInput` of the side whose file is the
+/// one that is written, by whatever name, as far as the system tells. `Memory` comes only when the
+/// system has none.
 pub fn refuse_inputs<R: Files>(rt: &R, line: &Line<'_>) -> Result<(), Fault> {
     if is_standard_stream(line.left) && is_standard_stream(line.right) {
         return Err(Fault::TwoStandardInputs);
@@ -87,12 +88,13 @@ pub fn refuse_inputs<R: Files>(rt: &R, line: &Line<'_>) -> Result<(), Fault> {
 ///
 /// # Errors
 ///
-/// `OutputIsInput` of the left side, as [`refuse_inputs`] tells it.
+/// `OutputIsInput` of the left side, as in [`refuse_inputs`].
 pub fn refuse_printed<R: Files>(rt: &R, name: &str) -> Result<(), Fault> {
     refuse_input(rt, STANDARD_OUTPUT, name, Side::Left)
 }
 
-// Reads two tables and writes what the line asks for into a file, which has the whole of it in the end, or what it had before.
+// Reads two tables and writes what the line asks for into a file, atomically: the file has the
+// whole of it, or what it had before.
 fn write_file<R, L, S>(
     rt: &R,
     line: &Line<'_>,
@@ -125,13 +127,14 @@ where
     }
 }
 
-/// Reads two tables and writes what a line asks for where it asks for it: into a file, which has the whole of it in the end, or what
-/// it had before, or on standard output. The statistics are given where that is the joined table.
+/// Reads two tables and writes what a line asks for: to standard output, or into a file,
+/// atomically. The file has the whole of it, or what it had before. There are statistics if that is
+/// the joined table.
 ///
 /// # Errors
 ///
-/// Those of [`write_streams`](crate::write_streams); `WriteDevice` also where there can be no such file. A file that can't be made is
-/// told before anything is read.
+/// Those of [`write_streams`](crate::write_streams). `WriteDevice` also if there can be no such
+/// file. A file that can't be made is reported before anything is read.
 pub fn write_output<R, L, S>(
     rt: &R,
     line: &Line<'_>,

@@ -1,5 +1,5 @@
-//! How far a run is, shown on standard error where that is a terminal. No contract says when it is shown: the runs of `rj_command`
-//! meet theirs for every watch.
+//! The progress of a run, shown on standard error if that is a terminal. No contract says when it
+//! is shown: the runs of `rj_command` meet theirs for every watch.
 
 ghost use Rattle.std.specs.Prelude.{◌≡◌};
 ghost use Rattle.rj_files.specs.Shares.{handed, joined, parts, share};
@@ -12,10 +12,10 @@ use rj_fault::Side;
 use std::sync::atomic::{AtomicBool, AtomicU64, Ordering};
 use std::time::Clock;
 
-// Milliseconds after which it is shown where that isn't asked for.
+// Milliseconds after which it is shown if that isn't asked for.
 const PATIENCE: u64 = 2000;
 
-// Milliseconds for which a line stands at least, but for one of an earlier step.
+// Milliseconds for which a line stays at least, unless it is of an earlier step.
 const PAUSE: u64 = 200;
 
 /// Which of the standard streams are terminals.
@@ -38,21 +38,23 @@ struct Cuts {
     piece: u64,
 }
 
-/// How far a run is. All its threads share it.
+/// The progress of a run. All its threads share it.
 #[derive(Drop)]
 pub struct Progress<'a, R> {
     rt: &'a R,
-    // Whether the rows that are written go to a terminal, and the side whose table is written by hand, if there is one.
+    // Whether the rows that are written go to a terminal, and the side whose table is typed by
+    // hand, if there is one.
     shares_terminal: bool,
     by_hand: Option<Side>,
     cuts: Cuts,
-    // The milliseconds of the clock from which on it is shown, and from which on a further line of a step is.
+    // The time of the clock, in milliseconds, from which it is shown, and from which a further line
+    // of a step is.
     from: u64,
     next: AtomicU64,
-    // Whether a line stands, and whether none is shown any more.
+    // Whether a line is there, and whether none is shown any more.
     stands: AtomicBool,
     is_over: AtomicBool,
-    // The bytes that were read of each file.
+    // The bytes that were read from each file.
     left_bytes: AtomicU64,
     right_bytes: AtomicU64,
     // The rows of each table, the parcels that were posted, and the partition of the first piece, plus one.
@@ -64,7 +66,7 @@ pub struct Progress<'a, R> {
     written_rows: AtomicU64,
 }
 
-// How many parts of so many rows the rows make.
+// How many parts of `size` rows the rows make.
 fn parts_of(rows: u64, size: u64) -> u64
     ensures { result ≡ parts rows size }
 {
@@ -74,7 +76,7 @@ fn parts_of(rows: u64, size: u64) -> u64
     rows.div_ceil(size)
 }
 
-// So many of these rows as this is of all, and never more than there are.
+// The same share of these rows as `this` is of `all`, and never more than there are.
 fn share_of(rows: u64, this: u64, all: u64) -> u64
     ensures { result ≡ share rows this all }
 {
@@ -84,8 +86,8 @@ fn share_of(rows: u64, this: u64, all: u64) -> u64
     (rows.saturating_mul(this) / all).min(rows)
 }
 
-// How many of the rows of both tables were handed to partitions, about, when so many parcels were posted. A sender has a list for
-// each partition, of blocks and a close.
+// About how many of the rows of both tables were handed to partitions, when this many parcels were
+// posted. A sender has a list for each partition, of blocks and a close.
 fn handed_rows(cuts: Cuts, rows: u64, posted: u64) -> u64
     ensures { result ≡ handed cuts rows posted }
 {
@@ -97,7 +99,8 @@ fn handed_rows(cuts: Cuts, rows: u64, posted: u64) -> u64
     share_of(rows, posted, lists.saturating_mul(blocks.saturating_add(1)))
 }
 
-// How many of the rows of the larger table were joined, about, when so many partitions were and so many pieces of the next one.
+// About how many of the rows of the larger table were joined, after this many partitions and this
+// many pieces of the next one.
 fn joined_rows(cuts: Cuts, rows: u64, behind: u64, pieces: u64) -> u64
     ensures { result ≡ joined cuts rows behind pieces }
 {
@@ -118,7 +121,7 @@ fn side_of_input(line: &Line<'_>) -> Option<Side> {
     }
 }
 
-// The milliseconds of a clock, 0 where it can't be read.
+// The milliseconds of a clock, or 0 if it can't be read.
 fn milliseconds<R: Clock>(rt: &R) -> u64 {
     match rt.monotonic() {
         Ok(time) => time
@@ -130,8 +133,8 @@ fn milliseconds<R: Clock>(rt: &R) -> u64 {
 }
 
 impl<'a, R: Clock> Progress<'a, R> {
-    /// That of a run which begins now. It is shown at once where the line asks for it, and else after two seconds. Where rows
-    /// go to a terminal, nothing is shown once they come.
+    /// The progress of a run that begins now. It is shown at once if the line asks for it, and else
+    /// after two seconds. If rows go to a terminal, nothing is shown once they come.
     pub fn of(rt: &'a R, line: &Line<'_>, terminals: Terminals) -> Progress<'a, R> {
         let patience = if line.progress { 0 } else { PATIENCE };
         let settings = &line.request.settings;
@@ -150,7 +153,7 @@ impl<'a, R: Clock> Progress<'a, R> {
         progress
     }
 
-    /// One that is never shown.
+    /// Progress that is never shown.
     pub(crate) fn hidden(rt: &'a R) -> Progress<'a, R> {
         let cuts = Cuts {
             workers: 1,
@@ -161,7 +164,7 @@ impl<'a, R: Clock> Progress<'a, R> {
         Progress::from(rt, 0, cuts, false)
     }
 
-    // One that is shown from a time of the clock on, where it is shown at all.
+    // Progress that is shown from a time of the clock on, if it is shown at all.
     fn from(rt: &'a R, from: u64, cuts: Cuts, is_shown: bool) -> Progress<'a, R> {
         Progress {
             rt,
@@ -182,12 +185,14 @@ impl<'a, R: Clock> Progress<'a, R> {
         }
     }
 
-    // Whether a side's table is written by hand, at a terminal that is standard input. Beside it nothing is shown.
+    // Whether a side's table is typed by hand, at a terminal that is standard input. Nothing is
+    // shown then.
     fn is_written_by_hand(&self, side: Side) -> bool {
         self.by_hand == Some(side)
     }
 
-    // Whether a further line of a step is to be shown. Of threads that ask at the same time one is told so.
+    // Whether a further line of a step is to be shown. Among threads that ask at the same time, one
+    // gets the answer yes.
     fn is_due(&self) -> bool {
         if self.is_over.load(Ordering::SeqCst) {
             return false;
@@ -202,7 +207,8 @@ impl<'a, R: Clock> Progress<'a, R> {
                 .is_ok()
     }
 
-    // Whether the first line of a step is to be shown, whose step may be a long one without a further line.
+    // Whether the first line of a step is to be shown. The step may be a long one without a further
+    // line.
     fn is_begun(&self) -> bool {
         if self.is_over.load(Ordering::SeqCst) {
             return false;
@@ -213,7 +219,7 @@ impl<'a, R: Clock> Progress<'a, R> {
         now >= self.from
     }
 
-    // The bytes that were read of a side's file.
+    // The bytes that were read from a side's file.
     fn bytes_of(&self, side: Side) -> &AtomicU64 {
         match side {
             Side::Left => &self.left_bytes,
@@ -221,14 +227,15 @@ impl<'a, R: Clock> Progress<'a, R> {
         }
     }
 
-    // The rows of both tables that were handed to partitions, about, when so many parcels were posted, and how many rows there are.
+    // About how many rows of both tables were handed to partitions, when this many parcels were
+    // posted, and how many rows there are.
     fn partitioned(&self, posted: u64) -> (u64, u64) {
         let left = self.left_rows.load(Ordering::SeqCst);
         let rows = left.saturating_add(self.right_rows.load(Ordering::SeqCst));
         (handed_rows(self.cuts, rows, posted), rows)
     }
 
-    // Notes that a worker has come to a piece of a partition, and tells whether it is the first one.
+    // Notes that a worker has come to a piece of a partition, and says whether it is the first one.
     fn is_first_piece(&self, partition: u32) -> bool {
         let number = u64::from(partition).saturating_add(1);
         self.first
@@ -236,8 +243,9 @@ impl<'a, R: Clock> Progress<'a, R> {
             .is_ok()
     }
 
-    // The rows of the larger table that were joined, about, before a piece of a partition, and how many it has. Pieces are joined in
-    // the order of their partitions. (Without a key the first partition is the only one.)
+    // About how many rows of the larger table were joined before a piece of a partition, and how
+    // many it has. Pieces are joined in the order of their partitions. (Without a key the first
+    // partition is the only one.)
     fn joined(&self, partition: u32, piece: u64) -> (u64, u64) {
         let left = self.left_rows.load(Ordering::SeqCst);
         let rows = left.max(self.right_rows.load(Ordering::SeqCst));
@@ -248,20 +256,20 @@ impl<'a, R: Clock> Progress<'a, R> {
 }
 
 impl<R: Clock + Eprint> Progress<'_, R> {
-    // Shows a line in the place of the one that stands.
+    // Shows a line in place of the current one.
     fn show(&self, message: Message) {
         self.stands.store(true, Ordering::SeqCst);
         let _ = eprint!(self.rt; "{CLEARED}{message}");
     }
 
-    /// Takes away the line that stands, so that something else can be written.
+    /// Clears the current line, so that something else can be written.
     pub fn clear(&self) {
         if self.stands.swap(false, Ordering::SeqCst) {
             let _ = eprint!(self.rt; "{CLEARED}");
         }
     }
 
-    /// The table of a side is read, which has about so many bytes, or none where that isn't known.
+    /// The table of a side is being read. It has about `size` bytes, or 0 if that isn't known.
     pub(crate) fn begin_file(&self, side: Side, size: u64) {
         if self.is_written_by_hand(side) {
             self.clear();
@@ -276,7 +284,8 @@ impl<R: Clock + Eprint> Progress<'_, R> {
         }
     }
 
-    /// So many bytes were read of a side's file, which has about so many, or none where that isn't known.
+    /// This many bytes were read from a side's file, which has about `size` bytes, or 0 if that
+    /// isn't known.
     pub(crate) fn read(&self, side: Side, bytes: u64, size: u64) {
         if self.is_written_by_hand(side) {
             return;
@@ -287,7 +296,7 @@ impl<R: Clock + Eprint> Progress<'_, R> {
         }
     }
 
-    /// Something is about to be written. Where that goes to a terminal, nothing is shown from now on.
+    /// Something is about to be written. If that goes to a terminal, nothing is shown from now on.
     pub(crate) fn before_output(&self) {
         if self.shares_terminal {
             self.is_over.store(true, Ordering::SeqCst);
@@ -295,7 +304,7 @@ impl<R: Clock + Eprint> Progress<'_, R> {
         }
     }
 
-    /// So many bytes were written.
+    /// This many bytes were written.
     pub(crate) fn wrote(&self, bytes: u64) {
         let rows = self.written_rows.load(Ordering::SeqCst);
         if rows > 0 && self.is_due() {

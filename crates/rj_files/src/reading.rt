@@ -1,4 +1,4 @@
-//! The bytes of a table, from a stream that is opened when it is its turn.
+//! The bytes of a table, from a stream that is opened only when they are needed.
 
 ghost use Rattle.std.specs.Prelude.{◌≡◌, ◌≢◌, ◌⊎◌, ℕ, List, Option, None, IfOk, IfErr};
 ghost use Rattle.std.specs.Io.KnownBytes.{Keeps};
@@ -13,40 +13,40 @@ use std::alloc::{AllocError, Global};
 use std::io::{self, ErrorKind, Read};
 use std::time::Clock;
 
-/// What gives the bytes of a table.
+/// A source of the bytes of a table.
 pub trait Stream {
-    /// What they are read from.
+    /// From what they are read.
     type Reader: Read + Drop;
 
-    // The bytes, where they are known before it is opened.
+    // The bytes, if they are known before it is opened.
     ghost tells: { Self → Option (List ℕ) } = { λ _. None };
 
-    /// Opens it, before anything of it is read.
+    /// Opens it, before anything is read from it.
     ///
     /// # Errors
     ///
-    /// The system's error where it can't be opened.
+    /// The system's error if it can't be opened.
     fn open(&self) -> io::Result<OpenStream<Self::Reader>>
         ensures { IfOk result (λ opened. Keeps (tells self.now) (Self.Reader.remaining opened.reader)) };
 
-    /// What explains that it can't be opened or read, as a line with two blanks in front.
+    /// A line, with two blanks in front, that explains why it can't be opened or read.
     ///
     /// # Errors
     ///
-    /// It fails only where memory is refused.
+    /// It fails only when memory runs out.
     fn explain_unread(&self, alloc: Global) -> Result<String, AllocError>;
 }
 
 /// A stream that was just opened.
 #[derive(Drop)]
 pub struct OpenStream<F> {
-    /// What it is read from.
+    /// From what it is read.
     pub reader: F,
-    /// About how many bytes it has, or 0 where that isn't known. It promises nothing.
+    /// About how many bytes it has, or 0 if that isn't known. This is only a hint.
     pub likely_size: u64,
 }
 
-/// The fault of a side's table that can't be opened.
+/// The error of a side's table that can't be opened.
 pub(crate) fn unopened(error: &io::Error, side: Side) -> Fault
     ensures memory { error_kind error.now ≡ ErrorKind.OutOfMemory → result ≡ Fault.Memory }
     ensures device { error_kind error.now ≢ ErrorKind.OutOfMemory → result ≡ Fault.ReadDevice side }
@@ -59,7 +59,7 @@ pub(crate) fn unopened(error: &io::Error, side: Side) -> Fault
     }
 }
 
-// The fault of a side's table that can't be read to its end.
+// The error of a side's table that can't be read to its end.
 fn unread(refused: ReadRefused, side: Side) -> Fault
     ensures memory { refused ≡ ReadRefused.Memory → result ≡ Fault.Memory }
     ensures device { refused ≢ ReadRefused.Memory → result ≡ Fault.ReadDevice side }
@@ -71,7 +71,7 @@ fn unread(refused: ReadRefused, side: Side) -> Fault
     }
 }
 
-/// The bytes of a reader, which are about so many, to its end.
+/// The bytes of a reader, to its end. There are about `likely_size` bytes.
 pub(crate) fn read_bytes<F: Read + Drop>(
     alloc: Global,
     reader: F,
@@ -88,7 +88,7 @@ pub(crate) fn read_bytes<F: Read + Drop>(
     }
 }
 
-/// The bytes of a side's table, to their end. It is shown meanwhile how many were read.
+/// The bytes of a side's table, to their end. Meanwhile the progress shows how many were read.
 pub(crate) fn read_stream<R: Eprint + Clock, S: Stream>(
     alloc: Global,
     stream: &S,

@@ -15,7 +15,7 @@ use std::sync::Wait;
 use std::thread::Threads;
 use std::time::Clock;
 
-// What explains that a side's table wasn't read.
+// The lines that explain why a side's table wasn't read.
 fn unread_lines<S: Stream>(
     alloc: Global,
     stream: &S,
@@ -28,7 +28,7 @@ fn unread_lines<S: Stream>(
     }
 }
 
-// The bytes of a side's table, or why they can't be read, explained where that is asked for.
+// The bytes of a side's table, or why they can't be read, explained if that is asked for.
 fn read_side<R: AllocGlobal + Eprint + Clock, S: Stream>(
     rt: &R,
     line: &Line<'_>,
@@ -74,16 +74,18 @@ fn read_both<R: AllocGlobal + Eprint + Clock, L: Stream, S: Stream>(
     }
 }
 
-/// Reads the tables that two streams give, each to its end, and writes what the line asks for behind what the writer has: what is
-/// chosen of their joined table, or with `--count` the line of how many rows of each kind that has. The right stream is opened when the
-/// left one was read to its end, and nothing is written before both are. The writer is given back, and the statistics where it is the
-/// joined table that was written.
+/// Reads the tables that two streams give, each to its end, and writes what the line asks for after
+/// what the writer already has. That is what is chosen of their joined table, or with `--count` the
+/// line of how many rows of each kind it has. The right stream is opened when the left one was read
+/// to its end, and nothing is written before both are. It returns the writer, and the statistics if
+/// the joined table was written.
 ///
 /// # Errors
 ///
-/// `ReadDevice` of the side whose stream can't be opened or read, and else the fault of [`run`](rj_command::run) or
-/// [`count`](rj_command::count) on the bytes of both, with the lines that explain it where the line asks for them. The writer is as it
-/// was, but after `WriteDevice`, when nothing is known of how much it took. `Memory` comes only where a growth was refused.
+/// `ReadDevice` of the side whose stream can't be opened or read, and else the error of
+/// [`run`](rj_command::run) or [`count`](rj_command::count) on the bytes of both, with the lines
+/// that explain it if the line asks for them. The writer is unchanged, except after `WriteDevice`,
+/// when it is unknown how much it took. `Memory` comes only when memory ran out.
 pub fn write_streams<R, L, S, W>(
     rt: &R,
     line: &Line<'_>,

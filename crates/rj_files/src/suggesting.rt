@@ -29,13 +29,14 @@ fn suggested<R: AllocGlobal + Eprint + Clock, S: Stream>(
     }
 }
 
-/// Reads the table that a stream gives, to its end, and writes a list of the types that its cells suggest behind what the writer has, as
-/// [`suggest_types`] makes it. The writer is given back.
+/// Reads the table that a stream gives, to its end, and writes a list of the types that its cells
+/// suggest after what the writer already has, as [`suggest_types`] makes it. It returns the writer.
 ///
 /// # Errors
 ///
-/// `ReadDevice` of the left side where the stream can't be opened or read, and else the fault of [`suggest_types`] on its bytes. The
-/// writer is as it was, but after `WriteDevice`. `Memory` comes only where a growth was refused.
+/// `ReadDevice` of the left side if the stream can't be opened or read, and else the error of
+/// [`suggest_types`] on its bytes. The writer stays as it was, except after `WriteDevice`. `Memory`
+/// comes only when memory ran out.
 pub fn write_suggested<R, S, W>(
     rt: &R,
     stream: &S,

@@ -1,4 +1,4 @@
-//! A reader and a writer that tell how many bytes went through them.
+//! A reader and a writer that report how many bytes went through them.
 
 ghost use Rattle.std.specs.Prelude.{◌≡◌};
 
@@ -13,7 +13,7 @@ pub(crate) struct WatchedReader<'a, R, S> {
     progress: &'a Progress<'a, R>,
     reader: S,
     side: Side,
-    // About how many bytes it gives, or none where that isn't known.
+    // About how many bytes it gives, or 0 if that isn't known.
     size: u64,
     read: u64,
 }

@@ -55,13 +55,14 @@ abbrev pub kept_answers : ℕ → ℕ → ℕ → List Parcel → List Parcel �
 kept_answers q n block ks [] = []
 kept_answers q n block ks (x ∷ xs) = kept_answer q n block ks x ∷ kept_answers q n block (keep (kept_answer q n block ks x) x ks) xs
 
--- the gap before the held parcels of the sender, the next number and the smallest held one; none where none is held
+-- the gap before the held parcels of the sender: the next number and the smallest held one; none if
+-- none is held
 abbrev pub IsGapIn : List Parcel → ℕ → Option (ℕ × ℕ) → Type 0
 IsGapIn ks s None = (m : ℕ) → next_in ks s ≤ m → body_in ks s m ≡ None
 IsGapIn ks s (Some gap) = (gap.0 ≡ next_in ks s) × (gap.0 < gap.1) × IsSome (body_in ks s gap.1)
     × ((m : ℕ) → next_in ks s ≤ m → m < gap.1 → body_in ks s m ≡ None)
 
--- what a ledger shows of a sender is read off the kept parcels
+-- what a ledger shows of a sender follows from the kept parcels
 pub record ShowsKept (ks : List Parcel) (s : ℕ) (t : Standing) : Type 0 where
   pub next : t.next ≡ next_in ks s
   pub closed : t.closed ≡ is_closed_in ks s

@@ -1,4 +1,5 @@
-//! Laws: each of these functions does nothing, and its contract is a fact about every ledger, list of parcels or plan.
+//! Laws: each of these functions does nothing; its contract is a theorem about every ledger, list
+//! of parcels or plan.
 
 ghost use Rattle.std.specs.Prelude.{List, slice_get, [], ◌++◌, ◌≡◌, ◌<◌, ◌+◌, ℕ, true, Some, length, All};
 ghost use Rattle.rj_ledger.specs.declared.parcel.Parcel.{Parcel};
@@ -11,28 +12,30 @@ ghost use Rattle.rj_ledger.specs.KeptRules.{ShowsKept, kept_answer, kept_answers
 ghost use Rattle.rj_ledger.specs.Lawful.{AreLawful, IsPlanned, HasAll, AreAmong, ContainsPlans, planned_answers};
 ghost use Rattle.rj_ledger.specs.Delivery.{Delivers, DeliversAll, AreExactly};
 
-/// An offer keeps a ledger in agreement with the kept parcels, whatever they are.
+/// If a ledger agrees with the kept parcels, it still does after an offer.
 pub fn offer_keeps()
     ensures { (ks : List Parcel) (v : LedgerValue) (x : Parcel) → Keeps ks v → Keeps (keep (answer_to v x) x ks) (after_offer v x) }
 {}
 
-/// No parcel is kept twice: an offer keeps none whose sender and number a kept one has.
+/// No parcel is kept twice: an offer doesn't keep one whose sender and number a kept one has.
 pub fn offer_keeps_once()
     ensures { (ks : List Parcel) (v : LedgerValue) (x : Parcel) → Keeps ks v
         → AreKeptOnce v.partition (length v.senders) ks → AreKeptOnce v.partition (length v.senders) (keep (answer_to v x) x ks) }
 {}
 
-/// Of any list each parcel is kept at most once.
+/// From any list each parcel is kept at most once.
 pub fn kept_once()
     ensures { (q n block : ℕ) (xs : List Parcel) → AreKeptOnce q n (kept xs (answers (opened q n block) xs)) }
 {}
 
-/// While a close is kept, be it held or delivered, an offer keeps no larger number of its sender.
+/// While a close is kept, whether it is held or delivered, an offer keeps no larger number of its
+/// sender.
 pub fn offer_keeps_close_last()
     ensures { (ks : List Parcel) (v : LedgerValue) (x : Parcel) → Keeps ks v → AreClosedLast ks → AreClosedLast (keep (answer_to v x) x ks) }
 {}
 
-/// Of any list the kept close of a sender is the last of its kept parcels, be it held or delivered.
+/// From any list the kept close of a sender is the last of its kept parcels, whether it is held or
+/// delivered.
 pub fn close_is_last()
     ensures { (q n block : ℕ) (xs : List Parcel) → AreClosedLast (kept xs (answers (opened q n block) xs)) }
 {}
@@ -48,14 +51,15 @@ pub fn replay_rules()
     ensures { (q n block : ℕ) (xs : List Parcel) → answers (opened q n block) xs ≡ kept_answers q n block [] xs }
 {}
 
-/// What a ledger shows of a sender, read off the parcels that it has kept: the next number is the least that none of them
-/// has, the rows are those of the parcels below it, by number, and the gap reaches to the smallest held number.
+/// What a ledger shows of a sender follows from the parcels that it has kept. The next number is
+/// the least that none of them has. The rows are those of the parcels below it, by number. The gap
+/// reaches to the smallest held number.
 pub fn shows_kept()
     ensures { (ks : List Parcel) (v : LedgerValue) → Keeps ks v → AreKeptOnce v.partition (length v.senders) ks
         → (s : ℕ) → s < length v.senders → ShowsKept ks s (standing v s) }
 {}
 
-/// An accepted parcel moves its sender's next number on by the count in the answer.
+/// An accepted parcel advances its sender's next number by the count in the answer.
 pub fn accepted_counts()
     ensures { (v : LedgerValue) (x : Parcel) (n : ℕ) → answer_to v x ≡ Accepted n
         → (standing (after_offer v x) x.sender).next ≡ (standing v x.sender).next + n }
@@ -66,24 +70,24 @@ pub fn closed_refuses()
     ensures { (v : LedgerValue) (x : Parcel) → (standing v x.sender).closed ≡ true → IsRefused (answer_to v x) }
 {}
 
-/// A complete ledger refuses each parcel, and stays as it is whatever is offered.
+/// A complete ledger refuses each parcel, and stays unchanged whatever is offered.
 pub fn complete_stays()
     ensures refuses { (v : LedgerValue) (x : Parcel) → IsComplete v → IsRefused (answer_to v x) }
     ensures stays { (v : LedgerValue) (xs : List Parcel) → IsComplete v → after_all v xs ≡ v }
 {}
 
-/// Whatever is offered, a ledger's partition, block size and number of senders stay.
+/// Whatever is offered, a ledger's partition, block size and number of senders stay the same.
 pub fn shape_stays()
     ensures { (v : LedgerValue) (xs : List Parcel) → IsSameShape v (after_all v xs) }
 {}
 
-/// Offering one list and then another is offering the two as one.
+/// Offering one list and then another is the same as offering both as one.
 pub fn offers_go_on()
     ensures answers { (v : LedgerValue) (xs ys : List Parcel) → answers v (xs ++ ys) ≡ answers v xs ++ answers (after_all v xs) ys }
     ensures ledger { (v : LedgerValue) (xs ys : List Parcel) → after_all v (xs ++ ys) ≡ after_all (after_all v xs) ys }
 {}
 
-/// Arrivals each of which is planned are lawful.
+/// Arrivals that are all planned are lawful.
 pub fn lawful_if_all()
     ensures { (due : ℕ → ℕ → List ℕ) (block : ℕ) (xs : List Parcel) → All (IsPlanned due block) xs → AreLawful due block xs }
 {}
@@ -106,7 +110,8 @@ pub fn offers_deliver()
         → Delivers due block q n xs (after_all (opened q n block) xs) }
 {}
 
-/// A parcel of a plan has the plan's sender and partition, its place there as its number, and carries what stands there.
+/// A parcel of a plan has the plan's sender and partition. Its number is its place in the plan, and
+/// it carries what is there.
 pub fn plan_is_placed()
     ensures { (block s p i : ℕ) (rows : List ℕ) (x : Parcel) → slice_get (plan block rows s p) i ≡ Some x → IsPlacedAt s p i (bodies block rows) x }
 {}
@@ -116,13 +121,13 @@ pub fn cut_is_planned()
     ensures { (due : ℕ → ℕ → List ℕ) (block s p i : ℕ) (x : Parcel) → slice_get (plan block (due s p) s p) i ≡ Some x → IsPlanned due block x }
 {}
 
-/// Arrivals among which the plans of all senders stand, in any order and number, are complete.
+/// Arrivals that contain the plans of all senders, in any order and number, are complete.
 pub fn all_plans_suffice()
     ensures { (due : ℕ → ℕ → List ℕ) (block q n : ℕ) (xs : List Parcel) → ((s : ℕ) → s < n → AreAmong (plan block (due s q) s q) xs) → HasAll due block q n xs }
 {}
 
-/// Planned arrivals that contain the plans of all senders, in any order and number, leave a ledger that is complete and has
-/// delivered of each sender what was due.
+/// Planned arrivals that contain the plans of all senders, in any order and number, leave a ledger
+/// that is complete and has delivered of each sender what was due.
 pub fn contained_suffice()
     ensures { (due : ℕ → ℕ → List ℕ) (block q n : ℕ) → 0 < block → (xs : List Parcel) → All (IsPlanned due block) xs
         → ContainsPlans due block q n xs → DeliversAll due q n (after_all (opened q n block) xs) }

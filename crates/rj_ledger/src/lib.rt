@@ -1,10 +1,12 @@
-//! Parcels, how the rows of one sender for one partition are cut into them, and the ledger that delivers each sender's
-//! parcels once and in number order, whatever the order in which they arrive.
+//! Parcels, how the rows of one sender for one partition are cut into them, and the ledger that
+//! delivers each sender's parcels once and in number order, whatever the order in which they
+//! arrive.
 //!
-//! A *sender* is the number of one stripe of one table. Its rows for a partition are cut by [`cut`] into numbered blocks
-//! and a close: its *plan*. A [`Ledger`] belongs to one partition. It answers each parcel that is offered to it by nine
-//! rules, keeps what it accepted or held, and shows for each sender the rows that were delivered so far. [`replay`] offers
-//! a whole list. The functions of `laws` do nothing: their contracts are the facts that callers conclude from.
+//! A *sender* is the number of one stripe of one table. [`cut`] cuts its rows for a partition into
+//! numbered blocks and a close: its *plan*. A [`Ledger`] belongs to one partition. It answers each
+//! offered parcel by nine rules, keeps what it accepted or held, and shows for each sender the rows
+//! that were delivered so far. [`replay`] offers a whole list. The functions of `laws` do nothing;
+//! their contracts are the theorems that callers use.
 #![tactic(auto)]
 
 mod cutting;

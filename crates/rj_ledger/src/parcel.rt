@@ -1,4 +1,4 @@
-//! Parcels, and what a ledger answers to one.
+//! Parcels, and the answers of a ledger.
 
 ghost use Rattle.std.specs.Prelude.{◌≡◌, ℕ, List, length};
 
@@ -19,7 +19,7 @@ impl Model for Block {
 }
 
 impl Block {
-    /// A block of these rows. It takes no memory.
+    /// A block of these rows. It allocates no memory.
     pub fn new(rows: Vec<u32>) -> Self
         ensures { result ≡ rows.items }
     {
@@ -33,7 +33,7 @@ impl Block {
         self.rows.as_slice()
     }
 
-    /// The rows, given back. It takes no memory.
+    /// The rows, moved out. It allocates no memory.
     pub fn into_rows(self) -> Vec<u32>
         ensures { result.items ≡ self }
     {
@@ -47,16 +47,17 @@ impl Block {
 pub enum Body {
     /// Rows of its sender, in their order. A ledger takes a block of at least one row, and of no more than its block size.
     Rows(Block),
-    /// The end of what its sender sends for the partition.
+    /// The end of what its sender sends to the partition.
     Close,
 }
 
-/// One parcel of one sender for one partition. What comes from outside may carry any numbers: a ledger tests them all.
+/// One parcel of one sender for one partition. What comes from outside may carry any numbers: a
+/// ledger tests them all.
 #[derive(Drop)]
 pub struct Parcel {
     /// The number of the stripe whose rows it carries.
     pub sender: u32,
-    /// The partition that it is for.
+    /// The partition for which it is.
     pub partition: u32,
     /// Its place in its sender's plan for the partition, counted from 0.
     pub number: u64,
@@ -64,7 +65,8 @@ pub struct Parcel {
     pub body: Body,
 }
 
-/// Why a parcel was refused. The reasons are tested in this order, and the first that fits is told.
+/// Why a parcel was refused. The reasons are tested in this order, and the first that fits is
+/// reported.
 #[derive(Clone, Copy, Debug, Drop, PartialEq, Eq)]
 pub enum Reason {
     /// It is for another partition than the ledger's.
@@ -86,11 +88,11 @@ pub enum Reason {
 /// The answer to an offered parcel.
 #[derive(Clone, Copy, Debug, Drop, PartialEq, Eq)]
 pub enum Answer {
-    /// This many parcels were delivered by the offer: the offered one, whose number was the next one, and the held ones
-    /// that follow it without a gap, a close counted too.
+    /// The offer delivered this many parcels: the offered one, whose number was the next one, and
+    /// the held ones that follow it without a gap. A close counts too.
     Accepted(u64),
     /// Kept until the gap before its number is filled.
     Held,
-    /// The ledger is as it was.
+    /// The ledger stays as it was.
     Refused(Reason),
 }

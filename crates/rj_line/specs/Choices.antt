@@ -31,11 +31,11 @@ abbrev pub is_kind : Text → Bool
 is_kind word =
     bytes_eq word (codes "pairs") || (bytes_eq word (codes "matched-left") || (bytes_eq word (codes "lone-left") || bytes_eq word (codes "lone-right")))
 
--- a word stands once among words where this says so, and else not at all
+-- if the flag is set, a word occurs once among words, and else not at all
 abbrev pub StandsWhere : Text → List Text → Bool → Type 0
 StandsWhere word words says = count_by (λ w. bytes_eq w word) words ≡ (if says then 1 else 0)
 
--- these words name these kinds of rows, each once, and not both pairs and left rows that are in a pair
+-- these words name these kinds of rows, each once, and not both matches and matched left rows
 pub record AreKinds (words : List Text) (k : RowKinds) : Type 0 where
   pub known : list_all is_kind words ≡ true
   pub pairs : StandsWhere (codes "pairs") words k.pairs
@@ -44,11 +44,12 @@ pub record AreKinds (words : List Text) (k : RowKinds) : Type 0 where
   pub lone_right : StandsWhere (codes "lone-right") words k.lone_right
   pub apart : (k.pairs && k.matched_left) ≡ false
 
--- the kinds of rows that are written where nothing is said: all members of the joined table
+-- the default kinds of rows: all members of the joined table
 abbrev pub members : RowKinds
 members = record { pairs = true; matched_left = false; lone_left = true; lone_right = true }
 
--- the kinds of rows that an option's value names, separated by commas, or the members of the joined table where it has none
+-- the kinds of rows that an option's value names, separated by commas, or the members of the joined
+-- table if it has none
 abbrev pub AreRowsOf : Option Text → RowKinds → Type 0
 AreRowsOf None k = k ≡ members
 AreRowsOf (Some text) k = AreKinds (slice_split (λ b. b == 44) text) k
@@ -57,12 +58,12 @@ AreRowsOf (Some text) k = AreKinds (slice_split (λ b. b == 44) text) k
 abbrev pub GivesNoRows : Option Text → Type 0
 GivesNoRows word = (k : RowKinds) → AreRowsOf word k → ⊥
 
--- the columns that an option's value names, all where it has none
+-- the columns that an option's value names, or all if it has none
 abbrev pub AreColumnsOf : Option Text → ColumnChoice → Type 0
 AreColumnsOf word c = IsNamedOr columns_name column.All word c
 
--- what an option's value says of names that stand twice: the words `keep` and `qualify`, and any other text of 1 to 16 bytes that is
--- added; they are kept where it has none
+-- what an option's value says of names that occur twice: the words `keep` and `qualify`, and any
+-- other text of 1 to 16 bytes, which is added; they are kept if it has none
 abbrev pub IsRepeatedOf : Option Text → Repeated → Type 0
 IsRepeatedOf None r = r ≡ repeated.Kept
 IsRepeatedOf (Some text) repeated.Kept = text ≡ codes "keep"
@@ -70,7 +71,8 @@ IsRepeatedOf (Some text) repeated.Qualified = text ≡ codes "qualify"
 IsRepeatedOf (Some text) (repeated.Suffixed suffix) =
     (suffix.now ≡ text) × (text ≢ codes "keep") × (text ≢ codes "qualify") × (1 ≤ length text) × (length text ≤ 16)
 
--- what the values of the options choose; left rows that are in a pair are chosen with the columns of the left table alone
+-- what the values of the options choose; matched left rows are chosen only with the columns of the
+-- left table alone
 pub record IsChoiceOf (word : Text → Option Text) (c : Choice) : Type 0 where
   pub rows : AreRowsOf (word (codes "rows")) c.rows
   pub order : IsNamedOr order_name order.PairsFirst (word (codes "order")) c.order
@@ -78,7 +80,7 @@ pub record IsChoiceOf (word : Text → Option Text) (c : Choice) : Type 0 where
   pub of_left : c.rows.matched_left ≡ true → c.columns ≡ column.Left
   pub repeated : IsRepeatedOf (word (codes "repeated")) c.repeated
 
--- left rows that are in a pair are asked for, and not the columns of the left table alone
+-- matched left rows are asked for, but not only the columns of the left table
 abbrev pub AreColumnsMissing : (Text → Option Text) → Type 0
 AreColumnsMissing word =
     ((k : RowKinds) × AreRowsOf (word (codes "rows")) k × (k.matched_left ≡ true)) × (AreColumnsOf (word (codes "columns")) column.Left → ⊥)
@@ -88,8 +90,8 @@ abbrev pub AreRowsChosen : (Text → Option Text) → Type 0
 AreRowsChosen word =
     (k : RowKinds) × AreRowsOf (word (codes "rows")) k × (k.matched_left ≡ true → AreColumnsOf (word (codes "columns")) column.Left)
 
--- why the values of the options choose nothing that can be written: no kinds of rows, then columns that don't go with them, then a text
--- that can't be added to a name; or want of memory
+-- why the values of the options choose nothing that can be written: no kinds of rows, then columns
+-- that don't go with them, then a text that can't be added to a name; or memory ran out
 abbrev pub IsChoiceFault : (Text → Option Text) → Fault → Type 0
 IsChoiceFault word fault.BadRows = GivesNoRows (word (codes "rows"))
 IsChoiceFault word fault.MatchedLeftColumns = AreColumnsMissing word

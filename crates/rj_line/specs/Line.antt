@@ -39,31 +39,32 @@ words_of h words name = unwrap_or (all_of name (matches_of (line_app h) words)) 
 abbrev pub texts_found : Found → Text → List Text
 texts_found found name = unwrap_or (option_map raw_values (matched_of found name)) []
 
--- the null texts of a table: its own, or where it has none the one that is the default of all
+-- the NULL texts of a table: its own, or the default of all if it has none
 abbrev pub nulls_or : List Text → Text → List Text
 nulls_or [] null = null ∷ []
 nulls_or (text ∷ texts) null = text ∷ texts
 
--- the text that stands for null where nothing else is said
+-- the default text for NULL
 abbrev pub null_word : (Text → Option Text) → Text
 null_word word = unwrap_or (word (codes "null")) []
 
--- the text is a numeral of this number, where a sign may stand first
+-- the text is a numeral of this number, perhaps with a sign before it
 abbrev pub Spells : Text → ℕ → Type 0
 Spells text n = IsNumeral 10 (without_leading_sign text) × (signed_digits_value 10 text ≡ pos n)
 
--- the number that an option's value spells, or another one where it has none
+-- the number that an option's value spells, or another one if it has none
 abbrev pub IsNumberOr : ℕ → Option Text → ℕ → Type 0
 IsNumberOr other None n = n ≡ other
 IsNumberOr other (Some text) n = Spells text n
 
--- an option's value, where it has one, is a number from the least to the most
+-- an option's value, if it has one, is a number from the least to the most
 abbrev pub IsNumberIn : ℕ → ℕ → Option Text → Type 0
 IsNumberIn least most None = Unit {0}
 IsNumberIn least most (Some text) = IsSignedIn (pos least) (pos most) text
 
--- each setting is its option's number, or where it is not given: one worker, 16 partitions that are not parted further, blocks
--- of 1,024 rows, one lane of 64 parcels, one retry, and pieces of 65,536 rows
+-- each setting is its option's number or its default: one worker, 16 partitions that are not
+-- divided further, blocks of 1,024 rows, one lane of 64 parcels, one retry, and pieces of 65,536
+-- rows
 pub record AreSettings (word : Text → Option Text) (s : Settings) : Type 0 where
   pub workers : IsNumberOr 1 (word (codes "workers")) s.workers
   pub bits1 : IsNumberOr 4 (word (codes "bits1")) s.bits1
@@ -79,13 +80,13 @@ abbrev pub hash_name : Hash → Text
 hash_name hash.Plain = codes "plain"
 hash_name hash.Mixed = codes "mixed"
 
--- the name of an expectation of the pairs
+-- the name of an expectation of the matches
 abbrev pub matching_name : Matching → Text
 matching_name matching.OneToOne = codes "one-to-one"
 matching_name matching.ManyToOne = codes "many-to-one"
 matching_name matching.OneToMany = codes "one-to-many"
 
--- the number that an option's value spells, where it has one
+-- the number that an option's value spells, if it has one
 abbrev pub SpellsSome : Option Text → Option ℕ → Type 0
 SpellsSome None n = n ≡ None
 SpellsSome (Some text) None = ⊥
@@ -96,19 +97,19 @@ pub record IsExpectationOf (word : Text → Option Text) (e : Expectation) : Typ
   pub matching : option_map matching_name e.matching ≡ word (codes "expect")
   pub most_rows : SpellsSome (word (codes "max-rows")) e.most_rows
 
--- how strictly an option's value says that files are read, `Off` where it has none
+-- how strictly files are read by an option's value, `Off` if it has none
 abbrev pub IsStrictness : Option Text → Strictness → Type 0
 IsStrictness None s = s ≡ strictness.Off
 IsStrictness (Some text) strictness.Off = ⊥
 IsStrictness (Some text) strictness.On = text ≡ codes "on"
 IsStrictness (Some text) strictness.Full = text ≡ codes "full"
 
--- an option's value, where it has one, is the name of such a reading
+-- an option's value, if it has one, is the name of such a reading
 abbrev pub IsStrictName : Option Text → Type 0
 IsStrictName None = Unit {0}
 IsStrictName (Some text) = (text ≡ codes "on") ⊎ (text ≡ codes "full")
 
--- a flag's value is `true` where it is given
+-- a flag's value is `true` if it is given
 abbrev pub is_true : Option Text → Bool
 is_true None = false
 is_true (Some text) = bytes_eq text (codes "true")
@@ -117,7 +118,7 @@ is_true (Some text) = bytes_eq text (codes "true")
 abbrev pub GivesTypes : Option Text → List TypeEntry → Type 0
 GivesTypes word types = (text : Text) × (word ≡ Some text) × IsTypeList text types
 
--- an option's value is no type list
+-- an option's value isn't a type list
 abbrev pub GivesNoTypes : Option Text → Type 0
 GivesNoTypes word = (text : Text) × (word ≡ Some text) × ((types : List TypeEntry) → IsTypeList text types → ⊥)
 
@@ -138,7 +139,8 @@ pub record IsRequestOf (word : Text → Option Text) (texts : Text → List Text
   pub expectation : IsExpectationOf word r.expectation
   pub report : r.report ≡ is_true (word (codes "report"))
 
--- `clap` has no fault to tell, each option that is required is given, and each value is the one given or the default
+-- `clap` has no error to report, each option that is required is given, and each value is the one
+-- given or the default
 pub record IsLineOf (words : List Text) (l : Line) : Type 0 where
   pub option_words : OptionWords
   pub accepted : fault_of (line_app option_words) words ≡ []
@@ -157,12 +159,13 @@ GiveTypes word =
     ((types : List TypeEntry) × GivesTypes (word (codes "left-types")) types)
     × ((types : List TypeEntry) × GivesTypes (word (codes "right-types")) types)
 
--- and no more than four null texts are given for either table
+-- and at most four NULL texts are given for either table
 abbrev pub AreTablesGiven : (Text → Option Text) → (Text → List Text) → Type 0
 AreTablesGiven word texts = GiveTypes word × (length (texts (codes "left-null")) ≤ 4) × (length (texts (codes "right-null")) ≤ 4)
 
--- why the values of the options ask for nothing that can be done: a bad type list on the left, then one on the right, then too many
--- null texts on the left, then on the right, then what is chosen of the joined table; or want of memory
+-- why the values of the options ask for nothing that can be done: a bad type list on the left, then
+-- one on the right, then too many NULL texts on the left, then on the right, then what is chosen of
+-- the joined table; or memory ran out
 abbrev pub IsRequestFault : (Text → Option Text) → (Text → List Text) → Fault → Type 0
 IsRequestFault word texts (fault.BadTypeList side.Left) = GivesNoTypes (word (codes "left-types"))
 IsRequestFault word texts (fault.BadTypeList side.Right) =
@@ -173,18 +176,18 @@ IsRequestFault word texts (fault.TooManyNulls side.Right) =
 IsRequestFault word texts fault.Memory = Unit {0}
 IsRequestFault word texts f = AreTablesGiven word texts × IsChoiceFault word f
 
--- an error of `clap`'s: want of memory, or one of a kind that it may tell of the words
+-- an error of `clap`: out of memory, or one of a kind that it may report of the words
 abbrev pub IsParseError : List Text → Error → Type 0
 IsParseError words e = (kind_of e ≡ OutOfMemory) ⊎ ((h : OptionWords) × IsAmong (kind_of e) (fault_of (line_app h) words))
 
--- an error of `clap`'s of a kind that it may tell of the words, and no want of memory; or where it has none to tell, a fault of the values;
--- or want of memory
+-- an error of `clap` of a kind that it may report of the words, other than out of memory; or if it
+-- has none to report, an error of the values; or memory ran out
 abbrev pub IsLineFault : List Text → Fault → Type 0
 IsLineFault words (fault.CommandLine e) = (kind_of e ≢ OutOfMemory) × ((h : OptionWords) × IsAmong (kind_of e) (fault_of (line_app h) words))
 IsLineFault words fault.Memory = Unit {0}
 IsLineFault words f = (h : OptionWords) × (fault_of (line_app h) words ≡ []) × IsRequestFault (word_of h words) (words_of h words) f
 
--- the numbers that are given are in their limits
+-- the numbers that are given are within their limits
 pub record AreNumbersIn (word : Text → Option Text) : Type 0 where
   pub bits1 : IsNumberIn 0 10 (word (codes "bits1"))
   pub bits2 : IsNumberIn 0 10 (word (codes "bits2"))
@@ -195,8 +198,8 @@ pub record AreNumbersIn (word : Text → Option Text) : Type 0 where
   pub retries : IsNumberIn 0 3 (word (codes "retries"))
   pub piece : IsNumberIn 1 1048576 (word (codes "piece"))
 
--- the values that a request is read from: those that must be given are, each number is in its limits, and each word is one of its
--- option's
+-- the values from which a request is read: those that are required are given, each number is within
+-- its limits, and each word is one of its option's
 pub record HasValues (word : Text → Option Text) : Type 0 where
   pub left_types : is_some (word (codes "left-types")) ≡ true
   pub right_types : is_some (word (codes "right-types")) ≡ true
@@ -209,7 +212,7 @@ pub record HasValues (word : Text → Option Text) : Type 0 where
   pub expect : IsNameOf matching_name (word (codes "expect"))
   pub most_rows : IsNumberIn 0 4294967295 (word (codes "max-rows"))
 
--- the matches of the words, with the names of both files, and the values that a request is read from
+-- the parsed words, with the names of both files, and the values from which a request is read
 pub record IsParseOf (words : List Text) (m : ArgMatches) : Type 0 where
   pub option_words : OptionWords
   pub accepted : fault_of (line_app option_words) words ≡ []

@@ -13,7 +13,7 @@ use Rattle.rj_line.specs.declared.options.LineOption.{LineOption}
 use Rattle.rj_line.specs.declared.options.Takes.{Takes}
 use Rattle.rj_line.specs.declared.options.Takes.TheVariants as takes
 
--- a long option with one of these words, or with none, for which another text stands
+-- a long option with one of these words, or with none, which means another text
 abbrev pub word_or_none : Text → Bor (List (Bor Text)) → Text → Rule
 word_or_none name words other =
     record (new_rule name) {
@@ -39,7 +39,7 @@ rule_for name takes.Nothing = record (new_rule name) { long = Some name; action 
 abbrev pub rule_of_option : LineOption → Rule
 rule_of_option o = rule_for o.name.now o.takes
 
--- the words that options take, wherever they stand in memory
+-- the words that options take, wherever they are in memory
 pub record OptionWords : Type 0 where
   pub hashes : Bor (List (Bor Text))
   pub are_hashes : map (λ w. w.now) hashes.now ≡ codes "plain" ∷ codes "mixed" ∷ []
@@ -88,7 +88,7 @@ option_rules h =
     ∷ rule_for (codes "progress") takes.Nothing
     ∷ []
 
--- a command with these rules more
+-- a command with these further rules
 abbrev pub with_rules : App → List Rule → App
 with_rules app [] = app
 with_rules app (r ∷ rules) = with_rules (with_rule app r) rules
@@ -97,7 +97,7 @@ with_rules app (r ∷ rules) = with_rules (with_rule app r) rules
 abbrev pub line_app : OptionWords → App
 line_app h = with_rules (on_top (λ s. record s { has_version = true; no_binary_name = true }) (new_app (codes "radixjoin"))) (option_rules h)
 
--- a command with the arguments of these rules more, each added in turn
+-- a command with the arguments of these further rules, each added in turn
 abbrev pub IsChain : Command → List Rule → Command → Type 0
 IsChain start rules command = (arguments : List Arg) × AddsInTurn AddsArg start arguments command × (map rule_of arguments ≡ rules)
 

@@ -29,14 +29,14 @@ fn are_kinds(words: &[&str]) -> bool
     words.iter().all(|word| is_kind(word))
 }
 
-// How often a word stands among words.
+// How often a word is among words.
 fn times(words: &[&str], word: &str) -> usize
     ensures { result ≡ count_by (λ w. bytes_eq w word.now) (map (λ w. w.now) words.now) }
 {
     words.iter().filter(|other| **other == word).count()
 }
 
-// Whether a word stands among words, or none where it stands there more than once.
+// Whether a word is among words, or none if it is there more than once.
 fn stands_once(words: &[&str], word: &str) -> Option<bool>
     ensures { MatchOption result ((says : Bool) → StandsWhere word.now (map (λ w. w.now) words.now) says → ⊥) (StandsWhere word.now (map (λ w. w.now) words.now)) }
 {
@@ -47,7 +47,8 @@ fn stands_once(words: &[&str], word: &str) -> Option<bool>
     }
 }
 
-// The kinds of rows that these words name, or none where they name none, one twice, or both pairs and left rows in a pair.
+// The kinds of rows that these words name. None if they name no kind, one twice, or both matches
+// and matched left rows.
 fn kinds_of(words: &[&str]) -> Option<RowKinds>
     ensures { MatchOption result ((k : RowKinds) → AreKinds (map (λ w. w.now) words.now) k → ⊥) (AreKinds (map (λ w. w.now) words.now)) }
 {
@@ -96,7 +97,7 @@ fn words_between_commas(alloc: Global, text: &str) -> Result<Vec<&str>, AllocErr
     text.split(',').collect(alloc)
 }
 
-// The order that is named, or pairs first where none is.
+// The order that is named, or pairs first if none is.
 fn order_of(matches: &ArgMatches<'_>) -> RowOrder
     requires { IsNameOf order_name (first_value (found_of matches.now) (codes "order")) }
     ensures { IsNamedOr order_name RowOrder.PairsFirst (first_value (found_of matches.now) (codes "order")) result }
@@ -107,7 +108,7 @@ fn order_of(matches: &ArgMatches<'_>) -> RowOrder
     }
 }
 
-// The columns that are named, or all where none are.
+// The columns that are named, or all if none are.
 fn columns_of(matches: &ArgMatches<'_>) -> ColumnChoice
     requires { IsNameOf columns_name (first_value (found_of matches.now) (codes "columns")) }
     ensures { AreColumnsOf (first_value (found_of matches.now) (codes "columns")) result }
@@ -122,7 +123,7 @@ fn columns_of(matches: &ArgMatches<'_>) -> ColumnChoice
 // The most bytes that are added to a name at once.
 const LONGEST_SUFFIX: usize = 16;
 
-// What becomes of names that stand twice.
+// What becomes of names that occur twice.
 fn repeated_of<'a>(matches: &ArgMatches<'a>) -> Result<Repeated<'a>, Fault>
     ensures repeated { IfOk result (IsRepeatedOf (first_value (found_of matches.now) (codes "repeated"))) }
     ensures fault { IfErr result (λ f. (f ≡ Fault.BadSuffix) × ((r : Repeated) → IsRepeatedOf (first_value (found_of matches.now) (codes "repeated")) r → ⊥)) }
@@ -140,7 +141,7 @@ fn repeated_of<'a>(matches: &ArgMatches<'a>) -> Result<Repeated<'a>, Fault>
     }
 }
 
-// Whether the columns of the left table alone are chosen.
+// Whether only the columns of the left table are chosen.
 fn is_left(columns: ColumnChoice) -> bool
     ensures { IsTrue result ↔ (columns ≡ ColumnChoice.Left) }
 {
@@ -154,8 +155,9 @@ fn is_left(columns: ColumnChoice) -> bool
 ///
 /// # Errors
 ///
-/// `BadRows` where `--rows` has no list of kinds of rows, and then `MatchedLeftColumns` where it names left rows that are in a pair
-/// and `--columns` isn't `left`, and then `BadSuffix` where a text that is added to names has no byte or more than 16. `Memory` comes only where a growth was refused.
+/// `BadRows` if `--rows` isn't a list of kinds of rows; then `MatchedLeftColumns` if it names
+/// matched left rows and `--columns` isn't `left`; then `BadSuffix` if a text to be added to names
+/// has no byte or more than 16. `Memory` comes only when memory ran out.
 pub(crate) fn choice_of<'a>(alloc: Global, matches: &ArgMatches<'a>) -> Result<Choice<'a>, Fault>
     requires order { IsNameOf order_name (first_value (found_of matches.now) (codes "order")) }
     requires columns { IsNameOf columns_name (first_value (found_of matches.now) (codes "columns")) }

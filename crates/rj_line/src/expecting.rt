@@ -8,7 +8,7 @@ ghost use Rattle.rj_line.specs.Named.{IsNameOf};
 use clap::ArgMatches;
 use rj_settings::{Expectation, Matching};
 
-// How rows may be paired, where it is said.
+// How rows may be matched, if the option is given.
 fn matching_of(matches: &ArgMatches<'_>) -> Option<Matching>
     requires { IsNameOf matching_name (first_value (found_of matches.now) (codes "expect")) }
     ensures { option_map matching_name result ≡ first_value (found_of matches.now) (codes "expect") }
@@ -21,7 +21,7 @@ fn matching_of(matches: &ArgMatches<'_>) -> Option<Matching>
     }
 }
 
-/// The number of an option, where it is given.
+/// The number of an option, if it is given.
 pub(crate) fn number_of(matches: &ArgMatches<'_>, name: &str) -> Option<u32>
     requires { IsNumberIn 0 (2 ^ 32 - 1) (first_value (found_of matches.now) name.now) }
     ensures { SpellsSome (first_value (found_of matches.now) name.now) result }

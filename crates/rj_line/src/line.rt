@@ -27,17 +27,17 @@ pub struct Line<'a> {
     pub request: Request<'a>,
     /// Whether the statistics are asked for.
     pub stats: bool,
-    /// Whether a fault is explained by further lines.
+    /// Whether an error is explained by further lines.
     pub explain: bool,
-    /// The name of the file that the result is written to, in place of standard output.
+    /// The name of the file to which the result is written, in place of standard output.
     pub output: Option<&'a str>,
     /// Whether the numbers of rows are asked for in place of the rows.
     pub count: bool,
-    /// Whether it is shown from the beginning how far the run is.
+    /// Whether the progress of the run is shown from the beginning.
     pub progress: bool,
 }
 
-// The matches of the words.
+// The parsed words, as `clap` matches them.
 fn parse_words<'a>(alloc: Global, words: &'a [&'a str]) -> Result<ArgMatches<'a>, Error>
     ensures ok { IfOk result (IsParseOf (map (λ w. w.now) words.entry.now)) }
     ensures error { IfErr result (IsParseError (map (λ w. w.now) words.entry.now)) }
@@ -57,7 +57,7 @@ fn given<'a>(matches: &ArgMatches<'a>, name: &str) -> &'a str
     matches.get_str(name).unwrap()
 }
 
-// The number of an option, or another one where it is not given.
+// The number of an option, or another one if it is not given.
 fn number_or(matches: &ArgMatches<'_>, name: &str, other: u32) -> u32
     requires { IsNumberIn 0 (2 ^ 32 - 1) (first_value (found_of matches.now) name.now) }
     ensures { IsNumberOr other (first_value (found_of matches.now) name.now) result }
@@ -65,8 +65,8 @@ fn number_or(matches: &ArgMatches<'_>, name: &str, other: u32) -> u32
     number_of(matches, name).unwrap_or(other)
 }
 
-// The settings of a join: where nothing else is asked, one worker, 16 partitions that are not parted further, blocks of
-// 1,024 rows, one lane of 64 parcels, one retry, and pieces of 65,536 rows.
+// The settings of a join. The defaults are one worker, 16 partitions that are not divided further,
+// blocks of 1,024 rows, one lane of 64 parcels, one retry, and pieces of 65,536 rows.
 fn settings_of(matches: &ArgMatches<'_>) -> Settings
     requires { AreNumbersIn (first_value (found_of matches.now)) }
     ensures { AreSettings (first_value (found_of matches.now)) result }
@@ -83,7 +83,7 @@ fn settings_of(matches: &ArgMatches<'_>) -> Settings
     }
 }
 
-// The hash that is named, or the plain one where none is.
+// The hash that is named, or the plain one if none is.
 fn hash_of(matches: &ArgMatches<'_>) -> Hash
     requires { IsNameOf hash_name (first_value (found_of matches.now) (codes "hash")) }
     ensures { IsNamedOr hash_name Hash.Plain (first_value (found_of matches.now) (codes "hash")) result }
@@ -155,10 +155,10 @@ fn request_of<'a>(alloc: Global, matches: &ArgMatches<'a>) -> Result<Request<'a>
 ///
 /// # Errors
 ///
-/// A line that `clap` refuses, or that asks for help or the version, is `Fault::CommandLine`, and one that it has no memory for
-/// `Fault::Memory`; a bad type list is told
-/// after that, the left one before the right one, and then more than four null texts on the left, and on the right, then a bad
-/// list of kinds of rows, then `MatchedLeftColumns`, and then a bad suffix. `Fault::Memory` comes only where a growth was refused.
+/// `CommandLine` for a line that `clap` refuses, or that asks for help or the version. Then come,
+/// in this order: a bad type list, the left one before the right one; more than four NULL texts on
+/// the left, and on the right; a bad list of kinds of rows; `MatchedLeftColumns`; and a bad suffix.
+/// `Memory` comes only when memory ran out.
 pub fn read_line<'a>(alloc: Global, words: &'a [&'a str]) -> Result<Line<'a>, Fault>
     ensures line { IfOk result (IsLineOf (map (λ w. w.now) words.entry.now)) }
     ensures fault { IfErr result (IsLineFault (map (λ w. w.now) words.entry.now)) }

@@ -1,4 +1,4 @@
-//! The null texts of a table.
+//! The NULL texts of a table.
 
 ghost use Rattle.std.specs.Prelude.{◌≡◌, ◌≢◌, ◌<◌, ◌≤◌, ◌∷◌, [], IfOk, IfErr, length};
 ghost use Rattle.clap.specs.Words.{found_of};
@@ -9,7 +9,7 @@ use clap::ArgMatches;
 use rj_fault::{Fault, Side};
 use std::alloc::Global;
 
-// How many texts may stand for null in one table.
+// How many texts may stand for NULL in one table.
 const MOST_NULLS: usize = 4;
 
 // A list of these texts.
@@ -39,7 +39,7 @@ fn list_of_one<'a>(alloc: Global, text: &'a str) -> Result<Vec<&'a str>, Fault>
     }
 }
 
-// The null texts of a side: these, or where there are none the other one.
+// The NULL texts of a side: these, or if there are none the other one.
 fn list_or<'a>(
     alloc: Global,
     texts: &[&'a str],
@@ -59,11 +59,11 @@ fn list_or<'a>(
     list_of(alloc, texts)
 }
 
-/// The null texts of a side: those that an option's uses give, or where it isn't used the other one.
+/// The NULL texts of a side: those that an option's uses give, or the other one if it isn't used.
 ///
 /// # Errors
 ///
-/// `TooManyNulls` where they are more than four. `Memory` comes only where a growth was refused.
+/// `TooManyNulls` if there are more than four. `Memory` comes only when memory ran out.
 pub fn read_nulls<'a>(
     alloc: Global,
     matches: &ArgMatches<'a>,

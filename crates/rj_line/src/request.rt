@@ -3,12 +3,13 @@
 use rj_settings::{Choice, Expectation, Settings};
 use rj_types::TypeEntry;
 
-/// The hash of a row's key, whose bits lead the row to its partition. No choice changes the rows of a join.
+/// The hash of a row's key, whose bits choose the row's partition. No choice changes the rows of a
+/// join.
 #[derive(Clone, Copy)]
 pub enum Hash {
     /// The digits of the key in base 31, modulo 2^64.
     Plain,
-    /// The plain hash with its bits mixed, which spreads keys that lie close together.
+    /// The plain hash with its bits mixed, which spreads keys that are close together.
     Mixed,
 }
 
@@ -30,11 +31,11 @@ pub struct Request<'a> {
     pub left_types: Vec<TypeEntry>,
     /// The types of the right table's columns.
     pub right_types: Vec<TypeEntry>,
-    /// The texts that stand for null in the left table.
+    /// The texts that stand for NULL in the left table.
     pub left_nulls: Vec<&'a str>,
-    /// The texts that stand for null in the right table.
+    /// The texts that stand for NULL in the right table.
     pub right_nulls: Vec<&'a str>,
-    /// The text that is written for null.
+    /// The text that is written for NULL.
     pub out_null: &'a str,
     /// Whether their texts have to be of RFC 4180's grammar.
     pub strict: Strictness,
@@ -44,12 +45,12 @@ pub struct Request<'a> {
     pub settings: Settings,
     /// The hash that partitions the rows.
     pub hash: Hash,
-    /// Whether the statistics tell the number of pieces.
+    /// Whether the statistics have the number of pieces.
     pub tells_pieces: bool,
     /// What is written of the joined table.
     pub choice: Choice<'a>,
     /// What is expected of the joined table.
     pub expectation: Expectation,
-    /// Whether it is told how many rows find a partner, and how keys are spread.
+    /// Whether there is a report of how many rows are matched, and how keys are spread.
     pub report: bool,
 }

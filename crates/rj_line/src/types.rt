@@ -7,11 +7,11 @@ use rj_fault::{Fault, Side};
 use rj_types::{TypeEntry, read_list};
 use std::alloc::Global;
 
-/// The entries of a type list such as `int,num(4,1)` or `id=int,*=text`, which is that of this side.
+/// The entries of this side's type list, such as `int,num(4,1)` or `id=int,*=text`.
 ///
 /// # Errors
 ///
-/// `BadTypeList` where the text is no such list. `Memory` comes only where a growth was refused.
+/// `BadTypeList` if the text isn't such a list. `Memory` comes only when memory ran out.
 pub fn read_types(alloc: Global, text: &str, side: Side) -> Result<Vec<TypeEntry>, Fault>
     ensures types { IfOk result (λ v. IsTypeList text.now v.items) }
     ensures fault { IfErr result (λ e. e ≢ Fault.Memory →

@@ -5,12 +5,12 @@ use Rattle.std.proofs.lemmas.Bool.{false≢true}
 use Rattle.std.proofs.lemmas.List.{get_or-map, length-map, map-append, take_more}
 use Rattle.rj_merge.specs.declared.copies.Copies.{Copies}
 use Rattle.rj_merge.specs.declared.copies.MergeInput.{MergeInput}
-use Rattle.rj_merge.specs.declared.patient.Patient.{Patient}
+use Rattle.rj_merge.specs.declared.retrying.RetryingReader.{RetryingReader}
 use Rattle.rj_merge.specs.declared.refused.MergeRefused.{MergeRefused}
 use Rattle.rj_merge.specs.declared.refused.MergeRefused.TheVariants as refused
 use Rattle.rj_merge.specs.Inputs.{TellTexts, copies_of, is_input}
 use Rattle.rj_merge.specs.Named.{AreOpened, IsShut, OpenTexts}
-use Rattle.rj_merge.specs.Patience.{reader_of}
+use Rattle.rj_merge.specs.Retrying.{reader_of}
 use Rattle.rj_merge.specs.Sources.{TellsAmong, is_outside}
 use Rattle.rj_merge.proofs.ToldFacts.{input_within}
 
@@ -18,7 +18,7 @@ abbrev texts_of : List (Bor (List ℕ)) → List (List ℕ)
 texts_of names = map (λ n. n.now) names
 
 module _ {R : Type 0} where
-  opened_more : (opens : List ℕ → R → Type 0) (names : List (List ℕ)) (inputs : List (MergeInput (Patient R))) (name : List ℕ) (i : MergeInput (Patient R))
+  opened_more : (opens : List ℕ → R → Type 0) (names : List (List ℕ)) (inputs : List (MergeInput (RetryingReader R))) (name : List ℕ) (i : MergeInput (RetryingReader R))
       → AreOpened opens names inputs → opens name (reader_of i.reader) → AreOpened opens (names ++ name ∷ []) (inputs ++ i ∷ [])
   opened_more opens [] [] name i all one = (one, tt)
   opened_more opens [] (j ∷ inputs) name i all one = absurd all
@@ -26,19 +26,19 @@ module _ {R : Type 0} where
   opened_more opens (n ∷ names) (j ∷ inputs) name i all one = (all.0, opened_more opens names inputs name i all.1 one)
 
   -- one name more is opened
-  pub opened_step : (opens : List ℕ → R → Type 0) (names : List (Bor (List ℕ))) (at : ℕ) (d : Bor (List ℕ)) (inputs : List (MergeInput (Patient R))) (i : MergeInput (Patient R)) (r : R) → at < length names
+  pub opened_step : (opens : List ℕ → R → Type 0) (names : List (Bor (List ℕ))) (at : ℕ) (d : Bor (List ℕ)) (inputs : List (MergeInput (RetryingReader R))) (i : MergeInput (RetryingReader R)) (r : R) → at < length names
       → AreOpened opens (texts_of (take at names)) inputs → reader_of i.reader ≡ r → opens (slice_index_or names at d).now r → AreOpened opens (texts_of (take (at + 1) names)) (inputs ++ i ∷ [])
   opened_step opens names at d inputs i r h all same one =
       subst (λ l. AreOpened opens l (inputs ++ i ∷ [])) (sym (ap texts_of (take_more names at d h) ∙ map-append (λ (n : Bor (List ℕ)). n.now) (take at names) (slice_index_or names at d ∷ [])))
       (opened_more opens (texts_of (take at names)) inputs (slice_index_or names at d).now i all (subst (opens (slice_index_or names at d).now) (sym same) one))
 
-  pub copies_step : (copies : List Copies) (at : ℕ) (d : Copies) (inputs : List (MergeInput (Patient R))) (i : MergeInput (Patient R)) → at < length copies → copies_of inputs ≡ take at copies
+  pub copies_step : (copies : List Copies) (at : ℕ) (d : Copies) (inputs : List (MergeInput (RetryingReader R))) (i : MergeInput (RetryingReader R)) → at < length copies → copies_of inputs ≡ take at copies
       → i.copies ≡ slice_index_or copies at d → copies_of (inputs ++ i ∷ []) ≡ take (at + 1) copies
   copies_step copies at d inputs i h all one =
-      map-append (λ (j : MergeInput (Patient R)). j.copies) inputs (i ∷ []) ∙ (ap₂ (λ (l : List Copies) (c : Copies). l ++ c ∷ []) all one ∙ sym (take_more copies at d h))
+      map-append (λ (j : MergeInput (RetryingReader R)). j.copies) inputs (i ∷ []) ∙ (ap₂ (λ (l : List Copies) (c : Copies). l ++ c ∷ []) all one ∙ sym (take_more copies at d h))
 
   -- what was opened tells the texts that its names open
-  pub opened_tell : (opens : List ℕ → R → Type 0) (known : R → Option (List ℕ)) (names texts : List (List ℕ)) (inputs : List (MergeInput (Patient R)))
+  pub opened_tell : (opens : List ℕ → R → Type 0) (known : R → Option (List ℕ)) (names texts : List (List ℕ)) (inputs : List (MergeInput (RetryingReader R)))
       → AreOpened opens names inputs → OpenTexts opens known names texts → TellTexts (λ p. known (reader_of p)) inputs texts
   opened_tell opens known [] [] [] all told = refl
   opened_tell opens known [] (text ∷ texts) inputs all told = absurd told

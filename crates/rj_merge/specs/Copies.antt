@@ -1,4 +1,4 @@
--- In how many inputs of a merge a row stands that is a row of the whole, and in how many it does stand.
+-- In how many inputs of a merge a row has to be to be a row of the whole, and in how many it is.
 use Rattle.std.specs.Prelude.{◌≡◌, ◌<◌, ℕ, List, map, All, Contains}
 use Rattle.std.specs.List.{count_by, flat_map}
 use Rattle.std.specs.Ordering.{is_eq}
@@ -8,18 +8,19 @@ use Rattle.rj_merge.specs.declared.place.Place.TheVariants.{Pair, LoneAmongPairs
 use Rattle.rj_merge.specs.declared.place.Placed.{Placed}
 use Rattle.rj_merge.specs.Places.{place_order}
 
--- each row of the whole stands in one input
+-- each row of the whole is in one input
 abbrev pub single : Copies
 single = record { left = 1; right = 1 }
 
--- how often a row of this place has to stand among the rows of all inputs, if it is one of an input with these copies
+-- how often a row of this place has to be among the rows of all inputs, if it is one of an input
+-- with these copies
 abbrev pub needed : Copies → Place → ℕ
 needed copies (Pair left right) = 1
 needed copies (LoneAmongPairs left) = copies.left
 needed copies (LoneLeft left) = copies.left
 needed copies (LoneRight right) = copies.right
 
--- a row of an input, and how often it has to stand among the rows of all inputs
+-- a row of an input, and how often it has to be among the rows of all inputs
 pub record Copied (T : Type 0) : Type 0 where
   pub row : Placed T
   pub needed : ℕ
@@ -40,18 +41,18 @@ module _ {T : Type 0} where
   abbrev pub AreSingle : List (Copies × List (Placed T)) → Type 0
   AreSingle inputs = All (λ i. i.0 ≡ single) inputs
 
-  -- how often a place stands among rows
+  -- how often a place is among rows
   abbrev pub times : Place → List (Copied T) → ℕ
   times place all = count_by (λ c. is_eq (place_order place c.row.place)) all
 
-  -- a place stands among rows as often as one of its rows has to
+  -- a place is among rows as often as one of its rows has to
   abbrev pub IsWhole : List (Copied T) → Place → Type 0
   IsWhole all place = (c : Copied T) × Contains all c × (c.row.place ≡ place) × (times place all ≡ c.needed)
 
-  -- a place stands among rows more often than one of its rows has to
+  -- a place is among rows more often than one of its rows has to
   abbrev pub StandsTooOften : List (Copied T) → Place → Type 0
   StandsTooOften all place = (c : Copied T) × Contains all c × (c.row.place ≡ place) × (c.needed < times place all)
 
-  -- what rows of one place hold is the same
+  -- rows of one place hold the same
   abbrev pub AreAlike : List (Copied T) → Type 0
   AreAlike all = (c d : Copied T) → Contains all c → Contains all d → c.row.place ≡ d.row.place → c.row.row ≡ d.row.row

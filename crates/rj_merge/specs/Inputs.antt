@@ -51,7 +51,7 @@ abbrev pub records_reading : {R : Type 0} → (R → Option (List ℕ)) → Text
 records_reading known s =
     if s.ended then record { rows = []; fault = None } else read_rows s.how s.columns s.input s.row s.last (records_remaining known s.reader.value)
 
--- what it still gives: of these rows those within the range
+-- what it still gives: the rows among these that are within the range
 abbrev pub input_reading : {R : Type 0} → (R → Option (List ℕ)) → TextSource R → Reading (List (List ℕ))
 input_reading known s = reading_within s.how (records_reading known s)
 
@@ -68,15 +68,16 @@ boxed_tells known b = input_tells known b.value
 abbrev pub boxed_reading : {R : Type 0} → (R → Option (List ℕ)) → Box (TextSource R) Global → Reading (List (List ℕ))
 boxed_reading known b = input_reading known b.value
 
--- the numbers of so many inputs
+-- the numbers of this many inputs
 abbrev pub is_input : ℕ → ℕ → Bool
 is_input count number = nat_le 1 number && nat_le number count
 
--- no rows, and this fault
+-- no rows, and this error
 abbrev pub only_fault : MergeRefused → Reading (List (List ℕ))
 only_fault e = record { rows = []; fault = Some e }
 
--- the rows of the records under a header that are within the range, where it has the columns of the places
+-- the rows of the records under a header that are within the range, if it has the columns of the
+-- places
 abbrev pub under_header : MergeOptions → ℕ → Option Columns → List (List (List ℕ)) → Reading (List (List ℕ))
 under_header how input None records = only_fault (refused.NoPlaces input)
 under_header how input (Some columns) records = reading_within how (read_rows how columns input 0 None records)
@@ -87,7 +88,7 @@ reading_of_records how first input [] = only_fault (refused.NoHeader input)
 reading_of_records how first input (header ∷ records) =
     if pointwise bytes_eq header first then under_header how input (place_columns first) records else only_fault (refused.OtherHeader input)
 
--- what a text gives, where this is the header of the first input
+-- what a text gives, if this is the header of the first input
 abbrev pub reading_of : MergeOptions → List (List ℕ) → ℕ → List ℕ → Reading (List (List ℕ))
 reading_of how first input text = reading_of_records how first input (records_in text)
 
@@ -96,7 +97,7 @@ unfoldable pub readings_from : MergeOptions → List (List ℕ) → ℕ → List
 readings_from how first input [] = []
 readings_from how first input (text ∷ texts) = reading_of how first input text ∷ readings_from how first (input + 1) texts
 
--- the first of records, or no fields where there is none
+-- the first of records, or no fields if there is none
 abbrev pub first_record : List (List (List ℕ)) → List (List ℕ)
 first_record [] = []
 first_record (r ∷ records) = r
@@ -110,13 +111,13 @@ first_header (text ∷ texts) = first_record (records_in text)
 abbrev pub readings : MergeOptions → List (List ℕ) → List (Reading (List (List ℕ)))
 readings how texts = readings_from how (first_header texts) 1 texts
 
--- a header that is the first one's has the columns of the places, or this fault
+-- a header that is the first one's has the columns of the places, or this error
 abbrev pub place_fault : ℕ → Option Columns → Option MergeRefused
 place_fault input None = Some (refused.NoPlaces input)
 place_fault input (Some columns) = None
 
--- the fault of the header that records begin with, if it has one: there is none, or it is another one than the first input's, or it
--- hasn't the columns of the places
+-- the error of the header that records begin with, if it has one: there is none, or it isn't that
+-- of the first input, or it hasn't the columns of the places
 abbrev pub header_fault_in : List (List ℕ) → ℕ → List (List (List ℕ)) → Option MergeRefused
 header_fault_in first input [] = Some (refused.NoHeader input)
 header_fault_in first input (header ∷ records) =
@@ -125,20 +126,20 @@ header_fault_in first input (header ∷ records) =
 abbrev pub header_fault_of : List (List ℕ) → ℕ → List ℕ → Option MergeRefused
 header_fault_of first input text = header_fault_in first input (records_in text)
 
--- a fault, or where there is none a later one
+-- an error, or if there is none a later one
 abbrev pub fault_or : Option MergeRefused → Option MergeRefused → Option MergeRefused
 fault_or None later = later
 fault_or (Some e) later = Some e
 
--- the first fault of a header of texts, whose inputs count from this number on
+-- the first error of a header of texts, whose inputs count from this number on
 unfoldable pub header_fault_from : List (List ℕ) → ℕ → List (List ℕ) → Option MergeRefused
 header_fault_from first input [] = None
 header_fault_from first input (text ∷ texts) = fault_or (header_fault_of first input text) (header_fault_from first (input + 1) texts)
 
--- the first fault of a header of texts, each an input of its own, counted from 1
+-- the first error of a header of texts, each an input of its own, counted from 1
 abbrev pub header_fault : List (List ℕ) → Option MergeRefused
 header_fault texts = header_fault_from (first_header texts) 1 texts
 
--- the faults that readings have
+-- the errors that readings have
 abbrev pub faults_of_readings : {T : Type 0} → List (Reading T) → List MergeRefused
 faults_of_readings all = flat_map (λ r. option_to_list r.fault) all

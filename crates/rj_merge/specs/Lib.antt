@@ -9,5 +9,5 @@ pub mod Texts
 pub mod Headers
 pub mod Inputs
 pub mod MergedTexts
-pub mod Patience
+pub mod Retrying
 pub mod Named

@@ -1,4 +1,4 @@
--- The merge of texts, as a text, and what stands in the way of it.
+-- The merge of texts, as a text, and the errors that prevent it.
 use Rattle.std.specs.Prelude.{◌≡◌, false, ℕ, List, [], ◌∷◌, ◌++◌, map, Option, None, Some, Result, Err}
 use Rattle.std.specs.List.{zip}
 use Rattle.std.specs.Io.KnownBytes.{Appends}
@@ -28,7 +28,7 @@ use Rattle.rj_merge.specs.Wholes.{IsMergeOf}
 abbrev pub records_text : List (Placed (List (List ℕ))) → List ℕ
 records_text rows = rows_text (map (λ p. p.row) rows)
 
--- the header stands above rows that begin nowhere, and not above a later range
+-- the header is above rows whose range has no first place, and not above a later range
 abbrev pub head_rows : Option Place → List (List ℕ) → List (List (List ℕ))
 head_rows None header = header ∷ []
 head_rows (Some from) header = []
@@ -37,8 +37,8 @@ head_rows (Some from) header = []
 abbrev pub lists_of_texts : MergeOptions → List Copies → List (List ℕ) → List (Copies × List (Placed (List (List ℕ))))
 lists_of_texts how copies texts = zip copies (map (λ r. r.rows) (readings how texts))
 
--- the text of a merge of texts with these copies within a range: their header without the columns of the places, if the range
--- begins nowhere, and under it the merge of their rows within it
+-- the text of a merge of texts with these copies within a range: their header without the columns
+-- of the places, if the range has no first place, and under it the merge of their rows within it
 pub record IsMergedText (how : MergeOptions) (copies : List Copies) (texts : List (List ℕ)) (text : List ℕ) : Type 0 where
   pub columns : Columns
   pub rows : List (Placed (List (List ℕ)))
@@ -54,11 +54,11 @@ AreRanges how copies texts from [] (part ∷ more ∷ parts) = ⊥
 AreRanges how copies texts from (cut ∷ cuts) [] = ⊥
 AreRanges how copies texts from (cut ∷ cuts) (part ∷ parts) = IsMergedText (between how from (Some cut)) copies texts part × AreRanges how copies texts (Some cut) cuts parts
 
--- no text has a fault
+-- no text has an error
 abbrev pub HaveNoFault : MergeOptions → List (List ℕ) → Type 0
 HaveNoFault how texts = faults_of_readings (readings how texts) ≡ []
 
--- a fault of one of the texts, or that a place stands too often among their rows
+-- an error of one of the texts, or that a place occurs too often among their rows
 abbrev pub IsFaultOfTexts : MergeOptions → List Copies → List (List ℕ) → MergeRefused → Type 0
 IsFaultOfTexts how copies texts e = IsFaultOf (copied_rows (lists_of_texts how copies texts)) (faults_of_readings (readings how texts)) e
 
@@ -68,17 +68,19 @@ pub record GotMerge (how : MergeOptions) (copies : List Copies) (texts : List (L
   pub merge : IsMergedText how copies texts text
   pub got : Appends old new text
 
--- a call is refused by this fault, which isn't one of the machine
+-- a call is refused by this error, which isn't one of the machine
 pub record IsRefusedBy {T : Type 0} (result : Result T MergeTextsRefused) (e : MergeRefused) : Type 0 where
   pub is : result ≡ Err (texts_refused.Merge e)
   pub inside : is_outside e ≡ false
 
--- where a header of texts has a fault, the first such fault refuses a call, or the machine does before
+-- if a header of texts has an error, the first such error refuses a call, or the machine does
+-- before
 abbrev pub HeedsHeaders : {T : Type 0} → Result T MergeTextsRefused → List (List ℕ) → Type 0
 HeedsHeaders result texts =
     (f : MergeRefused) → header_fault texts ≡ Some f → (e : MergeRefused) × (result ≡ Err (texts_refused.Merge e)) × (is_outside e ≡ false → e ≡ f)
 
--- an output got all of a text behind what it had, but for the records that still stand in a block
+-- an output got all of a text after what it already had, except the records that still are in a
+-- block
 pub record IsTold (start : Option (List ℕ)) (text : List ℕ) (block : Writer (Vec ℕ Global)) (told : Option (List ℕ)) : Type 0 where
   pub put : List ℕ
   pub kept : List ℕ

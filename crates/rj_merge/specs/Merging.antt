@@ -18,7 +18,7 @@ use Rattle.rj_merge.specs.Sources.{Reading}
 use Rattle.rj_merge.specs.Wholes.{IsMergeOf}
 
 module _ {T S : Type 0} where
-  -- heads by the places of their rows, the other way round, so that the greatest has the least place
+  -- heads by the places of their rows, in reverse, so that the greatest has the least place
   abbrev pub head_order : Head T S → Head T S → Ordering
   head_order = flip_args (on (λ h. h.next.place) place_order)
 
@@ -26,7 +26,7 @@ module _ {T S : Type 0} where
   abbrev pub lists_of_inputs : (S → Copies) → (S → Reading T) → List S → List (Copies × List (Placed T))
   lists_of_inputs copies reading inputs = map (λ s. (copies s, (reading s).rows)) inputs
 
-  -- all rows of inputs, and their faults
+  -- all rows of inputs, and their errors
   abbrev pub rows_of_inputs : (S → Copies) → (S → Reading T) → List S → List (Copied T)
   rows_of_inputs copies reading inputs = flat_map (λ s. copied (copies s) (reading s).rows) inputs
 
@@ -45,7 +45,7 @@ module _ {T S : Type 0} where
   abbrev pub rows_of_heads : (S → Copies) → (S → Reading T) → List (Head T S) → List (Copied T)
   rows_of_heads copies reading heads = flat_map (λ h. copied (copies h.source) (h.next ∷ (reading h.source).rows)) heads
 
-  -- the faults that their inputs still have
+  -- the errors that their inputs still have
   abbrev pub faults_of_heads : (S → Reading T) → List (Head T S) → List MergeRefused
   faults_of_heads reading heads = flat_map (λ h. option_to_list (reading h.source).fault) heads
 
@@ -53,11 +53,11 @@ module _ {T S : Type 0} where
   abbrev pub AreNewest : (S → Option Place) → List (Head T S) → Type 0
   AreNewest last heads = All (λ h. last h.source ≡ Some h.next.place) heads
 
-  -- no head stands below this place, if there is one
+  -- no head is below this place, if there is one
   abbrev pub AreNotBelow : Option Place → List (Head T S) → Type 0
   AreNotBelow given heads = All (λ h. IsNotBelow given h.next.place) heads
 
-  -- all heads stand above this place, if there is one
+  -- all heads are above this place, if there is one
   abbrev pub AreAbove : Option Place → List (Head T S) → Type 0
   AreAbove passed heads = All (λ h. IsAbove passed h.next.place) heads
 
@@ -72,8 +72,8 @@ abbrev pub IsPassed : Option Place → Place → Type 0
 IsPassed None place = ⊥
 IsPassed (Some passed) place = is_lt (place_order passed place) ≡ false
 
--- a merge that had passed all rows up to one place has passed all up to another one: of the rows that were left it took those
--- between them, and gave their merge
+-- a merge that had passed all rows up to one place has passed all up to another one: from the rows
+-- that were left it took those between them, and gave their merge
 pub record Passes {T : Type 0} (before after : Option Place) (old new : List (Copied T)) (given : List (Placed T)) : Type 0 where
   pub taken : List (Copied T)
   pub all : IsPermutation old (taken ++ new)
@@ -82,6 +82,6 @@ pub record Passes {T : Type 0} (before after : Option Place) (old new : List (Co
   pub onward : (place : Place) → IsAbove after place → IsAbove before place
   pub merge : IsMergeOf taken given
 
--- a fault of one of the inputs, or that a place stands too often among the rows that are left
+-- an error of one of the inputs, or that a place occurs too often among the rows that are left
 abbrev pub IsFaultOf : {T : Type 0} → List (Copied T) → List MergeRefused → MergeRefused → Type 0
 IsFaultOf rows faults e = Contains faults e ⊎ ((place : Place) × (e ≡ refused.RepeatedPlace place) × StandsTooOften rows place)

@@ -1,11 +1,11 @@
 -- Texts that are opened by their names.
 use Rattle.std.specs.Prelude.{◌≡◌, ◌-◌, ◌≤◌, ℕ, List, [], ◌∷◌, length, slice_index_or, Option, Some}
 use Rattle.rj_merge.specs.declared.copies.MergeInput.{MergeInput}
-use Rattle.rj_merge.specs.declared.patient.Patient.{Patient}
-use Rattle.rj_merge.specs.Patience.{reader_of}
+use Rattle.rj_merge.specs.declared.retrying.RetryingReader.{RetryingReader}
+use Rattle.rj_merge.specs.Retrying.{reader_of}
 
 -- each input reads what its name opens
-abbrev pub AreOpened : {R : Type 0} → (List ℕ → R → Type 0) → List (List ℕ) → List (MergeInput (Patient R)) → Type 0
+abbrev pub AreOpened : {R : Type 0} → (List ℕ → R → Type 0) → List (List ℕ) → List (MergeInput (RetryingReader R)) → Type 0
 AreOpened opens [] [] = Unit {0}
 AreOpened opens [] (i ∷ inputs) = ⊥
 AreOpened opens (name ∷ names) [] = ⊥

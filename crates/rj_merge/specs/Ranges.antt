@@ -24,12 +24,12 @@ module _ {T : Type 0} where
   rows_before end [] = []
   rows_before end (row ∷ rows) = if is_before end row.place then row ∷ rows_before end rows else []
 
-  -- the fault behind rows, where all of them are below the end
+  -- the error after rows, if all of them are below the end
   unfoldable pub fault_before : Option Place → List (Placed T) → Option MergeRefused → Option MergeRefused
   fault_before end [] fault = fault
   fault_before end (row ∷ rows) fault = if is_before end row.place then fault_before end rows fault else None
 
-  -- the rows of a reading within a range, and its fault, if it comes before the end
+  -- the rows of a reading within a range, and its error, if it comes before the end
   abbrev pub reading_within : MergeOptions → Reading T → Reading T
   reading_within how r = record {
     rows = filter (λ row. is_from how.from row.place) (rows_before how.to r.rows);

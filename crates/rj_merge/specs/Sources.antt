@@ -4,12 +4,12 @@ use Rattle.rj_merge.specs.declared.place.Placed.{Placed}
 use Rattle.rj_merge.specs.declared.refused.MergeRefused.{MergeRefused}
 use Rattle.rj_merge.specs.declared.refused.MergeRefused.TheVariants as refused
 
--- rows, and the fault after them, if there is one
+-- rows, and the error after them, if there is one
 pub record Reading (T : Type 0) : Type 0 where
   pub rows : List (Placed T)
   pub fault : Option MergeRefused
 
--- a fault of the machine, which no text has
+-- an error of the machine, which no text has
 abbrev pub is_outside : MergeRefused → Bool
 is_outside refused.Memory = true
 is_outside (refused.ReadDevice input) = true
@@ -22,7 +22,7 @@ is_outside (refused.NoPlace input row) = false
 is_outside (refused.NotInOrder input row) = false
 is_outside (refused.RepeatedPlace place) = false
 
--- the number of the input that a fault tells, if it tells one
+-- the number of the input in an error, if it has one
 abbrev pub told_input : MergeRefused → Option ℕ
 told_input refused.Memory = None
 told_input (refused.ReadDevice input) = Some input
@@ -35,15 +35,15 @@ told_input (refused.NoPlace input row) = Some input
 told_input (refused.NotInOrder input row) = Some input
 told_input (refused.RepeatedPlace place) = None
 
--- a fault tells no input but that of this number
+-- an error names no input but that of this number
 abbrev pub TellsOf : ℕ → MergeRefused → Type 0
 TellsOf number e = IfSome (told_input e) (λ input. input ≡ number)
 
--- a fault tells no input but one of these numbers
+-- an error names no input but one of these numbers
 abbrev pub TellsAmong : (ℕ → Bool) → MergeRefused → Type 0
 TellsAmong numbers e = IfSome (told_input e) (λ input. numbers input ≡ true)
 
--- what is given next of a reading: its first row, its end, or its fault behind all rows
+-- the next thing that a reading gives: its first row, its end, or its error after all rows
 abbrev pub Gives : {T : Type 0} → Reading T → Result (Option (Placed T)) MergeRefused → Reading T → Type 0
 Gives old (Ok (Some row)) new = (old.rows ≡ row ∷ new.rows) × (old.fault ≡ new.fault)
 Gives old (Ok None) new = (old.rows ≡ []) × (old.fault ≡ None)

@@ -11,13 +11,14 @@ use Rattle.rj_merge.specs.Copies.{Copied}
 use Rattle.rj_merge.specs.Merging.{Passes, faults_of_heads, faults_of_inputs, rows_of_heads, rows_of_inputs}
 use Rattle.rj_merge.specs.Sources.{Reading}
 
--- how far a merge is: the place up to which it has passed all rows, and the rows and faults that its inputs still have
+-- the stage of a merge: the place up to which it has passed all rows, and the rows and errors that
+-- its inputs still have
 pub record Stage (T : Type 0) : Type 0 where
   pub passed : Option Place
   pub rows : List (Copied T)
   pub faults : List MergeRefused
 
--- how far a merge is that has these heads, and has passed all rows up to this place
+-- the stage of a merge that has these heads, and has passed all rows up to this place
 abbrev pub stage_of : {T S : Type 0} → (S → Copies) → (S → Reading T) → Option Place → List (Head T S) → Stage T
 stage_of copies reading passed heads = record { passed = passed; rows = rows_of_heads copies reading heads; faults = faults_of_heads reading heads }
 
@@ -39,7 +40,7 @@ pub record GaveSoFar {T S : Type 0} (copies : S → Copies) (reading : S → Rea
   pub faults : IsPermutation (faults_of_inputs reading inputs) opened.faults
   pub steps : AreSteps opened rows now
 
--- and the next step gave none, behind which nothing is left
+-- and the next step gave none, after which nothing is left
 pub record GaveAll {T S : Type 0} (copies : S → Copies) (reading : S → Reading T) (inputs : List S) (rows : List (Placed T)) : Type 0 where
   pub last : Stage T
   pub end : Stage T

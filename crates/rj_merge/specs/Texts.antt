@@ -1,4 +1,4 @@
--- The rows that a text of placed rows has, and the first fault in it.
+-- The rows of a text of placed rows, and the first error in it.
 use Rattle.std.specs.Prelude.{ℕ, ◌+◌, ◌^◌, ◌==◌, ◌||◌, ◌&&◌, nat_lt, if◌then◌else◌, Bool, true, List, [], ◌∷◌, length, slice_index_or, Option, None, Some, Result, Ok, Err}
 use Rattle.std.specs.Ordering.{is_lt}
 use Rattle.std.specs.Str.{all_ascii_digits, bytes_eq}
@@ -18,11 +18,11 @@ use Rattle.rj_merge.specs.Sources.{Reading}
 abbrev pub is_number : List ℕ → Bool
 is_number field = nat_lt 0 (length field) && all_ascii_digits field && nat_lt (digits_value 10 field) (2 ^ 64)
 
--- what a field of a place tells: no number where it is null, or a number
+-- the content of a field of a place: no number if it is NULL, or a number
 abbrev pub number_of : List ℕ → List ℕ → Option (Option ℕ)
 number_of null field = if bytes_eq field null then Some None else if is_number field then Some (Some (digits_value 10 field)) else None
 
--- the place that its two fields tell in this order, or the fault of its row
+-- the place that its two fields give in this order, or the error of its row
 abbrev pub place_of : RowOrder → ℕ → ℕ → Option (Option ℕ) → Option (Option ℕ) → Result Place MergeRefused
 place_of order input row None right = Err (refused.BadPlace input row)
 place_of order input row (Some left) None = Err (refused.BadPlace input row)
@@ -31,7 +31,7 @@ place_of order input row (Some None) (Some (Some right)) = Ok (place.LoneRight r
 place_of order input row (Some (Some left)) (Some None) = Ok (lone_left_place order left)
 place_of order input row (Some (Some left)) (Some (Some right)) = Ok (place.Pair left right)
 
--- whether a place stands above another one, if there is that one
+-- whether a place is above another one, if there is that one
 abbrev pub is_above : Option Place → Place → Bool
 is_above None p = true
 is_above (Some before) p = is_lt (place_order before p)
@@ -46,28 +46,28 @@ others_from columns i (field ∷ fields) =
 abbrev pub others : Columns → List (List ℕ) → List (List ℕ)
 others columns fields = others_from columns 0 fields
 
--- the place that a record tells
+-- the place in a record
 abbrev pub place_in : MergeOptions → Columns → ℕ → ℕ → List (List ℕ) → Result Place MergeRefused
 place_in how columns input row fields =
     place_of how.order input row (number_of how.null.now (slice_index_or fields columns.left [])) (number_of how.null.now (slice_index_or fields columns.right []))
 
--- the row of this place behind a row of that place, if there is one
+-- the row of this place after a row of that place, if there is one
 abbrev pub in_order : ℕ → ℕ → Option Place → List (List ℕ) → Result Place MergeRefused → Result (Placed (List (List ℕ))) MergeRefused
 in_order input row before fields (Err e) = Err e
 in_order input row before fields (Ok p) = if is_above before p then Ok record { place = p; row = fields } else Err (refused.NotInOrder input row)
 
--- the row that a record is, or its fault
+-- the row that a record is, or its error
 abbrev pub read_row : MergeOptions → Columns → ℕ → ℕ → Option Place → List (List ℕ) → Result (Placed (List (List ℕ))) MergeRefused
 read_row how columns input row before fields =
     if length fields == columns.width then in_order input row before (others columns fields) (place_in how columns input row fields)
     else Err (refused.RaggedRow input row)
 
--- a row before a reading, or its fault
+-- a row before a reading, or its error
 abbrev pub reading_then : {T : Type 0} → Result (Placed T) MergeRefused → (Placed T → Reading T) → Reading T
 reading_then (Err e) more = record { rows = []; fault = Some e }
 reading_then (Ok p) more = record { rows = p ∷ (more p).rows; fault = (more p).fault }
 
--- the rows of records behind so many others, the last of which has this place, and the first fault
+-- the rows of records after this many others, the last of which has this place, and the first error
 unfoldable pub read_rows : MergeOptions → Columns → ℕ → ℕ → Option Place → List (List (List ℕ)) → Reading (List (List ℕ))
 read_rows how columns input before last [] = record { rows = []; fault = None }
 read_rows how columns input before last (r ∷ records) =

@@ -13,7 +13,7 @@ use rj_csv_io::{Failed, Output};
 use std::alloc::Global;
 use std::mem;
 
-// A block with so many bytes is full.
+// A block with this many bytes is full.
 const BLOCK: usize = 65536;
 
 /// A block with nothing in it.
@@ -23,11 +23,11 @@ pub(crate) fn empty_block(alloc: Global) -> Writer<Vec<u8>>
     WriterBuilder::new().from_writer(Vec::new(alloc))
 }
 
-/// Puts what stands in a block on the output, and begins another block.
+/// Puts the content of a block on the output, and begins another block.
 ///
 /// # Errors
 ///
-/// `WriteDevice` where the output failed, and `Memory` alone beside it.
+/// `WriteDevice` if the output failed; otherwise only `Memory`.
 pub(crate) fn put_block<O: Output>(
     alloc: Global,
     block: &mut Writer<Vec<u8>>,
@@ -50,11 +50,11 @@ pub(crate) fn put_block<O: Output>(
     }
 }
 
-/// Writes a row behind those in a block, which is put on the output where it is full.
+/// Writes a row after those in a block, which is put on the output when it is full.
 ///
 /// # Errors
 ///
-/// `WriteDevice` where the output failed, and `Memory` alone beside it.
+/// `WriteDevice` if the output failed; otherwise only `Memory`.
 pub(crate) fn add_row<O: Output>(
     alloc: Global,
     row: &Fields,

@@ -5,7 +5,7 @@ use crate::place::Placed;
 use crate::refused::MergeRefused;
 use crate::source::Source;
 
-/// An input on the heap, so that a merge moves little where it orders its inputs.
+/// An input on the heap, so that a merge moves little when it orders its inputs.
 impl<S: Source> Source for Box<S> {
     type Row = S::Row;
 

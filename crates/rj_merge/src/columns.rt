@@ -1,8 +1,9 @@
-//! Where the places stand in the records of a text.
+//! Where the places are in the records of a text.
 
 ghost use Rattle.std.specs.Prelude.{◌≡◌, ◌==◌, ◌||◌};
 
-/// The columns of a text of placed rows: where its places stand, counted from 0, and how many columns it has.
+/// The columns of a text of placed rows: where its places are, counted from 0, and how many columns
+/// it has.
 #[derive(Clone, Copy, Debug, PartialEq, Eq)]
 pub(crate) struct Columns {
     /// The column of the left row's number.

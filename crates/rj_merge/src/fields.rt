@@ -11,7 +11,7 @@ use csv::{ByteRecord, Writer};
 use std::alloc::AllocError;
 use std::marker::Model;
 
-/// A record as it was read, and where the place stands in it.
+/// A record as it was read, and where the place is in it.
 #[derive(Drop)]
 pub(crate) struct WholeRow {
     pub(crate) fields: ByteRecord,
@@ -21,7 +21,7 @@ pub(crate) struct WholeRow {
 /// The fields of a row, without those of its place.
 #[derive(Drop)]
 pub struct Fields {
-    // On the heap, so that little is moved with a row.
+    // On the heap, so that moving a row moves little.
     whole: Box<WholeRow>,
 }
 

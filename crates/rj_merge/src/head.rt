@@ -10,8 +10,8 @@ ghost use Rattle.rj_merge.specs.Places.{place_order, place_total};
 use crate::place::Placed;
 use std::cmp::Ordering;
 
-// The next row of an input, with the input behind it. Heads compare by the places of their rows, the other way round: the greatest
-// head has the least place.
+// The next row of an input, with the input after it. Heads compare by the places of their rows, in
+// reverse: the greatest head has the least place.
 #[derive(Drop)]
 pub struct Head<T, S> {
     pub(crate) next: Placed<T>,

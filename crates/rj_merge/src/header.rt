@@ -14,14 +14,14 @@ const LEFT_PLACE: &[u8] = b"left_place";
 
 const RIGHT_PLACE: &[u8] = b"right_place";
 
-/// The header that the inputs of a merge have, and where the places stand under it.
+/// The header that the inputs of a merge have, and where the places are under it.
 #[derive(Drop)]
 pub(crate) struct SharedHeader {
     pub(crate) names: ByteRecord,
     pub(crate) columns: Columns,
 }
 
-// The column of this name, where there is exactly one.
+// The column of this name, if there is exactly one.
 fn only_column(header: &ByteRecord, name: &[u8]) -> Option<usize>
     ensures { result ≡ only_one (columns_named name.now 0 (fields_of header.now)) }
 {
@@ -33,7 +33,7 @@ fn only_column(header: &ByteRecord, name: &[u8]) -> Option<usize>
     Some(place)
 }
 
-/// Where the places stand under a header, which has exactly one column of each of the two names.
+/// Where the places are under a header, which has exactly one column of each of the two names.
 pub(crate) fn columns_of(header: &ByteRecord) -> Option<Columns>
     ensures { result ≡ place_columns (fields_of header.now) }
 {
@@ -54,6 +54,6 @@ pub(crate) fn columns_of(header: &ByteRecord) -> Option<Columns>
 pub(crate) fn are_same(first: &ByteRecord, second: &ByteRecord) -> bool
     ensures { result ≡ pointwise bytes_eq (fields_of first.now) (fields_of second.now) }
 {
-    // Not `==` of the records, which also compares bytes behind the last field.
+    // Not `==` of the records, which also compares bytes after the last field.
     first.iter().eq(second.iter())
 }

@@ -21,7 +21,7 @@ use csv::{ByteRecord, ErrorKind, Reader};
 use std::alloc::{AllocError, Global};
 use std::io::Read;
 
-/// Reads the next record of an input, and says whether there was one.
+/// Reads the next record of an input. Returns whether there was one.
 pub(crate) fn next_record<R: Read>(
     input: u32,
     reader: &mut Reader<R>,
@@ -42,7 +42,7 @@ pub(crate) fn next_record<R: Read>(
     }
 }
 
-// The place of the row that a record is, behind a row of this place, if there is one.
+// The place of the row that a record is, after a row of this place, if there is one.
 fn place_of_row(
     input: u32,
     row: u64,
@@ -74,9 +74,9 @@ fn place_of_row(
 #[derive(Drop)]
 pub(crate) struct TextSource<'n, R: Read + Drop> {
     alloc: Global,
-    // On the heap, so that a merge moves little where it orders its inputs.
+    // On the heap, so that a merge moves little when it orders its inputs.
     reader: Box<Reader<R>>,
-    // A row to read the next one into, if one was given back.
+    // A row for reading the next one, if one was given back.
     spare: Option<Box<WholeRow>>,
     columns: Columns,
     how: MergeOptions<'n>,
@@ -88,7 +88,7 @@ pub(crate) struct TextSource<'n, R: Read + Drop> {
 }
 
 impl<'n, R: Read + Drop> TextSource<'n, R> {
-    /// An input whose header was read, which says where its places stand.
+    /// An input whose header was read, with the columns of its places.
     pub(crate) fn new(
         alloc: Global,
         reader: Box<Reader<R>>,
@@ -117,7 +117,7 @@ impl<'n, R: Read + Drop> TextSource<'n, R> {
         }
     }
 
-    // Reads the next row into a record, and gives its place; or `None` behind the last one.
+    // Reads the next row into a record, and gives its place; or `None` after the last one.
     fn next_place(&mut self, fields: &mut ByteRecord) -> Result<Option<Place>, MergeRefused>
         ensures tells { OnOk result (input_tells R.remaining self.old → input_tells R.remaining self.new) }
         ensures how { OnOk result (self.new.how ≡ self.old.how) }
@@ -159,7 +159,7 @@ impl<'n, R: Read + Drop> TextSource<'n, R> {
         }
     }
 
-    // A row to read the next one into: the one that was given back, or a new one.
+    // A row for reading the next one: the one that was given back, or a new one.
     fn take_row(&mut self) -> Result<Box<WholeRow>, AllocError>
         ensures kept { self.new ≡ record self.old { spare = self.new.spare } }
         ensures columns { IfOk result (λ w. w.value.columns ≡ self.old.columns) }

@@ -1,4 +1,4 @@
-//! Laws: each of these functions does nothing, and its contract is a fact about all merges.
+//! Laws: each of these functions does nothing; its contract is a theorem about all merges.
 
 ghost use Rattle.std.specs.Prelude.{◌≡◌, ◌∷◌, List, [], Option, Some, map};
 ghost use Rattle.std.specs.List.{flat_map};
@@ -14,10 +14,11 @@ ghost use Rattle.rj_merge.specs.Wholes.{HasTwice, IsMerge, IsMergeOf, RisesFrom}
 
 use crate::source::Source;
 
-/// The steps of a merge taken together give the whole: of a merge that was opened over inputs that tell, and whose steps are as
-/// `Merge::next` says, where `stage_of` tells how far it is, the rows that its steps gave until none was left are the merge of
-/// the inputs, none of which has a fault; a fault of a step is one of an input, or a place that stands too often among the rows
-/// of all; and the rows rise, whatever the inputs tell.
+/// The steps of a merge together give the whole merge. Suppose a merge was opened over inputs that
+/// tell, its steps are as `Merge::next` says, and `stage_of` is its stage. Then the rows that its
+/// steps gave until none was left are the merge of the inputs, none of which has an error. An error
+/// of a step is one of an input, or a place that occurs too often among the rows of all. And the
+/// rows rise, whatever the inputs tell.
 pub fn steps_are_whole<S: Source>()
     ensures merge { (inputs : List S) (rows : List (Placed S.Row)) → GaveAll S.copies S.reading inputs rows
         → IsMergeOf (copied_rows (lists_of_inputs S.copies S.reading inputs)) rows }
@@ -28,16 +29,16 @@ pub fn steps_are_whole<S: Source>()
         → RisesFrom new later → RisesFrom old (row ∷ later) }
 {}
 
-/// Where rows of one place are alike, there is one merge at most: so the rows that steps gave are the merge. Of lists whose
-/// rows all are rows of the whole there is one, whatever their rows hold.
+/// If rows of one place are alike, there is at most one merge: so the rows that steps gave are the
+/// merge. For lists whose rows all are rows of the whole there is one, whatever their rows hold.
 pub fn one_merge<T>()
     ensures copies { (inputs : List (Copies × List (Placed T))) (v w : List (Placed T)) → AreAlike (copied_rows inputs)
         → IsMergeOf (copied_rows inputs) v → IsMergeOf (copied_rows inputs) w → v ≡ w }
     ensures lists { (lists : List (List (Placed T))) (v w : List (Placed T)) → IsMerge lists v → IsMerge lists w → v ≡ w }
 {}
 
-/// Of inputs whose rows each stand in no other input, the merge is all of their rows, in order, and a place that stands too
-/// often is that of two of their rows.
+/// If each row is in one input only, the merge is all rows of the inputs, in order, and a place
+/// that occurs too often is that of two of their rows.
 pub fn single_copies<T>()
     ensures all { (inputs : List (Copies × List (Placed T))) (rows : List (Placed T)) → AreSingle inputs
         → IsMergeOf (copied_rows inputs) rows → IsMerge (map (λ i. i.1) inputs) rows }

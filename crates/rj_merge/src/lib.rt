@@ -1,4 +1,5 @@
-//! Joined tables in shards, merged into one: each input gives its rows in order, and the merge gives all of them in order.
+//! Joined tables in shards, merged into one. Each input gives its rows in order, and the merge
+//! gives all of them in order.
 #![tactic(auto)]
 
 mod block;
@@ -15,10 +16,10 @@ mod named;
 mod number;
 mod opening;
 mod options;
-mod patient;
 mod place;
 mod ranges;
 mod refused;
+mod retrying;
 mod source;
 mod texts;
 
@@ -28,10 +29,10 @@ pub use laws::{one_merge, single_copies, steps_are_whole};
 pub use merge::Merge;
 pub use named::{Opener, merge_named};
 pub use options::MergeOptions;
-pub use patient::Patient;
 pub use place::{Place, Placed};
 pub use ranges::ranges_are_whole;
 pub use refused::{MergeRefused, MergeTextsRefused};
+pub use retrying::RetryingReader;
 pub use rj_settings::RowOrder;
 pub use source::Source;
 pub use texts::merge_texts;

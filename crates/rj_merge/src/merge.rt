@@ -18,7 +18,8 @@ use crate::source::Source;
 use std::alloc::Global;
 use std::collections::BinaryHeap;
 
-/// A merge of inputs. It holds the next row of each, and gives those that stand as often as they have to, in order.
+/// A merge of inputs. It holds the next row of each, and gives those that occur as often as they
+/// have to, in order.
 #[derive(Drop)]
 pub struct Merge<S: Source> {
     heads: BinaryHeap<Head<S::Row, S>>,
@@ -42,7 +43,8 @@ fn with_spare<S: Source>(source: S, spare: Option<S::Row>) -> S
     source
 }
 
-// Reads the next row of an input, and puts both among the heads: where it has none, nothing.
+// Reads the next row of an input, and puts both among the heads. It puts nothing if there is no
+// next row.
 fn put_next<S: Source>(
     heads: &mut BinaryHeap<Head<S::Row, S>>,
     source: S,
@@ -94,8 +96,8 @@ fn pop_at<T, S>(heads: &mut BinaryHeap<Head<T, S>>, place: Place) -> Option<Head
     heads.pop()
 }
 
-// Takes all rows of a place of heads, this head's first, and gives that row, if they are as many as they have to be. This
-// head's input takes back a row, if there is one.
+// Takes all rows of one place from the heads, this head's row first. Returns that row, if there are
+// as many as there have to be. This head's input gets the spare row, if there is one.
 fn take_place<S: Source>(
     heads: &mut BinaryHeap<Head<S::Row, S>>,
     first: Head<S::Row, S>,
@@ -152,11 +154,11 @@ impl<S: Source> Merge<S> {
         }
     }
 
-    /// Adds an input, whose first row is read.
+    /// Adds an input, and reads its first row.
     ///
     /// # Errors
     ///
-    /// The fault of the input. The merge is of no more use then.
+    /// The error of the input. The merge can't be used any more then.
     pub fn add(&mut self, source: S) -> Result<(), MergeRefused>
         requires lawful { AreHeads S.last self.old.passed (heap_items self.old.heads) }
         requires passed { self.old.passed ≡ None }
@@ -177,11 +179,11 @@ impl<S: Source> Merge<S> {
         put_next(&mut self.heads, source)
     }
 
-    /// A merge of inputs, of each of which the first row is read.
+    /// A merge of inputs. The first row of each is read.
     ///
     /// # Errors
     ///
-    /// The fault of an input.
+    /// The error of an input.
     pub fn open(alloc: Global, inputs: Vec<S>) -> Result<Merge<S>, MergeRefused>
         ensures lawful { IfOk result (λ m. AreHeads S.last m.passed (heap_items m.heads)) }
         ensures passed { IfOk result (λ m. m.passed ≡ None) }
@@ -205,21 +207,22 @@ impl<S: Source> Merge<S> {
         Ok(merge)
     }
 
-    /// Takes back a row that isn't needed any more, so that a later one can stand where it stood. What the merge gives stays
-    /// the same.
+    /// Takes back a row that isn't needed any more, so that a later one can use its memory. What
+    /// the merge gives stays the same.
     pub fn reuse(&mut self, row: S::Row)
         ensures { self.new ≡ record self.old { spare = self.new.spare } }
     {
         self.spare = Some(row);
     }
 
-    /// The row of the least place of all that are left and that stand as often as they have to, or `None` where there is none.
-    /// Places that stand less often are passed over.
+    /// The next row: of all rows that are left and that occur as often as they have to, the one
+    /// with the least place. `None` if there is none. Rows that occur less often are skipped.
     ///
     /// # Errors
     ///
-    /// The fault of an input, or `RepeatedPlace` where a place stands more often than it has to. The merge is of no more use
-    /// then: the row that would have come is lost. `Memory` and `ReadDevice` come from the machine alone.
+    /// The error of an input, or `RepeatedPlace` if a place occurs more often than it has to. The
+    /// merge can't be used any more then: the next row is lost. `Memory` and `ReadDevice` come only
+    /// from the machine.
     pub fn next(&mut self) -> Result<Option<Placed<S::Row>>, MergeRefused>
         requires { AreHeads S.last self.old.passed (heap_items self.old.heads) }
         ensures lawful { OnOk result (AreHeads S.last self.new.passed (heap_items self.new.heads)) }

@@ -9,16 +9,16 @@ ghost use Rattle.rj_merge.specs.Sources.{TellsAmong, is_outside};
 
 use crate::copies::{Copies, MergeInput};
 use crate::options::MergeOptions;
-use crate::patient::Patient;
 use crate::refused::{MergeRefused, MergeTextsRefused};
+use crate::retrying::RetryingReader;
 use crate::texts::merge_texts;
 use rj_csv_io::Output;
 use std::alloc::Global;
 use std::io::{self, ErrorKind, Read};
 
-/// What opens texts by their names.
+/// Opens texts by their names.
 pub trait Opener {
-    /// What reads a text.
+    /// The reader of a text.
     type Reader: Read + Drop;
 
     // Whether a name may open this reader.
@@ -31,7 +31,7 @@ pub trait Opener {
     ///
     /// # Errors
     ///
-    /// Why it can't be opened: `OutOfMemory` where memory was refused.
+    /// Why it can't be opened: `OutOfMemory` if memory ran out.
     fn open(&self, name: &str) -> io::Result<Self::Reader>
         ensures opens { IfOk result (λ r. opens self.now name.now r) }
         ensures shut { OnErr result (shut self.now name.now) };
@@ -54,7 +54,7 @@ fn open_named<P: Opener>(
     opener: &P,
     names: &[&str],
     copies: &[Copies],
-) -> Result<Vec<MergeInput<Patient<P::Reader>>>, MergeRefused>
+) -> Result<Vec<MergeInput<RetryingReader<P::Reader>>>, MergeRefused>
     requires copies { length copies.now ≡ length names.now }
     requires count { length names.now < 2 ^ 32 }
     ensures opened { IfOk result (λ v. AreOpened (P.opens opener.now) (map (λ n. n.now) names.now) v.items) }
@@ -68,7 +68,7 @@ fn open_named<P: Opener>(
     'names: for i in 0..names.len() {
         number += 1;
         let reader = match opener.open(names[i]) {
-            Ok(reader) => Patient::new(reader),
+            Ok(reader) => RetryingReader::new(reader),
             Err(error) => return Err(fault_of_open(number, &error)),
         };
         let input = MergeInput {
@@ -82,11 +82,12 @@ fn open_named<P: Opener>(
     Ok(inputs)
 }
 
-/// Opens texts by their names, in order, and merges all of them, each with its copies, as [`merge_texts`] says.
+/// Opens texts by their names, in order, and merges all of them, each with its copies, as
+/// [`merge_texts`] does.
 ///
 /// # Errors
 ///
-/// Those of [`merge_texts`]. `ReadDevice` tells a text that can't be opened too, the first of them.
+/// Those of [`merge_texts`]. `ReadDevice` also for a text that can't be opened, the first of them.
 pub fn merge_named<P: Opener, O: Output>(
     alloc: Global,
     opener: &P,

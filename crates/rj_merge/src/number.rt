@@ -1,4 +1,4 @@
-//! The place that the fields of a record tell.
+//! The place in the fields of a record.
 
 ghost use Rattle.std.specs.Prelude.{◌≡◌, [], None, Some, IfSome, true, if◌then◌else◌, slice_index_or};
 ghost use Rattle.std.specs.Str.{all_ascii_digits};
@@ -26,10 +26,10 @@ fn are_digits(field: &[u8]) -> bool
     true
 }
 
-// Each number of so many digits has 64 bits.
+// Each number of this many digits fits 64 bits.
 const MOST_DIGITS: usize = 19;
 
-// The number that a field of digits writes, or none where it has another byte or more digits.
+// The number that a field of digits writes, or none if it has another byte or more digits.
 fn plain_number(field: &[u8]) -> Option<u64>
     ensures { IfSome result (λ n. (is_number field.now ≡ true) × (n ≡ digits_value 10 field.now)) }
 {
@@ -47,7 +47,7 @@ fn plain_number(field: &[u8]) -> Option<u64>
     Some(value)
 }
 
-// The number that a field of digits writes, if it has 64 bits.
+// The number that a field of digits writes, if it fits 64 bits.
 fn whole_number(field: &[u8]) -> Option<u64>
     ensures { result ≡ (if is_number field.now then Some (digits_value 10 field.now) else None) }
 {
@@ -66,7 +66,8 @@ fn whole_number(field: &[u8]) -> Option<u64>
     }
 }
 
-// What a field of a place tells: no number where it is null, or a number; or nothing where it is neither.
+// The content of a field of a place: no number if it is NULL, or a number; or nothing if it is
+// neither.
 fn told_number(field: &[u8], null: &[u8]) -> Option<Option<u64>>
     ensures { result ≡ number_of null.now field.now }
 {
@@ -79,7 +80,7 @@ fn told_number(field: &[u8], null: &[u8]) -> Option<Option<u64>>
     }
 }
 
-// The place of a left row in no pair.
+// The place of an unmatched left row.
 fn lone_left(order: RowOrder, left: u64) -> Place
     ensures { result ≡ lone_left_place order left }
 {
@@ -89,7 +90,7 @@ fn lone_left(order: RowOrder, left: u64) -> Place
     }
 }
 
-// The place that two numbers tell.
+// The place that two numbers give.
 fn place_at(
     order: RowOrder,
     input: u32,
@@ -109,7 +110,7 @@ fn place_at(
     }
 }
 
-// What the field at this place of a record tells; a place past its end is empty.
+// The content of the field at this place of a record. A place past its end is empty.
 fn number_at(fields: &ByteRecord, at: usize, null: &[u8]) -> Option<Option<u64>>
     ensures { result ≡ number_of null.now (slice_index_or (fields_of fields.now) at []) }
 {
@@ -119,7 +120,7 @@ fn number_at(fields: &ByteRecord, at: usize, null: &[u8]) -> Option<Option<u64>>
     }
 }
 
-/// The place that a record tells.
+/// The place in a record.
 pub(crate) fn read_place(
     input: u32,
     row: u64,
@@ -134,7 +135,7 @@ pub(crate) fn read_place(
     place_at(how.order, input, row, left, right)
 }
 
-/// Whether a place stands above another one, if there is that one.
+/// Whether a place is above another one, if there is that one.
 pub(crate) fn stands_above(before: Option<Place>, place: Place) -> bool
     ensures { result ≡ is_above before place }
 {

@@ -56,7 +56,7 @@ fn begin<R: Read + Drop>(alloc: Global, input: u32, source: R) -> Result<Begun<R
     }
 }
 
-// An input, and the header that each further one has to have.
+// An input, and the header that each further one needs.
 #[derive(Drop)]
 struct First<'n, R: Read + Drop> {
     header: SharedHeader,
@@ -102,7 +102,7 @@ fn open_first<'n, R: Read + Drop>(
     Ok(First { header, source })
 }
 
-// Opens a further input, which has to have this header.
+// Opens a further input, which needs this header.
 fn open_next<'n, R: Read + Drop>(
     alloc: Global,
     input: u32,
@@ -148,7 +148,7 @@ pub(crate) struct Opened<'n, R: Read + Drop> {
 ///
 /// # Errors
 ///
-/// The first fault of a header. `Memory` and `ReadDevice` come from the machine alone.
+/// The first error of a header. `Memory` and `ReadDevice` come only from the machine.
 pub(crate) fn open_all<'n, R: Read + Drop>(
     alloc: Global,
     inputs: Vec<MergeInput<R>>,

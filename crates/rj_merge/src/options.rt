@@ -9,13 +9,13 @@ use rj_settings::RowOrder;
 /// How texts of placed rows are merged.
 #[derive(Clone, Copy, Debug)]
 pub struct MergeOptions<'n> {
-    /// The bytes of a field of a place that tells no number.
+    /// The bytes of a field of a place that stand for no number.
     pub null: &'n [u8],
     /// The order of the rows, in each text and in the merge.
     pub order: RowOrder,
-    /// The first place of the rows that are merged, or `None` where they begin nowhere.
+    /// The first place of the rows that are merged, or `None` if there is no such limit.
     pub from: Option<Place>,
-    /// The place that the rows which are merged end before, or `None` where they end nowhere.
+    /// The place before which the rows that are merged end, or `None` if there is no such limit.
     pub to: Option<Place>,
 }
 

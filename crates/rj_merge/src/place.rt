@@ -1,4 +1,4 @@
-//! Where a row stands in a joined table.
+//! Where a row is in a joined table.
 
 ghost use Rattle.std.specs.Prelude.{◌≡◌};
 ghost use Rattle.std.proofs.Common.{rules};
@@ -9,22 +9,24 @@ ghost use Rattle.rj_merge.specs.Places.{behind_pairs, class, first_number, place
 
 use std::cmp::Ordering;
 
-/// The place of a row in a joined table: the numbers of its rows in the left and the right table. Pairs come first, by left,
-/// then right number; then lone left rows, and then lone right rows, by number. Where each left row stands at its place, lone
-/// left rows come among the pairs, by number.
+/// The place of a row in a joined table: the numbers of its rows in the left and the right table.
+/// Matches come first, by left, then right number; then unmatched left rows, and then unmatched
+/// right rows, by number. If each left row is at its place, unmatched left rows come among the
+/// matches, by number.
 #[derive(Clone, Copy, Debug)]
 pub enum Place {
     /// A left row with a right row.
     Pair(u64, u64),
-    /// A left row in no pair, among the pairs.
+    /// An unmatched left row, among the matches.
     LoneAmongPairs(u64),
-    /// A left row in no pair, behind the pairs.
+    /// An unmatched left row, after the matches.
     LoneLeft(u64),
-    /// A right row in no pair.
+    /// An unmatched right row.
     LoneRight(u64),
 }
 
-// What places are compared by: their class, then the number of their left row, and of a pair that of its right one.
+// How places compare: by their class, then the number of their left row, and for a match that of
+// its right row.
 fn rank(place: &Place) -> (u8, u64, u8, u64)
     ensures { result ≡ (class place.now, first_number place.now, behind_pairs place.now, second_number place.now) }
 {
@@ -47,7 +49,7 @@ impl Ord for Place {
 
     fn cmp(&self, other: &Place) -> Ordering {
         match (*self, *other) {
-            // (most rows of most joins are pairs)
+            // (most rows of most joins are matches)
             (Place::Pair(left, right), Place::Pair(other_left, other_right)) => {
                 (left, right).cmp(&(other_left, other_right))
             }
@@ -83,7 +85,7 @@ impl PartialEq for Place {
 /// A row with its place.
 #[derive(Drop)]
 pub struct Placed<T> {
-    /// Where the row stands.
+    /// Where the row is.
     pub place: Place,
     /// The row.
     pub row: T,

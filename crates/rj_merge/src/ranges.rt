@@ -1,4 +1,4 @@
-//! Laws of ranges: the function does nothing, and its contract is a fact about all merges of ranges.
+//! Laws of ranges. The function does nothing; its contract is a theorem about all merges of ranges.
 
 ghost use Rattle.std.specs.Prelude.{ℕ, List, None, Option};
 ghost use Rattle.std.specs.List.{flat_map};
@@ -8,8 +8,8 @@ ghost use Rattle.rj_merge.specs.declared.place.Place.{Place};
 ghost use Rattle.rj_merge.specs.MergedTexts.{AreRanges, HaveNoFault, IsMergedText};
 ghost use Rattle.rj_merge.specs.Ranges.{AreCuts, between};
 
-/// The texts of the merges of ranges, one after another, are the text of the whole merge, for all cuts that rise; and where
-/// the last range has no fault, the whole has none.
+/// The texts of the merges of ranges, one after another, are the text of the whole merge, for all
+/// cuts that rise. If the last range has no error, the whole has none.
 pub fn ranges_are_whole()
     ensures text { (how : MergeOptions) (copies : List Copies) (texts : List (List ℕ)) (cuts : List Place) (parts : List (List ℕ)) → AreCuts None cuts
         → AreRanges how copies texts None cuts parts → IsMergedText (between how None None) copies texts (flat_map (λ part. part) parts) }

@@ -1,4 +1,4 @@
-//! What gives rows in order.
+//! Sources of rows in order.
 
 ghost use Rattle.std.specs.Prelude.{◌≡◌, ℕ, Option, IfErr, IfOk, IfSome, OnOk, Some};
 ghost use Rattle.rj_merge.specs.Places.{IsAbove};
@@ -12,33 +12,34 @@ use crate::refused::MergeRefused;
 
 /// An input of a merge, which gives rows whose places rise.
 pub trait Source: Drop {
-    /// What stands in a row.
+    /// The content of a row.
     type Row: Drop;
 
     // Whether it tells what it will give.
     ghost tells: { Self → Type 0 };
 
-    // The rows that it gives from here on, and the fault that it has after them, if it has one.
+    // The rows that it gives from here on, and the error after them, if there is one.
     ghost reading: { Self → Reading Self.Row };
 
     // The place of the row that it gave last.
     ghost last: { Self → Option Place };
 
-    // By which number its faults tell it.
+    // The number by which its errors name it.
     ghost number: { Self → ℕ };
 
-    // In how many inputs its lone rows stand.
+    // In how many inputs its unmatched rows are.
     ghost copies: { Self → Copies };
 
-    /// In how many inputs of the merge a row that it gives stands, if it is a row of the whole.
+    /// In how many inputs of the merge a row that it gives is, if it is a row of the whole.
     fn copies(&self) -> Copies
         ensures { result ≡ copies self.now };
 
-    /// The next row, or `None` behind the last one.
+    /// The next row, or `None` after the last one.
     ///
     /// # Errors
     ///
-    /// The fault behind its rows, or `Memory` or `ReadDevice`, which come from the machine. After an error nothing is known of it.
+    /// The error after its rows, or `Memory` or `ReadDevice`, which come from the machine. After an
+    /// error nothing is known of it.
     fn next(&mut self) -> Result<Option<Placed<Self::Row>>, MergeRefused>
         ensures tells { OnOk result (tells self.old → tells self.new) }
         ensures gives { tells self.old → Gives (reading self.old) result (reading self.new) }
@@ -47,8 +48,8 @@ pub trait Source: Drop {
         ensures number { OnOk result (number self.new ≡ number self.old) }
         ensures input { IfErr result (TellsOf (number self.old)) };
 
-    /// Takes back a row that isn't needed any more, of this input or of another one of the merge, so that a later row can
-    /// stand where it stood. What the input gives stays the same.
+    /// Takes back a row that isn't needed any more, of this input or of another one of the merge,
+    /// so that a later row can use its memory. What the input gives stays the same.
     fn reuse(&mut self, _row: Self::Row)
         ensures tells { tells self.old → tells self.new }
         ensures reading { reading self.new ≡ reading self.old }

@@ -51,7 +51,7 @@ fn on_heap<'n, R: Read + Drop>(
     Ok(all)
 }
 
-// Merges inputs, and puts their rows on the output behind what stands in a block.
+// Merges inputs, and puts their rows on the output after the content of a block.
 fn put_rows<'n, R: Read + Drop, O: Output>(
     alloc: Global,
     sources: Vec<Box<TextSource<'n, R>>>,
@@ -90,7 +90,7 @@ fn put_rows<'n, R: Read + Drop, O: Output>(
     Err(MergeTextsRefused::Merge(MergeRefused::Memory))
 }
 
-// A block with the header that stands above rows from this place on, if one does.
+// A block with the header for rows from this place on, if they have one above them.
 fn begin_block(
     alloc: Global,
     header: SharedHeader,
@@ -115,18 +115,20 @@ fn begin_block(
     Ok(block)
 }
 
-/// Merges texts of placed rows, and puts the merge on the output: their header, and their rows that stand in as many of them
-/// as their copies say, each once and in order, without the two columns of the places, as csv's default writer writes records,
-/// block by block. The options say in which order rows stand, which field of a place tells no number, and between which places
-/// rows are merged. The header stands above rows that begin nowhere: so the texts of ranges, one after another, are the text
-/// of the whole (`ranges_are_whole`).
+/// Merges texts of placed rows, and puts the merge on the output: their header, and the rows that
+/// are in as many of them as their copies say, each once and in order. The two columns of the
+/// places are left out. Records are written as csv's default writer writes them, block by block.
+/// The options give the order of the rows, the text of a place that is no number, and the places
+/// between which rows are merged. The header is written only if there is no first place. So the
+/// texts of ranges, one after another, are the text of the whole (`ranges_are_whole`).
 ///
 /// It holds a block, one row of each text, and one row more.
 ///
 /// # Errors
 ///
-/// `Merge` with the first fault of a header, or else with a fault of a text or `RepeatedPlace`; `Memory` and `ReadDevice` in
-/// it come from the machine alone. `WriteDevice` where the output failed. Nothing is known then of how much was put.
+/// `Merge` with the first error of a header, or else with an error of a text or `RepeatedPlace`;
+/// `Memory` and `ReadDevice` in it come only from the machine. `WriteDevice` if the output failed.
+/// How much was put is unknown then.
 pub fn merge_texts<R: Read + Drop, O: Output>(
     alloc: Global,
     inputs: Vec<MergeInput<R>>,

@@ -36,7 +36,7 @@ answer_lines (Some x ∷ rs) (a ∷ answers) = answer_text a ∷ answer_lines rs
 abbrev pub rows_text : List ℕ → List ℕ
 rows_text rows = flat_map (λ row. 32 ∷ decimal row) rows
 
--- where the sender stands
+-- the state of the sender
 abbrev pub standing_text : Standing → List ℕ
 standing_text s = if s.closed then codes "complete" else codes "waiting " ++ decimal s.next
 
@@ -44,7 +44,7 @@ abbrev pub gap_lines : Bool → ℕ → Option (ℕ × ℕ) → List (List ℕ)
 gap_lines true sender (Some gap) = (codes "sender " ++ (decimal sender ++ (codes " gap " ++ (decimal gap.0 ++ (32 ∷ decimal gap.1))))) ∷ []
 gap_lines _ sender _ = []
 
--- the line of a sender, and that of its gap where these are asked for
+-- the line of a sender, and that of its gap if these are asked for
 abbrev pub sender_lines : Bool → ℕ → Standing → List (List ℕ)
 sender_lines gaps sender s =
     (codes "sender " ++ (decimal sender ++ (32 ∷ standing_text s ++ (codes " rows" ++ rows_text s.rows))))
@@ -58,7 +58,7 @@ senders_lines gaps sender (s ∷ senders) = sender_lines gaps sender s ++ sender
 abbrev pub last_line : LedgerValue → List ℕ
 last_line v = if list_all (λ s. s.closed) v.senders then codes "complete" else codes "incomplete"
 
--- the lines for these readings: the ledger's answers to the parcels, and where it then stands
+-- the lines for these readings: the ledger's answers to the parcels, and its state after them
 abbrev pub report : Bool → LedgerValue → List (Option Parcel) → List (List ℕ)
 report gaps v rs =
     answer_lines rs (answers v (parcels_of rs))

@@ -30,7 +30,7 @@ with_first (Some n) (Some ns) = Some (n ∷ ns)
 with_first (Some n) None = None
 with_first None ns = None
 
--- the row numbers, where each word is one
+-- the row numbers, if each word is one
 abbrev pub rows_of : List (List ℕ) → Option (List ℕ)
 rows_of [] = Some []
 rows_of (word ∷ words) = with_first (number_of (2 ^ 32) word) (rows_of words)

@@ -1,4 +1,5 @@
-//! Scripts of arrivals at a partition of an exchange: their lines read as parcels, and what is printed for them.
+//! Scripts of arrivals at a partition of an exchange: their lines read as parcels, and what is
+//! printed for them.
 #![tactic(auto)]
 
 ghost use Rattle.std.specs.Prelude.{Err, IfErr, ◌≢◌, ◌<◌, ◌+◌, ◌-◌, ◌^◌, ◌≡◌, ◌++◌, ◌∷◌, [], OnOk, IfOk, string_bytes, length, is_some};
@@ -87,21 +88,24 @@ fn print_script(
     Ok((out, readable))
 }
 
-/// Replays a script of arrivals at a partition, and puts what is printed for it: a line for each of its lines that isn't
-/// empty, a line for each of the senders below `senders`, and `complete` or `incomplete`.
+/// Replays a script of arrivals at a partition, and puts what is printed for it: a line for each of
+/// its lines that isn't empty, a line for each of the senders below `senders`, and `complete` or
+/// `incomplete`.
 ///
-/// A line reads `SENDER PARTITION NUMBER close` or `SENDER PARTITION NUMBER rows{ ROW}`, with single spaces. It ends with
-/// LF, a CR before that LF is dropped, and the last line may lack its LF. The ledger of `partition`, with blocks of at most
-/// `block` rows, answers its parcel: `accepted N`, `held` or `refused REASON`; a line of another form is `unreadable`. Of a
-/// sender it tells `sender S complete rows{ ROW}` once its close was delivered, else `sender S waiting N rows{ ROW}` with the
-/// next number, and with `gaps`, where parcels of it are held, `sender S gap A B`, the next number and the smallest held one.
+/// A line reads `SENDER PARTITION NUMBER close` or `SENDER PARTITION NUMBER rows{ ROW}`, with
+/// single spaces. It ends with LF. A CR before that LF is dropped, and the last line may lack its
+/// LF. The ledger of `partition`, with blocks of at most `block` rows, answers its parcel:
+/// `accepted N`, `held` or `refused REASON`. A line of another form is `unreadable`. For a sender
+/// it prints `sender S complete rows{ ROW}` once its close was delivered, else
+/// `sender S waiting N rows{ ROW}` with the next number. With `gaps`, if parcels of it are held, it
+/// also prints `sender S gap A B`, the next number and the smallest held one.
 ///
 /// `Ok` is whether every line was readable. `block` is at least 1.
 ///
 /// # Errors
 ///
-/// `Fault::Memory` comes where a growth was refused, and leaves the writer unchanged; `Fault::WriteDevice` comes where
-/// the writer failed, and nothing is known then of how much it got. There is no other fault.
+/// `Memory` if memory ran out; the writer is unchanged. `WriteDevice` if the writer failed; how
+/// much it got is unknown. There is no other error.
 pub fn arrivals<W: Output>(
     alloc: Global,
     script: &[u8],

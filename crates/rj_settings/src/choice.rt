@@ -3,22 +3,22 @@
 /// Which of the rows of a joined table are written.
 #[derive(Clone, Copy, Debug, PartialEq, Eq)]
 pub struct RowKinds {
-    /// The kept pairs.
+    /// The matches.
     pub pairs: bool,
-    /// Each left row that is in a kept pair, once: a semi-join.
+    /// Each left row that is in a match, once: a semi-join.
     pub matched_left: bool,
-    /// The left rows in no kept pair.
+    /// The unmatched left rows.
     pub lone_left: bool,
-    /// The right rows in no kept pair.
+    /// The unmatched right rows.
     pub lone_right: bool,
 }
 
 /// In which order the rows of a joined table are written.
 #[derive(Clone, Copy, Debug, PartialEq, Eq)]
 pub enum RowOrder {
-    /// Kept pairs, then left rows in no kept pair, then right rows in no kept pair.
+    /// Matches, then unmatched left rows, then unmatched right rows.
     PairsFirst,
-    /// Each left row at its place, in a kept pair or not, then right rows in no kept pair.
+    /// Each left row at its place, matched or not, then unmatched right rows.
     LeftFirst,
 }
 
@@ -27,20 +27,21 @@ pub enum RowOrder {
 pub enum ColumnChoice {
     /// All of them.
     All,
-    /// Those that the left table gives, with those that stand once for both tables.
+    /// Those that come from the left table, with those that occur once for both tables.
     Left,
-    /// Those that the right table gives, with those that stand once for both tables.
+    /// Those that come from the right table, with those that occur once for both tables.
     Right,
 }
 
-/// Under which names the columns of a joined table are written where the same name stands twice, ASCII case ignored.
+/// Under which names the columns of a joined table are written if the same name occurs twice,
+/// ignoring ASCII case.
 #[derive(Clone, Copy, Debug, PartialEq, Eq)]
 pub enum Repeated<'a> {
     /// Under their own names.
     Kept,
-    /// The later one under its name behind its table's letter and a point, as `R.id`.
+    /// The later one under its table's letter, a point and its name, as `R.id`.
     Qualified,
-    /// The later one under its name with this text behind it, as often as it takes.
+    /// The later one under its name and this text after it, as often as it takes.
     Suffixed(&'a str),
 }
 

@@ -1,21 +1,21 @@
 //! What is expected of a joined table.
 
-/// How rows may be paired.
+/// How rows may be matched.
 #[derive(Clone, Copy, Debug, PartialEq, Eq)]
 pub enum Matching {
-    /// Each left row is in at most one kept pair, and so is each right row.
+    /// Each left row is in at most one match, and so is each right row.
     OneToOne,
-    /// Each left row is in at most one kept pair.
+    /// Each left row is in at most one match.
     ManyToOne,
-    /// Each right row is in at most one kept pair.
+    /// Each right row is in at most one match.
     OneToMany,
 }
 
-/// What is expected of a joined table, so that another one isn't written.
+/// What is expected of a joined table. One that isn't as expected isn't written.
 #[derive(Clone, Copy, Debug, PartialEq, Eq)]
 pub struct Expectation {
-    /// How rows may be paired; in any way where there is none.
+    /// How rows may be matched; in any way if it is `None`.
     pub matching: Option<Matching>,
-    /// How many rows it may have at most; any number where there is none.
+    /// How many rows it may have at most; any number if it is `None`.
     pub most_rows: Option<u32>,
 }

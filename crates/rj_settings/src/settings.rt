@@ -34,7 +34,7 @@ fn is_between(low: u32, high: u32, number: u32) -> bool
 }
 
 impl Settings {
-    /// The settings with these numbers and pieces of 65,536 rows, or none where a number is out of its limits. Takes no memory.
+    /// The settings with these numbers and pieces of 65,536 rows, or none if a number is out of its limits. Allocates no memory.
     pub fn new(
         workers: u32,
         bits1: u32,
@@ -72,8 +72,8 @@ impl Settings {
         }
     }
 
-    /// These settings with pieces of so many rows and all other numbers unchanged, or none where the number is not from 1 to 1,048,576.
-    /// Takes no memory.
+    /// These settings with pieces of this many rows and all other numbers unchanged, or none if the
+    /// number is not from 1 to 1,048,576. Allocates no memory.
     pub fn with_piece(self, piece: u32) -> Option<Settings>
         ensures limits { IsSome result ↔ (is_piece piece ≡ true) }
         ensures set { IfSome result (λ s. s.piece ≡ piece) }

@@ -16,7 +16,7 @@ use Rattle.rj_merge.specs.declared.place.Place.{Place}
 use Rattle.rj_merge.specs.declared.place.Place.TheVariants.{Pair, LoneRight}
 use Rattle.rj_merge.specs.declared.place.Placed.{Placed}
 
--- where a member stands in a joined table of this order: by the numbers of its rows
+-- where a member is in a joined table of this order: by the numbers of its rows
 abbrev pub place_of : RowOrder → JoinedRow → Place
 place_of order (Both i j) = Pair i j
 place_of order (LeftOnly i) = lone_left_place order i
@@ -41,7 +41,7 @@ placed_rows order text join l r = placed order text join l r (λ m. m)
 abbrev pub placed_at : {T : Type 0} → RowOrder → (List Content → T) → BoundJoin → TableValue → TableValue → List ℕ → List ℕ → List (Placed T)
 placed_at order text join l r lefts rights = placed order text join (rows_at l lefts) (rows_at r rights) (member_back lefts rights)
 
--- what shard s gives, of so many shards by this hash
+-- what shard s gives, among this many shards by this hash
 abbrev pub placed_shard : {T : Type 0} → RowOrder → (List Content → T) → (List Content → ℕ) → ℕ → BoundJoin → TableValue → TableValue → ℕ → List (Placed T)
 placed_shard order text value count join l r s = placed_at order text join l r (places (left_shard value count join l) l s) (places (right_shard value count join r) r s)
 
@@ -49,7 +49,8 @@ placed_shard order text value count join l r s = placed_at order text join l r (
 abbrev pub placed_shards : {T : Type 0} → RowOrder → (List Content → T) → (List Content → ℕ) → ℕ → BoundJoin → TableValue → TableValue → List (List (Placed T))
 placed_shards order text value count join l r = map (placed_shard order text value count join l r) (range_with_len 0 count)
 
--- lists are what the shards of two tables give in this order, by some lawful hash and of some number of shards
+-- lists are what the shards of two tables give in this order, by some lawful hash and some number
+-- of shards
 pub record AreShards {T : Type 0} (order : RowOrder) (text : List Content → T) (join : BoundJoin) (l r : TableValue) (lists : List (List (Placed T))) : Type 0 where
   pub value : List Content → ℕ
   pub lawful : IsLawful value

@@ -1,4 +1,4 @@
-//! Laws: each of these functions does nothing, and its contract is a fact about all joins in shards.
+//! Laws: each of these functions does nothing; its contract is a theorem about all joins in shards.
 
 ghost use Rattle.std.specs.Prelude.{◌≡◌, ℕ, true, All, List, None, map};
 ghost use Rattle.std.specs.List.{flat_map};
@@ -26,7 +26,8 @@ use crate::joins::{shard_is_part, shards_merge};
 use rj_engine::left_order;
 use rj_merge::{one_merge, single_copies};
 
-/// The rows of a kept pair have one shard, by the key columns of the join and each lawful hash, whatever the number of shards.
+/// The two rows of a match have one shard, by the key columns of the join and each lawful hash,
+/// whatever the number of shards.
 pub fn kept_rows_meet()
     ensures { (value : List Content → ℕ) → IsLawful value → (count : ℕ) (join : BoundJoin) (l r : TableValue)
         → All (λ p. left_shard value count join l p.0 ≡ right_shard value count join r p.1) (kept_pairs join l r) }
@@ -34,11 +35,13 @@ pub fn kept_rows_meet()
     shard_is_part();
 }
 
-/// The rows of the joined table of two tables are the merge of the rows that its shards give, each shard joined whole or in
-/// pieces, as two tables of their own: of all rows that they give those that stand as often as they have to, a pair once, a lone
-/// left row once for each run of right rows, and a lone right row once for each run of left rows; and whatever is that merge is
-/// these rows. This holds for each order of the rows, if the pieces have the same, each kind of join, each lawful hash, each
-/// number of shards, all cuts into runs, and whatever is written of a row's cells.
+/// The rows of the joined table of two tables are the merge of the rows that its shards give. Each
+/// shard is joined whole or in pieces, as two tables of their own. The merge takes the rows that
+/// occur as often as they have to: a match once, an unmatched left row once for each run of right
+/// rows, and an unmatched right row once for each run of left rows. Conversely, whatever is that
+/// merge is these rows. This holds for each order of the rows, if the pieces have the same, each
+/// kind of join, each lawful hash, each number of shards, all cuts into runs, and whatever is
+/// written of a row's cells.
 pub fn cut_shards_merge_to_whole<T>()
     ensures merge { (order : RowOrder) (text : List Content → T) (join : BoundJoin) (l r : TableValue) (inputs : List (Copies × List (Placed T)))
         → AreCutShards order text join l r inputs → IsMergeOf (copied_rows inputs) (placed_rows order text join l r) }
@@ -50,8 +53,9 @@ pub fn cut_shards_merge_to_whole<T>()
     one_merge::<T>();
 }
 
-/// The same where the rows of both tables are numbered otherwise than 0, 1, 2 and so on, if the numbers rise, as the bytes do at
-/// which the rows stand in a file: what is the merge of the shards by these places is the joined table's rows, in its order.
+/// The same if the rows of both tables have other numbers than 0, 1, 2 and so on, as long as the
+/// numbers rise, as the byte offsets of the rows in a file do. The merge of the shards by these
+/// places is the joined table's rows, in its order.
 pub fn renumbered_cut_shards_merge_to_whole<T>()
     ensures { (order : RowOrder) (text : List Content → T) (join : BoundJoin) (l r : TableValue) (inputs : List (Copies × List (Placed T)))
         → AreCutShards order text join l r inputs → (left right : ℕ → ℕ) → Rises left → Rises right → (rows : List (Placed T))
@@ -62,7 +66,8 @@ pub fn renumbered_cut_shards_merge_to_whole<T>()
     one_merge::<T>();
 }
 
-/// The rows that a piece gives stand each above the one before it, so that the piece is an input of a merge as it is.
+/// The rows that a piece gives rise: each is above the one before it. So the piece is an input of a
+/// merge as it is.
 pub fn pieces_rise<T>()
     ensures { (order : RowOrder) (text : List Content → T) (join : BoundJoin) (l r : TableValue) (inputs : List (Copies × List (Placed T)))
         → AreCutShards order text join l r inputs → All (λ i. RisesFrom None i.1) inputs }
@@ -70,7 +75,7 @@ pub fn pieces_rise<T>()
     left_order();
 }
 
-/// No row of all pieces stands more often than it has to.
+/// No row of all pieces occurs more often than it has to.
 pub fn no_place_too_often<T>()
     ensures { (order : RowOrder) (text : List Content → T) (join : BoundJoin) (l r : TableValue) (inputs : List (Copies × List (Placed T)))
         → AreCutShards order text join l r inputs → (place : Place) → StandsTooOften (copied_rows inputs) place → ⊥ }
@@ -78,15 +83,16 @@ pub fn no_place_too_often<T>()
     cut_shards_merge_to_whole::<T>();
 }
 
-/// Shards that are joined whole are cut shards, each in one piece, whose rows stand in no other one.
+/// Shards that are joined whole are cut shards, each in one piece, whose rows are in no other one.
 pub fn whole_shards_are_cut<T>()
     ensures { (order : RowOrder) (text : List Content → T) (join : BoundJoin) (l r : TableValue) (lists : List (List (Placed T)))
         → AreShards order text join l r lists → AreCutShards order text join l r (map (λ rows. (single, rows)) lists) }
 {}
 
-/// The rows of the joined table of two tables are the merge of the rows that its shards give, each shard joined as two tables
-/// of their own; and whatever is that merge is these rows. This holds for each order of the rows, if the shards have the same,
-/// each kind of join, each lawful hash, each number of shards, and whatever is written of a row's cells.
+/// The rows of the joined table of two tables are the merge of the rows that its shards give, each
+/// shard joined as two tables of their own. Conversely, whatever is that merge is these rows. This
+/// holds for each order of the rows, if the shards have the same, each kind of join, each lawful
+/// hash, each number of shards, and whatever is written of a row's cells.
 pub fn shards_merge_to_whole<T>()
     ensures merge { (order : RowOrder) (text : List Content → T) (join : BoundJoin) (l r : TableValue) (lists : List (List (Placed T)))
         → AreShards order text join l r lists → IsMerge lists (placed_rows order text join l r) }
@@ -98,8 +104,9 @@ pub fn shards_merge_to_whole<T>()
     single_copies::<T>();
 }
 
-/// The same where the rows of both tables are numbered otherwise than 0, 1, 2 and so on, if the numbers rise, as the bytes do at
-/// which the rows stand in a file: what is the merge of the shards by these places is the joined table's rows, in its order.
+/// The same if the rows of both tables have other numbers than 0, 1, 2 and so on, as long as the
+/// numbers rise, as the byte offsets of the rows in a file do. The merge of the shards by these
+/// places is the joined table's rows, in its order.
 pub fn renumbered_shards_merge_to_whole<T>()
     ensures { (order : RowOrder) (text : List Content → T) (join : BoundJoin) (l r : TableValue) (lists : List (List (Placed T)))
         → AreShards order text join l r lists → (left right : ℕ → ℕ) → Rises left → Rises right → (rows : List (Placed T))
@@ -110,7 +117,8 @@ pub fn renumbered_shards_merge_to_whole<T>()
     single_copies::<T>();
 }
 
-/// The rows that a shard gives stand each above the one before it, so that the shard is an input of a merge as it is.
+/// The rows that a shard gives rise: each is above the one before it. So the shard is an input of a
+/// merge as it is.
 pub fn shards_rise<T>()
     ensures { (order : RowOrder) (text : List Content → T) (join : BoundJoin) (l r : TableValue) (lists : List (List (Placed T)))
         → AreShards order text join l r lists → All (RisesFrom None) lists }
@@ -127,8 +135,9 @@ pub fn no_place_twice<T>()
     shards_merge_to_whole::<T>();
 }
 
-/// Without their places, the rows of a joined table, be it of a shard or of the whole, are what is written of the rows of cells
-/// that a `View` of it shows, in their order: of all of it in its own order, or in the one that is chosen.
+/// The rows of a joined table, of a shard or of the whole, without their places: what is written of
+/// the rows of cells that a `View` of it shows, in their order. That is all of it in its own order,
+/// or in the chosen one.
 pub fn rows_are_shown<T>()
     ensures own { (text : List Content → T) (join : BoundJoin) (l r : TableValue) (back : JoinedRow → JoinedRow)
         → map (λ (p : Placed T). p.row) (placed PairsFirst text join l r back) ≡ map text (view_of join l r).cells }

@@ -1,6 +1,7 @@
-//! Joins in shards (Balkesen, Teubner, Alonso, Özsu, "Main-memory hash joins on multi-core CPUs", ICDE 2013): the rows of two
-//! tables are divided by the hash of their keys, each shard is joined alone, whole or in pieces, and the merge of what the shards
-//! give is the joined table of SQL-92 (7.5).
+//! Joins in shards (Balkesen, Teubner, Alonso, Özsu, "Main-memory hash joins on multi-core CPUs",
+//! ICDE 2013). The rows of two tables are divided by the hash of their keys. Each shard is joined
+//! alone, whole or in pieces. The merge of what the shards give is the joined table of SQL-92
+//! (7.5).
 #![tactic(auto)]
 
 mod joins;

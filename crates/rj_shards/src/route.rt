@@ -1,4 +1,4 @@
-//! The way of each row to its shard.
+//! How each row gets to its shard.
 
 ghost use Rattle.std.specs.Prelude.{◌<◌, All, length};
 ghost use Rattle.rj_shards.specs.Routes.{shard_of_cells};
@@ -8,8 +8,9 @@ use rj_columns::Table;
 use rj_divide::Route;
 use rj_radix::{KeyHash, KeyRef};
 
-/// Leads each row of a table to its shard. With the key columns of a join, left ones for the left table and right ones for the
-/// right one, rows that the join keeps together are led to shards of one number ([`kept_rows_meet`]).
+/// Leads each row of a table to its shard. With the key columns of a join (the left ones for the
+/// left table, the right ones for the right one), the two rows of a match are led to shards of one
+/// number ([`kept_rows_meet`]).
 ///
 /// [`kept_rows_meet`]: crate::kept_rows_meet
 #[derive(Clone, Copy)]

@@ -7,12 +7,13 @@ use Rattle.rj_strict.specs.declared.header.Header.TheVariants.{First, Above}
 use Rattle.rj_strict.specs.declared.fault.StrictFault.{StrictFault}
 use Rattle.rj_strict.specs.declared.fault.StrictFault.TheVariants as fault
 
--- the row of a text's first record: the header's is 0, and 1 that of the record under it
+-- the row of a text's first record: 0 for the header, and 1 for the record under it
 abbrev pub first_row : Header → ℕ
 first_row First = 0
 first_row (Above names) = 1
 
--- these bytes are what is left of the text at a field: behind whole lines, and behind whole fields each with its comma
+-- these bytes are what is left of the text at a field: after whole lines, and after whole fields
+-- each with its comma
 pub record FieldAt (header : Header) (text : List ℕ) (row column : ℕ) (left : List ℕ) : Type 0 where
   pub lines : List Line
   pub fields : List Field
@@ -22,7 +23,7 @@ pub record FieldAt (header : Header) (text : List ℕ) (row column : ℕ) (left 
   pub at_row : row ≡ first_row header + length lines
   pub at_column : column ≡ length fields + 1
 
--- the row of a fault
+-- the row of an error
 abbrev pub row_at : StrictFault → ℕ
 row_at (fault.OpenQuote row column) = row
 row_at (fault.AfterQuote row column) = row
@@ -31,7 +32,7 @@ row_at (fault.BareReturn row column) = row
 row_at (fault.EmptyLine row) = row
 row_at (fault.CutShort row) = row
 
--- these lines stand in the text above a row
+-- these lines are in the text above a row
 pub record AreAbove (header : Header) (text : List ℕ) (row : ℕ) (lines : List Line) : Type 0 where
   pub left : List ℕ
   pub spelled : text ≡ lines_text lines ++ left
@@ -42,27 +43,27 @@ abbrev pub starts_with_lf : List ℕ → Bool
 starts_with_lf [] = false
 starts_with_lf (c ∷ bytes) = c == lf
 
--- the text has this fault
+-- the text has this error
 abbrev pub HasFault : Header → Bool → List ℕ → StrictFault → Type 0
 -- a quote opens the field, and no other one closes it
 HasFault header full text (fault.OpenQuote row column) =
     (bytes : List ℕ) × FieldAt header text row column (dquote ∷ doubled bytes)
--- TEXTDATA stands behind an escaped field
+-- TEXTDATA comes after an escaped field
 HasFault header full text (fault.AfterQuote row column) =
     (bytes : List ℕ) × (c : ℕ) × (more : List ℕ) × IsTrue (is_textdata c)
     × FieldAt header text row column (field_text (escaped bytes) ++ c ∷ more)
--- a quote stands behind TEXTDATA
+-- a quote comes after TEXTDATA
 HasFault header full text (fault.BareQuote row column) =
     (c : ℕ) × (bytes : List ℕ) × (more : List ℕ) × IsTrue (list_all is_textdata (c ∷ bytes))
     × FieldAt header text row column ((c ∷ bytes) ++ dquote ∷ more)
--- a CR with no LF stands behind a field
+-- a CR with no LF comes after a field
 HasFault header full text (fault.BareReturn row column) =
     (f : Field) × (more : List ℕ) × IsTrue (is_field f) × (starts_with_lf more ≡ false)
     × FieldAt header text row column (field_text f ++ cr ∷ more)
--- an empty line stands under more than one name
+-- an empty line is under more than one name
 HasFault header full text (fault.EmptyLine row) =
     (ended : LineEnd) × (more : List ℕ) × (at : FieldAt header text row 1 (end_text ended ++ more)) × (1 < names_of header at.lines)
--- a full file has a last record with no line's end
+-- a full file has a last record without a line end
 HasFault header full text (fault.CutShort row) =
     IsTrue full × (column : ℕ) × (last : Field) × IsTrue (is_field last)
     × (at : FieldAt header text row column (field_text last)) × (is_blank (record { before = at.fields; last = last }) ≡ false)

@@ -1,5 +1,6 @@
--- RFC 4180's grammar (section 2): its derivations, each with the text that it derives and the records that stand there.
--- TEXTDATA is widened to all bytes but COMMA, DQUOTE, CR and LF, and a line may end in LF alone.
+-- RFC 4180's grammar (section 2): its derivations, each with the text that it derives and its
+-- records. TEXTDATA is widened to all bytes but COMMA, DQUOTE, CR and LF, and a line may end in LF
+-- alone.
 use Rattle.std.specs.Prelude.{ℕ, ◌+◌, ◌==◌, ◌≡◌, ◌||◌, ◌&&◌, not, nat_le, if◌then◌else◌, Bool, true, false, List, [], ◌∷◌, ◌++◌, map, flat_map, length, Option, Some, None, IsTrue}
 use Rattle.std.specs.List.{list_all}
 use Rattle.rj_strict.specs.declared.header.Header.{Header}
@@ -91,14 +92,16 @@ is_line names l = is_record l.fields && (nat_le names 1 || not (is_blank l.field
 abbrev pub lines_text : List Line → List ℕ
 lines_text lines = flat_map line_text lines
 
--- how many names the header has: header = name *(COMMA name), a record as any other, is the first one where it stands in the text
+-- how many names the header has: header = name *(COMMA name) is a record like any other, the first
+-- one if it is in the text
 abbrev pub names_of : Header → List Line → ℕ
 names_of First [] = 1
 names_of First (l ∷ lines) = width l.fields
 names_of (Above names) lines = names
 
--- file = [header line-end] record *(line-end record) [line-end], which is *(record line-end) [record] with a last record of
--- one byte or more, so that a line's end at the end of the text begins no record
+-- file = [header line-end] record *(line-end record) [line-end], which is *(record line-end)
+-- [record] with a last record of one byte or more, so that a line end at the end of the text begins
+-- no record
 pub record File : Type 0 where
   pub lines : List Line
   pub rest : Option Record
@@ -110,12 +113,12 @@ rest_text (Some r) = record_text r
 abbrev pub file_text : File → List ℕ
 file_text file = lines_text file.lines ++ rest_text file.rest
 
--- in a full file each record has its line's end
+-- in a full file each record has its line end
 abbrev pub is_rest : Bool → Option Record → Bool
 is_rest full None = true
 is_rest full (Some r) = is_record r && not (is_blank r) && not full
 
--- the text is derived so
+-- this is a derivation of the text
 pub record Derives (header : Header) (full : Bool) (text : List ℕ) (file : File) : Type 0 where
   pub spelled : text ≡ file_text file
   pub lines : IsTrue (list_all (is_line (names_of header file.lines)) file.lines)
@@ -133,6 +136,6 @@ abbrev pub rest_records : Option Record → List (List (List ℕ))
 rest_records None = []
 rest_records (Some r) = values_of r ∷ []
 
--- the records that stand in a file
+-- the records in a file
 abbrev pub records_of : File → List (List (List ℕ))
 records_of file = map (λ l. values_of l.fields) file.lines ++ rest_records file.rest

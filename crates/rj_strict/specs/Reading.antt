@@ -1,4 +1,4 @@
--- What stands in a text beside what the library csv reads there: csv reads no record in an empty line.
+-- What the library csv reads from a text: it reads no record from an empty line.
 use Rattle.std.specs.Prelude.{ℕ, ◌==◌, ◌||◌, not, Bool, false, if◌then◌else◌, List, [], ◌∷◌, map, filter}
 use Rattle.csv.specs.Reading.{is_bom, strip_bom}
 use Rattle.rj_strict.specs.Grammar.{Line, File, cr, lf, escaped, is_blank}
@@ -30,7 +30,7 @@ quoted_line l = if is_blank l.fields then record { fields = record { before = []
 abbrev pub quoted : File → File
 quoted file = record { lines = map quoted_line file.lines; rest = file.rest }
 
--- the byte begins an empty line where a check stands
+-- the byte begins an empty line at the check's place
 abbrev pub begins_empty : Place → ℕ → Bool
 begins_empty place.Start c = (c == lf) || (c == cr)
 begins_empty place.Fresh c = false

@@ -1,4 +1,4 @@
--- How the check goes over a text, byte by byte. The program's own: no public contract speaks of it.
+-- How the check goes over a text, byte by byte. Internal: no public contract uses it.
 use Rattle.std.specs.Prelude.{ℕ, ◌+◌, ◌==◌, nat_lt, if◌then◌else◌, Bool, false, List, [], ◌∷◌, Result, Ok, Err}
 use Rattle.rj_strict.specs.Grammar.{comma, dquote, cr, lf}
 use Rattle.rj_strict.specs.Faults.{first_row}
@@ -30,7 +30,7 @@ next_field s = record s { place = place.Fresh; column = s.column + 1 }
 abbrev pub next_line : Standing → Standing
 next_line s = record { place = place.Start; header = header_below s.header s.column; row = s.row + 1; column = 1 }
 
--- behind the end of an empty line
+-- after the end of an empty line
 abbrev pub end_empty : Standing → Result Standing StrictFault
 end_empty s = if forbids_empty s.header then Err (fault.EmptyLine s.row) else Ok (next_line s)
 
@@ -116,7 +116,7 @@ end_of full s = from s.place
     from place.Blank = Err (fault.BareReturn s.row s.column)
     from place.Return = Err (fault.BareReturn s.row s.column)
 
--- what goes on, or has its fault
+-- what goes on, or has its error
 abbrev pub step_then : Result Standing StrictFault → (Standing → Result (Unit {0}) StrictFault) → Result (Unit {0}) StrictFault
 step_then (Ok s) more = more s
 step_then (Err e) more = Err e

@@ -1,4 +1,5 @@
--- Where a check stands after bytes that have no fault, and no empty line, whatever the header is. The program's own: no public contract speaks of it.
+-- Where a check is after bytes that have neither an error nor an empty line, whatever the header
+-- is. Internal: no public contract uses it.
 use Rattle.std.specs.Prelude.{ℕ, ◌==◌, ◌&&◌, ◌||◌, not, if◌then◌else◌, Bool, true, false, List, [], ◌∷◌, Option, Some, None, option_and_then, IfSome, slice_index_or, ◌<◌, ◌≡◌, length}
 use Rattle.rj_strict.specs.Grammar.{comma, dquote, cr, lf}
 use Rattle.rj_strict.specs.declared.standing.Place.{Place}
@@ -55,7 +56,7 @@ may_end full place.Closed = not full
 may_end full place.Blank = false
 may_end full place.Return = false
 
--- each of these is the place after its text alone, where it is seen to have neither a fault nor an empty line
+-- each of these is the place after its text alone, where it is seen to have neither an error nor an empty line
 abbrev pub AreWalked : List (List ℕ) → List (Option Place) → Type 0
 AreWalked texts places = (i : ℕ) (d : Option Place) → i < length texts
     → IfSome (slice_index_or places i d) (λ p. walk place.Start (slice_index_or texts i []) ≡ Some p)

@@ -1,4 +1,4 @@
-//! What stands above a fault.
+//! The lines above an error.
 
 ghost use Rattle.std.specs.Prelude.{◌≡◌, ◌≤◌, ◌+◌, ◌-◌, ◌^◌, ◌<◌, Bool, List, ℕ, length, take};
 ghost use Rattle.rj_strict.specs.Faults.{AreAbove, HasFault, row_at};
@@ -11,7 +11,7 @@ use crate::header::Header;
 use crate::mark::body;
 use crate::standing::{begin, step};
 
-// Where the row begins that has the fault.
+// Where the row with the error begins.
 fn start_of_row(text: &[u8], header: Header, row: u64) -> usize
     requires { (full : Bool) × (f : Told) × HasFault header full text.now f × (row_at f ≡ row) }
     ensures within { result ≤ length text.now }
@@ -30,7 +30,8 @@ fn start_of_row(text: &[u8], header: Header, row: u64) -> usize
     text.len()
 }
 
-/// The lines above the row of a text's fault, with the byte order mark that may stand before them. It takes no memory.
+/// The lines above the row of a text's error, with the byte order mark that may come before them.
+/// It allocates no memory.
 pub fn above_fault(text: &[u8], header: Header, fault: StrictFault) -> &[u8]
     requires { (full : Bool) × HasFault header full (body_of header text.now) fault }
     ensures { (lines : List Line) × AreAbove header (body_of header text.now) (row_at fault) lines × (body_of header result.now ≡ lines_text lines) }

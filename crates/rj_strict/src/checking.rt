@@ -27,7 +27,7 @@ fn check_bytes(text: &[u8], header: Header, full: bool) -> Result<(), StrictFaul
     finish(standing, full)
 }
 
-// The verdict, by the fast look where it is enough.
+// The verdict, by the fast look if that is enough.
 fn judge(text: &[u8], header: Header, full: bool) -> Result<(), StrictFault>
     ensures { result ≡ verdict full (initial_standing header) text.now }
 {
@@ -37,16 +37,16 @@ fn judge(text: &[u8], header: Header, full: bool) -> Result<(), StrictFault>
     check_bytes(text, header, full)
 }
 
-/// Whether a text is derived by RFC 4180's grammar, or the first place where it stops being so. In a full text the last
-/// record has its line's end. It takes no memory.
+/// Checks whether a text is derived by RFC 4180's grammar, and finds the first place where it
+/// isn't. If `full` is set, the last record needs its line end. It allocates no memory.
 ///
 /// # Errors
-/// The one fault that the text has.
+/// The one error that the text has.
 pub fn check(text: &[u8], header: Header, full: bool) -> Result<(), StrictFault>
-    // What is answered is so.
+    // Each answer is right.
     ensures derived { OnOk result ((file : File) × Derives header full (body_of header text.now) file) }
     ensures fault { IfErr result (λ f. HasFault header full (body_of header text.now) f) }
-    // What is so is answered.
+    // Each right answer is given.
     ensures each_file { (file : File) → Derives header full (body_of header text.now) file → result ≡ Ok tt }
     ensures each_fault { (f : StrictFault) → HasFault header full (body_of header text.now) f → result ≡ Err f }
 {

@@ -1,4 +1,4 @@
-//! A fast look at a text that has neither a fault nor an empty line.
+//! A fast look at a text that has neither an error nor an empty line.
 
 ghost use Rattle.std.specs.Prelude.{◌≡◌, ◌<◌, ◌==◌, ℕ, true, false, Bool, Ok, Some, IfSome, length, slice_index};
 ghost use Rattle.rj_strict.specs.Steps.{initial_standing, verdict};
@@ -9,7 +9,8 @@ ghost use Rattle.rj_strict.specs.declared.standing.Place.TheVariants.{Start};
 use crate::standing::Place;
 use memchr::memchr;
 
-// How many bytes are looked at for quotes, and then again: so few that they are still near.
+// How many bytes are scanned for quotes, and then once more: so few that they are still in the
+// cache.
 const NEAR: usize = 32_768;
 
 // Whether a byte may not follow another outside quotes.
@@ -47,7 +48,7 @@ fn all_may_follow(before: u8, text: &[u8]) -> bool
     !bad
 }
 
-// Whether each byte may follow the one before it, in a text with no return.
+// Whether each byte may follow the one before it, in a text without CR.
 fn follow_without_returns(before: u8, text: &[u8]) -> bool
     requires quotes { (i : ℕ) → i < length text.now → (slice_index text.now i == 34) ≡ false }
     requires returns { (i : ℕ) → i < length text.now → (slice_index text.now i == 13) ≡ false }
@@ -63,7 +64,7 @@ fn follow_without_returns(before: u8, text: &[u8]) -> bool
     !bad
 }
 
-// Whether each byte may follow the one before it, in a text with no quote.
+// Whether each byte may follow the one before it, in a text without a quote.
 fn follow_without_quotes(before: u8, text: &[u8]) -> bool
     requires { (i : ℕ) → i < length text.now → (slice_index text.now i == 34) ≡ false }
     ensures { result ≡ true → all_follow before text.now ≡ true }
@@ -74,7 +75,7 @@ fn follow_without_quotes(before: u8, text: &[u8]) -> bool
     }
 }
 
-// The place after a text outside quotes that has none, behind this byte.
+// The place after a text outside quotes that has none, after this byte.
 fn follow(before: u8, text: &[u8]) -> Option<Place>
     requires some { 0 < length text.now }
     requires quotes { (i : ℕ) → i < length text.now → (slice_index text.now i == 34) ≡ false }
@@ -86,7 +87,7 @@ fn follow(before: u8, text: &[u8]) -> Option<Place>
     None
 }
 
-// The place after a text with no quote.
+// The place after a text without a quote.
 fn stretch(place: Place, text: &[u8]) -> Option<Place>
     requires { (i : ℕ) → i < length text.now → (slice_index text.now i == 34) ≡ false }
     ensures { IfSome result (λ p. walk place text.now ≡ Some p) }
@@ -122,7 +123,7 @@ fn behind_quote(place: Place) -> Option<Place>
     }
 }
 
-// The place after a text that has neither a fault nor an empty line, from quote to quote.
+// The place after a text that has neither an error nor an empty line, from quote to quote.
 fn place_behind_text(start: Place, text: &[u8]) -> Option<Place>
     ensures { IfSome result (λ p. walk start text.now ≡ Some p) }
 {
@@ -140,7 +141,8 @@ fn place_behind_text(start: Place, text: &[u8]) -> Option<Place>
     Some(place)
 }
 
-/// The place after a text that has neither a fault nor an empty line, if it is seen to have none.
+/// The place after a text that has neither an error nor an empty line, if the fast look sees that
+/// it has none.
 pub(crate) fn place_at_end(text: &[u8]) -> Option<Place>
     ensures { IfSome result (λ p. walk Start text.now ≡ Some p) }
 {
@@ -162,8 +164,8 @@ pub(crate) fn ends_well(place: Place, full: bool) -> bool
     }
 }
 
-/// Whether a text is seen to be derived whatever its header is, in a look that is much faster than [`crate::check`]
-/// byte by byte. One with an empty line isn't.
+/// Whether a text is derived whatever its header is, as far as a look can tell that is much faster
+/// than [`crate::check`] byte by byte. A text with an empty line isn't.
 pub(crate) fn is_clean(text: &[u8], full: bool) -> bool
     ensures { result ≡ true → (h : Heading) → verdict full (initial_standing h) text.now ≡ Ok tt }
 {

@@ -5,6 +5,6 @@
 pub enum Header {
     /// It is the text's first record, and has row 0.
     First,
-    /// It stands above the text and has so many names. The text's first record has row 1.
+    /// It is above the text and has this many names. The text's first record has row 1.
     Above(u64),
 }

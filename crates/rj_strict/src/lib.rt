@@ -1,7 +1,7 @@
 //! Whether a text of CSV is derived by RFC 4180's grammar, and where it stops being so.
 //!
-//! What [`check`] answers is fixed by `Derives`, the grammar, and by `HasFault`. The laws say that a text has one derivation,
-//! what the library `csv` reads of it, and that texts can be checked in parts.
+//! `Derives`, the grammar, and `HasFault` fix what [`check`] answers. The laws say that a text has
+//! one derivation, what the library `csv` reads from it, and that texts can be checked in parts.
 #![tactic(auto)]
 
 mod above;

@@ -27,7 +27,7 @@ fn without_mark(text: &[u8]) -> &[u8]
     text
 }
 
-/// A text without the byte order mark at its start, where the header stands in it.
+/// A text without the byte order mark at its start, if the header is in the text.
 pub(crate) fn body(text: &[u8], header: Header) -> &[u8]
     ensures { result.now ≡ body_of header text.now }
 {

@@ -1,4 +1,4 @@
-//! The fast look at a text in parts, each by a thread.
+//! The fast look at a text in parts, each by its own thread.
 
 ghost use Rattle.std.specs.Prelude.{◌≡◌, true, IfOk, IfSome, length, map};
 ghost use Rattle.std.specs.List.{concat};
@@ -13,10 +13,10 @@ use memchr::memchr;
 use std::alloc::{AllocError, Global};
 use std::thread::{self, Threads};
 
-// The least bytes of a part: fewer take less time than a thread's start.
+// The least bytes of a part: fewer take less time than starting a thread.
 const LEAST_PART: usize = 262_144;
 
-// Cuts a text behind line feeds into up to so many texts of about one size.
+// Cuts a text after line feeds into at most `parts` texts of about one size.
 fn cut_at_lines<'a>(
     alloc: Global,
     text: &'a [u8],
@@ -42,8 +42,8 @@ fn cut_at_lines<'a>(
     Ok(parts)
 }
 
-// The place after texts that stand one after another, by the places after each of them alone: all but the last have to end
-// with a line.
+// The place after consecutive texts, from the places after each of them alone. All but the last
+// have to end with a line end.
 fn place_after_all(texts: &[&[u8]], places: &[Option<Place>]) -> Option<Place>
     requires count { length places.now ≡ length texts.now }
     requires walked { AreWalked (map (λ t. t.now) texts.now) places.now }
@@ -59,7 +59,7 @@ fn place_after_all(texts: &[&[u8]], places: &[Option<Place>]) -> Option<Place>
     Some(place)
 }
 
-// The place after a text, looked at in up to so many parts.
+// The place after a text, looked at in at most `parts` parts.
 fn place_in_parts<R: Threads + Sync>(
     rt: &R,
     alloc: Global,
@@ -79,12 +79,13 @@ fn place_in_parts<R: Threads + Sync>(
     place_after_all(texts, places.as_slice())
 }
 
-/// Whether a text is seen to be derived under more than one name, so that it has no empty line: by a fast look at up to so many
-/// parts at a time, each by a thread, the calling one among them. A part has at least 256 KiB. A byte-order mark isn't left out
-/// here: a text that may begin with one is handed on without it.
+/// Whether a text is derived under more than one name, so that it has no empty line. A fast look at
+/// up to `parts` parts at a time finds out, each in its own thread, one of them the calling thread.
+/// A part has at least 256 KiB. The text must not begin with a byte order mark: pass the text after
+/// the mark.
 ///
-/// Where it answers false nothing is known of the text, and [`crate::check`] tells: a quoted field may have a line feed where
-/// the text was cut, or memory was refused.
+/// If the answer is false, nothing is known of the text, and [`crate::check`] decides. Perhaps a
+/// quoted field has a line feed where the text was cut, or memory ran out.
 pub fn is_derived_in_parts<R: Threads + Sync>(
     rt: &R,
     alloc: Global,

@@ -1,4 +1,4 @@
-//! Empty lines written as csv writes a record of one empty field.
+//! Empty lines, written as csv writes a record of one empty field.
 
 ghost use Rattle.std.specs.Prelude.{◌≡◌, ◌<◌, ◌-◌, ◌^◌, Bool, IfOk};
 ghost use Rattle.csv.specs.Reading.{strip_bom};
@@ -21,11 +21,11 @@ fn begins_empty_line(place: Place, byte: u8) -> bool
     }
 }
 
-/// A text that is derived with `""` in each of its empty lines. It begins with a byte order mark, so that nothing else that
-/// stands at its start is taken for one.
+/// A text that is derived, with `""` in each of its empty lines. The result begins with a byte
+/// order mark, so that nothing else at its start is taken for one.
 ///
 /// # Errors
-/// It fails only where memory is refused.
+/// It fails only when memory runs out.
 pub fn quote_empty_lines(alloc: Global, text: &[u8]) -> Result<Vec<u8>, AllocError>
     requires { (full : Bool) × (file : File) × Derives First full (body_of First text.now) file }
     ensures { IfOk result (λ v. (full : Bool) (file : File) → Derives First full (body_of First text.now) file → strip_bom v.items ≡ file_text (quoted file)) }

@@ -1,4 +1,4 @@
-//! Where a check stands in a text, and what a byte does there.
+//! Where a check is in a text, and what a byte does there.
 
 ghost use Rattle.std.specs.Prelude.{◌≡◌, ◌<◌, ◌≤◌, ◌+◌, ◌^◌, ◌-◌, Err};
 ghost use Rattle.rj_strict.specs.Steps.{at_comma, at_cr, at_dquote, at_lf, at_textdata, end_empty, end_of, initial_standing, next_field, next_line, step_of};
@@ -6,8 +6,9 @@ ghost use Rattle.rj_strict.specs.Steps.{at_comma, at_cr, at_dquote, at_lf, at_te
 use crate::fault::StrictFault;
 use crate::header::Header;
 
-/// A place in a text: at the start of a record, at that of a further field, in a field without quotes, between quotes,
-/// behind a quote that closed, behind the CR of an empty line, and behind one that ends another record.
+/// A place in a text: at the start of a record, at the start of a further field, in a field without
+/// quotes, between quotes, after a closing quote, after the CR of an empty line, and after the CR
+/// that ends another record.
 #[derive(Clone, Copy, Debug, PartialEq, Eq)]
 pub(crate) enum Place {
     Start,
@@ -19,7 +20,7 @@ pub(crate) enum Place {
     Return,
 }
 
-/// Where a check stands: its place, the header as far as it is known, and the row and the column.
+/// The state of a check: its place, the header as far as it is known, and the row and the column.
 #[derive(Clone, Copy, Debug, PartialEq, Eq)]
 pub(crate) struct Standing {
     pub(crate) place: Place,
@@ -44,7 +45,7 @@ pub(crate) fn begin(header: Header) -> Standing
     }
 }
 
-// Behind the end of a line.
+// After a line end.
 fn below(standing: Standing) -> Standing
     requires { standing.row < 2 ^ 64 - 1 }
     ensures { result ≡ next_line standing }
@@ -61,7 +62,7 @@ fn below(standing: Standing) -> Standing
     }
 }
 
-// Behind the end of an empty line.
+// After the end of an empty line.
 fn below_empty(standing: Standing) -> Result<Standing, StrictFault>
     requires { standing.row < 2 ^ 64 - 1 }
     ensures { result ≡ end_empty standing }
@@ -146,7 +147,7 @@ fn on_textdata(standing: Standing) -> Result<Standing, StrictFault>
     }
 }
 
-/// Behind one more byte, or its fault.
+/// After one more byte, or its error.
 pub(crate) fn step(standing: Standing, byte: u8) -> Result<Standing, StrictFault>
     requires row { standing.row < 2 ^ 64 - 1 }
     requires column { standing.column < 2 ^ 64 - 1 }

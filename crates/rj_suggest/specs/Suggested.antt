@@ -30,11 +30,11 @@ abbrev pub texts_for : List (List (List ℕ)) → List ColumnType
 texts_for [] = []
 texts_for (header ∷ rest) = map (λ _. kind.Text) header
 
--- what a file's bytes denote where each column is of texts
+-- what a file's bytes denote if each column is of texts
 abbrev pub read_as_texts : List ℕ → List (List ℕ) → Result TableValue ReadRefused
 read_as_texts bytes nulls = read_of bytes (texts_for (records default_config (strip_bom bytes))) nulls
 
--- no zero stands before another digit
+-- no zero comes before another digit
 abbrev pub has_no_leading_zero : List ℕ → Bool
 has_no_leading_zero digits = nat_le (length digits) 1 || not (begins (λ b. b == 48) digits)
 
@@ -43,7 +43,7 @@ abbrev pub digits_of : Part → List ℕ → List ℕ
 digits_of part.Before text = before_point (without_leading_sign text)
 digits_of part.After text = after_point (without_leading_sign text)
 
--- a whole number of 64 bits, or a number with as many digits as it may have; no zero stands before its other digits
+-- a whole number of 64 bits, or a number with as many digits as it may have; no zero comes before its other digits
 abbrev pub is_of : Form → List ℕ → Bool
 is_of form.Int text = is_int_text text && has_no_leading_zero (digits_of part.Before text)
 is_of form.Number text = is_unsigned_text (without_leading_sign text) && has_no_leading_zero (digits_of part.Before text)
@@ -55,14 +55,14 @@ text_in (whole n) = None
 text_in (decimal units scale) = None
 text_in (word s) = Some s
 
--- each text in the first rows of a column, so many, is such a one; and one of them is
+-- each text in this many first rows of a column is such a one; and one of them is
 abbrev pub EachAbove : TableValue → ℕ → ℕ → (List ℕ → Type 0) → Type 0
 EachAbove t col rows P = (row : ℕ) → row < rows → IfSome (text_in (cell_of t row col)) P
 
 abbrev pub SomeAbove : TableValue → ℕ → ℕ → (List ℕ → Type 0) → Type 0
 SomeAbove t col rows P = (row : ℕ) × (row < rows) × IsSomeAnd (text_in (cell_of t row col)) P
 
--- the same of the whole column
+-- the same for the whole column
 abbrev pub EachText : TableValue → ℕ → (List ℕ → Type 0) → Type 0
 EachText t col P = EachAbove t col (length t.rows) P
 
@@ -83,7 +83,8 @@ abbrev pub most_with : Part → ℕ → Option (List ℕ) → ℕ
 most_with p most None = most
 most_with p most (Some s) = max most (length (digits_of p s))
 
--- the numeric type with so many digits before and after the point, or `text` where these are more than 18
+-- the numeric type with this many digits before and after the point, or `text` if these are more
+-- than 18
 abbrev pub IsNumericOrText : ℕ → ℕ → ColumnType → Type 0
 IsNumericOrText before after kind.Int = ⊥
 IsNumericOrText before after (kind.Num n) = (n.precision ≡ before + after) × (n.scale ≡ after)
@@ -97,8 +98,8 @@ pub record IsByDigits (t : TableValue) (col : ℕ) (kind : ColumnType) : Type 0 
   pub most_after : IsMost t col part.After 0 after
   pub type : IsNumericOrText before after kind
 
--- the type that the cells of a column of texts suggest: `int` where each text is a whole number; else the type with the digits seen
--- where each is a number; else `text`, and so where there is no text
+-- the type that the cells of a column of texts suggest: `int` if each text is a whole number; else
+-- the type with the digits seen if each is a number; else `text`, also if there is no text
 abbrev pub IsSuggested : TableValue → ℕ → ColumnType → Type 0
 IsSuggested t col kind.Int = SomeText t col (λ _. Unit {0}) × EachText t col (λ s. is_of form.Int s ≡ true)
 IsSuggested t col (kind.Num n) =
@@ -112,8 +113,8 @@ pub record AreSuggested (t : TableValue) (kinds : List ColumnType) : Type 0 wher
   pub count : length kinds ≡ length t.types
   pub each : (col : ℕ) (kind : ColumnType) → slice_get kinds col ≡ Some kind → IsSuggested t col kind
 
--- a name as it is where it is an identifier of a clause (a list of types takes more, those that begin with an underscore), and else between
--- double quotes, each one in it doubled
+-- a name is unchanged if it is an identifier of a clause (a list of types takes more, those that
+-- begin with an underscore), and else between double quotes, with each one in it doubled
 abbrev pub is_identifier : List ℕ → Bool
 is_identifier [] = false
 is_identifier (b ∷ bs) = is_ascii_alphabetic b && list_all is_name_byte bs
@@ -146,7 +147,8 @@ entries_of [] kinds = []
 entries_of (name ∷ names) [] = []
 entries_of (name ∷ names) (kind ∷ kinds) = entry_of name kind ∷ entries_of names kinds
 
--- the lines of the types that are suggested for the columns of a file, which reads as texts, and reads with these types too
+-- the lines of the types that are suggested for the columns of a file, which reads as texts, and
+-- reads with these types too
 pub record IsSuggestedList (bytes : List ℕ) (nulls : List (List ℕ)) (text : List ℕ) : Type 0 where
   pub table : TableValue
   pub kinds : List ColumnType
@@ -155,6 +157,6 @@ pub record IsSuggestedList (bytes : List ℕ) (nulls : List (List ℕ)) (text : 
   pub typed : (typed_table : TableValue) × (read_of bytes kinds nulls ≡ Ok typed_table)
   pub lines : text ≡ column_lines table.names kinds
 
--- the fault of a file that doesn't read as texts
+-- the error of a file that doesn't read as texts
 abbrev pub IsSuggestFault : List ℕ → List (List ℕ) → Fault → Type 0
 IsSuggestFault bytes nulls f = (e : ReadRefused) × (read_as_texts bytes nulls ≡ Err e) × (f ≡ read_fault side.Left e)

@@ -75,7 +75,8 @@ fn most_digits(part: Part, table: &Table, col: usize, least: usize) -> usize
     most
 }
 
-// The numeric type with these digits before and after the point, or that of texts where they are too many.
+// The numeric type with these digits before and after the point, or that of texts if there are too
+// many.
 fn numeric_or_text(before: usize, after: usize) -> ColumnType
     requires { 1 ≤ before }
     ensures { IsNumericOrText before after result }

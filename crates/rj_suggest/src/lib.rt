@@ -1,4 +1,4 @@
-//! Types that the cells of a file suggest, and lists of types that stand in files.
+//! The types that the cells of a file suggest, and lists of types that are in files.
 #![tactic(auto)]
 
 ghost use Rattle.std.specs.Prelude.{◌≡◌, ◌≢◌, IfOk, IfErr, replicate};
@@ -20,14 +20,14 @@ use rj_csv_io::{Header, read_table, without_bom};
 use rj_fault::{Fault, Side, fault_of_read};
 use std::alloc::{AllocError, Global};
 
-// The type of texts, so many times.
+// The type of texts, this many times.
 fn texts(alloc: Global, count: usize) -> Result<Vec<ColumnType>, AllocError>
     ensures { IfOk result (λ types. types.items ≡ replicate count ColumnType.Text) }
 {
     vec![in alloc; ColumnType::Text; count]
 }
 
-// The type of texts for each column of a file; none where it has no header.
+// The type of texts for each column of a file; none if it has no header.
 fn texts_for(alloc: Global, bytes: &[u8]) -> Result<Vec<ColumnType>, AllocError>
     ensures { IfOk result (λ types. types.items ≡ texts_for (records default_config (strip_bom bytes.now))) }
 {
@@ -37,17 +37,24 @@ fn texts_for(alloc: Global, bytes: &[u8]) -> Result<Vec<ColumnType>, AllocError>
     }
 }
 
-/// A list of types that the cells of a file suggest, as a text: a line `NAME=TYPE` for each column, in order. The type is `int` where
-/// each cell that isn't null is an optional sign and digits, a number of 64 bits; else `num(P,S)` where each is an optional sign,
-/// digits, and perhaps a point and digits, S being the most digits after the point, and P these and the most before it, 18 at most
-/// together; else `text`, and so where all cells are null. A number in which a zero stands before other digits is a text. A name is between double
-/// quotes where it is no identifier.
+/// A list of types that the cells of a file suggest, as a text: a line `NAME=TYPE` for each column,
+/// in order. NULLs play no part. The type of a column is:
 ///
-/// The file is read as a join reads it where every column is of texts. It is a proposal: a join's types are declared.
+/// - `int` if each cell is an optional sign and digits, a number of 64 bits;
+/// - else `num(P,S)` if each is an optional sign, digits, and perhaps a point and digits, where S
+///   is the most digits after the point, and P is S plus the most digits before it, at most 18;
+/// - else `text`, also if all cells are NULL.
+///
+/// A number with a leading zero before other digits is a text. A name is between double quotes
+/// unless it is an identifier.
+///
+/// The file is read as a join reads it if every column is of texts. It is a proposal: a join's
+/// types are declared.
 ///
 /// # Errors
 ///
-/// The first fault of that reading, told of the left table. `Memory` comes only where a growth was refused.
+/// The first error of that reading, reported of the left table. `Memory` comes only when memory ran
+/// out.
 pub fn suggest_types(alloc: Global, bytes: &[u8], nulls: &[&str]) -> Result<Vec<u8>, Fault>
     ensures list { IfOk result (λ list. IsSuggestedList bytes.now (null_texts nulls.now) list.items) }
     ensures fault { IfErr result (λ f. f ≢ Fault.Memory → IsSuggestFault bytes.now (null_texts nulls.now) f) }

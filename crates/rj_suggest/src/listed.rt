@@ -1,4 +1,4 @@
-//! Lists that stand in a file, a line for each entry.
+//! Lists in a file, with a line for each entry.
 
 ghost use Rattle.std.specs.Prelude.{◌≡◌, ◌≢◌, ◌++◌, IfOk, IfErr, OnOk, string_bytes, false};
 ghost use Rattle.std.specs.Option.{option_to_list};
@@ -8,7 +8,8 @@ ghost use Rattle.rj_suggest.specs.Listed.{in_list, list_in, quoted_behind};
 use rj_fault::{Fault, Side};
 use std::alloc::{AllocError, Global};
 
-// What a byte stands for in the list, by whether double quotes are open before it, and by what follows it.
+// What a byte gives in the list, by whether double quotes are open before it, and by what follows
+// it.
 fn in_list(quoted: bool, byte: u8, rest: &[u8]) -> Option<u8>
     ensures { result ≡ in_list quoted byte rest.now }
 {
@@ -23,7 +24,7 @@ fn in_list(quoted: bool, byte: u8, rest: &[u8]) -> Option<u8>
     }
 }
 
-// Whether double quotes are open behind a byte.
+// Whether double quotes are open after a byte.
 fn quoted_behind(quoted: bool, byte: u8) -> bool
     ensures { result ≡ quoted_behind quoted byte }
 {
@@ -54,12 +55,12 @@ fn list_in(alloc: Global, bytes: &[u8]) -> Result<Vec<u8>, AllocError>
     Ok(list)
 }
 
-/// The list that the bytes of a file write, with a comma for each line end, LF or CR LF. The line end of the last line stands for
-/// nothing, and one between double quotes stays as it is.
+/// The list that the bytes of a file write, with a comma for each line end, LF or CR LF. The line
+/// end of the last line gives nothing, and one between double quotes stays as it is.
 ///
 /// # Errors
 ///
-/// `BadTypeList` of the side where the list isn't UTF-8. `Memory` comes only where a growth was refused.
+/// `BadTypeList` of the side if the list isn't UTF-8. `Memory` comes only when memory ran out.
 pub fn list_of_lines(alloc: Global, bytes: &[u8], side: Side) -> Result<String, Fault>
     ensures list { IfOk result (λ list. string_bytes list ≡ list_in bytes.now) }
     ensures fault { IfErr result (λ f. f ≢ Fault.Memory → (f ≡ Fault.BadTypeList side) × (is_utf8 (list_in bytes.now) ≡ false)) }

@@ -36,7 +36,7 @@ fn without_sign(text: &[u8]) -> &[u8]
     }
 }
 
-// The place of the first point, or the text's length where there is none.
+// The place of the first point, or the text's length if there is none.
 fn point_of(text: &[u8]) -> usize
     ensures inside { result ≤ length text.now }
     ensures before { before_point text.now ≡ take result text.now }
@@ -84,7 +84,7 @@ fn is_int(text: &str) -> bool
     }
 }
 
-// Whether no zero stands before another digit.
+// Whether no zero comes before another digit.
 fn has_no_leading_zero(digits: &[u8]) -> bool
     ensures { result ≡ has_no_leading_zero digits.now }
 {

@@ -24,8 +24,9 @@ fn are_name_bytes(bytes: &[u8]) -> bool
     bytes.iter().all(|b| is_name_byte(*b))
 }
 
-// Whether a name is an identifier: a letter, and then letters, digits and underscores. A list of types would take an underscore in front,
-// too, but a clause wants quotes round such a name, and so it gets them here.
+// Whether a name is an identifier: a letter, and then letters, digits and underscores. A list of
+// types would take an underscore in front, too, but a clause needs quotes around such a name, and
+// so it gets them here.
 fn is_identifier(name: &[u8]) -> bool
     ensures { result ≡ is_identifier name.now }
 {
@@ -109,9 +110,10 @@ pub(crate) fn lines_of(
     Ok(lines)
 }
 
-/// A law, whose contract is a fact about all headers: the lines of lawful names and of types for them are a list by name. It gives the columns of
-/// these names these types, and each of its names means one. So what [`suggest_types`](crate::suggest_types) gives is read back, by
-/// [`list_of_lines`](crate::list_of_lines) and the reading of type lists, as the types that it suggests.
+/// A law, whose contract is a theorem about all headers: the lines of valid names and of types for
+/// them are a list by name. It gives the columns of these names these types, and each of its names
+/// means one column. So [`list_of_lines`](crate::list_of_lines) and the reading of type lists read
+/// back what [`suggest_types`](crate::suggest_types) gives, as the types that it suggests.
 pub fn lines_are_read_back()
     ensures list { (names : List (List ℕ)) (kinds : List ColumnType) → names ≢ [] → length kinds ≡ length names → name_fault [] names ≡ None
         → IsTypeList (list_in (column_lines names kinds)) (entries_of names kinds) }

@@ -1,4 +1,4 @@
-//! What no contract says of clauses: the byte of a syntax fault, that bands and null-safe keys are found, and that the calls
+//! What no contract says of clauses: the byte of a syntax error, that bands and null-safe keys are found, and that the calls
 //! succeed with ample memory.
 
 use crate::samples::{empty, join_of};
@@ -8,7 +8,7 @@ use rj_condition::{
 };
 use std::alloc::Global;
 
-// Whether a text is a clause or, where a byte is given, has its syntax fault there.
+// Whether a text is a clause or, if a byte is given, has its syntax error there.
 fn is_parsed(alloc: Global, text: &str, fault: Option<u64>) -> bool {
     match parse(alloc, text) {
         Ok(_) => fault.is_none(),
@@ -17,7 +17,7 @@ fn is_parsed(alloc: Global, text: &str, fault: Option<u64>) -> bool {
     }
 }
 
-// The first text that is parsed otherwise; `-` where there is none.
+// The first text that is parsed otherwise; `-` if there is none.
 fn parsed_otherwise<'a>(alloc: Global, cases: &[(&'a str, Option<u64>)]) -> &'a str {
     for case in cases {
         if !is_parsed(alloc, case.0, case.1) {
@@ -27,7 +27,7 @@ fn parsed_otherwise<'a>(alloc: Global, cases: &[(&'a str, Option<u64>)]) -> &'a 
     "-"
 }
 
-// Clauses, and a syntax fault from each place where the parser can stop.
+// Clauses, and a syntax error from each place where the parser can stop.
 const TEXTS: [(&str, Option<u64>); 45] = [
     ("NATURAL FULL OUTER JOIN", None),
     ("inner Join using (id, \"ID\", \"a\"\"b\")", None),
@@ -135,7 +135,7 @@ const FIVE_MEETINGS: &str = concat!(
     "(R.b = L.a OR L.a IS NULL AND R.b IS NULL)",
 );
 
-// One bound or two of either table, and nulls that meet in each order; of five keys the first four.
+// One bound or two of either table, and NULLs that meet in each order; of five keys the first four.
 const REMAINDERS: [Found<'static>; 8] = [
     (
         "JOIN ON L.a BETWEEN R.a AND R.b",
@@ -171,7 +171,7 @@ const REMAINDERS: [Found<'static>; 8] = [
     (FIVE_MEETINGS, None, &[(0, 0), (0, 1), (1, 0), (1, 1)]),
 ];
 
-// The first clause of which something else is found; `-` where there is none.
+// The first clause for which something else is found; `-` if there is none.
 fn first_wrong(alloc: Global) -> &'static str {
     match empty(alloc) {
         Some(table) => found_otherwise(alloc, REMAINDERS.as_slice(), &table),
@@ -184,7 +184,7 @@ fn finds_bands_and_null_safe_keys(rt: HostRuntime) {
     assert_eq!(rt; first_wrong(rt.alloc()), "-");
 }
 
-// Whether a column that can't be taken is told, and a comparison that can't be made.
+// Whether a refused column is reported, and a comparison that can't be made.
 fn are_told(alloc: Global) -> bool {
     let Some(table) = empty(alloc) else {
         return false;

@@ -36,7 +36,7 @@ pub fn empty(alloc: Global) -> Option<Table> {
     }
 }
 
-/// The join that a text is, bound to a table and itself.
+/// The join of a text, bound to a table and itself.
 pub fn join_of(alloc: Global, text: &str, table: &Table) -> Option<BoundJoin>
     ensures { IfSome result (λ join. fits join table.now.types table.now.types ≡ true) }
 {

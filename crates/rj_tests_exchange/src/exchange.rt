@@ -1,4 +1,5 @@
-//! The exchange in callers' own threads. Each test ends by itself and tells the same in every schedule.
+//! The exchange in callers' own threads. Each test ends by itself and has the same result in every
+//! schedule.
 
 mod crossing;
 mod passing;

@@ -1,4 +1,4 @@
-//! Worked examples: rows that are cut into parcels, and a stripe that broke off.
+//! Worked examples: rows that are cut into parcels, and a stripe that was interrupted.
 
 use rj_ledger::{Answer, Body, Parcel, Reason, cut, replay};
 use std::test::Fail;
@@ -10,7 +10,7 @@ const CUTS: [(&[u32], &[&[u32]]); 3] = [
     (&[1, 2, 3, 4], &[&[1, 2, 3, 4]]),
 ];
 
-// Whether it is the parcel of this number: a block, or behind all blocks the close.
+// Whether it is the parcel of this number: a block, or after all blocks the close.
 fn is_cut(parcel: &Parcel, number: usize, blocks: &[&[u32]]) -> bool {
     let is_body = match &parcel.body {
         Body::Rows(block) => match blocks.get(number) {
@@ -33,7 +33,7 @@ fn parcel_cuts(rt: HostRuntime) -> Result<(), Fail> {
     Ok(())
 }
 
-// A stripe that broke off after its first parcel is sent once more from its beginning.
+// A stripe that was interrupted after its first parcel is sent once more from its beginning.
 #[test]
 fn broken_off_stripe(rt: HostRuntime) -> Result<(), Fail> {
     let mut parcels = cut(rt.alloc(), &[3, 8, 9], 0, 0, 2)?;

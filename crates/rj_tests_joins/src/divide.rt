@@ -11,7 +11,7 @@ use std::alloc::Global;
 
 const TYPES: [ColumnType; 2] = [ColumnType::Int, ColumnType::Text];
 
-// Routes a row by its first cell: to part 1 where that is null, and to part 0 otherwise.
+// Routes a row by its first cell: to part 1 where that is NULL, and to part 0 otherwise.
 struct ByNull;
 
 impl Route for ByNull {
@@ -34,7 +34,7 @@ impl Route for ByNull {
     }
 }
 
-// A device that gives at most so many bytes at once.
+// A device that gives at most this many bytes at once.
 #[derive(Drop)]
 struct Source<'a> {
     bytes: &'a [u8],
@@ -69,7 +69,7 @@ impl Output for Sink {
     ghost count = { λ _. 0 };
 
     fn put(&mut self, bytes: &[u8]) -> Result<(), Failed> {
-        // (where memory is refused it has other bytes than are wanted)
+        // (when memory runs out it has other bytes than are wanted)
         let _ = self.bytes.extend_from_slice(bytes);
         self.puts = self.puts.saturating_add(1);
         Ok(())
@@ -88,7 +88,7 @@ impl Sink {
         }
     }
 
-    // Whether it got these bytes in so many calls.
+    // Whether it got these bytes in this many calls.
     fn has(&self, bytes: &[u8], puts: u64) -> bool {
         self.bytes.as_slice() == bytes && self.puts == puts
     }
@@ -100,7 +100,8 @@ const FIRST: &[u8] = b"1,a,100\n2,\"x\ny\",102\n-7,z,104\n";
 
 const SECOND: &[u8] = b",b,101\n,\"q\"\"\",103\n";
 
-// Divides the text among two outputs, and says how many rows it has. Its first row has the place 100.
+// Divides the text among two outputs. Returns how many rows it has. Its first row has the place
+// 100.
 fn divided(
     alloc: Global,
     block: usize,
@@ -124,7 +125,7 @@ fn divided(
     divide(alloc, &mut source, &division, true, block, outputs)
 }
 
-// Whether the text gives five rows and these outputs, in so many calls each.
+// Whether the text gives five rows and these outputs, in this many calls each.
 fn is_divided(alloc: Global, block: usize, step: usize, puts: (u64, u64)) -> bool {
     let mut outputs = [Sink::new(alloc), Sink::new(alloc)];
     let rows = divided(alloc, block, step, &mut outputs);
@@ -152,8 +153,8 @@ fn blocks_of_any_size(rt: HostRuntime) {
     }
 }
 
-// Whether these are the places where a text can be cut, each so many bytes behind the one before, read byte by byte in blocks
-// of one.
+// Whether these are the places where a text can be cut, each this many bytes after the one before,
+// read byte by byte in blocks of one.
 fn are_cuts(alloc: Global, size: u64, wanted: &[u64]) -> bool {
     let mut source = Source {
         bytes: b"k,v\n1,a\n2,\"x\ny\"\n3,c\n4".as_slice(),

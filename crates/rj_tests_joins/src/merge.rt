@@ -1,8 +1,8 @@
-//! Texts of placed rows, merged by readers that signals break off, and that fail.
+//! Texts of placed rows, merged by readers that signals interrupt, and that fail.
 
 use rj_csv_io::CountedWriter;
 use rj_merge::{
-    Copies, MergeInput, MergeOptions, MergeRefused, MergeTextsRefused, Patient, RowOrder,
+    Copies, MergeInput, MergeOptions, MergeRefused, MergeTextsRefused, RetryingReader, RowOrder,
     merge_texts,
 };
 use std::alloc::Global;
@@ -10,7 +10,7 @@ use std::io;
 use std::io::Read;
 use std::test::Fail;
 
-// A reader that a signal breaks off before each byte, and that may fail behind its text.
+// A reader that a signal interrupts before each byte, and that may fail after its text.
 #[derive(Drop)]
 struct Halting<'t> {
     text: &'t [u8],
@@ -42,9 +42,10 @@ impl<'t> Read for Halting<'t> {
     }
 }
 
-// An input that a patient reader of such a text reads, whose rows stand in no other one.
-fn input_of(text: &str, fails: bool) -> MergeInput<Patient<Halting<'_>>> {
-    let reader = Patient::new(Halting {
+// An input with a reader of such a text that repeats interrupted reads. Its rows are in no other
+// input.
+fn input_of(text: &str, fails: bool) -> MergeInput<RetryingReader<Halting<'_>>> {
+    let reader = RetryingReader::new(Halting {
         text: text.as_bytes(),
         at: 0,
         broken: false,
@@ -63,7 +64,7 @@ const SECOND: &str =
 
 const BOTH: &str = "k,v\n\"a,b\",1\ny,\"line\nbreak\"\nx,\nlone,7\nonly right,\"say \"\"hi\"\"\"\n";
 
-// The merge of two texts, of which the second one to be read may fail behind its text.
+// The merge of two texts. The second one may fail after its text.
 fn merged(alloc: Global, fails: bool) -> Result<Vec<u8>, MergeTextsRefused> {
     let Ok(inputs) = vec![in alloc; input_of(SECOND, false), input_of(FIRST, fails)] else {
         return Err(MergeTextsRefused::Merge(MergeRefused::Memory));
@@ -82,7 +83,7 @@ fn merged(alloc: Global, fails: bool) -> Result<Vec<u8>, MergeTextsRefused> {
 }
 
 #[test]
-fn patient_readers(rt: HostRuntime) -> Result<(), Fail> {
+fn retrying_readers(rt: HostRuntime) -> Result<(), Fail> {
     let whole = merged(rt.alloc(), false)?;
     assert!(rt; whole.as_slice() == BOTH.as_bytes());
     let refused = merged(rt.alloc(), true).map(|_| ());

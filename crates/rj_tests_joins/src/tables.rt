@@ -8,7 +8,8 @@ use rj_condition::{BoundJoin, bind, parse};
 use std::alloc::{AllocError, Global};
 use std::test::Fail;
 
-/// A table of one column. It has a drop of its own, so that its table's isn't written out at each place where it is let go.
+/// A table of one column. It has a drop of its own, so that its table's isn't written out at each
+/// place where it is dropped.
 pub struct Column {
     pub table: Table,
 }
@@ -19,7 +20,7 @@ impl Drop for Column {
     }
 }
 
-/// The join of two tables by their keys; none where memory is refused.
+/// The join of two tables by their keys; none when memory runs out.
 pub fn join_by_keys(alloc: Global, left: &Table, right: &Table) -> Option<BoundJoin>
     ensures { IfSome result (λ join. fits join left.now.types right.now.types ≡ true) }
 {
@@ -32,7 +33,7 @@ pub fn join_by_keys(alloc: Global, left: &Table, right: &Table) -> Option<BoundJ
     }
 }
 
-// Adds a row with this key, where there are fewer than 10,000.
+// Adds a row with this key, if there are fewer than 10,000.
 #[tactic(auto, unfolding(rj_columns::specs::Tables::FitsTypes, rj_columns::specs::Tables::FitsAt))]
 fn push_key(builder: &mut TableBuilder, key: i64) -> Result<(), AllocError>
     requires { builder.old.table.types ≡ kind.Int ∷ [] }
@@ -58,7 +59,7 @@ pub fn keys(alloc: Global, keys: &[i64]) -> Result<Column, Fail>
     })
 }
 
-/// The column `k` with so many keys, which count from 0.
+/// The column `k` with this many keys, which count from 0.
 pub fn first_keys(alloc: Global, count: i64) -> Result<Column, Fail> {
     let mut numbers = Vec::new(alloc);
     for number in 0..count {

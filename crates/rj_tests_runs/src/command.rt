@@ -1,4 +1,5 @@
-//! Runs by the words of a command line over the bytes of two tables, which are lent to the run or given to it.
+//! Runs by the words of a command line over the bytes of two tables, which are lent to the run or
+//! given to it.
 
 ghost use Rattle.std.specs.Prelude.{◌<◌, ◌-◌, ◌^◌};
 
@@ -36,7 +37,8 @@ pub fn words_of<'a>(clause: &'a str, option: &'a str) -> [&'a str; 11] {
     ]
 }
 
-// How often workers came to each kind of place, and which number each step had, from 1 on; 0 where it didn't come.
+// How often workers came to each kind of place, and which number each step had, from 1 on; 0 if it
+// didn't come.
 #[derive(Drop)]
 struct Seen {
     places: [AtomicU64; 5],
@@ -137,7 +139,7 @@ fn run_by<R: Threads + Wait + Clock + Sync, O: Output>(
 // A clause, an option, and whether the bytes of the tables are given to the run.
 type Asked<'a> = (&'a str, &'a str, bool);
 
-// What a run that is asked so writes, and its counts.
+// What a run with these words writes, and its counts.
 fn joined<R: Threads + Wait + Clock + Sync>(
     rt: &R,
     alloc: Global,
@@ -158,7 +160,7 @@ fn has_line(alloc: Global, fault: &Fault, line: &str) -> bool {
     }
 }
 
-// Whether a run writes this, or ends by the fault of this line.
+// Whether a run writes this, or ends with the error of this line.
 fn ends_by<R: Threads + Wait + Clock + Sync>(
     rt: &R,
     alloc: Global,
@@ -281,7 +283,7 @@ fn steps_come_in_order(rt: HostRuntime) {
     assert_eq!(rt; first_other_steps(&rt, rt.alloc(), STEPS.as_slice()), None);
 }
 
-// By what the CROSS JOIN isn't as expected.
+// How the CROSS JOIN differs from what is expected.
 fn violation<R: Threads + Wait + Clock + Sync>(
     rt: &R,
     alloc: Global,
@@ -297,7 +299,7 @@ fn violations_are_found(rt: HostRuntime) {
     assert!(rt; matches!(found, Ok(Some(Violation::LeftRow(0, 3)))));
 }
 
-// Whether the fault of these words is one of `clap`, whose text is its line.
+// Whether the error of these words is one of `clap`, whose text is its line.
 fn has_line_of_clap(alloc: Global, words: &[&str]) -> bool {
     let Err(fault) = read_line(alloc, words) else {
         return false;

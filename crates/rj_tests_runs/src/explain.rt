@@ -1,4 +1,4 @@
-//! The lines that explain a fault.
+//! The lines that explain an error.
 
 use crate::command::words_of;
 use rj_command::{Fault, Side, read_line};
@@ -8,7 +8,7 @@ use std::alloc::Global;
 // Row 1 has a cell of two lines; the empty line below it is no row.
 const NOTES: &[u8] = b"id,note\n1,\"two\nlines\"\n\n2,x\n";
 
-// Whether these lines explain a fault of a join of the notes with themselves.
+// Whether these lines explain an error of a join of the notes with themselves.
 fn is_explained(alloc: Global, fault: &Fault, wanted: &str) -> bool {
     let words = words_of("JOIN USING (id)", "--hash=plain");
     let Ok(line) = read_line(alloc, words.as_slice()) else {
@@ -25,7 +25,7 @@ fn is_explained(alloc: Global, fault: &Fault, wanted: &str) -> bool {
     }
 }
 
-// The number of the first fault that other lines explain.
+// The number of the first error that other lines explain.
 fn first_explained_otherwise(alloc: Global, cases: &[(Fault, &str)]) -> Option<usize> {
     for number in 0..cases.len() {
         let case = &cases[number];

@@ -11,7 +11,7 @@ use std::thread::Threads;
 
 const TYPES: [ColumnType; 2] = [ColumnType::Int, ColumnType::Text];
 
-// Adds a row with a number and a text, a row of nulls, and a cell of a row that is not ended.
+// Adds a row with a number and a text, a row of NULLs, and a cell of a row that is not ended.
 #[tactic(auto, unfolding(rj_columns::specs::Tables::FitsTypes, rj_columns::specs::Tables::FitsAt))]
 fn push(builder: &mut TableBuilder) -> Result<(), AllocError>
     requires types { builder.old.table.types ≡ ColumnType.Int ∷ ColumnType.Text ∷ [] }
@@ -33,8 +33,8 @@ fn sample(alloc: Global) -> Result<Table, Fail> {
     Ok(builder.finish())
 }
 
-// Whether the rows of a table are copied, where it has two rows and two columns. Each answer is as the contracts have it, but
-// where memory is refused.
+// Whether the rows of a table are copied, if it has two rows and two columns. Each answer is as the
+// contracts say, unless memory runs out.
 fn is_copied(alloc: Global, table: &Table) -> bool {
     if table.rows() != 2 || table.columns() != 2 {
         return false;
@@ -53,7 +53,7 @@ fn tables_are_built_and_copied(rt: HostRuntime) -> Result<(), Fail> {
     Ok(())
 }
 
-// The segments of the table of a text that is read in so many parts.
+// The segments of the table of a text that is read in this many parts.
 fn segments_of<R: Threads + Sync>(
     rt: &R,
     alloc: Global,
@@ -78,7 +78,8 @@ fn most_rows(tables: &[Table]) -> u64 {
     most
 }
 
-// The rows of a table, the parts that it is read in, its segments, and the rows of the longest of these.
+// The rows of a table, the parts in which it is read, its segments, and the rows of the longest of
+// these.
 type SegmentsCase = (usize, usize, usize, u64);
 
 fn has_segments<R: Threads + Sync>(rt: &R, alloc: Global, text: &[u8], case: SegmentsCase) -> bool {
@@ -104,7 +105,7 @@ fn wrong_segments<R: Threads + Sync>(
     Ok(None)
 }
 
-// Each of two parts has 70,000 rows, so that a segment that isn't full stands among others.
+// Each of two parts has 70,000 rows, so that a segment that isn't full is among others.
 const SEGMENTS: [SegmentsCase; 3] = [
     (0, 1, 1, 0),
     (140_000, 1, 3, 65_536),

@@ -1,5 +1,5 @@
-//! What is read of files, how many texts and parts are made of rows, and that calls succeed with ample memory. A helper
-//! answers the place of the first case that is otherwise, which counts from 0.
+//! What is read from files, how many texts and parts are made of rows, and that calls succeed with
+//! ample memory. A helper answers the place of the first case with another result, counted from 0.
 
 mod devices;
 
@@ -22,7 +22,7 @@ const SHORT: ColumnType = ColumnType::Num(NumericType {
     scale: 1,
 });
 
-// The rows of a file as they are written, without the header, or the file's fault.
+// The rows of a file as they are written, without the header, or the file's error.
 type Reading<'a> = Result<&'a [u8], ReadRefused>;
 
 // Whether a table's rows are written as these.
@@ -103,8 +103,9 @@ fn beginnings(rt: HostRuntime) {
     assert_eq!(rt; wrong_beginning(rt.alloc(), BEGINNINGS.as_slice()), None);
 }
 
-// Files of a column of whole numbers and one of numbers with a digit behind the point, and the column of the cell that is no
-// such number: what stands on the way to one, a sign or a point too many, blanks, and what is out of range.
+// Files of a column of whole numbers and one of numbers with a digit after the point, and the
+// column of the cell that is no such number: incomplete numbers, a sign or a point too many,
+// blanks, and numbers out of range.
 const NO_NUMBERS: [(&[u8], u64); 15] = [
     (b"i,s\n-9223372036854775809,\n", 1),
     (b"i,s\n+,\n", 1),
@@ -144,8 +145,8 @@ fn no_numbers(rt: HostRuntime) {
     assert_eq!(rt; wrong_number(rt.alloc(), NO_NUMBERS.as_slice()), None);
 }
 
-// A head, bytes that are repeated behind it, how often they are, and a tail; and how many rows that reads as in parts, or its
-// fault. A part has at least 262,144 bytes.
+// A head, bytes that are repeated after it, how often they are, and a tail; and how many rows that reads as in parts, or its
+// error. A part has at least 262,144 bytes.
 type PartsCase<'a> = (
     &'a [u8],
     &'a [u8],
@@ -169,7 +170,7 @@ const IN_PARTS: [PartsCase<'static>; 6] = [
     (b"", b"\n", 600_000, b"", Err(ReadRefused::NoHeader)),
 ];
 
-// A text of a head, of so many times the same bytes, and of a tail.
+// A text of a head, of the same bytes this many times, and of a tail.
 pub(crate) fn repeated(
     alloc: Global,
     head: &[u8],
@@ -185,7 +186,7 @@ pub(crate) fn repeated(
     Ok(text)
 }
 
-// How many rows a text has that is read in two parts, or its fault.
+// How many rows a text has that is read in two parts, or its error.
 fn rows_in_parts<R: Threads + Sync>(
     rt: &R,
     alloc: Global,
@@ -212,7 +213,7 @@ fn wrong_in_parts<R: Threads + Sync>(
     Ok(None)
 }
 
-// That memory isn't told to be short, whatever stands at the cut.
+// That memory isn't reported to be short, whatever is at the cut.
 #[test]
 fn texts_in_two_parts(rt: HostRuntime) -> Result<(), Fail> {
     assert_eq!(rt; wrong_in_parts(&rt, rt.alloc(), IN_PARTS.as_slice())?, None);
@@ -238,7 +239,7 @@ impl Output for Calls {
     }
 }
 
-// A table of so many rows.
+// A table of this many rows.
 fn sevens(alloc: Global, rows: usize) -> Option<Table> {
     let Ok(file) = repeated(alloc, b"k\n", b"7\n", rows, b"") else {
         return None;
@@ -249,7 +250,7 @@ fn sevens(alloc: Global, rows: usize) -> Option<Table> {
     }
 }
 
-// The calls that write a table in up to so many parts.
+// The calls that write a table in at most this many parts.
 fn calls_in_parts<R: Threads + Sync>(
     rt: &R,
     alloc: Global,
@@ -278,8 +279,9 @@ fn calls_of_texts(alloc: Global, table: &Table) -> Option<u64> {
     }
 }
 
-// Rows, parts, and the calls that write them so; and the calls where their texts are made first, in one part: one for the
-// header, and one for each text of up to 4,096 rows of a part. A part has at least 4,096 rows.
+// Rows, parts, and the calls that write them so; and the calls if their texts are made first, in
+// one part: one for the header, and one for each text of up to 4,096 rows of a part. A part has at
+// least 4,096 rows.
 type CallsCase = (usize, usize, u64, u64);
 
 const CALLS: [CallsCase; 9] = [
@@ -331,7 +333,7 @@ fn text_of(alloc: Global, table: &Table) -> Option<Vec<u8>> {
     }
 }
 
-// The first cell of a table that would be read as null.
+// The first cell of a table that would be read as NULL.
 fn cell_like_null(alloc: Global, table: &Table) -> Result<Option<(u64, u64)>, AllocError> {
     if !is_lawful_null("-") {
         return Ok(None);
@@ -365,7 +367,7 @@ fn texts_are_written(rt: HostRuntime) {
     assert!(rt; is_read_and_written(rt.alloc()));
 }
 
-// How many rows a piece has behind a header of two names.
+// How many rows a piece has after a header of two names.
 fn rows_of_piece(alloc: Global, header: &Header, piece: &[u8]) -> Option<u64> {
     match header.read_piece(alloc, piece, false, &[INT, TEXT], &[""]) {
         Ok(table) => Some(table.rows()),

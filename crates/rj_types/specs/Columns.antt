@@ -1,4 +1,4 @@
--- What a type list gives the columns of a header.
+-- The types that a type list gives the columns of a header.
 use Rattle.std.specs.Prelude.{◌&&◌, not, if◌then◌else◌, ℕ, Bool, false, Option, None, Some, List, [], ◌∷◌, ◌++◌, map}
 use Rattle.std.specs.List.{filter_map, list_all, list_any}
 use Rattle.rj_columns.specs.declared.cell.ColumnType.{ColumnType}
@@ -8,7 +8,7 @@ use Rattle.rj_types.specs.declared.entry.Label.{Label}
 use Rattle.rj_types.specs.declared.entry.Label.TheVariants.{Name}
 use Rattle.rj_types.specs.declared.entry.TypeEntry.{TypeEntry}
 
--- whether the label names a column called so
+-- whether the label names a column of this name
 abbrev pub names : List ℕ → Label → Bool
 names called (Name n) = matches n called
 names called _ = false
@@ -22,7 +22,7 @@ abbrev pub or_else : {A : Type 0} → Option A → Option A → Option A
 or_else (Some x) other = Some x
 or_else None other = other
 
--- the type of the entry that names a column called so, or else that of `*`
+-- the type of the entry that names a column of this name, or else that of `*`
 abbrev pub kind_of : List TypeEntry → List ℕ → Option ColumnType
 kind_of entries called = or_else (first_kind (names called) entries) (first_kind is_rest entries)
 
@@ -37,7 +37,7 @@ label_fault seen header (Name n) =
     if list_any (λ called. matches n called && not (list_any (λ e. names called e.label) seen)) header then None else Some n.text
 label_fault seen header _ = None
 
--- the first such name, behind the entries that were seen
+-- the first such name, after the entries that were seen
 abbrev pub name_fault_behind : List TypeEntry → List TypeEntry → List (List ℕ) → Option (List ℕ)
 name_fault_behind seen [] header = None
 name_fault_behind seen (e ∷ es) header = or_else (label_fault seen header e.label) (name_fault_behind (seen ++ e ∷ []) es header)

@@ -11,11 +11,11 @@ use Rattle.rj_types.specs.Words.{IsTypeWord, before}
 abbrev pub IsEntry : TypeEntry → List ℕ → Type 0
 IsEntry e text = (label word : List ℕ) × IsLabelText e.label label × IsTypeWord e.kind word × (text ≡ label ++ word)
 
--- a list begins with this entry, and so much of it is left
+-- a list begins with this entry, and this much of it is left
 abbrev pub BeginsEntry : TypeEntry → List ℕ → Option (List ℕ) → Type 0
 BeginsEntry e text rest = (first : List ℕ) × IsEntry e first × (text ≡ before first rest)
 
--- the entries, separated by commas, of what is left of a list; nothing is left behind the last one
+-- the entries, separated by commas, of what is left of a list; nothing is left after the last one
 abbrev pub AreEntries : List TypeEntry → Option (List ℕ) → Type 0
 AreEntries [] None = Unit {0}
 AreEntries [] (Some text) = ⊥
@@ -30,7 +30,7 @@ abbrev pub is_rest : Label → Bool
 is_rest Rest = true
 is_rest _ = false
 
--- no label at all, or one at each type and `*` at one at most
+-- no label at all, or one at each type and at most one `*`
 abbrev pub are_alike : List TypeEntry → Bool
 are_alike entries = count_by (λ e. is_place e.label) entries == length entries
     || (count_by (λ e. is_place e.label) entries == 0 && nat_le (count_by (λ e. is_rest e.label) entries) 1)

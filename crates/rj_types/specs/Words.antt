@@ -1,4 +1,4 @@
--- The words of types, and what stands behind a word of a list.
+-- The words of types, and what comes after a word of a list.
 use Rattle.std.specs.Prelude.{◌≡◌, ◌⊎◌, ◌==◌, not, Bool, ℕ, Option, None, Some, List, ◌∷◌, ◌++◌, codes}
 use Rattle.std.specs.Borrow.{Bor}
 use Rattle.std.specs.Fmt.{decimal}
@@ -6,11 +6,11 @@ use Rattle.std.specs.List.{list_all}
 use Rattle.rj_columns.specs.declared.cell.ColumnType.{ColumnType}
 use Rattle.rj_columns.specs.declared.cell.ColumnType.TheVariants as kind
 
--- what stands before the comma of a numeric type's word
+-- what comes before the comma of a numeric type's word
 abbrev pub begin_word : ℕ → List ℕ
 begin_word precision = codes "num(" ++ decimal precision
 
--- what stands behind it
+-- what comes after it
 abbrev pub end_word : ℕ → List ℕ
 end_word scale = decimal scale ++ codes ")"
 
@@ -24,7 +24,7 @@ IsTypeWord kind.Int word = word ≡ codes "int"
 IsTypeWord (kind.Num t) word = (word ≡ begin_word t.precision ++ 44 ∷ end_word t.scale) ⊎ (word ≡ colon_word t.precision t.scale)
 IsTypeWord kind.Text word = word ≡ codes "text"
 
--- a text, and behind a comma what is left of the list, if anything is
+-- a text, and after a comma what is left of the list, if anything is
 abbrev pub before : List ℕ → Option (List ℕ) → List ℕ
 before first None = first
 before first (Some rest) = first ++ 44 ∷ rest
@@ -38,6 +38,6 @@ text_of (Some text) = Some text.now
 abbrev pub has_no_comma : List ℕ → Bool
 has_no_comma text = list_all (λ b. not (b == 44)) text
 
--- a list begins with the word of this type, and so much of it is left
+-- a list begins with the word of this type, and this much of it is left
 abbrev pub BeginsType : ColumnType → List ℕ → Option (List ℕ) → Type 0
 BeginsType t text rest = (word : List ℕ) × IsTypeWord t word × (text ≡ before word rest)

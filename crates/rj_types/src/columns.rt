@@ -1,4 +1,4 @@
-//! What a type list gives the columns of a header.
+//! The types that a type list gives the columns of a header.
 
 ghost use Rattle.std.specs.Prelude.{◌≡◌, ◌&&◌, not, IfOk, IfSome, List, ℕ, map};
 ghost use Rattle.std.specs.Option.{option_copied};
@@ -14,7 +14,7 @@ use rj_columns::ColumnType;
 use rj_condition::{Name, Word};
 use std::alloc::{AllocError, Global};
 
-// Whether the label of an entry names a column called so.
+// Whether the label of an entry names a column of this name.
 fn is_named(entry: &TypeEntry, called: &[u8]) -> bool
     ensures { result ≡ names called.now entry.now.label }
 {
@@ -24,7 +24,7 @@ fn is_named(entry: &TypeEntry, called: &[u8]) -> bool
     }
 }
 
-// The type of the first entry that names a column called so.
+// The type of the first entry that names a column of this name.
 fn kind_named(entries: &[TypeEntry], called: &[u8]) -> Option<ColumnType>
     ensures { result ≡ first_kind (names called.now) entries.now }
 {
@@ -85,12 +85,12 @@ fn kinds_by_name(
     Ok(all)
 }
 
-/// The types that a list gives the columns of a header: all its types, where they stand by position, or else those of the columns
-/// that have one, from left to right.
+/// The types that a list gives the columns of a header. A list by position gives all its types. A
+/// list by name gives those of the columns that have one, from left to right.
 ///
 /// # Errors
 ///
-/// It fails only where memory is refused.
+/// It fails only when memory runs out.
 pub fn types_under(
     alloc: Global,
     entries: &[TypeEntry],
@@ -104,7 +104,7 @@ pub fn types_under(
     kinds_by_name(alloc, entries, header)
 }
 
-// Whether one of the entries names a column called so.
+// Whether one of the entries names a column of this name.
 fn is_named_in(entries: &[TypeEntry], called: &[u8]) -> bool
     ensures { result ≡ list_any (λ e. names called.now e.label) entries.now }
 {
@@ -123,7 +123,7 @@ fn is_new(name: &Name, entries: &[TypeEntry], header: &[&[u8]]) -> bool
     false
 }
 
-// The name in an entry's label that means no column, or one that an entry before it names.
+// The name in an entry's label that means no column, or one that an earlier entry names.
 fn fault_in<'t>(entry: &'t TypeEntry, seen: &[TypeEntry], header: &[&[u8]]) -> Option<&'t Word>
     ensures { option_copied result ≡ label_fault seen.now (map (λ c. c.now) header.now) entry.now.label }
 {
@@ -133,7 +133,7 @@ fn fault_in<'t>(entry: &'t TypeEntry, seen: &[TypeEntry], header: &[&[u8]]) -> O
     }
 }
 
-/// The first name in a list that means no column of the header, or one that an entry before it names.
+/// The first name in a list that means no column of the header, or one that an earlier entry names.
 pub fn name_fault<'t>(entries: &'t [TypeEntry], header: &[&[u8]]) -> Option<&'t Word>
     ensures { option_copied result ≡ columns.name_fault entries.now (map (λ c. c.now) header.now) }
 {

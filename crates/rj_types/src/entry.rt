@@ -3,21 +3,21 @@
 use rj_columns::ColumnType;
 use rj_condition::Name;
 
-/// Of which columns a type in a list is.
+/// The columns to which a type in a list belongs.
 #[derive(Drop)]
 pub enum Label {
-    /// Of the column at the same place as the type.
+    /// The column at the same place as the type.
     Place,
-    /// Of the column that the name means: one of any case, or exactly one where the name is delimited.
+    /// The column that the name means, in any case, or exactly if the name is delimited.
     Name(Name),
-    /// Of all columns that no name in the list means.
+    /// All columns that no name in the list means.
     Rest,
 }
 
-/// A type in a list, and of which columns it is.
+/// A type in a list, and the columns to which it belongs.
 #[derive(Drop)]
 pub struct TypeEntry {
-    /// The columns that it is of.
+    /// The columns to which it belongs.
     pub label: Label,
     /// Their type.
     pub kind: ColumnType,

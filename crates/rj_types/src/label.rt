@@ -12,7 +12,7 @@ use crate::entry::Label;
 use rj_condition::{Name, Word, quoted};
 use std::alloc::{AllocError, Global};
 
-// What stands behind the sign that the text begins with.
+// What comes after the sign that the text begins with.
 fn behind(sign: u8, text: &str) -> Option<&str>
     requires { sign < 128 }
     ensures { text_of result ≡ scanning.behind sign text.now }
@@ -49,7 +49,7 @@ fn is_regular(word: &[u8]) -> bool
     }
 }
 
-// The delimited name and the `=` in front of a text whose first quote is left out.
+// The delimited name and the `=` in front of a text whose first quote was left out.
 fn delimited_at<'t>(alloc: Global, text: &'t str) -> Result<Option<(Label, &'t str)>, AllocError>
     ensures { IfOk result (λ o. view o ≡ scanning.delimited_at (quoted 34 text.now)) }
 {
@@ -91,7 +91,7 @@ fn regular_at<'t>(alloc: Global, text: &'t str) -> Result<Option<(Label, &'t str
     }
 }
 
-// The `=` behind a `*`.
+// The `=` after a `*`.
 fn rest_at(text: &str) -> Option<(Label, &str)>
     ensures { view result ≡ scanning.labelled Label.Rest (scanning.behind 61 text.now) }
 {
@@ -111,7 +111,8 @@ fn label_in<'t>(alloc: Global, text: &'t str) -> Result<Option<(Label, &'t str)>
     }
 }
 
-/// The label that the text begins with, or that of a place where it begins with none; and what stands behind it.
+/// The label with which the text begins, or that of a position if it begins with none; and what
+/// comes after it.
 pub(crate) fn label_at<'t>(alloc: Global, text: &'t str) -> Result<(Label, &'t str), AllocError>
     ensures { IfOk result (λ p. (p.0, p.1.now) ≡ scanning.or_place (scanning.label_in text.now) text.now) }
 {

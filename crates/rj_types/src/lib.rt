@@ -1,4 +1,5 @@
-//! Type lists: types by position or by name, read from their text, and what they give the columns of a header.
+//! Type lists: types by position or by name, read from their text, and the types that they give the
+//! columns of a header.
 #![tactic(auto)]
 
 mod columns;

@@ -1,4 +1,5 @@
-//! Reading a type list. A function without a body is a law: its contract is a fact about all texts.
+//! Reading a type list. A function without a body is a law: its contract is a theorem about all
+//! texts.
 
 ghost use Rattle.std.specs.Prelude.{◌≡◌, ◌&&◌, true, IfOk, List, ℕ, Option, MatchOption, Some, map};
 ghost use Rattle.std.specs.List.{count_by};
@@ -12,7 +13,7 @@ use crate::label::label_at;
 use crate::word::type_at;
 use std::alloc::{AllocError, Global};
 
-// The entry that the text begins with, and what is left behind its comma.
+// The entry that the text begins with, and what is left after its comma.
 fn entry_at(alloc: Global, text: &str) -> Result<Option<(TypeEntry, Option<&str>)>, AllocError>
     ensures { IfOk result (λ o. MatchOption o ((e : TypeEntry) (rest : Option (List ℕ)) → BeginsEntry e text.now rest → ⊥)
         (λ p. BeginsEntry p.0 text.now (text_of p.1))) }
@@ -83,11 +84,11 @@ fn are_alike(entries: &[TypeEntry]) -> bool
     count == entries.len() || (count == 0 && rests(entries) <= 1)
 }
 
-/// The entries of a type list, or none where the text is no such list.
+/// The entries of a type list, or none if the text isn't such a list.
 ///
 /// # Errors
 ///
-/// It fails only where memory is refused.
+/// It fails only when memory runs out.
 pub fn read_list(alloc: Global, text: &str) -> Result<Option<Vec<TypeEntry>>, AllocError>
     ensures { IfOk result (λ o. MatchOption o ((entries : List TypeEntry) → IsTypeList text.now entries → ⊥) (λ v. IsTypeList text.now v.items)) }
 {
@@ -103,7 +104,7 @@ pub fn read_list(alloc: Global, text: &str) -> Result<Option<Vec<TypeEntry>>, Al
     }
 }
 
-/// A text is one list of types at most: so what [`read_list`] gives is the list.
+/// A text is at most one list of types. So what [`read_list`] returns is the list.
 pub fn one_list()
     ensures { (text : List ℕ) (a b : List TypeEntry) → IsTypeList text a → IsTypeList text b → a ≡ b }
 {}

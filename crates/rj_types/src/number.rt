@@ -14,7 +14,7 @@ fn digit(byte: u8) -> Option<u8>
     }
 }
 
-// The number that two digits write of which the first is no zero.
+// The number that two digits write, the first of which isn't zero.
 fn two_digits(tens: u8, ones: u8) -> Option<u8>
     ensures { SomeIff result ((49 ≤ tens) × (tens ≤ 57) × (48 ≤ ones) × (ones ≤ 57)) ((tens - 48) * 10 + (ones - 48)) }
 {

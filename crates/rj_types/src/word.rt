@@ -10,7 +10,7 @@ ghost use Rattle.rj_types.specs.Words.{BeginsType, IsTypeWord, before, begin_wor
 use crate::number::small_number;
 use rj_columns::{ColumnType, NumericType};
 
-// The text up to its first comma, and what stands behind that.
+// The text up to its first comma, and what comes after that.
 fn cut(text: &str) -> (&str, Option<&str>)
     ensures whole { text.now ≡ before result.0.now (text_of result.1) }
     ensures first { has_no_comma result.0.now ≡ true }
@@ -31,7 +31,7 @@ fn numeric(precision: &[u8], scale: &[u8]) -> Option<NumericType>
     NumericType::new(precision, scale)
 }
 
-// The digits in what stands before the comma of a numeric type's word.
+// The digits in what comes before the comma of a numeric type's word.
 fn opened(first: &[u8]) -> Option<&[u8]>
     ensures { MatchOption result ((digits : List ℕ) → first.now ≢ codes "num(" ++ digits) (λ digits. first.now ≡ codes "num(" ++ digits.now) }
 {
@@ -41,7 +41,7 @@ fn opened(first: &[u8]) -> Option<&[u8]>
     }
 }
 
-// The digits in what stands behind it.
+// The digits in what comes after it.
 fn closed(second: &[u8]) -> Option<&[u8]>
     ensures { MatchOption result ((digits : List ℕ) → second.now ≢ digits ++ codes ")") (λ digits. second.now ≡ digits.now ++ codes ")") }
 {
@@ -66,7 +66,7 @@ fn digits_len(text: &[u8]) -> usize
     text.iter().take_while(|b| b.is_ascii_digit()).count()
 }
 
-// The text behind a colon.
+// The text after a colon.
 fn after_colon(text: &[u8]) -> Option<&[u8]>
     ensures { MatchOption result ((rest : List ℕ) → text.now ≢ 58 ∷ rest) (λ rest. text.now ≡ 58 ∷ rest.now) }
 {
@@ -99,7 +99,7 @@ fn colon_type(word: &[u8]) -> Option<NumericType>
     }
 }
 
-// The type whose word this is, where no comma is in it.
+// The type with this word, if no comma is in it.
 fn whole_type(word: &str) -> Option<ColumnType>
     ensures found { IfSome result (λ t. IsTypeWord t word.now) }
     ensures missing { IfNone result (has_no_comma word.now ≡ true → (t : ColumnType) → IsTypeWord t word.now → ⊥) }
@@ -114,7 +114,7 @@ fn whole_type(word: &str) -> Option<ColumnType>
     }
 }
 
-/// The type whose word the text begins with, and what is left behind its comma.
+/// The type with whose word the text begins, and what is left after its comma.
 pub(crate) fn type_at(text: &str) -> Option<(ColumnType, Option<&str>)>
     ensures { MatchOption result ((t : ColumnType) (rest : Option (List ℕ)) → BeginsType t text.now rest → ⊥)
         (λ p. BeginsType p.0 text.now (text_of p.1)) }

@@ -86,8 +86,9 @@ pub record IsDelivered (due : Due) (n p : ℕ) (v : LedgerValue) : Type 0 where
   pub complete : IsComplete v
   pub rows : (s : ℕ) → s < n → (standing v s).rows ≡ due s p
 
--- the ledger of partition p has the close of each of n senders. Whatever is offered to it is refused and changes nothing; a parcel
--- for this partition, of a known sender and a lawful length, is refused for that close
+-- the ledger of partition p has the close of each of n senders. Whatever is offered to it is
+-- refused and changes nothing; a parcel for this partition, of a known sender and a valid length,
+-- is refused because of that close
 pub record AcceptsNoMore (n p : ℕ) (v : LedgerValue) : Type 0 where
   pub closed : (s : ℕ) → s < n → (standing v s).closed ≡ true
   pub refused : (x : Parcel) → IsRefused (answer_to v x)

@@ -41,11 +41,11 @@ AreInRange e was = (x : Parcel) → was x → x.partition < e.partitions
 abbrev pub IsPosted : Exchange → Posts → Parcel → Type 0
 IsPosted e ps x = Contains (posts_at ps (queue_of e x)) x
 
--- what is posted anew is of these
+-- what is newly posted is among these
 abbrev pub AddsLeft : (Parcel → Type 0) → Posts → Posts → Type 0
 AddsLeft was old new = (q : ℕ) (x : Parcel) → Contains (posts_at new q) x → Contains (posts_at old q) x ⊎ was x
 
--- of the parcels that were to be posted each one was posted or still is to be
+-- each of the parcels that were to be posted was posted or still is to be
 pub record PostsOrKeeps (e : Exchange) (was is : Parcel → Type 0) (old new : Posts) : Type 0 where
   pub kept : KeepsPosts old new
   pub added : AddsLeft was old new
@@ -77,7 +77,7 @@ pub record AreDue (due : Due) (sender partitions : ℕ) (s : Scattered) : Type 0
 abbrev pub HasCut : Due → ℕ → ℕ → ℕ → List Sending → Type 0
 HasCut due block sender n ss = (p : ℕ) → p < n → (x : Parcel) → Contains (plan block (due sender p) sender p) x → IsLeft ss x
 
--- the lists have the parcels of both senders of stripe s, and planned ones alone
+-- the lists have the parcels of both senders of stripe s, and only planned ones
 pub record IsCutStripe (due : Due) (block stripes : ℕ) (e : Exchange) (s : ℕ) (ss : List Sending) : Type 0 where
   pub planned : (x : Parcel) → IsLeft ss x → IsPlanned due block x
   pub range : AreInRange e (IsLeft ss)

@@ -1,4 +1,4 @@
--- What scanners know, and what they hand back. The program's own: no public contract speaks of it.
+-- What scanners know, and what they return. Internal: no public contract uses it.
 use Rattle.std.specs.Prelude.{◌≡◌, ℕ, ◌+◌, ◌<◌, List, [], ◌⊎◌, length, map, slice_index_or}
 use Rattle.rj_exchange.specs.declared.boxes.Exchange.{Exchange}
 use Rattle.rj_exchange.specs.declared.boxes.Outbox.{Outbox}
@@ -18,7 +18,7 @@ use Rattle.rj_workers.specs.Posts.{Due, Posts, OnlyPlanned, HasPosted, NothingPo
 abbrev pub KnowsHalt : HaltSeat → Type 0
 KnowsHalt s = HasRaised s ⊎ HasSeen s
 
--- who stops at the word halt has raised it or seen it raised
+-- who stops at the halt word has raised it or seen it raised
 abbrev pub StopsAt : HaltSeat → ScanStop → Type 0
 StopsAt s Halted = KnowsHalt s
 StopsAt s Refused = Unit {0}
@@ -74,7 +74,8 @@ HasPostedStripe due block stripes e x ps = HasPosted due block e x e.partitions 
 abbrev pub HasPostedHeld : Due → ℕ → ℕ → Exchange → Scanner → Type 0
 HasPostedHeld due block stripes e me = (x : ℕ) → Holds me.draws x → HasPostedStripe due block stripes e x (sent_by_queue me.outbox)
 
--- what scanner n hands back: it posted planned parcels alone, and all of its stripes unless it has raised or seen the word halt
+-- what scanner n returns: it posted only planned parcels, and all of its stripes unless it has
+-- raised or seen the halt word
 pub record IsScanOf (due : Due) (block stripes : ℕ) (e : Exchange) (h : Halt) (st : Stripes) (n : ℕ) (me : Scanner) : Type 0 where
   pub scanner : IsScannerOf e h st me
   pub number : me.outbox.number ≡ n
@@ -84,7 +85,7 @@ pub record IsScanOf (due : Due) (block stripes : ℕ) (e : Exchange) (h : Halt) 
 abbrev pub IsScan : {J G : Type 0} → Due → Shared J G → ℕ → Scanner → Type 0
 IsScan due shared n me = IsScanOf due shared.settings.block shared.settings.workers shared.exchange.now shared.halt.now shared.stripes.now n me
 
--- what all scanners hand back, by outbox
+-- what all scanners return, by outbox
 abbrev pub AreScans : Due → ℕ → ℕ → Exchange → Halt → Stripes → List Scanner → Type 0
 AreScans due block stripes e h st rs = (length rs ≡ e.outboxes)
     × ((o : ℕ) (d : Scanner) → o < e.outboxes → IsScanOf due block stripes e h st o (slice_index_or rs o d))

@@ -17,7 +17,8 @@ pub record InLimits (workers partitions block lanes capacity : ℕ) : Type 0 whe
   pub some_room : 1 ≤ capacity
   pub room_most : capacity ≤ 4096
 
--- a job of so many stripes and partitions can be scanned with this exchange, these stripes and numbers
+-- a job of this many stripes and partitions can be scanned with this exchange, these stripes and
+-- numbers
 pub record IsReadyOf (stripes partitions : ℕ) (e : Exchange) (st : Stripes) (settings : WorkerSettings) : Type 0 where
   pub some_row : 0 < settings.block
   pub workers_most : settings.workers ≤ 64

@@ -30,7 +30,7 @@ pub record IsMadeOfEach {T : Type 0} (makes : ℕ → T → Type 0) (n : ℕ) (a
   pub each : IsPermutation (range_with_len 0 n) numbers
   pub made : AreMadeBy makes numbers all
 
--- what a share made stands behind the rest
+-- what a share made comes after the rest
 abbrev pub IsMadeBehind : {T : Type 0} → (ℕ → T → Type 0) → ℕ → List T → List T → Type 0
 IsMadeBehind makes number old new = (done : _) × makes number done × (new ≡ old ++ done ∷ [])
 
@@ -48,7 +48,7 @@ pub record IsDrawerOutput {T : Type 0} (makes : ℕ → T → Type 0) (t : Ticke
   pub drawer : IsDrawer t h d.drawer
   pub made : IsUnraised d.drawer.seat → AreMadeBy makes (drawn_by d.drawer.draws) d.made.items
 
--- workers that were refused nothing handed back these seats, and these things made, in their order
+-- workers that didn't run out of memory returned these seats, and these things made, in their order
 pub record AreGathered {T : Type 0} (results : List (Result (DrawerOutput T) AllocError)) (draws : List Seat) (seats : List HaltSeat) (made : List T) : Type 0 where
   pub outputs : List (DrawerOutput T)
   pub all_are : results ≡ map Ok outputs

@@ -1,4 +1,4 @@
--- What takers know, and what they hand back. The program's own: no public contract speaks of it.
+-- What takers know, and what they return. Internal: no public contract uses it.
 use Rattle.std.specs.Prelude.{◌≡◌, ℕ, ◌+◌, Bool, true, false, List, [], ◌⊎◌, Option, Some, IfSome, slice_get, length, map, All}
 use Rattle.rj_ledger.specs.Ledgers.{LedgerValue, IsComplete}
 use Rattle.rj_exchange.specs.declared.boxes.Exchange.{Exchange}
@@ -23,7 +23,7 @@ use Rattle.rj_workers.specs.Scans.{KnowsHalt}
 abbrev pub Builds : Type 0 → Type 1
 Builds T = ℕ → List (List ℕ) → T → Type 0
 
--- where partition p was built its ledger is complete, and it was built of its rows
+-- if partition p was built, its ledger is complete, and it was built of its rows
 abbrev pub IsBuilding : {T : Type 0} → Builds T → ℕ → LedgerValue → Building T → Type 0
 IsBuilding builds p v Waiting = Unit {0}
 IsBuilding builds p v Left = Unit {0}
@@ -35,7 +35,7 @@ is_settled Waiting = false
 is_settled Left = true
 is_settled (Done built) = true
 
--- it waits where its ledger is not complete, and is left where it can't be joined on its rows
+-- it waits if its ledger is not complete, and is left if it can't be joined on its rows
 abbrev pub IsTried : {T : Type 0} → (List (List ℕ) → Type 0) → LedgerValue → Building T → Type 0
 IsTried joinable v Waiting = ¬ IsComplete v
 IsTried joinable v Left = ¬ joinable (rows_by_sender v)
@@ -76,7 +76,8 @@ taker_done_seats {T} rs = map (λ (t : Taker T). t.done_seat) rs
 abbrev pub taker_draws : {T : Type 0} → List (Taker T) → List Seat
 taker_draws {T} rs = map (λ (t : Taker T). t.draws) rs
 
--- what a taker hands back: partitions with all that it took there, unless it has raised or seen the word halt
+-- what a taker returns: partitions with all that it took there, unless it has raised or seen the
+-- halt word
 pub record IsTakeOf {T : Type 0} (builds : Builds T) (e : Exchange) (h : Halt) (stripes block : ℕ) (me : Taker T) : Type 0 where
   pub seat : IsHaltSeatOf h me.seat
   pub held : KnowsHalt me.seat ⊎ All (IsOwnedOf builds e stripes block) me.all.items

@@ -1,4 +1,4 @@
--- What the workers of a run start with, and what they hand back. The program's own: no public contract speaks of it.
+-- What the workers of a run start with, and what they return. Internal: no public contract uses it.
 use Rattle.std.specs.Prelude.{◌≡◌, ℕ, ◌+◌, List, ◌∷◌, ◌++◌, length, All}
 use Rattle.rj_exchange.specs.declared.boxes.Exchange.{Exchange}
 use Rattle.rj_exchange.specs.declared.boxes.Outbox.{Outbox}
@@ -19,14 +19,15 @@ use Rattle.rj_workers.specs.Posts.{Due}
 use Rattle.rj_workers.specs.Scans.{AreNewScanners, AreScans, IsFreshStripeSeat, scanner_draws, scanner_outboxes, scanner_seats}
 use Rattle.rj_workers.specs.Takes.{Builds, AreTakes, IsNewTaker, OwnsNothing, taker_done_seats, taker_draws, taker_seats}
 
--- words, stripes and tickets by these settings: a seat at the word halt for each scanner, each taker and the starting thread
+-- words, stripes and tickets by these settings: a seat at the halt word for each scanner, each
+-- taker and the starting thread
 pub record IsCoordination (settings : WorkerSettings) (w : Coordination) : Type 0 where
   pub halt_seats : halt_seats_of w.halt ≡ settings.workers + settings.workers + 1
   pub drawn : stripes_of w.stripes ≡ settings.workers
   pub stripe_seats : stripe_seats_of w.stripes ≡ settings.workers
   pub limit : limit_of w.tickets ≡ settings.partitions
 
--- seats at these words, of stripes and tickets one for each of n workers
+-- seats at these words, and one at the stripes and the tickets for each of n workers
 pub record AreSeats (w : Coordination) (n : ℕ) (s : Seats) : Type 0 where
   pub at_halt : All (IsHaltSeatOf w.halt) s.halt.items
   pub at_done : All (IsHaltSeatOf w.done) s.done.items

@@ -1,4 +1,4 @@
-//! What becomes of all that the workers hand back.
+//! What becomes of all that the workers return.
 ghost use Rattle.std.specs.Prelude.{◌≡◌, ◌<◌, ◌+◌, ◌++◌, ◌∷◌, ℕ, [], All, IfOk, IsTrue, map, length, slice_index_or};
 ghost use Rattle.rj_exchange.specs.Halt.{AnyRaised, AnySeen, AreAllHaltSeats, IsHaltSeatOf};
 ghost use Rattle.rj_exchange.specs.Stripes.{AreAllStripeSeats, held_by, stripes_of};
@@ -28,7 +28,7 @@ pub struct Delivered<T> {
     pub built: Vec<T>,
 }
 
-// Puts an item behind others.
+// Puts an item after others.
 fn add<T: Drop>(list: &mut Vec<T>, item: T) -> Result<(), AllocError>
     ensures { IfOk result (λ _. list.new.items ≡ list.old.items ++ item ∷ []) }
 {
@@ -36,7 +36,7 @@ fn add<T: Drop>(list: &mut Vec<T>, item: T) -> Result<(), AllocError>
     Ok(())
 }
 
-// The outboxes of all scanners; their seats go behind the others.
+// The outboxes of all scanners; their seats go after the others.
 fn hand_scanned(
     alloc: Global,
     scanned: Vec<Scanner>,
@@ -61,7 +61,7 @@ fn hand_scanned(
     Ok(outboxes)
 }
 
-// The partitions of all takers; their seats go behind the others.
+// The partitions of all takers; their seats go after the others.
 fn hand_taken<T: Drop>(
     alloc: Global,
     taken: Vec<Taker<T>>,
@@ -84,7 +84,7 @@ fn hand_taken<T: Drop>(
     Ok(groups)
 }
 
-// So many empty places.
+// This many empty places.
 fn no_slots<T: Drop>(
     alloc: Global,
     partitions: u32,
@@ -149,8 +149,8 @@ fn are_scanned<R: Wait>(rt: &R, stripes: Stripes, draws: Vec<StripeSeat>) -> boo
     stripes.finish(rt, draws)
 }
 
-/// Ends all partitions once all workers have ended. Where the word halt was raised, or a stripe is held by no scanner,
-/// nothing comes of it.
+/// Ends all partitions once all workers have ended. There is no result if the halt word was raised,
+/// or a stripe is held by no scanner.
 pub(crate) fn conclude<R: Wait, J: Job>(
     rt: &R,
     alloc: Global,
@@ -185,7 +185,7 @@ pub(crate) fn conclude<R: Wait, J: Job>(
     Ok(all)
 }
 
-// What a partition is built into, built here where no taker has built it.
+// What a partition is built into, built here if no taker has built it.
 fn build_one<J: Job>(
     alloc: Global,
     job: &J,

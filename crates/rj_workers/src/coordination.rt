@@ -52,8 +52,8 @@ pub(crate) struct Seats {
     pub(crate) tickets: Vec<Seat>,
 }
 
-/// The words of a run, with a seat at the word halt for each worker and the starting thread, and one at the word done for
-/// each taker and the starting thread.
+/// The words of a run, with a seat at the halt word for each worker and the starting thread, and
+/// one at the done word for each taker and the starting thread.
 pub(crate) fn open_coordination<R: Wait>(
     rt: &R,
     alloc: Global,

@@ -1,4 +1,5 @@
-//! The end of an exchange: what is left in the queues goes to the ledgers, and what is not built yet is built.
+//! The end of an exchange. What is left in the queues goes to the ledgers, and what is not built
+//! yet is built.
 ghost use Rattle.std.specs.Prelude.{◌≡◌, ◌<◌, ◌≤◌, ◌+◌, ◌++◌, ℕ, All, IfOk, map, length, take, drop, slice_index_or};
 ghost use Rattle.std.specs.Vec.Iter.{into_iter_items};
 ghost use Rattle.rj_ledger.specs.Ledgers.{after_all};
@@ -94,7 +95,7 @@ fn finish_one<R: Wait, J: Job>(
     })
 }
 
-// Moves so many stubs from the front of one outbox's.
+// Moves this many stubs from the front of one outbox's.
 fn move_stubs(
     count: u32,
     from: &mut IntoIter<Stub, Global>,

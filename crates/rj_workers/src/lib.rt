@@ -1,9 +1,10 @@
-//! The workers of a partitioned join: scanners that post the rows of stripes, takers that keep the ledgers of partitions
-//! and build them, and the starting thread, which ends the exchange. Then workers draw shares of what was built.
+//! The workers of a partitioned join: scanners that post the rows of stripes, takers that keep the
+//! ledgers of partitions and build them, and the starting thread, which ends the exchange. Then
+//! workers draw shares of what was built.
 //!
-//! What is scanned and built is a [`Job`]. Whatever the schedule of the threads, each ledger has in the end delivered what
-//! was due to its partition, or memory was refused. What is drawn then are [`Shares`]. The function of `laws` does
-//! nothing: its contract is a fact that callers conclude from.
+//! What is scanned and built is a [`Job`]. Whatever the schedule of the threads, in the end each
+//! ledger has delivered what was due to its partition, or memory ran out. What is drawn then are
+//! [`Shares`]. The function of `laws` does nothing; its contract is a theorem that callers use.
 #![tactic(auto)]
 
 mod closing;

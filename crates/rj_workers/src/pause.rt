@@ -3,7 +3,7 @@
 use std::thread;
 use std::time::{Clock, Duration};
 
-// So often in a row a worker gives way to other threads before it sleeps.
+// How often in a row a worker yields to other threads before it sleeps.
 const YIELDS: u32 = 32;
 
 // The shortest and the longest sleep, in microseconds.
@@ -11,8 +11,8 @@ const SHORTEST: u64 = 20;
 
 const LONGEST: u64 = 500;
 
-/// The waits of one worker in a row: first it gives way to other threads, then it sleeps, longer each time, so that it takes
-/// hardly any time of a processor.
+/// The waits of one worker in a row. First it yields to other threads, then it sleeps, longer each
+/// time, so that it takes hardly any processor time.
 #[derive(Clone, Copy, Debug)]
 pub(crate) struct Pause {
     yields: u32,
@@ -20,7 +20,7 @@ pub(crate) struct Pause {
 }
 
 impl Pause {
-    /// Of a worker that has not waited yet.
+    /// The pause of a worker that has not waited yet.
     pub(crate) fn new() -> Self {
         Pause {
             yields: 0,
@@ -28,7 +28,7 @@ impl Pause {
         }
     }
 
-    /// Waits once, unless something was found: then the next wait is the first of its row.
+    /// Waits once, unless something was found. Then the next wait is the first of its row.
     pub(crate) fn after<R: Clock>(&mut self, rt: &R, found: bool) {
         if found {
             *self = Pause::new();

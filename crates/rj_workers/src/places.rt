@@ -1,4 +1,4 @@
-//! Places under locks, out of which takers take the partitions that they draw.
+//! Places under locks, from which takers take the partitions that they draw.
 ghost use Rattle.std.specs.Prelude.{◌≡◌, ◌<◌, ℕ, IfOk, IfSome, Some, length, vec_len, slice_get};
 ghost use Rattle.rj_ledger.specs.Ledgers.{opened};
 ghost use Rattle.rj_exchange.specs.declared.boxes.Inbox.{Inbox};
@@ -75,7 +75,8 @@ pub(crate) fn open_places<B: Fresh>(
     Ok(places)
 }
 
-/// Takes what the place of a partition holds. None where it is empty, or holds what is of another partition.
+/// Takes what the place of a partition holds. `None` if it is empty, or holds what is of another
+/// partition.
 pub(crate) fn take_place<B: Fresh, R: Wait>(
     rt: &R,
     places: &[PartitionPlace<B>],

@@ -1,4 +1,4 @@
-//! How a scanner posts lists of parcels: where a queue is full it goes on with the others.
+//! How a scanner posts lists of parcels. If a queue is full, it goes on with the others.
 ghost use Rattle.std.specs.Prelude.{◌≡◌, Contains, MatchOption};
 ghost use Rattle.std.specs.List.{list_all};
 ghost use Rattle.std.specs.List.Sorted.{IsPermutation};
@@ -52,7 +52,8 @@ fn all_sent(lists: &[Sending]) -> bool
     lists.iter().all(|list| list.is_sent())
 }
 
-// Posts the next parcel of a list, where there is one and its queue has room for it. It says whether it did.
+// Posts the next parcel of a list, if there is one and its queue has room for it. Returns whether
+// it did.
 fn post_next<R: Wait, J, G: Gate>(
     rt: &R,
     shared: &Shared<'_, J, G>,
@@ -77,7 +78,7 @@ fn post_next<R: Wait, J, G: Gate>(
     true
 }
 
-// Posts a list until it finds a queue full. It says whether it posted any parcel.
+// Posts a list until it finds a queue full. Returns whether it posted any parcel.
 fn post_some<R: Wait, J, G: Gate>(
     rt: &R,
     shared: &Shared<'_, J, G>,
@@ -99,7 +100,7 @@ fn post_some<R: Wait, J, G: Gate>(
     unreachable!()
 }
 
-// Posts of each list what its queues have room for. It says whether it posted any parcel.
+// Posts from each list what its queues have room for. Returns whether it posted any parcel.
 fn post_round<R: Wait, J, G: Gate>(
     rt: &R,
     shared: &Shared<'_, J, G>,
@@ -120,7 +121,8 @@ fn post_round<R: Wait, J, G: Gate>(
     posted
 }
 
-/// Posts all lists, each in its order. Where nothing has room it waits. None where it sees the word halt.
+/// Posts all lists, each in its order. If nothing has room, it waits. `None` if it sees the halt
+/// word raised.
 pub(crate) fn post_all<R: Wait + Clock, J, G: Gate>(
     rt: &R,
     shared: &Shared<'_, J, G>,

@@ -1,4 +1,4 @@
-//! A whole run: the exchange is opened, the workers run, and what they hand back is ended and built.
+//! A whole run: the exchange is opened, the workers run, and what they return is ended and built.
 ghost use Rattle.std.specs.Prelude.{◌≡◌, ◌<◌, ◌+◌, ℕ, IfOk, length, slice_index_or};
 ghost use Rattle.rj_workers.specs.Arrivals.{IsDelivered, due_lists};
 ghost use Rattle.rj_workers.specs.Settings.{InLimits};
@@ -67,13 +67,14 @@ where
     Ok(all)
 }
 
-/// Scans the stripes of both tables and builds their partitions, with so many scanners and takers; they work at the same time
-/// (tested: no clause speaks of time). Whatever the schedule of the threads, each ledger is complete and has delivered what
-/// was due to its partition, and each partition was built of its rows.
+/// Scans the stripes of both tables and builds their partitions, with as many scanners and as many
+/// takers as the settings say. They work at the same time (tested: no clause speaks of time).
+/// Whatever the schedule of the threads, each ledger is complete and has delivered what was due to
+/// its partition, and each partition was built of its rows.
 ///
 /// # Errors
 ///
-/// Refuses only for want of memory, or where a thread could not be started.
+/// It fails only when memory runs out, or when a thread can't be started.
 pub fn run_workers<R: Threads + Wait + Clock + Sync, J: Job + Sync, G: Gate + Sync>(
     rt: &R,
     alloc: Global,

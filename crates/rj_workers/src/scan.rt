@@ -21,7 +21,7 @@ use std::alloc::{AllocError, Global};
 use std::sync::Wait;
 use std::time::Clock;
 
-/// What one scanner has of its own, and hands back.
+/// What one scanner has of its own, and returns.
 #[derive(Drop)]
 pub(crate) struct Scanner {
     pub(crate) outbox: Outbox,
@@ -32,13 +32,13 @@ pub(crate) struct Scanner {
 /// Why a scanner does not go on with a stripe.
 #[derive(Clone, Copy, Debug, Drop, PartialEq, Eq)]
 pub(crate) enum ScanStop {
-    /// It has seen the word halt.
+    /// It has seen the halt word raised.
     Halted,
-    /// It was refused memory.
+    /// Memory ran out for it.
     Refused,
 }
 
-// Cuts the rows that a sender has for a partition, and puts the parcels behind other lists.
+// Cuts the rows that a sender has for a partition, and puts the parcels after other lists.
 fn cut_part(
     alloc: Global,
     lists: &mut Vec<Sending>,
@@ -83,7 +83,8 @@ fn cut_stripe<J: Job, G>(
     Ok(lists)
 }
 
-// Scatters a stripe of both tables, and cuts it into parcels. The scattered rows go before any is posted.
+// Scatters a stripe of both tables, and cuts it into parcels. The scattered rows are freed before
+// any is posted.
 fn prepare<J: Job, G>(
     alloc: Global,
     shared: &Shared<'_, J, G>,
@@ -127,7 +128,8 @@ fn scan_stripe<R: Wait + Clock, J: Job, G: Gate>(
     }
 }
 
-// Puts a stripe back that it could not scan for want of memory. A stripe that was put back too often makes it raise the word halt: None.
+// Puts back a stripe that it could not scan because memory ran out. If a stripe was put back too
+// often, it raises the halt word and answers `None`.
 fn give_up<R: Wait, J, G>(
     rt: &R,
     shared: &Shared<'_, J, G>,

@@ -20,7 +20,7 @@ use std::thread;
 use std::thread::{Promise, PromisedHandle, Scope, Threads};
 use std::time::Clock;
 
-// What the threads of all handles hand back. None where there is no room for it.
+// What the threads of all handles return. `None` if there is no room for it.
 fn joined<R: Threads, T: Drop, P: Promise<T>>(
     rt: &R,
     handles: Vec<PromisedHandle<T, P>>,
@@ -34,7 +34,7 @@ fn joined<R: Threads, T: Drop, P: Promise<T>>(
     }
 }
 
-// What the workers of one scope hand back. None where a thread or memory is refused.
+// What the workers of one scope return. `None` if a thread can't be started or memory runs out.
 fn run_in<'s, E, B: Fresh, R: Threads + Wait + Clock + Sync, J: Job + Sync, G: Gate + Sync>(
     scope: &Scope<'s, E>,
     rt: &'s R,
@@ -67,8 +67,8 @@ where
     })
 }
 
-// What the workers of one scope hand back, with the starting thread's seat. Where they hand back nothing it raises the word
-// halt, so that those that were started end.
+// What the workers of one scope return, with the starting thread's seat. If they return nothing, it
+// raises the halt word, so that those that were started end.
 fn run_or_halt<'s, E, B: Fresh, R: Threads + Wait + Clock + Sync, J: Job + Sync, G: Gate + Sync>(
     scope: &Scope<'s, E>,
     rt: &'s R,
@@ -98,8 +98,8 @@ where
     }
 }
 
-/// What all workers hand back, with the starting thread's seat. Where a thread or memory is refused the word halt is raised,
-/// and nothing comes back.
+/// What all workers return, with the starting thread's seat. If a thread can't be started or memory
+/// runs out, the halt word is raised, and nothing is returned.
 pub(crate) fn work<B: Fresh, R: Threads + Wait + Clock + Sync, J: Job + Sync, G: Gate + Sync>(
     rt: &R,
     alloc: Global,

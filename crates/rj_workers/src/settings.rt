@@ -7,7 +7,7 @@ pub struct WorkerSettings {
     pub workers: u32,
     /// How many partitions there are, 1 to 1,024.
     pub partitions: u32,
-    /// How many rows a block has at most, from 1 on.
+    /// How many rows a block has at most, at least 1.
     pub block: u32,
     /// How many lanes lead to a partition, 1 to 4.
     pub lanes: u32,

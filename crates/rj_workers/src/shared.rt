@@ -9,9 +9,9 @@ use std::alloc::AllocError;
 pub(crate) struct Shared<'a, J, G> {
     /// The queues that lead from scanners to takers.
     pub(crate) exchange: &'a Exchange,
-    /// Is raised where memory or a thread is refused.
+    /// Raised when memory runs out or a thread can't be started.
     pub(crate) halt: &'a Halt,
-    /// Is raised once all scanners have ended.
+    /// Raised once all scanners have ended.
     pub(crate) done: &'a Halt,
     /// The stripes that scanners draw.
     pub(crate) stripes: &'a Stripes,

@@ -27,7 +27,7 @@ pub trait Shares {
     ///
     /// # Errors
     ///
-    /// It fails only where memory is refused.
+    /// It fails only when memory runs out.
     fn share(&self, alloc: Global, number: u64) -> Result<Self::Done, AllocError>
         requires { number < shares self.now }
         ensures { IfOk result (makes self.now number) };

@@ -13,14 +13,14 @@ use std::thread::Threads;
 // How many shares are drawn at most, the first ones: as many as there can be tickets.
 const MOST_DRAWN: u64 = 1 << 32;
 
-/// What a worker draws shares with.
+/// What a worker needs to draw shares.
 #[derive(Drop)]
 pub(crate) struct Drawer {
     draws: Seat,
     seat: HaltSeat,
 }
 
-/// What a worker hands back.
+/// What a worker returns.
 #[derive(Drop)]
 pub(crate) struct DrawerOutput<T> {
     drawer: Drawer,
@@ -28,7 +28,7 @@ pub(crate) struct DrawerOutput<T> {
     made: Vec<T>,
 }
 
-/// What all workers hand back.
+/// What all workers return.
 #[derive(Drop)]
 pub(crate) struct Gathered<T> {
     draws: Vec<Seat>,
@@ -36,7 +36,7 @@ pub(crate) struct Gathered<T> {
     made: Vec<T>,
 }
 
-// A worker for each seat at the tickets and at the word halt.
+// A worker for each seat at the tickets and at the halt word.
 fn make_drawers(
     alloc: Global,
     draws: Vec<Seat>,
@@ -57,7 +57,7 @@ fn make_drawers(
     Ok(drawers)
 }
 
-// Does a share, and puts what it makes behind the rest.
+// Does a share, and puts what it makes after the rest.
 fn add_share<S: Shares, G: Gate>(
     alloc: Global,
     shares: &S,
@@ -74,8 +74,8 @@ fn add_share<S: Shares, G: Gate>(
     Ok(())
 }
 
-// What a worker makes of the shares that it draws, until none is left or it sees the word halt. Where it is refused memory
-// it raises the word halt.
+// What a worker makes of the shares that it draws, until none is left or it sees the halt word
+// raised. If memory runs out, it raises the halt word.
 fn draw_shares<S: Shares, G: Gate>(
     alloc: Global,
     shares: &S,
@@ -106,7 +106,7 @@ fn draw_shares<S: Shares, G: Gate>(
     Ok(DrawerOutput { drawer, made })
 }
 
-// What all workers hand back, put together, unless one of them was refused memory.
+// What all workers return, put together, unless memory ran out for one of them.
 fn gather<T: Drop>(
     alloc: Global,
     results: Vec<Result<DrawerOutput<T>, AllocError>>,
@@ -147,17 +147,18 @@ fn make_rest<S: Shares, G: Gate>(
     Ok(())
 }
 
-/// Does each share once, by so many workers, which are lent the shares and draw them by ticket; they work at the same time
-/// (tested: no clause speaks of time). It answers what the shares made, in any order. Tickets go up to 2^32: shares from there
-/// on are done by the calling thread once the workers have ended.
+/// Does each share once, by `workers` workers, which borrow the shares and draw them by ticket.
+/// They work at the same time (tested: no clause speaks of time). Returns what the shares made, in
+/// any order. Tickets go up to 2^32. The calling thread does the shares from there on once the
+/// workers have ended.
 ///
-/// A worker whose thread can't be started draws in the thread that was to start it, so no share is left undone for want of
-/// threads.
+/// A worker whose thread can't be started draws in the thread that was to start it. So a lack of
+/// threads leaves no share undone.
 ///
 /// # Errors
 ///
-/// Refuses only for want of memory. A worker that is refused memory raises a word, at which the others end; all threads have
-/// then ended, and what the shares made is dropped.
+/// It fails only when memory runs out. A worker that runs out of memory raises a word, at which the
+/// others end. All threads have ended then, and what the shares made is dropped.
 pub fn run_shares<R: Threads + Sync, S: Shares + Sync, G: Gate + Sync>(
     rt: &R,
     alloc: Global,

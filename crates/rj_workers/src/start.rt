@@ -16,7 +16,7 @@ use std::sync::Wait;
 use std::thread::{Promise, PromisedHandle, Scope};
 use std::time::Clock;
 
-/// That a scanner hands back what it posted.
+/// The promise that a scanner returns what it posted.
 #[derive(Drop)]
 pub(crate) struct ScanOf<'a, J, G> {
     shared: Shared<'a, J, G>,
@@ -30,7 +30,7 @@ impl<'a, J: Job, G> Promise<Scanner> for ScanOf<'a, J, G> {
 /// A scanner that was started.
 pub(crate) type ScanHandle<'a, J, G> = PromisedHandle<Scanner, ScanOf<'a, J, G>>;
 
-/// That a taker hands back what it took.
+/// The promise that a taker returns what it took.
 #[derive(Drop)]
 pub(crate) struct TakeOf<'a, J, G> {
     shared: Shared<'a, J, G>,
@@ -43,7 +43,7 @@ impl<'a, J: Job, G> Promise<Taker<J::Built>> for TakeOf<'a, J, G> {
 /// A taker that was started.
 pub(crate) type TakeHandle<'a, J, G> = PromisedHandle<Taker<<J as Job>::Built>, TakeOf<'a, J, G>>;
 
-// Puts a handle behind others. None where there is no room for it.
+// Puts a handle after others. `None` if there is no room for it.
 fn keep<T: Drop>(list: &mut Vec<T>, handle: T) -> Option<()>
     ensures { IfSome result (λ _. list.new.items ≡ list.old.items ++ handle ∷ []) }
 {
@@ -53,7 +53,7 @@ fn keep<T: Drop>(list: &mut Vec<T>, handle: T) -> Option<()>
     }
 }
 
-// Starts one scanner. None where no thread can be made.
+// Starts one scanner. `None` if no thread can be started.
 fn start_scanner<'s, E, R: Wait + Clock + Sync, J: Job + Sync, G: Gate + Sync>(
     scope: &Scope<'s, E>,
     rt: &'s R,
@@ -88,7 +88,7 @@ where
     started.ok()
 }
 
-/// Starts all scanners. None where a thread or memory is refused.
+/// Starts all scanners. `None` if a thread can't be started or memory runs out.
 pub(crate) fn start_scanners<'s, E, R: Wait + Clock + Sync, J: Job + Sync, G: Gate + Sync>(
     scope: &Scope<'s, E>,
     rt: &'s R,
@@ -115,7 +115,7 @@ where
     Some(handles)
 }
 
-// Starts one taker. None where no thread can be made.
+// Starts one taker. `None` if no thread can be started.
 fn start_taker<'s, E, B: Fresh, R: Wait + Clock + Sync, J: Job + Sync, G: Gate + Sync>(
     scope: &Scope<'s, E>,
     rt: &'s R,
@@ -149,7 +149,7 @@ where
     started.ok()
 }
 
-/// Starts all takers. None where a thread or memory is refused.
+/// Starts all takers. `None` if a thread can't be started or memory runs out.
 pub(crate) fn start_takers<'s, E, B: Fresh, R: Wait + Clock + Sync, J: Job + Sync, G: Gate + Sync>(
     scope: &Scope<'s, E>,
     rt: &'s R,

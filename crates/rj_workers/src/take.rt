@@ -34,7 +34,7 @@ pub(crate) struct OwnedPartition<T> {
     pub(crate) building: Building<T>,
 }
 
-/// What one taker has of its own, and hands back.
+/// What one taker has of its own, and returns.
 #[derive(Drop)]
 pub(crate) struct Taker<T> {
     pub(crate) all: Vec<OwnedPartition<T>>,
@@ -53,7 +53,7 @@ pub(crate) fn offer(ledger: &mut Ledger, parcel: Parcel) -> Result<(), AllocErro
     }
 }
 
-// Takes once at one lane, and says whether a parcel came.
+// Takes once at one lane. Returns whether a parcel came.
 fn take_once<R: Wait, J: Job, G>(
     rt: &R,
     shared: &Shared<'_, J, G>,
@@ -90,7 +90,7 @@ fn take_lanes<R: Wait, J: Job, G>(
     Ok(found)
 }
 
-// Builds a partition that is complete, where its rows pass the test of the job.
+// Builds a partition that is complete, if its rows pass the test of the job.
 fn build_complete<J: Job, G: Gate>(
     alloc: Global,
     shared: &Shared<'_, J, G>,
@@ -145,7 +145,7 @@ fn take_round<R: Wait, J: Job, G: Gate>(
     Ok(found)
 }
 
-// Takes once at each lane of a partition, and builds it where it is complete then.
+// Takes once at each lane of a partition, and builds it if it is complete then.
 fn take_at<R: Wait, J: Job, G: Gate>(
     rt: &R,
     alloc: Global,
@@ -163,7 +163,7 @@ fn take_at<R: Wait, J: Job, G: Gate>(
     Ok(true)
 }
 
-// Draws a partition. It says whether one was left.
+// Draws a partition. Returns whether one was left.
 fn draw<B: Fresh, R: Wait, J: Job, G: Gate>(
     rt: &R,
     shared: &Shared<'_, J, G>,
@@ -200,7 +200,7 @@ fn is_waiting<T>(all: &[OwnedPartition<T>]) -> bool {
     }
 }
 
-// Draws a further partition where the newest one is settled, unless none was left.
+// Draws a further partition if the newest one is settled, unless none was left.
 fn draw_next<B: Fresh, R: Wait, J: Job, G: Gate>(
     rt: &R,
     shared: &Shared<'_, J, G>,
@@ -242,7 +242,8 @@ fn take_newest<R: Wait, J: Job, G: Gate>(
     Ok(found)
 }
 
-// Draws a partition where none is open, and takes at the newest one, and at all others where nothing came there.
+// Draws a partition if none is open, and takes at the newest one, and at all others if nothing came
+// there.
 fn step<B: Fresh, R: Wait, J: Job, G: Gate>(
     rt: &R,
     alloc: Global,
@@ -266,8 +267,9 @@ fn step<B: Fresh, R: Wait, J: Job, G: Gate>(
     take_round(rt, alloc, shared, &mut me.all)
 }
 
-/// Takes until it sees the word halt, or has drawn all that it could and seen the word done, and then finds nothing. Where
-/// it is refused memory, or finds a place empty, it raises the word halt.
+/// Takes until it sees the halt word raised, or until it has drawn all that it could, has seen the
+/// done word raised, and then finds nothing. If memory runs out, or a place is empty, it raises the
+/// halt word.
 pub(crate) fn take_all<B: Fresh, R: Wait + Clock, J: Job, G: Gate>(
     rt: &R,
     alloc: Global,

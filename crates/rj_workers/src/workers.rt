@@ -17,7 +17,7 @@ use std::vec::IntoIter;
 pub(crate) struct NewWorkers<T> {
     pub(crate) scanners: Vec<Scanner>,
     pub(crate) takers: Vec<Taker<T>>,
-    // The starting thread's seat at the word done.
+    // The starting thread's seat at the done word.
     pub(crate) over: HaltSeat,
 }
 
@@ -28,7 +28,7 @@ pub(crate) struct EndedWorkers<T> {
     pub(crate) takers: Vec<Taker<T>>,
 }
 
-// A scanner for each outbox, where there are enough seats.
+// A scanner for each outbox, if there are enough seats.
 fn make_scanners(
     alloc: Global,
     outboxes: Vec<Outbox>,
@@ -57,7 +57,7 @@ fn make_scanners(
     Ok(scanners)
 }
 
-// A taker for each seat at the tickets, where there are enough seats at the words.
+// A taker for each seat at the tickets, if there are enough seats at the words.
 fn make_takers<T: Drop>(
     alloc: Global,
     seats: &mut IntoIter<HaltSeat, Global>,
@@ -87,7 +87,8 @@ fn make_takers<T: Drop>(
     Ok(takers)
 }
 
-/// What all workers start with, and the starting thread's seat at the word halt, where there are enough seats.
+/// All workers as they start, and the starting thread's seat at the halt word, if there are enough
+/// seats.
 pub(crate) fn make_workers<T: Drop>(
     alloc: Global,
     outboxes: Vec<Outbox>,

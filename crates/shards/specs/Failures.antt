@@ -13,7 +13,7 @@ exit_of NotText = 2
 exit_of NoTask = 2
 exit_of NoKey = 4
 
--- what `clap` tells in place of the line
+-- what `clap` prints in place of the line
 abbrev pub clap_error_of : Failure → Option Error
 clap_error_of (Told f) = faults.clap_error_of f
 clap_error_of NotText = None

@@ -14,7 +14,7 @@ use std::io;
 // The most bytes that are read before a place is looked for.
 const BLOCK: u64 = 1 << 20;
 
-// The lines of places that count from a byte of the file, but for one at its end.
+// The lines of places that count from a byte of the file, without one at its end.
 fn lines_of(alloc: Global, begin: u64, cuts: &[u64], end: u64) -> Result<String, Failure> {
     let mut text = String::new(alloc);
     for cut in cuts {
@@ -26,12 +26,13 @@ fn lines_of(alloc: Global, begin: u64, cuts: &[u64], end: u64) -> Result<String,
     Ok(text)
 }
 
-/// Prints at which bytes the file of the side can be cut into so many ranges of about one size, or fewer; a file below 64 KiB
-/// isn't cut. Nothing but the file's records is looked at, as the library `csv` reads them: what is wrong with it is told when it is divided.
+/// Prints the bytes at which the file of the side can be cut into this many ranges of about one
+/// size, or fewer. A file below 64 KiB isn't cut. Only the file's records matter, as the library
+/// `csv` reads them. Its errors are reported when it is divided.
 ///
 /// # Errors
 ///
-/// The file can't be read, standard output can't be written, or memory was refused.
+/// The file can't be read, standard output can't be written, or memory ran out.
 pub(crate) fn print_cuts<R: Files + AllocGlobal + Print>(
     rt: &R,
     line: &Line<'_>,

@@ -25,11 +25,11 @@ use std::alloc::{AllocError, Global};
 use std::fs::Files;
 use std::io;
 
-/// How many bytes of a file are read at once. With the rows that they hold and the texts that are made of these, the program
-/// takes less than 256 MiB, whatever the file's size.
+/// How many bytes of a file are read at once. With the rows in them and the texts that are made of
+/// these, the program takes less than 256 MiB, whatever the file's size.
 pub(crate) const BLOCK: usize = 8 << 20;
 
-// The last byte that a range may begin at, 2^62.
+// The last byte at which a range may begin, 2^62.
 const MOST: u64 = 1 << 62;
 
 // The range of a side's file that is divided, under its header.
@@ -136,7 +136,7 @@ fn plan<R: Files + AllocGlobal>(
     shards_of(rt.alloc(), line, own, &other)
 }
 
-/// The fault of a side's file that wasn't divided.
+/// The error of a side's file that wasn't divided.
 pub(crate) fn fault_of_division(side: Side, refused: DivideRefused) -> Fault {
     match refused {
         DivideRefused::Read(refused) => fault_of_read(side, refused),
@@ -154,7 +154,7 @@ fn fault_of_block(side: Side, refused: BlockRefused) -> Fault {
     }
 }
 
-// Divides what a device tells, as strictly as is asked for.
+// Divides the bytes of a device, as strictly as is asked for.
 fn divide_input<I: Input, W: Route, O: Output>(
     alloc: Global,
     range: &Range<'_>,
@@ -187,7 +187,7 @@ fn divide_input<I: Input, W: Route, O: Output>(
     }
 }
 
-// Puts each row of a range to the output of its part, and says how many rows there are.
+// Puts each row of a range to the output of its part. The answer is how many rows there are.
 fn divide_rows<R: Files + AllocGlobal, W: Route, O: Output>(
     rt: &R,
     range: &Range<'_>,
@@ -218,7 +218,7 @@ fn divide_rows<R: Files + AllocGlobal, W: Route, O: Output>(
     Ok(rows)
 }
 
-// Prints how many rows a range has, and how many bytes the header of each part.
+// Prints how many rows a range has, and how many bytes the header of each part has.
 fn print_counts<R: AllocGlobal + Print>(rt: &R, rows: u64, header: u64) -> Result<(), Failure> {
     let text = format!(in rt.alloc(); "rows {rows} header {header}\n")?;
     match CountedWriter::new(io::writer(rt)).put(text.as_bytes()) {
@@ -258,7 +258,8 @@ fn divide_among_files<R: Files + AllocGlobal + Print>(
     print_counts(rt, rows, header)
 }
 
-// Looks at a range's rows where they can't be divided for a failure that is told after their own.
+// Reads a range's rows when they can't be divided because of a failure that is reported after their
+// own errors.
 fn look_at_rows<R: Files + AllocGlobal + Print>(
     rt: &R,
     range: &Range<'_>,
@@ -272,7 +273,7 @@ fn look_at_rows<R: Files + AllocGlobal + Print>(
     Err(failure)
 }
 
-// What is told of a null text that isn't lawful: this, but where the file can't be read at all.
+// The failure of an invalid NULL text, unless the file can't be read at all.
 fn unlawful_null(head: Result<Head, Fault>) -> Failure {
     match head {
         Err(Fault::ReadDevice(side)) => Failure::Told(Fault::ReadDevice(side)),
@@ -281,7 +282,8 @@ fn unlawful_null(head: Result<Head, Fault>) -> Failure {
     }
 }
 
-// Whether the null texts of a side are lawful, the one that is written among them, and so are those of the other.
+// Whether all NULL texts of a side are valid, the written one among them, and also those of the
+// other side.
 #[tactic(auto, using(crate::proofs::Nulls::written_lawful))]
 fn have_lawful_nulls(nulls: &[&str], others: &[&str]) -> bool
     ensures { result ≡ true → is_null_text (written_null (null_texts nulls.now)) ≡ true }
@@ -292,13 +294,13 @@ fn have_lawful_nulls(nulls: &[&str], others: &[&str]) -> bool
     are_lawful_nulls(others)
 }
 
-/// Divides the bytes of a side's file from one place up to another, or to its end, among the files of a folder, and prints how
-/// many rows they have.
+/// Divides the bytes of a side's file from one place up to another, or to its end, among the files
+/// of a folder, and prints how many rows they have.
 ///
 /// # Errors
 ///
-/// `BadNull`; the first fault of the side's file; then one of the other file's header, or of the clause, and the rows are counted all
-/// the same.
+/// `BadNull`; the first error of the side's file; then one of the other file's header, or of the
+/// clause, after the rows were read all the same.
 pub(crate) fn divide_range<R: Files + AllocGlobal + Print>(
     rt: &R,
     line: &Line<'_>,

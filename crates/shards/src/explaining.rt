@@ -1,4 +1,4 @@
-//! `--explain`: what is told of a fault behind its own line.
+//! `--explain`: the lines that are added after the line of an error.
 
 use crate::failure::Failure;
 use crate::files::read_beginning;
@@ -8,7 +8,7 @@ use rj_fault::{Fault, Side};
 use std::alloc::{AllocError, Global};
 use std::fs::Files;
 
-/// Why there is no output, and what explains it, as lines.
+/// Why there is no output, and the lines that explain it.
 #[derive(Drop)]
 pub(crate) struct Ended {
     failure: Failure,
@@ -45,7 +45,7 @@ impl From<AllocError> for Ended {
 // The options that a join in one go doesn't have; each takes a value.
 const OWN_OPTIONS: [&str; 6] = ["--side", "--parts", "--from", "--to", "--out", "--cuts"];
 
-// Whether a word is an option that a join in one go doesn't have, with its value behind `=` or without.
+// Whether a word is an option that a join in one go doesn't have, with its value after `=` or without.
 fn is_own_option(word: &str) -> bool {
     match word.split_once('=') {
         Some((option, _)) => OWN_OPTIONS.contains(&option),
@@ -53,7 +53,7 @@ fn is_own_option(word: &str) -> bool {
     }
 }
 
-// The words that say the same to a join in one go.
+// The words with the same meaning for a join in one go.
 fn words_of_join<'w>(alloc: Global, words: &[&'w str]) -> Result<Vec<&'w str>, AllocError> {
     let mut of_join = Vec::with_capacity(alloc, words.len())?;
     let mut is_own_value = false;
@@ -69,7 +69,7 @@ fn words_of_join<'w>(alloc: Global, words: &[&'w str]) -> Result<Vec<&'w str>, A
     Ok(of_join)
 }
 
-// Whether a fault stands in a header, in a type list that doesn't fit one, or in the clause.
+// Whether an error is in a header, in a type list that doesn't fit one, or in the clause.
 fn is_of_headers(fault: &Fault) -> bool {
     match fault {
         Fault::BadName(_, _)
@@ -85,7 +85,7 @@ fn is_of_headers(fault: &Fault) -> bool {
     }
 }
 
-// The lines of a fault of headers or of the clause, of which the files' beginnings are enough.
+// The lines of an error of headers or of the clause, for which the files' beginnings are enough.
 fn header_lines<R: Files + AllocGlobal>(
     rt: &R,
     words: &[&str],
@@ -110,8 +110,8 @@ fn header_lines<R: Files + AllocGlobal>(
     explain(alloc, fault, &inputs)
 }
 
-// The lines that say more of a failure than its own line does: of a list of types, of a fault of a header, of a list that doesn't
-// fit one, and of the clause.
+// The lines that say more about a failure than its own line does: about a list of types, an error
+// of a header, a list that doesn't fit one, and the clause.
 fn lines_of<R: Files + AllocGlobal>(
     rt: &R,
     words: &[&str],
@@ -124,7 +124,7 @@ fn lines_of<R: Files + AllocGlobal>(
     }
 }
 
-/// A failure of a run with these words, explained where they ask for it and there was memory for it.
+/// A failure of a run with these words, explained if they ask for it and there was memory for it.
 pub(crate) fn explained<R: Files + AllocGlobal>(rt: &R, words: &[&str], failure: Failure) -> Ended {
     let lines = if words.iter().any(|word| *word == "--explain") {
         lines_of(rt, words, &failure).unwrap_or(None)
@@ -134,7 +134,7 @@ pub(crate) fn explained<R: Files + AllocGlobal>(rt: &R, words: &[&str], failure:
     Ended { failure, lines }
 }
 
-/// Prints a failure, and what explains it, on standard error, and gives the exit status.
+/// Prints a failure, and what explains it, on standard error, and returns the exit status.
 pub(crate) fn tell_ended<R: Print + Eprint>(rt: &R, ended: &Ended) -> u8 {
     let status = tell(rt, &ended.failure);
     if let Some(lines) = &ended.lines {

@@ -3,7 +3,7 @@
 use rj_command::{ExitReason, Fault};
 use std::alloc::AllocError;
 
-/// Why a file wasn't divided. The text is the line that is printed, without its line end; a fault of a file or of the
+/// Why a file wasn't divided. The text is the line that is printed, without its line end; an error of a file or of the
 /// clause has the line that `radixjoin` prints.
 #[derive(Debug, Drop, thiserror::Error)]
 pub(crate) enum Failure {

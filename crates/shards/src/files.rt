@@ -12,10 +12,10 @@ use std::alloc::Global;
 use std::fs::{self, Files, OpenFile, OpenOptions};
 use std::io::{ErrorKind, Read, Seek, SeekFrom, Take};
 
-/// The bytes that are read of a file for its header at first.
+/// The bytes that are read from a file for its header at first.
 const HEADER_BYTES: usize = 1 << 16;
 
-/// The bytes that are read of a file whose header is shown.
+/// The bytes that are read from a file whose header is shown.
 const BEGINNING: usize = 1 << 20;
 
 /// The header of a file, and where the file's first range begins.
@@ -23,8 +23,8 @@ const BEGINNING: usize = 1 << 20;
 pub(crate) struct Head {
     /// The header.
     pub(crate) header: Header,
-    /// Where the first range begins: behind the byte order mark, at the header; or, where the file is read strictly, at the line
-    /// below the header.
+    /// Where the first range begins: after the byte order mark, at the header. If the file is read
+    /// strictly, it is at the line below the header.
     pub(crate) begin: u64,
 }
 
@@ -32,7 +32,7 @@ pub(crate) struct Head {
 ///
 /// # Errors
 ///
-/// `ReadDevice`, or `Memory` where memory was refused.
+/// `ReadDevice`, or `Memory` if memory ran out.
 pub(crate) fn open_file<R: Files>(rt: &R, name: &str, side: Side) -> Result<R::File, Fault> {
     match fs::open(rt, name) {
         Ok(file) => Ok(file),
@@ -95,8 +95,8 @@ fn head_of(alloc: Global, bytes: &[u8], is_whole: bool, side: Side) -> Result<Op
 ///
 /// # Errors
 ///
-/// `NoHeader` where it has no record, `ReadDevice`, or `Memory`; where it is read strictly, the place in its first line where it
-/// stops being of RFC 4180's grammar.
+/// `NoHeader` if it has no record, `ReadDevice`, or `Memory`. If it is read strictly, the place in
+/// its first line where it stops being of RFC 4180's grammar.
 pub(crate) fn read_head<R: Files + AllocGlobal>(
     rt: &R,
     name: &str,
@@ -124,11 +124,11 @@ pub(crate) fn read_head<R: Files + AllocGlobal>(
     Err(Fault::Memory)
 }
 
-/// The first bytes of a file, which hold its header, but for one of more than a mebibyte.
+/// The first bytes of a file, which hold its header unless that has more than a mebibyte.
 ///
 /// # Errors
 ///
-/// `ReadDevice`, or `Memory` where memory was refused.
+/// `ReadDevice`, or `Memory` if memory ran out.
 pub(crate) fn read_beginning<R: Files + AllocGlobal>(
     rt: &R,
     name: &str,
@@ -142,8 +142,8 @@ pub(crate) fn read_beginning<R: Files + AllocGlobal>(
     }
 }
 
-/// A file that a part of the rows is written to. It is open only while something is put, so that there can be more parts than
-/// a process may have open files.
+/// A file to which a part of the rows is written. It is open only while something is put, so that
+/// there can be more parts than a process may have open files.
 #[derive(Drop)]
 pub(crate) struct PartFile<'r, R: Files> {
     rt: &'r R,
@@ -153,7 +153,7 @@ pub(crate) struct PartFile<'r, R: Files> {
 }
 
 impl<'r, R: Files> PartFile<'r, R> {
-    /// The file at this path, which is made anew when something is put first.
+    /// The file at this path. It is made anew when something is put for the first time.
     pub(crate) fn new(rt: &'r R, path: String) -> PartFile<'r, R>
         ensures { result.failures ≡ 0 }
     {

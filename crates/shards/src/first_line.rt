@@ -8,8 +8,8 @@ use rj_csv_io::{Header, without_bom};
 use rj_strict::check;
 use std::alloc::Global;
 
-// Where the first line of a text ends, if it does: behind the first line feed outside quotes, each of which opens or closes
-// where the text is of the grammar.
+// Where the first line of a text ends, if it does: after the first line feed outside quotes. Each
+// quote opens or closes if the text is of the grammar.
 fn first_end(text: &[u8]) -> Option<usize>
     ensures { IfSome result (λ n. n ≤ length text.now) }
 {
@@ -25,7 +25,7 @@ fn first_end(text: &[u8]) -> Option<usize>
     None
 }
 
-// How long the first line of a text is that may go on, if it is whole.
+// The length of the first line of a text that may continue, if the line is whole.
 fn line_length(text: &[u8], is_whole: bool) -> Option<usize>
     ensures { IfSome result (λ n. n ≤ length text.now) }
 {
@@ -36,7 +36,7 @@ fn line_length(text: &[u8], is_whole: bool) -> Option<usize>
     }
 }
 
-// The header that a line is. An empty line is one empty name, which `csv` would pass over.
+// The header that a line is. An empty line is one empty name, which `csv` would skip.
 fn header_of(alloc: Global, line: &[u8], side: Side) -> Result<Header, Fault> {
     let is_blank = !line.is_empty() && (line[0] == b'\n' || line[0] == b'\r');
     let named = if is_blank { b"\"\"".as_slice() } else { line };
@@ -47,12 +47,13 @@ fn header_of(alloc: Global, line: &[u8], side: Side) -> Result<Header, Fault> {
     }
 }
 
-/// The header of a text that may go on and has to be of RFC 4180's grammar, if its first line is whole: where that ends the
-/// rows begin. A full text has its last line's end.
+/// The header of a text that may continue and has to be of RFC 4180's grammar, if its first line is
+/// whole. The rows begin where that ends. In a full text the last line has its line end.
 ///
 /// # Errors
 ///
-/// The place in the first line where the text stops being of the grammar, `NoHeader` where the text is empty, or `Memory`.
+/// The place in the first line where the text stops being of the grammar, `NoHeader` if the text is
+/// empty, or `Memory`.
 pub(crate) fn head_of_lines(
     alloc: Global,
     bytes: &[u8],
@@ -65,7 +66,7 @@ pub(crate) fn head_of_lines(
     let Some(length) = line_length(text, is_whole) else {
         return Ok(None);
     };
-    // (with its byte order mark, since another one behind it is part of a name)
+    // (with its byte order mark, since another one after it is part of a name)
     let end = mark.saturating_add(length).min(bytes.len());
     if let Err(fault) = check(&bytes[..end], rj_strict::Header::First, full) {
         return Err(fault_of_text(side, fault));

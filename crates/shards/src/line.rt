@@ -16,12 +16,12 @@ pub(crate) struct Operand<'a> {
     pub(crate) types: Vec<TypeEntry>,
 }
 
-/// What is to be done with the file of one side.
+/// What to do with the file of one side.
 #[derive(Clone, Copy)]
 pub(crate) enum Task<'a> {
-    /// To divide the bytes from one place up to another, or to the end, into files of this folder.
+    /// Divide the bytes from one place up to another, or to the end, into files of this folder.
     Divide(u64, Option<u64>, &'a str),
-    /// To print where the file can be cut into so many ranges.
+    /// Print where the file can be cut into this many ranges.
     Cut(u32),
 }
 
@@ -34,9 +34,9 @@ pub(crate) struct Line<'a> {
     pub(crate) left: Operand<'a>,
     /// The right table.
     pub(crate) right: Operand<'a>,
-    /// The texts that stand for null in the left table.
+    /// The texts that stand for NULL in the left table.
     pub(crate) left_nulls: Vec<&'a str>,
-    /// The texts that stand for null in the right table.
+    /// The texts that stand for NULL in the right table.
     pub(crate) right_nulls: Vec<&'a str>,
     /// The text of the join clause.
     pub(crate) clause: &'a str,
@@ -44,7 +44,7 @@ pub(crate) struct Line<'a> {
     pub(crate) strict: Strictness,
     /// How many parts there are.
     pub(crate) parts: u32,
-    /// What is to be done.
+    /// What to do.
     pub(crate) task: Task<'a>,
 }
 
@@ -57,7 +57,7 @@ impl<'a> Line<'a> {
         }
     }
 
-    /// The texts that stand for null in the table of a side. The first of them is written for null.
+    /// The texts that stand for NULL in the table of a side. The first of them is written for NULL.
     pub(crate) fn nulls(&self, side: Side) -> &[&'a str] {
         match side {
             Side::Left => self.left_nulls.as_slice(),
@@ -242,8 +242,9 @@ fn task_of<'a>(matches: &ArgMatches<'a>) -> Option<Task<'a>> {
 ///
 /// # Errors
 ///
-/// A line that `clap` refuses, or that asks for help or the version; a bad type list, the left one before the right one;
-/// more than four null texts of a table, in the same order; both or neither of `--out` and `--cuts`; or memory was refused.
+/// A line that `clap` refuses, or that asks for help or the version; a bad type list, the left one
+/// before the right one; more than four NULL texts of a table, in the same order; both or neither
+/// of `--out` and `--cuts`; or memory ran out.
 pub(crate) fn read_line<'a>(alloc: Global, words: &'a [&'a str]) -> Result<Line<'a>, Failure> {
     let matches = match read_matches(alloc, words) {
         Ok(matches) => matches,

@@ -1,5 +1,6 @@
-//! The program `shards`: divides the rows of a CSV file among files by the hash of their keys, so that a join can be done part
-//! by part, and says where a file can be cut. Faults go to standard error.
+//! The program `shards`: divides the rows of a CSV file among files by the hash of their keys, so
+//! that a join can be done part by part, and says where a file can be cut. Errors go to standard
+//! error.
 #![tactic(auto)]
 
 mod cutting;

@@ -29,7 +29,7 @@ impl Route for OnePart {
     }
 }
 
-/// An output that takes everything and keeps nothing.
+/// An output that takes all bytes and discards them.
 #[derive(Clone, Copy)]
 pub(crate) struct Nowhere;
 
@@ -45,11 +45,12 @@ impl Output for Nowhere {
     }
 }
 
-/// The files of so many parts in a folder, which is made if it isn't there.
+/// The files of this many parts in a folder, which is made if it doesn't exist.
 ///
 /// # Errors
 ///
-/// It fails only where memory is refused. That the folder can't be made shows when a file is written.
+/// It fails only when memory runs out. If the folder can't be made, this shows when a file is
+/// written.
 pub(crate) fn part_files<'r, R: Files + AllocGlobal>(
     rt: &'r R,
     folder: &str,

@@ -11,7 +11,7 @@ use rj_fault::Fault;
 use rj_line::Request;
 use std::alloc::{AllocError, Global};
 
-// The refusal of a joined table, by whether it is as expected, or that this couldn't be found out.
+// The error of a joined table, given whether it is as expected, or that this couldn't be found out.
 fn refusal(is_expected: Result<bool, AllocError>) -> Result<(), Fault>
     ensures { result ≡ refusal_of is_expected }
 {
@@ -26,7 +26,7 @@ fn refusal(is_expected: Result<bool, AllocError>) -> Result<(), Fault>
 ///
 /// # Errors
 ///
-/// `NotAsExpected` exactly where it isn't. `Memory` comes only where a growth was refused.
+/// `NotAsExpected` exactly if it isn't. `Memory` comes only when memory ran out.
 pub(crate) fn refuse_unexpected(
     alloc: Global,
     operands: &Operands,

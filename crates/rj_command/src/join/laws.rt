@@ -1,4 +1,4 @@
-//! Laws of what is written: each function does nothing, and its contract is a fact about every run.
+//! Laws of what is written. Each function does nothing; its contract is a theorem about every run.
 
 ghost use Rattle.std.specs.Prelude.{◌≡◌, List, Ok, true, ℕ};
 ghost use Rattle.rj_columns.specs.Tables.{TableValue};
@@ -21,8 +21,8 @@ use rj_csv_io::{
 use rj_engine::plain_choice;
 use rj_fault::Side;
 
-/// Where a request chooses all rows of the joined table in their own order, and all columns under their own names, the text that is
-/// written is that of the joined table.
+/// If a request chooses all rows of the joined table in their own order, and all columns under
+/// their own names, the text that is written is that of the joined table.
 pub fn plain_text()
     ensures { (q : Request) (join : BoundJoin) (l r : TableValue) (names : List (List ℕ)) → is_plain q.choice ≡ true → q.choice.repeated ≡ Kept
         → AreNames q join l r names → chosen_text q names join l r ≡ joined_text q.out_null.now join l r }
@@ -30,8 +30,9 @@ pub fn plain_text()
     plain_choice();
 }
 
-/// What a run writes reads back: as the table of what it chose of the joined table, under the names that it wrote and by the types
-/// of the columns that these come from, and with no fault. The names are lawful wherever repeated ones are renamed.
+/// What a run writes reads back without an error: as the table of what it chose of the joined
+/// table, under the names that it wrote and by the types of the columns from which these come. The
+/// names are valid if repeated ones are renamed.
 pub fn results_read_back()
     ensures { (left right text : List ℕ) (q : Request) (stats : Stats) (nulls : List (List ℕ)) (j : IsJoined left right q stats text)
         → IsReadable q nulls j.names j.join j.l j.r
@@ -42,7 +43,8 @@ pub fn results_read_back()
     read_tables_hold_their_types();
 }
 
-/// No cell of what a run writes is a text that is a null text of both tables, since none of theirs is.
+/// No cell of what a run writes is a text that is a NULL text of both tables, since no cell of the
+/// tables is.
 pub fn results_are_apart()
     ensures { (left right text null : List ℕ) (q : Request) (stats : Stats) (j : IsJoined left right q stats text)
         → is_null_field (nulls_of q Side.Left) null ≡ true → is_null_field (nulls_of q Side.Right) null ≡ true

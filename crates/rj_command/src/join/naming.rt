@@ -12,7 +12,8 @@ use rj_fault::Fault;
 use rj_line::Request;
 use std::alloc::Global;
 
-/// The names of those columns of the operands' joined table that the request chooses, each repeated one as it asks.
+/// The names of those columns of the operands' joined table that the request chooses, with repeated
+/// ones written as it asks.
 pub(crate) fn names_of(
     alloc: Global,
     operands: &Operands,

@@ -1,4 +1,4 @@
-//! The null texts of a request.
+//! The NULL texts of a request.
 
 ghost use Rattle.std.specs.Prelude.{◌≡◌};
 ghost use Rattle.rj_csv_io.specs.Typed.{null_texts};
@@ -8,7 +8,7 @@ use rj_csv_io::{are_lawful_nulls, is_lawful_null};
 use rj_fault::Side;
 use rj_line::Request;
 
-/// The texts that stand for null in the table of one side.
+/// The texts that stand for NULL in the table of one side.
 pub(crate) fn nulls_of<'a, 'b>(request: &'a Request<'b>, side: Side) -> &'a [&'b str]
     ensures { null_texts result.now ≡ nulls_of request.now side }
 {
@@ -18,7 +18,7 @@ pub(crate) fn nulls_of<'a, 'b>(request: &'a Request<'b>, side: Side) -> &'a [&'b
     }
 }
 
-/// Whether each text that is to stand for null may.
+/// Whether each text that is to stand for NULL may do so.
 pub(crate) fn has_lawful_nulls(request: &Request<'_>) -> bool
     ensures { result ≡ has_lawful_nulls request.now }
 {

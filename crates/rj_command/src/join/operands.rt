@@ -61,7 +61,8 @@ fn fault_of_parse(refused: ParseRefused) -> Fault
     }
 }
 
-// The table of one side, read as strictly as is asked for. Bytes that it owns are given back before it returns.
+// The table of one side, read as strictly as the request asks. Bytes that it owns are freed before
+// it returns.
 fn read_side<R: Threads + Sync, B: AsSlice<u8> + Drop>(
     rt: &R,
     alloc: Global,
@@ -80,12 +81,13 @@ fn read_side<R: Threads + Sync, B: AsSlice<u8> + Drop>(
     }
 }
 
-/// The join that a clause asks of two tables. Only their names and types are looked at, so that a table without rows
-/// stands for each of these columns.
+/// Binds a clause to two tables. Only their names and types are looked at, so a table without rows
+/// is enough.
 ///
 /// # Errors
 ///
-/// The first fault of the clause's text, or of its names and types. `Memory` comes only where a growth was refused.
+/// The first error of the clause's text, or of its names and types. `Memory` comes only when memory
+/// ran out.
 #[tactic(auto, using(crate::proofs::OperandFacts::unread_fault, crate::proofs::OperandFacts::unbound_fault))]
 pub fn bind_clause(
     alloc: Global,
@@ -117,8 +119,8 @@ fn bind_tables(alloc: Global, text: &str, left: Table, right: Table) -> Result<O
     Ok(Operands { left, right, join })
 }
 
-// Reads both tables and binds the clause to them, or tells the first fault. Bytes that it owns are given back as soon as their
-// table stands.
+// Reads both tables and binds the clause to them, or reports the first error. Bytes that it owns
+// are freed as soon as their table is there.
 #[tactic(auto, using(crate::proofs::OperandFacts::left_fault))]
 pub(crate) fn read_operands<R: Threads + Sync, B: AsSlice<u8> + Drop, G: Watch>(
     rt: &R,

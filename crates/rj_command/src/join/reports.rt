@@ -23,7 +23,7 @@ use rj_line::Request;
 use std::alloc::{AllocError, Global};
 use std::str;
 
-// The lines of the rows and the pairs.
+// The lines of the rows and the matches.
 fn counts_text(alloc: Global, told: &JoinReport) -> Result<String, AllocError>
     ensures { IfOk result (λ s. string_bytes s ≡ counts_text told.now) }
 {
@@ -34,7 +34,7 @@ fn counts_text(alloc: Global, told: &JoinReport) -> Result<String, AllocError>
     )
 }
 
-// The lines of null and of repeated keys.
+// The lines of NULL and of repeated keys.
 fn spread_text(alloc: Global, keys: &KeyReport) -> Result<String, AllocError>
     ensures { IfOk result (λ s. string_bytes s ≡ spread_text keys.now) }
 {
@@ -57,7 +57,7 @@ fn number_text(alloc: Global, units: i128, scale: u8) -> Result<String, AllocErr
     }
 }
 
-// The text of a cell, as it is written; of null there is none.
+// The text of a cell, as it is written; NULL has an empty text.
 fn cell_text(alloc: Global, cell: Cell<'_>) -> Result<String, AllocError>
     requires { IsInLimits (content_of cell) }
     ensures { IfOk result (λ s. string_bytes s ≡ shown [] (content_of cell.entry)) }
@@ -131,7 +131,7 @@ fn largest_text(
     Ok(text)
 }
 
-// The lines of keys, where there are keys.
+// The lines of keys, if there are keys.
 fn keys_text(
     alloc: Global,
     left: &Table,
@@ -155,11 +155,11 @@ fn keys_text(
     Ok(text)
 }
 
-/// What a report tells of the operands' join, or none where none is asked for.
+/// The text of a report on the operands' join, or none if none is asked for.
 ///
 /// # Errors
 ///
-/// Refuses only for want of memory.
+/// It fails only when memory runs out.
 pub(crate) fn report_of(
     alloc: Global,
     operands: &Operands,

@@ -66,7 +66,7 @@ fn characters_of(alloc: Global, text: &str) -> Result<Vec<char>, AllocError>
     text.chars().collect(alloc)
 }
 
-// Adds what stands between the quotes.
+// Adds what is between the quotes.
 fn add_part(text: &mut String, alloc: Global, part: &str) -> Result<(), AllocError>
     ensures { OnOk result (string_bytes text.new ≡ string_bytes text.old ++ flat_map shown_char (chars part.now)) }
 {
@@ -74,12 +74,12 @@ fn add_part(text: &mut String, alloc: Global, part: &str) -> Result<(), AllocErr
     add_chars(text, alloc, characters.as_slice())
 }
 
-/// A text as a report shows it: between double quotes, control characters as `\xNN`, and of more than 60 bytes the first ones, with
-/// how many more there are.
+/// A text as a report shows it: between double quotes, control characters as `\xNN`, and of more
+/// than 60 bytes the first ones, with how many more there are.
 ///
 /// # Errors
 ///
-/// Refuses only for want of memory.
+/// It fails only when memory runs out.
 #[tactic(auto, unfolding(crate::specs::ShownTexts::shown_text))]
 pub(crate) fn shown_text(alloc: Global, text: &str) -> Result<String, AllocError>
     ensures { IfOk result (λ s. string_bytes s ≡ shown_text text.now) }

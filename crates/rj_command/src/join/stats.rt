@@ -1,4 +1,4 @@
-//! What a join counts.
+//! The statistics of a join.
 
 ghost use Rattle.std.specs.Prelude.{Some};
 ghost use Rattle.rj_command.specs.Statistics.{partition_text, stats_text};
@@ -16,24 +16,25 @@ pub struct PartitionRows {
     pub right: u64,
 }
 
-/// What a join counts. The text is what `--stats` prints, without its last line end: a line for each partition, then one that
-/// counts the members of the joined table, and behind it, where `--piece` was given, one that counts the pieces.
+/// The statistics of a join. The text is what `--stats` prints, without its last line end: a line
+/// for each partition, then one that counts the members of the joined table, and then, if `--piece`
+/// was given, one that counts the pieces.
 #[derive(Drop)]
 pub struct Stats {
     /// The rows of each partition, in the order of the partitions.
     pub partitions: Vec<PartitionRows>,
-    /// The kept pairs of a left and a right row.
+    /// The matches of a left and a right row.
     pub pairs: u64,
-    /// The left rows in no kept pair.
+    /// The unmatched left rows.
     pub lone_left: u64,
-    /// The right rows in no kept pair.
+    /// The unmatched right rows.
     pub lone_right: u64,
-    /// The pieces that the partitions were joined in.
+    /// The pieces in which the partitions were joined.
     pub pieces: u64,
-    /// Whether the text tells the number of pieces.
+    /// Whether the text has the number of pieces.
     pub tells_pieces: bool,
-    /// The lines of the report, without the last line end, where one is asked for. They aren't in the text of the statistics, and
-    /// are printed behind it.
+    /// The lines of the report, without the last line end, if one is asked for. They aren't in the
+    /// text of the statistics, and are printed after it.
     pub report: Option<String>,
 }
 

@@ -22,7 +22,7 @@ use rj_strict::{
 use std::alloc::Global;
 use std::thread::Threads;
 
-/// The fault of a side's file whose text isn't of the grammar.
+/// The error of a side's file whose text isn't of the grammar.
 pub fn fault_of_text(side: Side, fault: StrictFault) -> Fault
     ensures { result ≡ strict_fault side fault }
 {
@@ -45,7 +45,7 @@ fn is_no_header(fault: &Fault) -> bool
     }
 }
 
-// The fault of a text that isn't of the grammar, by the reading of the records above.
+// The error of a text that isn't of the grammar, given the result of reading the records above it.
 fn first_fault(side: Side, fault: StrictFault, above: Result<Table, Fault>) -> Fault
     ensures { result ≡ fault_below side fault above }
 {
@@ -84,7 +84,8 @@ pub(crate) fn read_text<R: Threads + Sync>(
     }
 }
 
-// The table of all records of a text that is derived, in each of whose empty lines `""` is written first.
+// The table of all records of a text that is derived. `""` is written into each of its empty lines
+// first.
 fn read_quoted<R: Threads + Sync>(
     rt: &R,
     alloc: Global,
@@ -103,8 +104,8 @@ fn read_quoted<R: Threads + Sync>(
     read_text(rt, alloc, quoted.as_slice(), request, side)
 }
 
-// Whether a text is seen to be derived with no empty line in it, by a look at as many parts as there are workers, or at all of
-// it where a part has been cut within a field.
+// Whether a text is derived and has no empty line: by a fast look at as many parts as there are
+// workers, or, if that doesn't say so, by a check of the whole text.
 fn has_full_lines<R: Threads + Sync>(
     rt: &R,
     alloc: Global,
@@ -141,13 +142,15 @@ fn read_lines<R: Threads + Sync>(
     read_quoted(rt, alloc, text, request, side)
 }
 
-/// The table of one side, whose text has to be of RFC 4180's grammar: it has exactly the records of the text's one derivation.
-/// Where it is full, its last record has to have its line end. It is read by as many threads as the request has workers.
+/// The table of one side, whose text has to be of RFC 4180's grammar. It has exactly the records of
+/// the text's one derivation. If `full` is set, the last record needs its line end. It is read by
+/// as many threads as the request has workers.
 ///
 /// # Errors
 ///
-/// Faults come in the order of the file: those of the records above the place where the text stops being of the grammar, and
-/// then that one. A null text that isn't lawful comes first. `Memory` comes only where a growth was refused.
+/// Errors come in the order of the file: those of the records above the place where the text stops
+/// being of the grammar, and then that one. A NULL text that isn't valid comes first. `Memory`
+/// comes only when memory ran out.
 pub fn read_strictly<R: Threads + Sync>(
     rt: &R,
     alloc: Global,

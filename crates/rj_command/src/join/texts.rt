@@ -17,20 +17,21 @@ use rj_engine::{Joined, Run, RunView, Shown, cut_runs};
 use std::alloc::{AllocError, Global};
 use std::thread::{self, Threads};
 
-// A left table that has at least so many rows for each thread is taken apart, so that there are segments for each.
+// A left table that has at least this many rows for each thread is taken apart, so that there are
+// segments for each.
 const SHARE_ROWS: u64 = 98_304;
 
-// The texts of rows that follow each other, one after another.
+// The texts of consecutive rows, one after another.
 type Texts = Vec<Vec<u8>>;
 
-// A segment of the left table, until the texts of its runs are made, and then these.
+// A segment of the left table until the texts of its runs are made, and then these texts.
 #[derive(Drop)]
 struct Share {
     segment: Option<Table>,
     texts: Result<Vec<Texts>, AllocError>,
 }
 
-// The texts of the runs that stand in a segment of the left table, in their order.
+// The texts of the runs that are in a segment of the left table, in their order.
 fn texts_of_segment(
     alloc: Global,
     segment: &Table,
@@ -54,7 +55,7 @@ fn texts_of_segment(
     Ok(texts)
 }
 
-// Makes the texts of the runs that stand in a segment, and gives the segment back.
+// Makes the texts of the runs that are in a segment, and frees the segment.
 fn make_texts(
     alloc: Global,
     share: &mut Share,
@@ -88,7 +89,7 @@ fn shares_of(alloc: Global, segments: Vec<Table>) -> Result<Vec<Share>, AllocErr
     Ok(shares)
 }
 
-// The texts of all segments, where each was made.
+// The texts of all segments, if each was made.
 fn all_made(alloc: Global, shares: Vec<Share>) -> Result<Vec<Vec<Texts>>, AllocError>
     ensures { IfOk result (λ v. map (λ s. s.texts) shares.items ≡ map (λ t. Ok t) v.items) }
 {
@@ -100,8 +101,8 @@ fn all_made(alloc: Global, shares: Vec<Share>) -> Result<Vec<Vec<Texts>>, AllocE
     Ok(made)
 }
 
-// Makes the texts of all shares, by up to so many threads with the calling one. Each thread gives its segments back one by one, as
-// their texts are made.
+// Makes the texts of all shares, by at most this many threads, the calling one among them. Each
+// thread frees its segments one by one, as their texts are made.
 fn make_each<R: Threads + Sync>(
     rt: &R,
     alloc: Global,
@@ -133,8 +134,8 @@ fn make_each<R: Threads + Sync>(
     shares
 }
 
-// Does the same without the calling thread: threads that start take over the memory that ended ones gave back, and the calling one has
-// none of it.
+// Does the same without the calling thread. New threads reuse the memory that ended ones gave back,
+// and the calling thread has none of it.
 fn make_shares<R: Threads + Sync>(
     rt: &R,
     alloc: Global,
@@ -165,7 +166,7 @@ fn make_shares<R: Threads + Sync>(
     made
 }
 
-// The texts of the runs of each segment, made by up to so many threads.
+// The texts of the runs of each segment, made by at most this many threads.
 fn texts_of_segments<R: Threads + Sync>(
     rt: &R,
     alloc: Global,
@@ -188,7 +189,7 @@ fn texts_of_segments<R: Threads + Sync>(
     all_made(alloc, made)
 }
 
-// The texts of the runs, in the runs' order: those of each segment stand in the order of its runs.
+// The texts of the runs, in the runs' order: those of each segment are in the order of its runs.
 fn in_order(alloc: Global, mut made: Vec<Vec<Texts>>, runs: &[Run]) -> Result<Texts, AllocError>
     requires segments { All (λ run. run.segment < length made.items) runs.now }
     requires count { AreCounted runs.now made.items }
@@ -227,13 +228,14 @@ fn texts_of_runs<R: Threads + Sync>(
     in_order(alloc, made, runs)
 }
 
-/// The texts of the rows that are shown of the joined table of two tables, one after another, made by up to so many threads with
-/// the calling one, at least one. The left table is taken apart into segments of at most 65,536 rows. A thread takes segments one
-/// after another, and gives each back as soon as the texts of its rows stand.
+/// The texts of the rows that are shown of the joined table of two tables, one after another. At
+/// most this many threads make them, the calling one among them, and at least one. The left table
+/// is taken apart into segments of at most 65,536 rows. A thread takes segments one after another,
+/// and frees each as soon as the texts of its rows are there.
 ///
 /// # Errors
 ///
-/// Refuses only for want of memory.
+/// It fails only when memory runs out.
 pub(crate) fn texts_of_joined<R: Threads + Sync>(
     rt: &R,
     alloc: Global,
@@ -256,8 +258,8 @@ pub(crate) fn texts_of_joined<R: Threads + Sync>(
     )
 }
 
-// Writes a header, and behind it the rows that are shown of the joined table of two tables, with their texts made segment by segment
-// of the left table.
+// Writes a header and then the rows that are shown of the joined table of two tables. Their texts
+// are made segment by segment of the left table.
 fn write_segments<R: Threads + Sync, O: Output>(
     rt: &R,
     alloc: Global,
@@ -312,14 +314,15 @@ fn write_whole<R: Threads + Sync, O: Output>(
     write_rows_in_parts(rt, alloc, writer, header, &rows, null, workers)
 }
 
-/// Writes a header, and behind it the rows that are shown of the joined table of two tables, with their texts made by up to so many
-/// threads. All texts are made before the first is put. A left table of many rows is given back segment by segment, as the texts
-/// of its rows are made; of another one the rows are divided evenly among the threads.
+/// Writes a header and then the rows that are shown of the joined table of two tables. At most this
+/// many threads make their texts, and all texts are made before the first is put. A left table of
+/// many rows is freed segment by segment, as the texts of its rows are made. If it has few, the
+/// rows are divided evenly among the threads.
 ///
 /// # Errors
 ///
-/// `Memory` where a growth was refused: the device is as it was. `WriteDevice` where the device failed: nothing is known of how much
-/// it took.
+/// `Memory` if memory ran out: the device stays as it was. `WriteDevice` if the device failed: how
+/// much it took is unknown.
 pub(crate) fn write_shown<R: Threads + Sync, O: Output>(
     rt: &R,
     alloc: Global,

@@ -16,7 +16,7 @@ use rj_line::Request;
 use rj_types::{TypeEntry, name_fault, types_under};
 use std::alloc::{AllocError, Global};
 
-// Whether a header that is refused for this has no fault but the count of its types.
+// Whether a header that is refused for this has no other error than the count of its types.
 fn stands_refused(refused: ReadRefused) -> Result<bool, AllocError>
     ensures stands { IfOk result (λ b. (f : BuildRefused) → refused ≡ of_begun f → b ≡ stands (Err f)) }
     ensures memory { OnOk result (refused ≢ ReadRefused.Memory) }
@@ -28,7 +28,7 @@ fn stands_refused(refused: ReadRefused) -> Result<bool, AllocError>
     }
 }
 
-// Whether a header has no fault, or only another number of types.
+// Whether a header has no error, or only another number of types.
 fn header_stands(alloc: Global, header: &Header, types: &[ColumnType]) -> Result<bool, AllocError>
     ensures { IfOk result (λ b. b ≡ stands (empty_table (names_in header.now) types.now)) }
 {
@@ -38,7 +38,7 @@ fn header_stands(alloc: Global, header: &Header, types: &[ColumnType]) -> Result
     }
 }
 
-// The fault of a name in a type list.
+// The error of a name in a type list.
 fn fault_of_name(alloc: Global, name: &Word, side: Side) -> Fault
     ensures { result ≢ Fault.Memory → result ≡ Fault.TypeName side name.now }
 {
@@ -52,8 +52,9 @@ fn fault_of_name(alloc: Global, name: &Word, side: Side) -> Fault
 ///
 /// # Errors
 ///
-/// `TypeName` with the first name in the list that means no column of the header, or one that an entry before it names, where
-/// the header has no fault of its own but perhaps the count of its types. `Memory` comes only where a growth was refused.
+/// `TypeName` with the first name in the list that means no column of the header, or one that an
+/// earlier entry names. It comes only if the header itself has no error, except perhaps in the
+/// count of types. `Memory` comes only when memory ran out.
 pub fn types_of_header(
     alloc: Global,
     header: &Header,
@@ -89,7 +90,7 @@ fn types_of<'a>(request: &'a Request<'_>, side: Side) -> &'a [TypeEntry]
     }
 }
 
-// The types of the columns of a side's text, under its header, where each null text is lawful.
+// The types of the columns of a side's text, under its header, if each NULL text is valid.
 pub(crate) fn types_of_text(
     alloc: Global,
     text: &[u8],

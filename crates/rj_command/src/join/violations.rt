@@ -1,4 +1,4 @@
-//! By what the joined table of two files isn't as expected.
+//! How the joined table of two files differs from what is expected.
 
 ghost use Rattle.std.specs.Prelude.{◌≡◌, ◌≢◌, IfErr, IfOk, MatchOption, true};
 ghost use Rattle.rj_condition.specs.Fits.{fits};
@@ -18,7 +18,7 @@ use std::sync::Wait;
 use std::thread::Threads;
 use std::time::Clock;
 
-// By what the joined table of two tables isn't as the request expects.
+// How the joined table of two tables differs from what the request expects.
 fn violation_of<R: Threads + Wait + Clock + Sync, G: Gate + Sync>(
     rt: &R,
     alloc: Global,
@@ -42,13 +42,14 @@ fn violation_of<R: Threads + Wait + Clock + Sync, G: Gate + Sync>(
     }
 }
 
-/// By what the joined table of the tables that the two files' bytes denote isn't as the request expects: how many rows it has, or
-/// the first row that is in more kept pairs than one; none where it is as expected. The join is made, and nothing is written.
+/// How the joined table of the tables that the two files' bytes denote differs from what the
+/// request expects: in how many rows it has, or in the first row that is in more than one match.
+/// `None` if it is as expected. The join is made, and nothing is written.
 ///
 /// # Errors
 ///
-/// The first fault in the order left table, right table, clause. `Memory` comes only where a growth was refused, in place of any
-/// fault that would be told later.
+/// The first error in the order left table, right table, clause. `Memory` comes only when memory
+/// ran out, in place of any error that would be reported later.
 pub fn first_violation<R: Threads + Wait + Clock + Sync, G: Gate + Sync>(
     rt: &R,
     alloc: Global,

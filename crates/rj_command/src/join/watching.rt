@@ -1,30 +1,32 @@
-//! What is told of a run while it goes on.
+//! How a run can be watched.
 
 use rj_engine::{Gate, OpenGate};
 use rj_fault::Side;
 
-/// A step of a run. The steps come in this order, each where the ones before it have ended without a fault.
+/// A step of a run. The steps come in this order, each after the ones before it have ended without
+/// an error.
 #[derive(Clone, Copy, Debug, PartialEq, Eq)]
 pub enum Step {
     /// The table of a side is read from its bytes.
     Read(Side),
-    /// Two tables of so many rows are joined.
+    /// Two tables of these numbers of rows are joined.
     Join {
         /// The rows of the left table.
         left_rows: u64,
         /// The rows of the right table.
         right_rows: u64,
     },
-    /// So many rows are written. Where rows are counted alone, this step doesn't come.
+    /// This many rows are written. If rows are only counted, this step doesn't come.
     Write {
         /// The rows, without the header.
         rows: u64,
     },
 }
 
-/// What a run passes at each [`Step`], beside the gate that its workers pass at each place. No answer of a run depends on it.
+/// What a run passes at each [`Step`], beside the gate that its workers pass at each place. No
+/// answer of a run depends on it.
 pub trait Watch: Gate {
-    /// Is called by the thread that runs, before a step begins.
+    /// Called by the thread that runs, before a step begins.
     fn begin(&self, step: Step);
 }
 

@@ -62,12 +62,14 @@ fn take_at<R: Wait>(rt: &R, queue: &ParcelQueue, end: &mut Stub) -> Option<Poste
 }
 
 impl Outbox {
-    /// Posts a parcel at the back of the queue of its partition and of lane `number mod lanes`, in one step. Takes no memory.
+    /// Posts a parcel at the back of the queue of its partition and of lane `number mod lanes`, in
+    /// one step. Allocates no memory.
     ///
     /// # Errors
     ///
-    /// `Full` gives the parcel back, with nothing posted, and comes only where the queue was full at a moment of the call: it then
-    /// held as many parcels as its capacity, and those of this outbox among them were the last ones that it had posted there.
+    /// `Full` returns the parcel; nothing was posted. It comes only if the queue was full at a
+    /// moment of the call. The queue then held as many parcels as its capacity, and those of this
+    /// outbox among them were the last ones that it had posted there.
     pub fn post<R: Wait>(&mut self, rt: &R, exchange: &Exchange, parcel: Parcel) -> Result<(), Full>
         requires { IsOutboxOf exchange.now self.old × (parcel.partition < exchange.now.partitions) }
         ensures same { IsOutboxOf exchange.now self.new × (self.new.number ≡ self.old.number) }
@@ -89,7 +91,7 @@ impl Outbox {
         }
     }
 
-    /// One stub for each queue, by partition and then lane: the token of all that this outbox posted there. Takes no memory.
+    /// One stub for each queue, by partition and then lane: the token of all that this outbox posted there. Allocates no memory.
     pub fn end(self) -> Vec<Stub>
         ensures { result ≡ self.stubs }
     {
@@ -99,15 +101,16 @@ impl Outbox {
 }
 
 impl Inbox {
-    /// The partition that it takes for.
+    /// The partition for which it takes.
     pub fn partition(&self) -> u32
         ensures { result ≡ self.now.partition }
     {
         self.partition
     }
 
-    /// Takes the oldest parcel of one lane, in one step. `None` comes only where the queue was empty at a moment of the call: the
-    /// inbox has then taken all that was posted there by each outbox of whose end it has heard. Takes no memory.
+    /// Takes the oldest parcel of one lane, in one step. `None` comes only if the queue was empty
+    /// at a moment of the call. The inbox has then taken all that was posted there by each outbox
+    /// of whose end it has heard. Allocates no memory.
     pub fn take<R: Wait>(&mut self, rt: &R, exchange: &Exchange, lane: u32) -> Option<Parcel>
         requires { TakesFrom exchange.now self.old × (lane < exchange.now.lanes) }
         ensures same { TakesFrom exchange.now self.new × (self.new.partition ≡ self.old.partition) × (heard_by_lane self.new ≡ heard_by_lane self.old) }

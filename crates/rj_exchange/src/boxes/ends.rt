@@ -1,4 +1,4 @@
-//! The end of an inbox, which is handed what each outbox sent.
+//! The end of an inbox, which then gets what each outbox sent.
 ghost use Rattle.std.specs.Prelude.{◌≡◌, ◌<◌, ◌+◌, length, All, IfOk, MatchResult};
 ghost use Rattle.std.specs.Vec.Iter.{into_iter_items};
 ghost use Rattle.crossbeam_queue.specs.Passes.{view, ruled_capacity};
@@ -104,9 +104,10 @@ fn drain_all<R: Wait>(
 }
 
 impl Inbox {
-    /// Hears of the end of an outbox, the next one by number: asks its stubs for this partition, lane by lane. From now on `None`
-    /// of `take` means that all that this outbox posted there was taken. Once the inbox has heard of all outboxes, it has all parcels
-    /// of a lane where it is answered `None`. Takes no memory.
+    /// Tells the inbox of the end of an outbox, the next one by number. It takes the outbox's stubs
+    /// for this partition, lane by lane. From now on `None` of `take` means that all that this
+    /// outbox posted there was taken. Once the inbox has heard of all outboxes, `None` means that
+    /// it has all parcels of the lane. Allocates no memory.
     pub fn hear(&mut self, exchange: &Exchange, outbox: u32, stubs: Vec<Stub>)
         requires { HasHeard exchange.now outbox self.old × AreStubsFrom exchange.now self.old.partition outbox stubs.items }
         ensures same { HasHeard exchange.now (outbox + 1) self.new × (self.new.partition ≡ self.old.partition) × (taken_by_lane self.new ≡ taken_by_lane self.old) }
@@ -116,13 +117,15 @@ impl Inbox {
         round(exchange, self.partition, outbox, &mut self.ends, &mut left);
     }
 
-    /// What is left of the parcels of this partition, once every outbox has ended: asks the stubs of its queues from all
-    /// outboxes, by outbox and then lane. For each lane what was taken, followed by the rest, interleaves what the outboxes
-    /// posted there: nothing is lost, doubled or invented, and each outbox's parcels come in its order.
+    /// The parcels that are left in this partition's queues, once every outbox has ended. It takes
+    /// the stubs of its queues from all outboxes, by outbox and then lane. For each lane, what was
+    /// taken, followed by the rest, interleaves what the outboxes posted there: nothing is lost,
+    /// doubled or invented, and each outbox's parcels come in its order.
     ///
     /// # Errors
     ///
-    /// It fails only where memory is refused. Room is made first, so all comes back then, with nothing taken.
+    /// It fails only when memory runs out. Room is made first, so everything is returned then, and
+    /// nothing was taken.
     pub fn finish<R: Wait>(
         self,
         rt: &R,

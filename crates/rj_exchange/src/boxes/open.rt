@@ -1,4 +1,4 @@
-//! The opening of an exchange.
+//! Opening an exchange.
 ghost use Rattle.std.specs.Prelude.{◌≡◌, ◌<◌, ◌≤◌, ◌+◌, ◌∷◌, ◌++◌, [], length, IfOk};
 ghost use Rattle.crossbeam_queue.specs.Passes.{view, IsPassOf};
 ghost use Rattle.rj_exchange.specs.Passing.{taker};
@@ -68,13 +68,13 @@ fn add_queue(
 }
 
 impl Exchange {
-    /// An exchange with empty queues of `capacity` parcels, 1 to 4,096, for each of the partitions, 1 to 1,024, and lanes, 1 to
-    /// 4; its outboxes, 1 to 64, by number; and its inboxes, by partition. It makes all the room that posting, taking and
-    /// ending need.
+    /// An exchange with empty queues of `capacity` parcels, 1 to 4,096, for each of the partitions,
+    /// 1 to 1,024, and lanes, 1 to 4; its outboxes, 1 to 64, by number; and its inboxes, by
+    /// partition. It reserves all the room that posting, taking and ending need.
     ///
     /// # Errors
     ///
-    /// It fails only where memory is refused.
+    /// It fails only when memory runs out.
     pub fn open(
         alloc: Global,
         outboxes: u32,

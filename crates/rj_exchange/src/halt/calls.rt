@@ -8,11 +8,11 @@ use atomic_table::Table;
 use std::alloc::{AllocError, Global};
 
 impl Halt {
-    /// A word that is not raised, and so many seats, 1 to 256.
+    /// A word that is not raised, and `seats` seats, 1 to 256.
     ///
     /// # Errors
     ///
-    /// It fails only where memory is refused.
+    /// It fails only when memory runs out.
     pub fn open(alloc: Global, seats: u32) -> Result<(Halt, Vec<HaltSeat>), AllocError>
         requires { (1 ≤ seats) × (seats ≤ 256) }
         ensures counts { IfOk result (λ h. halt_seats_of h.0 ≡ seats) }
@@ -36,7 +36,7 @@ impl Halt {
         Ok((Halt { table }, dealt))
     }
 
-    /// Raises the word in one atomic step, a `fetch_max`. Takes no memory and waits for nobody.
+    /// Raises the word in one atomic step, a `fetch_max`. Allocates no memory and waits for nobody.
     pub fn raise(&self, seat: &mut HaltSeat)
         requires { IsHaltSeatOf self.now seat.old }
         ensures seat { IsHaltSeatOf self.now seat.new }
@@ -46,8 +46,9 @@ impl Halt {
         seat.raised = true;
     }
 
-    /// Whether this seat has raised the word, or has seen it raised in this call, by one load, or before. Takes no memory and
-    /// waits for nobody. That the load sees what another seat raised is tested and not proved.
+    /// Whether this seat has raised the word, or has seen it raised, in this call by one load, or
+    /// before. Allocates no memory and waits for nobody. That the load sees what another seat
+    /// raised is tested and not proved.
     pub fn raised(&self, seat: &mut HaltSeat) -> bool
         requires { IsHaltSeatOf self.now seat.old }
         ensures seat { IsHaltSeatOf self.now seat.new }
@@ -64,7 +65,8 @@ impl Halt {
         true
     }
 
-    /// Whether one of the seats, which are all that were opened, raised the word. Takes no memory and waits for nobody.
+    /// Whether one of the seats raised the word. The seats are all that were opened. Allocates no
+    /// memory and waits for nobody.
     pub fn finish(self, seats: Vec<HaltSeat>) -> bool
         requires { AreAllHaltSeats self seats.items }
         ensures raised { IsTrue result ↔ AnyRaised seats.items }

@@ -10,7 +10,7 @@ use crossbeam_queue::Pass;
 use rj_ledger::Parcel;
 use std::sync::Wait;
 
-// The queue is told its place.
+// The queue gets its place.
 pub(crate) fn fix<B: QueuePlace>(queue: &ParcelQueue, pass: &mut Pass<Posted, Trace>)
     requires { IsPassOf queue.now pass.old × (view pass.old ≡ first_trace) }
     ensures { IsSamePass pass.old pass.new × (view pass.new ≡ taker B.place 0 [] []) }
@@ -57,7 +57,7 @@ pub(crate) fn take<R: Wait>(
     queue.pop_as::<TakesParcel, R>(rt, pass)
 }
 
-// An outbox that has ended: the next one of which the taker does not know yet.
+// An outbox that has ended: the next one that the taker does not know yet.
 pub(crate) fn give_back(
     queue: &ParcelQueue,
     pass: &mut Pass<Posted, Trace>,
@@ -72,7 +72,7 @@ pub(crate) fn give_back(
     queue.absorb::<Return>(pass, stub);
 }
 
-// All that is left, where each outbox has ended.
+// All that is left, after each outbox has ended.
 pub(crate) fn drain<R: Wait>(
     rt: &R,
     queue: &ParcelQueue,

@@ -33,7 +33,7 @@ fn empty<B: Lot>(
     Ok((queue, pass))
 }
 
-// There is room, as the token holds one of the numbers that there is room for.
+// There is room, as the token holds one of the numbers for which there is room.
 fn give<R: Wait>(rt: &R, queue: &StripeQueue, pass: &mut Pass<Stripe, StripeShare>, stripe: Stripe)
     requires pass { IsPassOf queue.now pass.old }
     requires view { let v = view pass.old in (0 < v.parts) × (0 < times stripe.number v.held) × (v.limit ≡ ruled_capacity queue.now) }
@@ -58,11 +58,11 @@ fn fill<R: Wait>(rt: &R, queue: &StripeQueue, pass: &mut Pass<Stripe, StripeShar
 }
 
 impl Stripes {
-    /// The numbers below `n`, 1 to 64, each put in with count 0, and so many seats, 1 to 256.
+    /// The numbers below `n`, 1 to 64, each put in with count 0, and `seats` seats, 1 to 256.
     ///
     /// # Errors
     ///
-    /// It fails only where memory is refused.
+    /// It fails only when memory runs out.
     pub fn open<R: Wait>(
         rt: &R,
         alloc: Global,
@@ -93,8 +93,8 @@ impl Stripes {
         ))
     }
 
-    /// A number, which the seat then holds, and the count with which it was put in. `None` only where the queue was
-    /// empty at a moment of the call. Takes no memory.
+    /// Draws a number, which the seat then holds. Returns it with the count with which it was put
+    /// in. `None` only if the queue was empty at a moment of the call. Allocates no memory.
     pub fn draw<R: Wait>(&self, rt: &R, seat: &mut StripeSeat) -> Option<(u32, u32)>
         requires { IsStripeSeatOf self.now seat.old }
         ensures seat { IsStripeSeatOf self.now seat.new }
@@ -109,7 +109,7 @@ impl Stripes {
         Some((stripe.number, stripe.count))
     }
 
-    /// Puts back a number that the seat holds. There is always room. Takes no memory.
+    /// Puts back a number that the seat holds. There is always room. Allocates no memory.
     pub fn put_back<R: Wait>(&self, rt: &R, seat: &mut StripeSeat, number: u32, count: u32)
         requires seat { IsStripeSeatOf self.now seat.old }
         requires number { Holds seat.old number }
@@ -121,8 +121,9 @@ impl Stripes {
         give(rt, &self.queue, &mut seat.pass, Stripe { number, count });
     }
 
-    /// Whether the seats, which are all that were opened, together hold the numbers below the limit, each once. What they
-    /// drew, each number with its count, was put in at the opening or by one of them before. Takes no memory.
+    /// Whether the seats together hold the numbers below the limit, each once. The seats are all
+    /// that were opened. What they drew, each number with its count, was put in at the opening or
+    /// by one of them before. Allocates no memory.
     pub fn finish<R: Wait>(self, rt: &R, seats: Vec<StripeSeat>) -> bool
         requires { AreAllStripeSeats self seats.items }
         ensures held { IsTrue result ↔ EachOnce (stripes_of self) (map held_by seats.items) }

@@ -7,11 +7,11 @@ use atomic_table::Table;
 use std::alloc::{AllocError, Global};
 
 impl Tickets {
-    /// The numbers below `n`, at most 2^32, and so many seats, 1 to 256. Nothing is drawn yet.
+    /// The numbers below `n`, at most 2^32, and `seats` seats, 1 to 256. Nothing is drawn yet.
     ///
     /// # Errors
     ///
-    /// It fails only where memory is refused.
+    /// It fails only when memory runs out.
     pub fn open(alloc: Global, n: u64, seats: u32) -> Result<(Tickets, Vec<Seat>), AllocError>
         requires limit { n ≤ 2 ^ 32 }
         requires seats { (1 ≤ seats) × (seats ≤ 256) }
@@ -32,8 +32,8 @@ impl Tickets {
         Ok((Tickets { table, limit: n }, dealt))
     }
 
-    /// The next number in one atomic step, or `None` where all were drawn, with which the seat is spent. A spent seat answers
-    /// `None` without a step. Takes no memory and waits for nobody.
+    /// Draws the next number in one atomic step. `None` if all were drawn; the seat is spent then.
+    /// A spent seat answers `None` without a step. Allocates no memory and waits for nobody.
     pub fn claim(&self, seat: &mut Seat) -> Option<u64>
         requires { IsSeatOf self.now seat.old }
         ensures seat { IsSeatOf self.now seat.new }
@@ -52,8 +52,9 @@ impl Tickets {
         None
     }
 
-    /// How many numbers were drawn by the seats, which are all that were opened: `n` where any is spent. Together they drew
-    /// the numbers below the answer, each once. Takes no memory and waits for nobody.
+    /// How many numbers the seats drew, which is `n` if any seat is spent. The seats are all that
+    /// were opened. Together they drew the numbers below the answer, each once. Allocates no memory
+    /// and waits for nobody.
     pub fn finish(self, seats: Vec<Seat>) -> u64
         requires { AreAllSeats self seats.items }
         ensures numbers { EachOnce result (map drawn_by seats.items) }

@@ -113,7 +113,8 @@ fn cross<R: Threads + Wait + Sync>(
     taken
 }
 
-// Whether so many parcels of a sender were taken backwards and then once more forwards, as over one lane.
+// Whether this many parcels of a sender were taken backwards and then once more forwards, as over
+// one lane.
 fn are_sent(parcels: &[Parcel], sender: u32, count: u32) -> bool {
     let count = u64::from(count);
     let mut found = 0u64;

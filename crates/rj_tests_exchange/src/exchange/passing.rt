@@ -10,7 +10,7 @@ use std::sync::Wait;
 use std::test::Fail;
 use std::thread;
 
-/// Posts the parcels in order, each once more where the queue is full.
+/// Posts the parcels in order, each once more if the queue is full.
 pub fn post_all<R: Wait>(rt: &R, exchange: &Exchange, outbox: &mut Outbox, parcels: Vec<Parcel>)
     requires { IsOutboxOf exchange.now outbox.old }
     ensures { IsOutboxOf exchange.now outbox.new × (outbox.new.number ≡ outbox.old.number) }

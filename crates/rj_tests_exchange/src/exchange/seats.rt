@@ -26,7 +26,7 @@ fn draw_tickets(tickets: &Tickets, mut seat: Seat) -> Seat
     seat
 }
 
-// How many tickets four seats draw of so many.
+// How many of this many tickets four seats draw.
 fn drawn<R: Threads + Sync>(rt: &R, alloc: Global, count: u64) -> Result<u64, AllocError>
     requires { count ≤ 2 ^ 32 }
 {
@@ -64,7 +64,7 @@ fn draw_stripes<R: Wait>(rt: &R, stripes: &Stripes, mut seat: StripeSeat) -> Str
     seat
 }
 
-// Whether four seats hold all of 64 stripes in the end, those too that went back.
+// Whether four seats hold all of 64 stripes in the end, including those that went back.
 fn are_held<R: Threads + Wait + Sync>(rt: &R, alloc: Global) -> Result<bool, AllocError> {
     let (stripes, seats) = Stripes::open(rt, alloc, 64, 4)?;
     let shared = &stripes;

@@ -34,7 +34,8 @@ fn rows_from(alloc: Global, first: u32) -> Result<Rows, AllocError>
     Ok(Rows { rows, routes })
 }
 
-// The rows of so many senders: of sender 0 the rows 0 to 4, of sender 1 the rows 10 to 14, and so on.
+// The rows of this many senders: of sender 0 the rows 0 to 4, of sender 1 the rows 10 to 14, and so
+// on.
 fn deal(alloc: Global, count: u32) -> Result<Vec<Rows>, AllocError>
     requires { count ≤ 128 }
     ensures { IfOk result (λ v. length v.items ≡ count) }
@@ -129,8 +130,8 @@ fn is_ended<R: Threads + Wait + Clock + Sync, G: Gate + Sync>(
     run_workers(rt, alloc, job, gate, settings).is_ok()
 }
 
-/// How often the three partitions are built by a run of so many workers with blocks of one row, where it ends with its result. The
-/// first `refused` scans are refused memory.
+/// How often the three partitions are built by a run of this many workers with blocks of one row,
+/// if it ends with its result. The first `refused` scans run out of memory.
 pub fn builds<R: Threads + Wait + Clock + Sync, G: Gate + Sync>(
     rt: &R,
     alloc: Global,

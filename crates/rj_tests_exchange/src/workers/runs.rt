@@ -1,7 +1,9 @@
-//! Queues that a scanner fills while the only taker is held before its first take, and runs that are refused scans.
+//! Queues that a scanner fills while the only taker is held before its first take, and runs whose
+//! scans run out of memory.
 //!
-//! Sender 0 has two blocks and a close for partition 0, two and a close for partition 1, one and a close for partition 2; sender 1
-//! has one, two and two blocks for them, and a close for each. The two lists of a partition are posted one after the other.
+//! Sender 0 has two blocks and a close for partition 0, two and a close for partition 1, one and a
+//! close for partition 2. Sender 1 has one, two and two blocks for them, and a close for each. The
+//! two lists of a partition are posted one after the other.
 
 use crate::waiting::{TURNS, wait_for};
 use crate::workers::dealt::builds;
@@ -13,10 +15,11 @@ use std::test::Fail;
 use std::thread::Threads;
 use std::time::Clock;
 
-// How often the taker looks again for what must not come. Past the last turn the test goes on.
+// How often the taker looks again for what must not come. After the last turn the test goes on.
 const FEW_TURNS: u32 = 100_000;
 
-// Holds the taker of partition 0 until so many parcels were posted, and then for some turns in which no more should be.
+// Holds the taker of partition 0 until this many parcels were posted, and then for some turns in
+// which no more should be.
 #[derive(Drop)]
 struct Hold {
     room: u64,
@@ -43,7 +46,7 @@ impl Gate for Hold {
     }
 }
 
-// Whether so many parcels and no more are posted before the first take, and in the end all sixteen.
+// Whether exactly this many parcels are posted before the first take, and in the end all sixteen.
 fn is_room<R: Threads + Wait + Clock + Sync>(
     rt: &R,
     alloc: Global,
@@ -74,15 +77,15 @@ fn capacity_is_heeded(rt: HostRuntime) -> Result<(), Fail> {
 }
 
 // Of three lanes with room for one parcel each, the two parcels of sender 0 leave the last lane of partition 2 free. The first
-// parcel of sender 1 finds lane 0 full, and those behind it wait: the third one, its close, which has lane 2, doesn't overtake it.
+// parcel of sender 1 finds lane 0 full, and those after it wait: the third one, its close, which has lane 2, doesn't overtake it.
 #[test]
 fn lists_are_posted_in_order(rt: HostRuntime) -> Result<(), Fail> {
     assert!(rt; is_room(&rt, rt.alloc(), (3, 1), 8)?);
     Ok(())
 }
 
-// How many workers there are, how many scans are refused memory and how often a stripe may be scanned again, and how often the
-// partitions are then built, where the run ends with its result.
+// How many workers there are, how many scans run out of memory and how often a stripe may be
+// scanned again, and how often the partitions are then built, if the run ends with its result.
 type Run = (u32, (u64, u32), Option<u64>);
 
 fn are_built<R: Threads + Wait + Clock + Sync>(

@@ -35,7 +35,7 @@ impl Shares for Numbers {
     }
 }
 
-// Holds who comes to a share until as many have come to shares as it says of this one.
+// Holds who comes to a share until as many have come to shares as it says for this one.
 #[derive(Drop)]
 struct Holds {
     until: [u64; 12],

@@ -12,7 +12,7 @@ use rj_engine::{
 use std::alloc::Global;
 use std::test::Fail;
 
-// Each left row at its place, in a pair or not.
+// Each left row at its place, matched or not.
 const LEFT_ROWS: Choice<'static> = Choice {
     rows: RowKinds {
         pairs: true,
@@ -25,8 +25,8 @@ const LEFT_ROWS: Choice<'static> = Choice {
     repeated: Repeated::Kept,
 };
 
-// How many names the joined table has, and how many rows it, its view and the view of what is chosen of it have; none where
-// memory is refused.
+// How many names the joined table has, and how many rows it, its view and the view of what is
+// chosen of it have; none if memory runs out.
 fn counts(alloc: Global, left: &Table, right: &Table, join: &BoundJoin) -> Option<[u64; 4]>
     requires { fits join.now left.now.types right.now.types ≡ true }
 {

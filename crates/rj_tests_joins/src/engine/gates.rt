@@ -1,7 +1,7 @@
-//! Workers that are held up at a gate, which tells whether others go on beside them.
+//! Workers that are held up at a gate, which shows whether others go on beside them.
 //!
-//! A gate lets go after its limit of turns, each of which yields, and the test then fails: so a join on one thread fails
-//! and doesn't hang.
+//! A gate lets go after its limit of turns, each of which yields, and the test then fails. So a
+//! join on one thread fails and doesn't hang.
 
 use crate::engine::joins::{LEFTS, RIGHTS, in_pieces, keys_joined};
 use rj_engine::{Gate, Place, Settings};
@@ -13,7 +13,7 @@ use std::thread;
 /// How many turns a gate waits at most.
 const TURNS: u32 = 10_000_000;
 
-// Counts who has come to a place, and holds others until so many have.
+// Counts who has come to a place, and holds others until this many have.
 #[derive(Drop)]
 struct Meeting {
     least: u64,
@@ -30,7 +30,7 @@ impl Meeting {
         }
     }
 
-    // Counts one who comes, and says how many came before.
+    // Counts one who comes. Returns how many came before.
     fn come(&self) -> u64 {
         self.came.fetch_add(1, Ordering::SeqCst)
     }
@@ -57,7 +57,8 @@ impl Meeting {
     }
 }
 
-// Holds who comes first to a stripe, or to a partition, until so many of them have been come to.
+// Holds who comes first to a stripe, or to a partition, until workers have come to this many of
+// them.
 #[derive(Drop)]
 struct FirstGate {
     is_of_stripes: bool,

@@ -15,7 +15,8 @@ use std::test::Fail;
 use std::thread::Threads;
 use std::time::Clock;
 
-// The join of a table with itself by so many workers, in one partition; none where memory or a thread is refused.
+// The join of a table with itself by this many workers, in one partition; none if memory runs out
+// or a thread can't be started.
 fn in_one_partition<R: Threads + Wait + Clock + Sync>(
     rt: &R,
     alloc: Global,

@@ -1,4 +1,4 @@
-//! Devices that fail, that give or take a byte at a time, or that signals break off.
+//! Devices that fail, that give or take a byte at a time, or that signals interrupt.
 
 use crate::csv_io::INT;
 use rj_columns::Table;
@@ -11,7 +11,7 @@ use std::io;
 use std::io::{Read, Write};
 use std::test::Fail;
 
-// A writer of std that takes a byte at a time, and fails after so many calls.
+// A writer of std that takes a byte at a time, and fails after this many calls.
 #[derive(Drop)]
 struct Tires {
     left: u64,
@@ -64,7 +64,7 @@ fn tiring_writer_sweep(rt: HostRuntime) {
     }
 }
 
-// A writer of std that takes everything, and whose flush fails where it holds something back.
+// A writer of std that takes everything, and whose flush fails if it holds something back.
 #[derive(Drop)]
 struct HoldsBack {
     holds: bool,
@@ -91,7 +91,8 @@ fn writes_that_are_held_back_and_lost(rt: HostRuntime) {
     assert!(rt; put == [Ok(()), Err(Failed)] && device.failures() == 1);
 }
 
-// A reader of std that gives a byte at a time, so many in all, and fails once, after so many reads.
+// A reader of std that gives a byte at a time, this many in all, and fails once, after this many
+// reads.
 #[derive(Drop)]
 struct Trickle {
     bytes: u64,
@@ -140,7 +141,8 @@ fn trickling_reader_sweep(rt: HostRuntime) {
     }
 }
 
-// A device of std that signals break off, and that then gives two bytes, or takes one and flushes, or fails.
+// A device of std that signals interrupt, and that then gives two bytes, or takes one and flushes,
+// or fails.
 #[derive(Drop)]
 struct Interrupted {
     signals: u64,
@@ -188,7 +190,7 @@ fn interrupted_writers(rt: HostRuntime) {
     }
 }
 
-// Whether two bytes are read behind the signals, or a failure is told and counted.
+// Whether two bytes are read after the signals, or a failure is reported and counted.
 fn is_read_behind_signals(fails: bool) -> bool {
     let mut device = CountedReader::new(Interrupted {
         signals: 500,

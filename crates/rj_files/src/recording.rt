@@ -1,36 +1,37 @@
-//! A writer that keeps the system's error.
+//! A writer that records the system's error.
 
 ghost use Rattle.std.specs.Prelude.{◌≡◌};
 ghost use Rattle.std.specs.IoError.{error_kind};
 
 use std::io::{self, Write};
 
-/// A writer that does what another one does, and keeps the last error of it. It tells the bytes that the other one tells.
+/// A writer that does what another one does, and records its last error. It tells the bytes that
+/// the other one tells.
 #[derive(Drop)]
-pub(crate) struct Noting<W: Write> {
+pub(crate) struct ErrorRecordingWriter<W: Write> {
     writer: W,
     error: Option<io::Error>,
 }
 
-impl<W: Write> Noting<W> {
-    pub(crate) fn new(writer: W) -> Noting<W>
+impl<W: Write> ErrorRecordingWriter<W> {
+    pub(crate) fn new(writer: W) -> ErrorRecordingWriter<W>
         ensures { result.writer ≡ writer }
     {
-        Noting {
+        ErrorRecordingWriter {
             writer,
             error: None,
         }
     }
 
-    /// The writer, and the last error of it.
+    /// The writer, and its last error.
     pub(crate) fn into_parts(self) -> (W, Option<io::Error>)
         ensures { result.0 ≡ self.writer }
     {
-        let Noting { writer, error } = self;
+        let ErrorRecordingWriter { writer, error } = self;
         (writer, error)
     }
 
-    // Keeps an error, and gives one of its kind.
+    // Records an error, and returns one of its kind.
     fn note(&mut self, error: io::Error) -> io::Error
         ensures writer { self.new.writer ≡ self.old.writer }
         ensures kind { error_kind result ≡ error_kind error }
@@ -41,7 +42,7 @@ impl<W: Write> Noting<W> {
     }
 }
 
-impl<W: Write> Write for Noting<W> {
+impl<W: Write> Write for ErrorRecordingWriter<W> {
     ghost contents = { λ n. W.contents n.writer };
 
     fn write(&mut self, bytes: &[u8]) -> io::Result<usize> {

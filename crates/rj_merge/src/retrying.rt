@@ -1,26 +1,27 @@
-//! Readers that read again.
+//! Readers that repeat interrupted reads.
 
 ghost use Rattle.std.specs.Prelude.{◌≡◌};
-ghost use Rattle.rj_merge.specs.Patience.{reader_of};
+ghost use Rattle.rj_merge.specs.Retrying.{reader_of};
 
 use std::io::{self, ErrorKind, Read};
 
-/// A reader that reads again where a signal broke a read off. It tells the bytes that the reader under it tells.
+/// A reader that repeats a read that a signal interrupted. It tells the bytes that the reader under
+/// it tells.
 #[derive(Drop)]
-pub struct Patient<R: Read + Drop> {
+pub struct RetryingReader<R: Read + Drop> {
     reader: R,
 }
 
-impl<R: Read + Drop> Patient<R> {
-    /// The reader, which reads again.
-    pub fn new(reader: R) -> Patient<R>
+impl<R: Read + Drop> RetryingReader<R> {
+    /// The reader, which repeats interrupted reads.
+    pub fn new(reader: R) -> RetryingReader<R>
         ensures { reader_of result ≡ reader }
     {
-        Patient { reader }
+        RetryingReader { reader }
     }
 }
 
-impl<R: Read + Drop> Read for Patient<R> {
+impl<R: Read + Drop> Read for RetryingReader<R> {
     ghost remaining = { λ p. R.remaining (reader_of p) };
 
     fn read(&mut self, buffer: &mut [u8]) -> io::Result<usize> {

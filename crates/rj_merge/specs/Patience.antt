@@ -1,5 +1,0 @@
--- The reader under one that reads again.
-use Rattle.rj_merge.specs.declared.patient.Patient.{Patient}
-
-abbrev pub reader_of : {R : Type 0} → Patient R → R
-reader_of p = p.reader
