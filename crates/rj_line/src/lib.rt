@@ -3,6 +3,7 @@
 
 mod choosing;
 mod expecting;
+mod help;
 mod line;
 mod nulls;
 mod options;
