@@ -1,6 +1,7 @@
 //! What `--help` prints.
 
-/// The options in groups, in each group first those that are needed most. A line has less than 100 columns.
+/// The options in groups, in each group first those that are needed most, on lines of less than 100 columns. `clap` is given the whole
+/// text: names of values would change the lines of its errors, too.
 pub(crate) const HELP: &str = "\
 Joins two CSV files as SQL-92 says, and writes the joined table as CSV
 
