@@ -13,7 +13,7 @@ Tables:
   --left <FILE>          CSV file of the left table, L in the clause; - is standard input
   --right <FILE>         CSV file of the right table, R in the clause; - is standard input
   --left-types <TYPES>   Left column types: 'int,num(9,2),text', by name 'id=int,*=text', or @FILE
-  --right-types <TYPES>  Right column types, in one of these forms
+  --right-types <TYPES>  Right column types, in the same forms
   --null <TEXT>          Text for NULL in both files and in the result [default: an empty field]
   --left-null <TEXT>     Text for NULL in the left file, up to four times [default: as --null]
   --right-null <TEXT>    Text for NULL in the right file, up to four times [default: as --null]
@@ -34,8 +34,8 @@ Checks (--report and --stats print on standard error):
   --expect <MATCHING>    Fail (E30) unless matches are one-to-one, many-to-one or one-to-many
   --max-rows <N>         Fail (E30) if the joined table has more rows, 0 to 4294967295
   --count                Write one line of counts in place of the rows, to --output if it is given
-  --report               Print matches, NULL keys, repeated keys, the largest group of equal keys
-  --stats                Print counts of rows by partition and by kind, and with --piece of pieces
+  --report               Count matches, NULL keys and repeated keys; the largest group of equal keys
+  --stats                Count rows by partition and by kind, and with --piece the pieces
   --explain              Say where an error is, what is there, and what was perhaps meant
   --progress             Show the progress on a terminal at once, not only after two seconds
 

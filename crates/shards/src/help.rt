@@ -13,7 +13,7 @@ Tables:
   --left <FILE>          CSV file of the left table, L in the clause
   --right <FILE>         CSV file of the right table, R in the clause
   --left-types <TYPES>   Left column types: 'int,num(9,2),text', or by name 'id=int,*=text'
-  --right-types <TYPES>  Right column types, in one of these forms
+  --right-types <TYPES>  Right column types, in the same forms
   --null <TEXT>          Text for NULL in both files and in the parts [default: an empty field]
   --left-null <TEXT>     NULL in the left file, up to four times; the first is written
   --right-null <TEXT>    NULL in the right file, in the same way
