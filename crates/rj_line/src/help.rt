@@ -34,7 +34,7 @@ Checks (--report and --stats print on standard error):
   --expect <MATCHING>    Fail (E30) unless matches are one-to-one, many-to-one or one-to-many
   --max-rows <N>         Fail (E30) if the joined table has more rows, 0 to 4294967295
   --count                Write one line of counts in place of the rows, to --output if it is given
-  --report               Count matches, NULL keys and repeated keys; the largest group of equal keys
+  --report               Count matches, NULL keys, repeated keys; the largest group of equal keys
   --stats                Count rows by partition and by kind, and with --piece the pieces
   --explain              Say where an error is, what is there, and what was perhaps meant
   --progress             Show the progress on a terminal at once, not only after two seconds
@@ -46,7 +46,7 @@ How it runs (none of these changes the result):
   --hash <NAME>          Hash of the key: plain, or mixed for keys close together [default: plain]
   --piece <N>            Rows of a partition to join at once, 1 to 1048576 [default: 65536]
   --block <N>            Rows that a scanning thread passes on at once, 1 to 65536 [default: 1024]
-  --capacity <N>         Blocks that wait in a queue, 1 to 4096 [default: 64]
+  --capacity <N>         Most blocks that wait in a queue, 1 to 4096 [default: 64]
   --lanes <N>            Queues to each partition, 1 to 4 [default: 1]
   --retries <N>          Scans of a part again if memory runs short, 0 to 3 [default: 1]
 
