@@ -89,12 +89,7 @@ struct Line {
 }
 
 // A required option whose number lies in the range.
-fn number_option<'a>(
-    alloc: Global,
-    name: &'a str,
-    least: i64,
-    most: i64,
-) -> Arg<'a> {
+fn number_option<'a>(alloc: Global, name: &'a str, least: i64, most: i64) -> Arg<'a> {
     Arg::new(alloc, name)
         .long(name)
         .action(ArgAction::Set)

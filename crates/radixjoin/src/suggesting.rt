@@ -24,9 +24,7 @@ fn suggest_command<'a>(alloc: Global) -> Result<Command<'a>, AllocError> {
     let file = Arg::new(alloc, "FILE")
         .action(ArgAction::Set)
         .required(true);
-    let null = Arg::new(alloc, "null")
-        .long("null")
-        .action(ArgAction::Set);
+    let null = Arg::new(alloc, "null").long("null").action(ArgAction::Set);
     Command::new(alloc, "radixjoin --suggest-types")
         .override_help(HELP)
         .no_binary_name(true)
