@@ -59,8 +59,7 @@ fn keys_told(
 
 /// What is told of a join of two tables beside its rows: how many rows the tables have, how many pairs are kept and how many rows
 /// of each table are in none of them, and, where it has keys, how many rows have a null in their key, how many keys stand in more
-/// than one row, and the largest group of equal keys, of which the join may keep no pair. Rows with one key are found by hashes, as
-/// in the join.
+/// than one row, and the group of equal keys that makes the most pairs. Rows with one key are found by hashes, as in the join.
 ///
 /// The tables are those that the join was bound to, and `joined` is what was joined of them.
 ///
