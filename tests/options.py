@@ -1,4 +1,5 @@
-"""Compares the options that the programs tell by --help with those of the man pages, the completions and the documents."""
+"""Compares the options of the programs' help with what the programs accept, and with the man pages, the completions and the
+documents."""
 import os
 import pathlib
 import re
@@ -11,26 +12,63 @@ PROGRAMS = ("radixjoin", "arrivals", "shards", "merges")
 SECONDS = 20
 # What stands in the place of options, as the first word, and has a help of its own.
 MODES = {"suggest-types"}
+# Where each program names its options, and what it names there beside them.
+SOURCES = {"radixjoin": "rj_line/src/options.rt", "arrivals": "arrivals/src/main.rt", "shards": "shards/src/line.rt", "merges": "merges/src/main.rt"}
+NO_OPTIONS = {*PROGRAMS, "files"}
+# A value that no option with words or with limits can have.
+BEYOND = "9223372036854775807"
+# Limits up to this one are those of a file's bytes, which help leaves out.
+MOST_BYTES = 2**62
 
 
 class Option:
-    """An option: its long name, whether it takes a value, the words that it may take, and the numbers of its limits and default."""
+    """An option: whether it takes a value, its text in help, the words that it may take, and the numbers of its limits and default.
+    The words are those that the program itself tells, where it refuses a value."""
 
-    def __init__(self, name, takes_value, text):
-        self.name = name
+    def __init__(self, takes_value, text, refusal):
         self.takes_value = takes_value
-        words = re.search(r"\[possible values: ([^\]]*)\]", text)
+        self.text = text
+        self.refusal = refusal
+        words = re.search(r"\[possible values: ([^\]]*)\]", refusal)
         self.words = words[1].split(", ") if words else []
         limits = re.search(r"\b(\d[\d,]*) to (\d[\d,]*)", text)
         default = re.search(r"\[default: ([\w,-]+)\]", text)
-        self.numbers = [number.replace(",", "") for number in (limits.groups() if limits else ())] + (default[1].split(",") if default else [])
+        self.limits = [number.replace(",", "") for number in limits.groups()] if limits else []
+        self.numbers = self.limits + (default[1].split(",") if default else [])
+
+
+def help_of(program):
+    """What a program prints by --help."""
+    return harness.run([harness.program(program), "--help"], harness.ROOT).stdout.decode()
+
+
+def refusal_of(program, name):
+    """What a program prints of an option that is given a value that it can't have."""
+    return harness.run([harness.program(program), f"--{name}={BEYOND}"], harness.ROOT).stderr.decode()
 
 
 def options_of(program):
-    """The options of a program's own help, by their names."""
-    ran = harness.run([harness.program(program), "--help"], harness.ROOT)
-    found = re.findall(r"^ +(?:-\w, )?--([\w-]+)( \[?<[^>]+>\]?)?(.*(?:\n {10,}\S.*)*)$", ran.stdout.decode(), re.MULTILINE)
-    return {name: Option(name, bool(value), text) for name, value, text in found}
+    """The options of a program's own help, by their names, in order."""
+    found = re.findall(r"^ {1,8}(?:-\w, )?--([\w-]+)( \[?<[^>]+>\]?)?(.*)$", help_of(program), re.MULTILINE)
+    return {name: Option(bool(value), text, refusal_of(program, name)) for name, value, text in found}
+
+
+def help_faults(program, options):
+    """Where a program's help differs from what the program accepts, and its lines that are too long."""
+    yield from (f"a line of {len(line)} columns: {line}" for line in help_of(program).splitlines() if len(line) > 99)
+    source = (harness.ROOT / "crates" / SOURCES[program]).read_text()
+    named = set(re.findall(r'(?:\bname: |\(\s*alloc,\s+)"([\w-]+)"', source)) - NO_OPTIONS
+    yield from difference(named | {"help", "version"}, options)
+    for name, option in options.items():
+        is_flag = name in ("help", "version") or f"unexpected value '{BEYOND}' for '--{name}'" in option.refusal
+        if option.takes_value == is_flag:
+            yield f"--{name}: help and program differ in whether it takes a value"
+        if f"unexpected argument '--{name}'" in option.refusal:
+            yield f"--{name}: the program doesn't know it"
+        yield from (f"--{name}: help doesn't tell {word}" for word in option.words if not re.search(rf"\b{word}\b", option.text))
+        limits = re.search(rf"{BEYOND} is not in (\d+)\.\.=(\d+)", option.refusal)
+        if limits and int(limits[2]) != MOST_BYTES and list(limits.groups()) != option.limits:
+            yield f"--{name}: the limits are {limits[1]} to {limits[2]}"
 
 
 def difference(names, options):
@@ -50,6 +88,8 @@ def manual_faults(program, options):
     """Where the man page differs from help: options, values, words, limits and defaults."""
     entries = manual_entries(program)
     faults = difference(entries, options)
+    if list(entries) != list(options):
+        faults.append("help and page differ in the order of the options")
     for name, option in options.items():
         entry = entries.get(name, "")
         if option.takes_value != (" Ar " in entry.split("\n")[0] or " Cm " in entry.split("\n")[0]):
@@ -215,7 +255,7 @@ def run_all(tally):
     """Compares man pages, completions and documents with what help tells."""
     options = {program: options_of(program) for program in PROGRAMS}
     for program in PROGRAMS:
-        tally.check(f"help of {program}", [] if len(options[program]) > 2 else ["it tells hardly any options"])
+        tally.check(f"help of {program}", list(help_faults(program, options[program])) if len(options[program]) > 2 else ["it tells hardly any options"])
         tally.check(f"man page of {program}", manual_faults(program, options[program]))
         check_completions(program, options[program], tally)
         tally.check(f"version of {program}", version_faults(program))

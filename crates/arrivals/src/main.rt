@@ -12,6 +12,21 @@ use std::env::Env;
 use std::io;
 use std::process::ExitCode;
 
+// What `--help` prints.
+const HELP: &str = "\
+Replays a script of arrivals at a partition, read from standard input
+
+Usage: arrivals --partition <N> --senders <N> --block <N> [--gaps]
+
+Options:
+  --partition <N>  Number of the partition, 0 to 1023
+  --senders <N>    Number of its senders, 1 to 128
+  --block <N>      Most rows of a block, 1 to 65536
+  --gaps           Print the gap before the held parcels of each sender that waits
+  -h, --help       Print this help
+  -V, --version    Print the version
+";
+
 // Why nothing, or not all, was printed. The text is the line that is printed, without its line end.
 #[derive(Debug, Drop, thiserror::Error)]
 enum Failure {
@@ -75,51 +90,25 @@ struct Line {
 }
 
 // A required option whose number is in the range.
-fn number_option<'a>(
-    alloc: Global,
-    name: &'a str,
-    least: i64,
-    most: i64,
-    help: &'a str,
-) -> Arg<'a> {
+fn number_option<'a>(alloc: Global, name: &'a str, least: i64, most: i64) -> Arg<'a> {
     Arg::new(alloc, name)
         .long(name)
         .action(ArgAction::Set)
         .required(true)
         .value_parser(value_parser!(u32).range(least..=most))
-        .help(help)
 }
 
 fn line_command<'a>(alloc: Global) -> Result<Command<'a>, AllocError> {
     let gaps = Arg::new(alloc, "gaps")
         .long("gaps")
-        .action(ArgAction::SetTrue)
-        .help("Print the gap before the held parcels of each sender that waits");
+        .action(ArgAction::SetTrue);
     Command::new(alloc, "arrivals")
-        .about("Replays a script of arrivals at a partition, read from standard input")
+        .override_help(HELP)
         .version(VERSION)
         .no_binary_name(true)
-        .arg(number_option(
-            alloc,
-            "partition",
-            0,
-            1_023,
-            "Number of the partition, 0 to 1023",
-        ))?
-        .arg(number_option(
-            alloc,
-            "senders",
-            1,
-            128,
-            "How many senders it has, 1 to 128",
-        ))?
-        .arg(number_option(
-            alloc,
-            "block",
-            1,
-            65_536,
-            "Most rows of a block, 1 to 65536",
-        ))?
+        .arg(number_option(alloc, "partition", 0, 1_023))?
+        .arg(number_option(alloc, "senders", 1, 128))?
+        .arg(number_option(alloc, "block", 1, 65_536))?
         .arg(gaps)
 }
 

@@ -19,54 +19,56 @@ use std::fs::{self, Files};
 use std::io;
 use std::process::ExitCode;
 
+// What `--help` prints.
+const HELP: &str = "\
+Merges joined shards into one CSV text, without the places of their rows
+
+Usage: merges [OPTIONS] <FILE>...
+
+Files:
+  <FILE>...        Joined shards, whose rows have the columns left_place and right_place
+
+Options:
+  --null <TEXT>    Text for NULL [default: an empty field]
+  --order <ORDER>  pairs: matches first; left: each left row at its place [default: pairs]
+  --from <PLACE>   First left place to write, without the header [default: the beginning]
+  --to <PLACE>     Left place to end before [default: the end]
+  --copies <LIST>  How many files have each file's unmatched rows, as 1,3x2 (1 to 1,048,576)
+  -h, --help       Print this help
+  -V, --version    Print the version
+";
+
 // An option that takes the place of a left row.
-fn bound<'a>(alloc: Global, name: &'a str, help: &'a str) -> Arg<'a> {
+fn bound<'a>(alloc: Global, name: &'a str) -> Arg<'a> {
     Arg::new(alloc, name)
         .long(name)
         .value_name("PLACE")
         .action(ArgAction::Set)
         .value_parser(value_parser!(u64))
-        .help(help)
 }
 
 fn line_command<'a>(alloc: Global) -> Result<Command<'a>, AllocError> {
     let null = Arg::new(alloc, "null")
         .long("null")
         .value_name("TEXT")
-        .action(ArgAction::Set)
-        .help("Text of a field that is null [default: an empty field]");
+        .action(ArgAction::Set);
     let order = Arg::new(alloc, "order")
         .long("order")
         .value_name("ORDER")
         .action(ArgAction::Set)
-        .value_parser(["pairs", "left"].as_slice())
-        .help(
-            "Order of the rows, in each file and in what is written: pairs before rows in no pair, or each left row at its place [default: pairs]",
-        );
-    let from = bound(
-        alloc,
-        "from",
-        "Left place that the rows begin with, without the header [default: the beginning]",
-    );
-    let to = bound(
-        alloc,
-        "to",
-        "Left place that the rows end before [default: the end]",
-    );
+        .value_parser(["pairs", "left"].as_slice());
+    let from = bound(alloc, "from");
+    let to = bound(alloc, "to");
     let copies = Arg::new(alloc, "copies")
         .long("copies")
         .value_name("LIST")
-        .action(ArgAction::Set)
-        .help(
-            "In how many of the files the lone rows of each have to stand: 1, or left rows x right rows, as 3x2; one entry for each file, separated by commas, of numbers from 1 to 1,048,576 [default: 1 for each]",
-        );
+        .action(ArgAction::Set);
     let files = Arg::new(alloc, "files")
         .value_name("FILE")
         .num_args(1..)
-        .required(true)
-        .help("Joined shards, whose rows have the columns left_place and right_place");
+        .required(true);
     Command::new(alloc, "merges")
-        .about("Merges joined shards into one CSV text, without the places of their rows")
+        .override_help(HELP)
         .version(VERSION)
         .no_binary_name(true)
         .arg(null)?

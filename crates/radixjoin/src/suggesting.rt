@@ -9,19 +9,24 @@ use std::fs::Files;
 use std::io;
 use std::time::Clock;
 
+// What `--suggest-types --help` prints.
+const HELP: &str = "\
+Prints types that the cells of a CSV file suggest: check them, and give them by --left-types @FILE
+
+Usage: radixjoin --suggest-types <FILE> [--null <TEXT>]
+
+  <FILE>         CSV file of a table; - is standard input
+  --null <TEXT>  Text for NULL [default: an empty field]
+  -h, --help     Print this help
+";
+
 fn suggest_command<'a>(alloc: Global) -> Result<Command<'a>, AllocError> {
     let file = Arg::new(alloc, "FILE")
         .action(ArgAction::Set)
-        .required(true)
-        .help("CSV file of a table; - is standard input");
-    let null = Arg::new(alloc, "null")
-        .long("null")
-        .action(ArgAction::Set)
-        .help("Text of a field that is null [default: an empty field]");
+        .required(true);
+    let null = Arg::new(alloc, "null").long("null").action(ArgAction::Set);
     Command::new(alloc, "radixjoin --suggest-types")
-        .about(
-            "Prints types that the cells of a CSV file suggest, to be looked at and given by --left-types @FILE",
-        )
+        .override_help(HELP)
         .no_binary_name(true)
         .arg(file)?
         .arg(null)

@@ -3,6 +3,7 @@
 
 mod choice;
 mod expecting;
+mod help;
 mod line;
 mod nulls;
 mod options;

@@ -4,6 +4,7 @@ ghost use Rattle.std.specs.Prelude.{◌≡◌, IfOk, map};
 ghost use Rattle.clap.specs.Words.{rule_of};
 ghost use Rattle.rj_line.specs.Options.{IsChain, IsLineCommand, rule_of_option};
 
+use crate::help::HELP;
 use clap::{Arg, ArgAction, Command, value_parser};
 use rj_fault::VERSION;
 use std::alloc::{AllocError, Global};
@@ -32,7 +33,6 @@ pub(crate) enum Takes {
 pub(crate) struct LineOption {
     name: &'static str,
     takes: Takes,
-    help: &'static str,
 }
 
 // The bits of the hash that a pass partitions by.
@@ -42,161 +42,126 @@ const OPTIONS: [LineOption; 31] = [
     LineOption {
         name: "left",
         takes: Takes::Required,
-        help: "CSV file of the left table, which a clause calls L",
     },
     LineOption {
         name: "right",
         takes: Takes::Required,
-        help: "CSV file of the right table, which a clause calls R",
     },
     LineOption {
         name: "left-types",
         takes: Takes::Required,
-        help: "Types of the left columns, each int, num(p,s) or text, as 'int,num(9,2),text' or, by name, 'id=int,*=text'",
     },
     LineOption {
         name: "right-types",
         takes: Takes::Required,
-        help: "Types of the right columns, each int, num(p,s) or text, as 'int,num(9,2),text' or, by name, 'id=int,*=text'",
     },
     LineOption {
         name: "join",
         takes: Takes::Required,
-        help: "How to join, as 'LEFT JOIN USING (id)' or 'JOIN ON L.id = R.id AND L.age > 30'",
     },
     LineOption {
         name: "null",
         takes: Takes::Text,
-        help: "Text of a field that is null, read and written [default: an empty field]",
     },
     LineOption {
         name: "left-null",
         takes: Takes::Texts,
-        help: "Text of a left field that is null; up to four by giving it again [default: as --null]",
     },
     LineOption {
         name: "right-null",
         takes: Takes::Texts,
-        help: "Text of a right field that is null; up to four by giving it again [default: as --null]",
     },
     LineOption {
         name: "out-null",
         takes: Takes::Text,
-        help: "Text that is written for null [default: as --null]",
     },
     LineOption {
         name: "strict",
         takes: Takes::WordOrNone(&["on", "full"], "on"),
-        help: "Refuse files that aren't of RFC 4180's grammar; full: also those whose last line has no end",
     },
     LineOption {
         name: "bits1",
         takes: BITS,
-        help: "Bits of the hash of a row's key that choose its partition, 0 to 10 [default: 4]",
     },
     LineOption {
         name: "bits2",
         takes: BITS,
-        help: "Further bits of the hash that part each partition again, 0 to 10 [default: 0]",
     },
     LineOption {
         name: "hash",
         takes: Takes::Word(&["plain", "mixed"]),
-        help: "Hash of the keys; mixed spreads keys that lie close together [default: plain]",
     },
     LineOption {
         name: "workers",
         takes: Takes::Number(1, 64),
-        help: "Threads that read the files, scan the tables, join and write: so many of each, 1 to 64 [default: 1]",
     },
     LineOption {
         name: "block",
         takes: Takes::Number(1, 65_536),
-        help: "Rows that a scanning thread hands on at once, 1 to 65536 [default: 1024]",
     },
     LineOption {
         name: "capacity",
         takes: Takes::Number(1, 4096),
-        help: "Blocks that wait in a queue at most, 1 to 4096 [default: 64]",
     },
     LineOption {
         name: "lanes",
         takes: Takes::Number(1, 4),
-        help: "Queues that lead to each partition, 1 to 4 [default: 1]",
     },
     LineOption {
         name: "retries",
         takes: Takes::Number(0, 3),
-        help: "Times that a part of the tables is scanned again where memory was short, 0 to 3 [default: 1]",
     },
     LineOption {
         name: "piece",
         takes: Takes::Number(1, 1_048_576),
-        help: "Rows of a partition that a thread joins at once, 1 to 1048576 [default: 65536]",
     },
     LineOption {
         name: "stats",
         takes: Takes::Nothing,
-        help: "Print on standard error, after the rows, how many rows each partition had, how many pairs and rows \
-            in no pair the joined table has, and where --piece is given how many pieces were joined",
     },
     LineOption {
         name: "explain",
         takes: Takes::Nothing,
-        help: "Print behind the line of a fault where it is, what stands there and what may have been meant",
     },
     LineOption {
         name: "output",
         takes: Takes::Text,
-        help: "File that gets the result once all of it is made; after a fault it is as it was [default: standard output]",
     },
     LineOption {
         name: "order",
         takes: Takes::Word(&["pairs", "left"]),
-        help: "Order of the rows: pairs before rows in no pair, or each left row at its place [default: pairs]",
     },
     LineOption {
         name: "rows",
         takes: Takes::Text,
-        help: "Rows that are written, of pairs, lone-left, lone-right and, with --columns left, matched-left \
-            [default: pairs,lone-left,lone-right]",
     },
     LineOption {
         name: "columns",
         takes: Takes::Word(&["all", "left", "right"]),
-        help: "Columns that are written: all, or those of one table [default: all]",
     },
     LineOption {
         name: "repeated",
         takes: Takes::Text,
-        help: "Names that stand twice in the header: keep them, or for the later one: qualify writes R.id, and any other \
-            text is added to it [default: keep]",
     },
     LineOption {
         name: "expect",
         takes: Takes::Word(&["one-to-one", "many-to-one", "one-to-many"]),
-        help: "Write nothing where a row has more partners than this says (E30)",
     },
     LineOption {
         name: "max-rows",
         takes: Takes::Number(0, 4_294_967_295),
-        help: "Write nothing where the joined table has more rows (E30), 0 to 4294967295",
     },
     LineOption {
         name: "count",
         takes: Takes::Nothing,
-        help: "Print in place of the rows how many pairs and rows in no pair the joined table has",
     },
     LineOption {
         name: "report",
         takes: Takes::Nothing,
-        help: "Print on standard error how many rows find a partner and have a null key, how many keys repeat, and the key \
-            that makes the most pairs",
     },
     LineOption {
         name: "progress",
         takes: Takes::Nothing,
-        help: "Show on a terminal at once which step is done and how far it is, and not only after two seconds",
     },
 ];
 
@@ -204,9 +169,7 @@ const OPTIONS: [LineOption; 31] = [
 fn argument<'a>(alloc: Global, option: &LineOption) -> Arg<'a>
     ensures { rule_of result ≡ rule_of_option option.now }
 {
-    let argument = Arg::new(alloc, option.name)
-        .long(option.name)
-        .help(option.help);
+    let argument = Arg::new(alloc, option.name).long(option.name);
     match option.takes {
         Takes::Required => argument.action(ArgAction::Set).required(true),
         Takes::Text => argument.action(ArgAction::Set),
@@ -245,7 +208,7 @@ pub(crate) fn line_command<'a>(alloc: Global) -> Result<Command<'a>, AllocError>
     ensures { IfOk result IsLineCommand }
 {
     let command = Command::new(alloc, "radixjoin")
-        .about("Writes the joined table of two CSV files, as SQL-92 defines it, on standard output")
+        .override_help(HELP)
         .version(VERSION)
         .no_binary_name(true);
     with_options(alloc, command, &OPTIONS)

@@ -1,6 +1,7 @@
 //! The command line.
 
 use crate::failure::Failure;
+use crate::help::HELP;
 use clap::error::ErrorKind;
 use clap::{Arg, ArgAction, ArgMatches, Command, Error, value_parser};
 use rj_command::{Strictness, TypeEntry, VERSION, read_nulls, read_types};
@@ -67,33 +68,24 @@ impl<'a> Line<'a> {
 }
 
 // An option that takes a text.
-fn text_option<'a>(alloc: Global, name: &'a str, is_required: bool, help: &'a str) -> Arg<'a> {
+fn text_option<'a>(alloc: Global, name: &'a str, is_required: bool) -> Arg<'a> {
     Arg::new(alloc, name)
         .long(name)
         .action(ArgAction::Set)
         .required(is_required)
-        .help(help)
 }
 
 // An option that takes a text at each use.
-fn texts_option<'a>(alloc: Global, name: &'a str, help: &'a str) -> Arg<'a> {
-    Arg::new(alloc, name)
-        .long(name)
-        .action(ArgAction::Append)
-        .help(help)
+fn texts_option<'a>(alloc: Global, name: &'a str) -> Arg<'a> {
+    Arg::new(alloc, name).long(name).action(ArgAction::Append)
 }
 
 // How strictly the files are read, as `radixjoin` has it.
 fn strict_option<'a>(alloc: Global) -> Arg<'a> {
-    text_option(
-        alloc,
-        "strict",
-        false,
-        "Refuse files that aren't of RFC 4180's grammar; full: also those whose last line has no end",
-    )
-    .num_args(0..=1)
-    .default_missing_value("on")
-    .value_parser(["on", "full"].as_slice())
+    text_option(alloc, "strict", false)
+        .num_args(0..=1)
+        .default_missing_value("on")
+        .value_parser(["on", "full"].as_slice())
 }
 
 fn strictness_of(matches: &ArgMatches<'_>) -> Strictness {
@@ -107,104 +99,39 @@ fn strictness_of(matches: &ArgMatches<'_>) -> Strictness {
 // The options that name the two tables and the join of them, as `radixjoin` has them.
 fn with_tables<'a>(alloc: Global, command: Command<'a>) -> Result<Command<'a>, AllocError> {
     command
-        .arg(text_option(
-            alloc,
-            "left",
-            true,
-            "CSV file of the left table, which a clause calls L",
-        ))?
-        .arg(text_option(
-            alloc,
-            "right",
-            true,
-            "CSV file of the right table, which a clause calls R",
-        ))?
-        .arg(text_option(
-            alloc,
-            "left-types",
-            true,
-            "Types of the left columns, each int, num(p,s) or text, as 'int,num(9,2),text' or, by name, 'id=int,*=text'",
-        ))?
-        .arg(text_option(
-            alloc,
-            "right-types",
-            true,
-            "Types of the right columns, each int, num(p,s) or text, as 'int,num(9,2),text' or, by name, 'id=int,*=text'",
-        ))?
-        .arg(text_option(
-            alloc,
-            "join",
-            true,
-            "How to join, as 'LEFT JOIN USING (id)'; it needs a key",
-        ))?
-        .arg(text_option(
-            alloc,
-            "null",
-            false,
-            "Text of a field that is null, read and written [default: an empty field]",
-        ))?
-        .arg(texts_option(
-            alloc,
-            "left-null",
-            "Text of a left field that is null; up to four by giving it again, and the first is written [default: as --null]",
-        ))?
-        .arg(texts_option(
-            alloc,
-            "right-null",
-            "Text of a right field that is null; up to four by giving it again, and the first is written [default: as --null]",
-        ))?
+        .arg(text_option(alloc, "left", true))?
+        .arg(text_option(alloc, "right", true))?
+        .arg(text_option(alloc, "left-types", true))?
+        .arg(text_option(alloc, "right-types", true))?
+        .arg(text_option(alloc, "join", true))?
+        .arg(text_option(alloc, "null", false))?
+        .arg(texts_option(alloc, "left-null"))?
+        .arg(texts_option(alloc, "right-null"))?
         .arg(strict_option(alloc))
 }
 
 // The options that say which rows go where.
 fn with_division<'a>(alloc: Global, command: Command<'a>) -> Result<Command<'a>, AllocError> {
     let places = value_parser!(u64).range(..=1 << 62);
+    let ranges = value_parser!(u32).range(1..=100_000);
     command
-        .arg(text_option(alloc, "from", false, "First byte to divide [default: 0]").value_parser(
-            places,
-        ))?
-        .arg(text_option(
-            alloc,
-            "to",
-            false,
-            "Byte to divide up to [default: the file's end]",
-        )
-        .value_parser(places))?
-        .arg(text_option(
-            alloc,
-            "out",
-            false,
-            "Folder of the parts, which are named 0000.csv, 0001.csv and so on",
-        ))?
-        .arg(text_option(
-            alloc,
-            "cuts",
-            false,
-            "Divide nothing: print at which bytes the file can be cut into so many ranges, 1 to 100000",
-        )
-        .value_parser(value_parser!(u32).range(1..=100_000)))
+        .arg(text_option(alloc, "from", false).value_parser(places))?
+        .arg(text_option(alloc, "to", false).value_parser(places))?
+        .arg(text_option(alloc, "out", false))?
+        .arg(text_option(alloc, "cuts", false).value_parser(ranges))
 }
 
 fn line_command<'a>(alloc: Global) -> Result<Command<'a>, AllocError> {
     let command = Command::new(alloc, "shards")
-        .about(
-            "Divides a CSV file by the hash of its rows' keys, so that a join can be done part by part",
-        )
+        .override_help(HELP)
         .version(VERSION)
         .no_binary_name(true);
-    let side = text_option(alloc, "side", true, "Table that is divided").value_parser([
-        "left", "right",
-    ].as_slice());
-    let parts = text_option(
-        alloc,
-        "parts",
-        true,
-        "How many parts there are, 1 to 1024",
-    ).value_parser(value_parser!(u32).range(1..=1_024));
+    let side = text_option(alloc, "side", true).value_parser(["left", "right"].as_slice());
+    let numbers = value_parser!(u32).range(1..=1_024);
+    let parts = text_option(alloc, "parts", true).value_parser(numbers);
     let explain = Arg::new(alloc, "explain")
         .long("explain")
-        .action(ArgAction::SetTrue)
-        .help("Tell behind the line of a fault where it is and what stands there");
+        .action(ArgAction::SetTrue);
     let command = with_tables(alloc, command.arg(side)?)?.arg(explain)?;
     with_division(alloc, command.arg(parts)?)
 }

@@ -9,6 +9,7 @@ mod explaining;
 mod failure;
 mod files;
 mod first_line;
+mod help;
 mod line;
 mod outputs;
 

@@ -10,7 +10,7 @@ pub returns : goal.returns
 returns c =
     let words : OptionWords = record { hashes = _; are_hashes = refl; levels = _; are_levels = refl; orders = _; are_orders = refl; sides = _; are_sides = refl; matchings = _; are_matchings = refl } in
     let versioned : app_of c.version.result ≡ on_top (λ s. record s { has_version = true }) (new_app (codes "radixjoin")) =
-    ap app_of_fields c.version.ensures ∙ ap (on_top (λ s. record s { has_version = true })) (ap app_of_fields c.about.ensures ∙ c.new.ensures.app) in
+    ap app_of_fields c.version.ensures ∙ ap (on_top (λ s. record s { has_version = true })) (ap app_of_fields c.override_help.ensures ∙ c.new.ensures.app) in
     let base : app_of c.no_binary_name-command.result ≡ on_top (λ s. record s { has_version = true; no_binary_name = true }) (new_app (codes "radixjoin")) =
     ap app_of_fields c.no_binary_name-command.ensures ∙ ap (on_top (λ s. record s { no_binary_name = true })) versioned in
     IfOk-weaker c.with_options.result _ IsLineCommand (λ r h. record {

@@ -1,0 +1,58 @@
+//! What `--help` prints.
+
+/// The options in groups, in each group first those that are needed most, on lines of less than 100 columns. `clap` is given the whole
+/// text: names of values would change the lines of its errors, too.
+pub(crate) const HELP: &str = "\
+Joins two CSV files as SQL-92 says, and writes the joined table as CSV
+
+Usage: radixjoin --left <FILE> --left-types <TYPES> --right <FILE> --right-types <TYPES>
+                 --join <CLAUSE> [OPTIONS]
+       radixjoin --suggest-types <FILE> [--null <TEXT>]
+
+Tables:
+  --left <FILE>          CSV file of the left table, L in the clause; - is standard input
+  --right <FILE>         CSV file of the right table, R in the clause; - is standard input
+  --left-types <TYPES>   Left column types: 'int,num(9,2),text', by name 'id=int,*=text', or @FILE
+  --right-types <TYPES>  Right column types, in the same forms
+  --null <TEXT>          Text for NULL in both files and in the result [default: an empty field]
+  --left-null <TEXT>     Text for NULL in the left file, up to four times [default: as --null]
+  --right-null <TEXT>    Text for NULL in the right file, up to four times [default: as --null]
+  --strict [<LEVEL>]     Refuse CSV that breaks RFC 4180 (on), and a last line without end (full)
+
+Join:
+  --join <CLAUSE>        As 'LEFT JOIN USING (id)' or 'JOIN ON L.id = R.id AND L.age > 30'
+
+Output (a pair is a match, a lone row is an unmatched row):
+  --output <FILE>        File for the result, written atomically [default: standard output]
+  --order <ORDER>        pairs: matches first; left: each left row at its place [default: pairs]
+  --rows <KINDS>         Rows to write, also matched-left [default: pairs,lone-left,lone-right]
+  --columns <SIDE>       Columns to write: all, left or right [default: all]
+  --repeated <MARK>      Repeated names: keep, qualify (as R.id), or a suffix [default: keep]
+  --out-null <TEXT>      Text for NULL in the result [default: as --null]
+
+Checks (--report and --stats print on standard error):
+  --expect <MATCHING>    Fail (E30) unless matches are one-to-one, many-to-one or one-to-many
+  --max-rows <N>         Fail (E30) if the joined table has more rows, 0 to 4294967295
+  --count                Write one line of counts in place of the rows, to --output if it is given
+  --report               Count matches, NULL keys, repeated keys; the largest group of equal keys
+  --stats                Count rows by partition and by kind, and with --piece the pieces
+  --explain              Say where an error is, what is there, and what was perhaps meant
+  --progress             Show the progress on a terminal at once, not only after two seconds
+
+How it runs (none of these changes the result):
+  --workers <N>          N threads each read, scan, join and write, 1 to 64 [default: 1]
+  --bits1 <N>            2^N partitions, by bits of the hash of the key, 0 to 10 [default: 4]
+  --bits2 <N>            Divide each partition again, by N more bits, 0 to 10 [default: 0]
+  --hash <NAME>          Hash of the key: plain, or mixed for keys close together [default: plain]
+  --piece <N>            Rows of a partition to join at once, 1 to 1048576 [default: 65536]
+  --block <N>            Rows that a scanning thread passes on at once, 1 to 65536 [default: 1024]
+  --capacity <N>         Most blocks that wait in a queue, 1 to 4096 [default: 64]
+  --lanes <N>            Queues to each partition, 1 to 4 [default: 1]
+  --retries <N>          Scans of a part again if memory runs short, 0 to 3 [default: 1]
+
+Help:
+  -h, --help             Print this help
+  -V, --version          Print the version
+
+man radixjoin has all rules, examples, errors and exit statuses.
+";
