@@ -15,15 +15,17 @@ import tempfile
 from unittest import mock
 
 import cluster_ends
-import cluster_lost
 import cluster_sent
 import harness
 import shards
 
-from radixjoin import local, sending, tasks
+from radixjoin import sending
 
 SECONDS = 600
 PROCESSES = 3
+# Has Dask put another process in the place of a lost one whenever that is there: it gives up what isn't there after 15 seconds, as on a
+# machine that does other work.
+LATE = {"distributed.deploy.lost-worker-timeout": "1 day"}
 # The kinds of tasks in which a process is killed by tests/cluster_ends.py.
 KILLED_THERE = {"divide", "join_shard", "merge_range", "merge_shards"}
 # Has the first process that comes so often behind a call of a function kill itself there.
@@ -81,11 +83,11 @@ def client_of(count, config=None):
     for name in ("asyncio", "tornado", "distributed"):
         logging.getLogger(name).setLevel(logging.CRITICAL)
     with tempfile.TemporaryDirectory(prefix="radixjoin-test-", ignore_cleanup_errors=True) as space:
-        with dask.config.set({"temporary-directory": space, **(config or {})}), local.local_cluster(count) as processes, Client(processes) as client:
+        with dask.config.set({"temporary-directory": space, **LATE, **(config or {})}), cluster_sent.processes(count) as local, Client(local) as client:
             yield client
 
 
-class Notes(tasks.Cluster):
+class Notes(sending.Cluster):
     """A cluster that notes among which kinds of tasks a flag came, which tells that a process is killed."""
 
     def __init__(self, client, flag):
@@ -128,7 +130,7 @@ def faults_of(client, folder, kind, flag, of_script, of_both):
 
 def run_cuts(client, folder, flags, tally):
     """A process is killed while it looks for cuts."""
-    programs = cluster_ends.programs_in(flags / "programs", "shards", cluster_lost.KILLS, step="--cuts ")
+    programs = cluster_ends.programs_in(flags / "programs", "shards", cluster_ends.KILLS, step="--cuts ")
     faults = faults_of(client, folder, "cuts_of", programs / "shards.once", ["--programs", programs], [])
     tally.check("cluster_killed: cuts_of, while shards --cuts runs", faults)
 
