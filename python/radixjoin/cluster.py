@@ -60,6 +60,8 @@ OF_ONE_JOIN = ("workers", "bits1", "bits2", "hash", "block", "capacity", "lanes"
 # both sides, whose columns have to stand in the joined shards.
 OF_WHOLE_TABLES = {"columns": "all"}
 SIDES = ("left", "right")
+# The signals that end the script.
+ENDS = (signal.SIGTERM, signal.SIGINT, signal.SIGHUP)
 # The options that may be given again.
 SEVERAL = ("--left-null", "--right-null")
 PLACES = {"left": LEFT, "right": RIGHT}
@@ -746,8 +748,9 @@ def _types(side: str, path: str, types: Types) -> str:
 
 
 def ended_by(number: int, _: Any) -> None:
-    """Ends the script where a signal asks for it: what is half made is removed, and goes on being so where it asks again."""
-    signal.signal(number, signal.SIG_IGN)
+    """Ends the script where a signal asks for it: what is half made is removed, and goes on being so where one asks again."""
+    for it in ENDS:
+        signal.signal(it, signal.SIG_IGN)
     # (Dask's own timers may end before they began, of which Python would tell a line on standard error)
     warnings.filterwarnings("ignore", "coroutine .* was never awaited", RuntimeWarning)
     sys.exit(128 + number)
@@ -756,7 +759,7 @@ def ended_by(number: int, _: Any) -> None:
 def main() -> int:
     """The command line."""
     open_streams()
-    for number in (signal.SIGTERM, signal.SIGINT, signal.SIGHUP):
+    for number in ENDS:
         # (what nohup starts goes on when its terminal is gone)
         if number != signal.SIGHUP or signal.getsignal(number) != signal.SIG_IGN:
             signal.signal(number, ended_by)

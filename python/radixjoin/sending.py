@@ -166,5 +166,5 @@ class Cluster:
         return max(1, sum(threads.values()))
 
     def tasks_in_process(self) -> int:
-        """How many of these one process does, by which files are counted that it may have open."""
-        return 1
+        """How many of these one process does, where it does the most, by which files are counted that it may have open."""
+        return max((1, *self.client.nthreads().values()))
