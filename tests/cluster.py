@@ -1,6 +1,6 @@
 """Runs cluster/radixjoin-cluster on this machine, three programs side by side, and compares what it writes with what `radixjoin` does: on
-the examples, and on some hundred thousand rows. And these once more on a Dask cluster of three processes of this machine, of which one is
-killed in the middle.
+the examples, and on some hundred thousand rows. And all of this once more on a Dask cluster of three processes of this machine, of which
+one is killed in the middle.
 
 The latter needs Dask, which `./test` installs (Debian's python3-dask and python3-distributed). Where it can't be had, that is left out
 and said."""
@@ -100,7 +100,7 @@ def run_example(on, case, files, tally):
         wanted = harness.run([harness.program("radixjoin"), *words], folder)
         ran = ended(started(on, words, folder, "--parts", "3"))
         wanted = harness.Ran(4, b"", NO_KEY) if ran.stderr == NO_KEY else shards.told_first(words, folder, wanted)
-        tally.check(f"cluster: {case['name']}", faults_of_run(ran, folder, known, wanted))
+        tally.check(f"cluster: {case['name']} {on.title}", faults_of_run(ran, folder, known, wanted))
     return ran.stderr == NO_KEY
 
 
@@ -110,7 +110,7 @@ def run_examples(on, tally):
     cases = [case for case in table["case"] if shards.is_example(case)]
     tasks = [lambda own, case=case: run_example(on, case, table["file"], own) for case in cases]
     without_key = sum(harness.side_by_side(tally, tasks))
-    tally.check("cluster: most examples have a key", [] if 0 < without_key < len(cases) / 2 else [f"{without_key} of {len(cases)} have none"])
+    tally.check(f"cluster: most examples have a key {on.title}", [] if 0 < without_key < len(cases) / 2 else [f"{without_key} of {len(cases)} have none"])
 
 
 def write_table(path, name, rows, seed):
@@ -196,6 +196,7 @@ def run_all(tally):
         cluster = Cluster(python, programs)
         try:
             tally.check("cluster: its processes", [] if len(cluster.numbers()) == PROCESSES else [f"they are {cluster.numbers()}"])
+            run_examples(cluster, tally)
             run_large(cluster, tally)
             run_killed(cluster, tally)
         finally:

@@ -16,11 +16,13 @@ import shards
 
 # For each program a text that its words have where a task runs it, and not before.
 STEPS = {"shards": "--out ", "radixjoin": "=/dev/fd/", "merges": "--order="}
-# What a program does in place of its work: it waits for a signal, or is ended by one.
-WAITS = 'echo $PPID > "$0.number.new" && mv "$0.number.new" "$0.number"; exec sleep 60'
+# What a program does in place of its work: it tells its process's number, or that of the process that began it, and waits for a signal;
+# or it is ended by one.
+WAITS = 'echo {} > "$0.number.new" && mv "$0.number.new" "$0.number"; exec sleep 60'
 IS_KILLED = "kill -9 $$"
-# The process that runs the program is killed.
+# The process that runs the program is killed: each time, or three times, which Dask bears.
 KILLS = "kill -9 $PPID; exec sleep 60"
+KILLS_THREE = 'for n in 1 2 3; do mkdir "$0.$n" 2>/dev/null && { kill -9 $PPID; exec sleep 60; }; done; true'
 # The program is killed twice.
 IS_KILLED_TWICE = f'for n in once twice; do mkdir "$0.$n" 2>/dev/null && {IS_KILLED}; done; true'
 # The tasks in which programs are killed, by further options.
@@ -63,7 +65,7 @@ def begun(python, words, folder, *more, environment=None):
 
 
 def number_in(programs, name):
-    """The number of the process that began a program, once it waits; None where it never does."""
+    """The number that a program tells, once it waits; None where it never does."""
     path, until = programs / f"{name}.number", time.monotonic() + cluster.SECONDS
     while time.monotonic() < until:
         if path.exists():
@@ -72,13 +74,27 @@ def number_in(programs, name):
     return None
 
 
+def is_ended(number):
+    """Whether a process ends soon."""
+    until = time.monotonic() + cluster.SECONDS
+    while time.monotonic() < until:
+        try:
+            state = pathlib.Path(f"/proc/{number}/stat").read_text().rpartition(")")[2].split()[0]
+        except (FileNotFoundError, ProcessLookupError):
+            return True
+        if state == "Z":
+            return True
+        time.sleep(0.05)
+    return False
+
+
 def run_process_killed(on, name, more, tally):
     """A process of the cluster is killed while one of its programs runs."""
     with harness.folder() as place:
         folder = pathlib.Path(place)
         words = write_tables(folder)
         wanted = harness.run([harness.program("radixjoin"), *words], folder)
-        programs = programs_in(folder / "waits", name, WAITS)
+        programs = programs_in(folder / "waits", name, WAITS.format("$PPID"))
         known = {it.name for it in folder.iterdir()}
         running = begun(on.python, words, folder, *on.where, *more, "--programs", programs)
         number = number_in(programs, name)
@@ -86,6 +102,19 @@ def run_process_killed(on, name, more, tally):
             os.kill(number, signal.SIGKILL)
         faults = cluster.faults_of_run(cluster.ended(running), folder, known, wanted)
         tally.check(f"cluster_ends: a process that runs {name} {more} is killed", faults + ([] if number else ["there was none to kill"]))
+
+
+def run_process_killed_three_times(on, name, tally):
+    """The process that does a task is killed three times, which Dask bears: the join goes on each time."""
+    with harness.folder() as place:
+        folder = pathlib.Path(place)
+        words = write_tables(folder)
+        wanted = harness.run([harness.program("radixjoin"), *words], folder)
+        programs = programs_in(folder / "kills", name, KILLS_THREE, is_once=False)
+        known = {it.name for it in folder.iterdir()}
+        ran = cluster.ended(begun(on.python, words, folder, *on.where, "--programs", programs))
+        faults = cluster.faults_of_run(ran, folder, known, wanted) + ([] if (programs / f"{name}.3").exists() else ["it isn't killed three times"])
+        tally.check(f"cluster_ends: the process that runs {name} is killed three times", faults)
 
 
 def run_process_killed_each_time(on, tally):
@@ -118,26 +147,27 @@ def run_killed(on, name, more, tally):
             (folder / "out.csv").unlink(missing_ok=True)
 
 
-def run_told_to_end(python, name, number, tally):
-    """The script is told to end while a program runs, and once more while it ends: what stood at the result's place stays, and no
-    program goes on."""
+def run_told_to_end(python, name, number, again, tally):
+    """The script is told to end while a program runs, and once more while it ends, by the same signal or another one: what stood at the
+    result's place stays, and no program goes on."""
     with harness.folder() as place:
         folder = pathlib.Path(place)
         words = write_tables(folder)
-        programs = programs_in(folder / "waits", name, WAITS)
+        programs = programs_in(folder / "waits", name, WAITS.format("$$"))
         (folder / "out.csv").write_text("before")
         known = {it.name for it in folder.iterdir()}
         running = begun(python, words, folder, "--processes", "2", "--programs", programs)
-        is_running = number_in(programs, name) is not None
+        program = number_in(programs, name)
         running.send_signal(number)
-        time.sleep(0.1)
-        running.send_signal(number)
+        time.sleep(0.05)
+        running.send_signal(again)
         ran = cluster.ended(running)
-        faults = [] if is_running else [f"{name} didn't run"]
+        faults = [] if program else [f"{name} didn't run"]
+        faults += [] if program is None or is_ended(program) else [f"{name} goes on"]
         faults += harness.differences(harness.Ran(ran.returncode, b"", ran.stderr), b"", b"", 128 + number)
         faults += [] if (folder / "out.csv").read_text() == "before" else ["out.csv is another one"]
         faults += [f"{it} was left behind" for it in cluster.left_behind(folder, known)]
-        tally.check(f"cluster_ends: told to end by {number.name} while {name} runs", faults)
+        tally.check(f"cluster_ends: told to end by {number.name} while {name} runs, and by {again.name}", faults)
 
 
 def run_output(on, tally):
@@ -304,7 +334,9 @@ def run_on_machine(tally):
         run_without_programs(on, tally)
     for count in (1, 2, 3):
         run_processes(on.python, count, tally)
-    tasks = [*((name, number) for name in STEPS for number in (signal.SIGTERM, signal.SIGINT)), ("merges", signal.SIGHUP)]
+    term, interrupt, hang_up = signal.SIGTERM, signal.SIGINT, signal.SIGHUP
+    tasks = [(name, *them) for name in STEPS for them in ((term, term), (interrupt, interrupt), (interrupt, term))]
+    tasks += [("merges", hang_up, hang_up), ("merges", hang_up, term), ("merges", term, hang_up)]
     harness.side_by_side(tally, [lambda own, it=it: run_told_to_end(on.python, *it, own) for it in tasks])
 
 
@@ -312,8 +344,10 @@ def run_on_cluster(on, tally):
     """What is done by the processes of a cluster."""
     for name, more in KILLED:
         run_process_killed(on, name, more, tally)
+        run_killed(on, name, more, tally)
+    for name in STEPS:
+        run_process_killed_three_times(on, name, tally)
     run_process_killed_each_time(on, tally)
-    run_killed(on, "radixjoin", [], tally)
     run_output(on, tally)
     # (the first one has no room for what is sent to the processes)
     for size in (16, 1_024):

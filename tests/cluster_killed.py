@@ -15,6 +15,7 @@ import tempfile
 from unittest import mock
 
 import cluster_ends
+import cluster_processes
 import cluster_sent
 import harness
 import shards
@@ -23,9 +24,6 @@ from radixjoin import sending
 
 SECONDS = 600
 PROCESSES = 3
-# Has Dask put another process in the place of a lost one whenever that is there: it gives up what isn't there after 15 seconds, as on a
-# machine that does other work.
-LATE = {"distributed.deploy.lost-worker-timeout": "1 day"}
 # The kinds of tasks in which a process is killed by tests/cluster_ends.py.
 KILLED_THERE = {"divide", "join_shard", "merge_range", "merge_shards"}
 # Has the first process that comes so often behind a call of a function kill itself there.
@@ -83,7 +81,7 @@ def client_of(count, config=None):
     for name in ("asyncio", "tornado", "distributed"):
         logging.getLogger(name).setLevel(logging.CRITICAL)
     with tempfile.TemporaryDirectory(prefix="radixjoin-test-", ignore_cleanup_errors=True) as space:
-        with dask.config.set({"temporary-directory": space, **LATE, **(config or {})}), cluster_sent.processes(count) as local, Client(local) as client:
+        with dask.config.set({"temporary-directory": space, **cluster_processes.LATE, **(config or {})}), cluster_sent.processes(count) as local, Client(local) as client:
             yield client
 
 

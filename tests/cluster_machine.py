@@ -1,6 +1,6 @@
-"""Joins in shards on one machine: whole ones load nothing of Dask; tasks give in their order, run again where they fail, and no more than
-their number at once; whatever takes long in a task ends when it is to end; and where the script is interrupted or killed its programs
-end, and in the former case nothing is left."""
+"""Joins in shards on one machine: whole ones load nothing of Dask, and their first task starts soon; tasks give in their order, run again
+where they fail, and no more than their number at once; whatever takes long in a task ends when it is to end; and where a script is
+interrupted or killed its programs end, and in the former case nothing is left."""
 import os
 import pathlib
 import signal
@@ -28,6 +28,10 @@ except KeyboardInterrupt:
     print("interrupted", threading.active_count())
 """
 PACKAGE = str(harness.ROOT / "python")
+# The seconds within which the first task starts, in one of so many runs, since the machine may do something else too.
+SOON, RUNS = 0.2, 40
+# The seconds that a task waits for others that are to run with it.
+PATIENCE = 20
 
 
 def run_without_dask(tally):
@@ -43,21 +47,38 @@ def run_without_dask(tally):
         tally.check("cluster_machine: without Dask", faults)
 
 
-class Counts:
-    """Tasks that fail so often each, and how many were done at once."""
+def run_start(tally):
+    """The time from the script's start to that of its first task, which looks for cuts: the least of some runs."""
+    with harness.folder() as place:
+        folder = pathlib.Path(place)
+        words = cluster_ends.write_tables(folder, 60)
+        programs = cluster_ends.programs_in(folder / "programs", "shards", 'date +%s.%N > "$0.at"; echo over >&2; exit 3', is_once=False, step="--cuts ")
+        found = []
+        while not found or min(found) > SOON and len(found) < RUNS:
+            begin = time.time()
+            ran = cluster.ended(cluster_ends.begun(sys.executable, words, folder, "--programs", programs))
+            found.append(float((programs / "shards.at").read_text()) - begin)
+        faults = harness.differences(harness.Ran(ran.returncode, b"", ran.stderr), b"", b"over\n", 3)
+        tally.check("cluster_machine: the first task starts soon", faults + ([f"after {min(found):.2f} s"] if min(found) > SOON else []))
 
-    def __init__(self, fails, error=RuntimeError):
-        self.fails, self.error = fails, error
-        self.lock = threading.Lock()
+
+class Counts:
+    """Tasks that fail so often each, and how many were done at once. The first ones wait until as many are."""
+
+    def __init__(self, fails, at_once, error=RuntimeError):
+        self.fails, self.at_once, self.error = fails, at_once, error
+        self.changed = threading.Condition()
         self.tried, self.now, self.most = {}, 0, 0
 
     def join_shard(self, number):
-        with self.lock:
+        with self.changed:
             self.tried[number] = self.tried.get(number, 0) + 1
             self.now += 1
             self.most = max(self.most, self.now)
+            self.changed.notify_all()
+            self.changed.wait_for(lambda: self.most >= self.at_once, PATIENCE)
         time.sleep(0.02 if number % 2 else 0.05)
-        with self.lock:
+        with self.changed:
             self.now -= 1
         if self.tried[number] <= self.fails:
             raise self.error(f"task {number}")
@@ -78,21 +99,23 @@ class Counts:
 def run_answers(tally):
     """What tasks give, by how often they fail and how."""
     given = [number * 10 for number in range(7)]
+    told = tasks.Told("line", 3)
     cases = (
-        (Counts(0), 3, given, 1),
-        (Counts(tasks.AGAIN), 3, given, 3),
-        (Counts(tasks.AGAIN, OSError), 1, given, 3),
-        (Counts(tasks.AGAIN + 1), 3, "RuntimeError('task 0')", 3),
-        (Counts(tasks.AGAIN + 1, OSError), 3, "OSError('task 0')", 3),
-        (Counts(tasks.AGAIN + 1, MemoryError), 9, "RuntimeError('MemoryError: task 0')", 3),
-        (Counts(9, lambda _: tasks.Told("line", 3)), 2, None, 1),
+        (0, RuntimeError, 3, given, 1),
+        (tasks.AGAIN, RuntimeError, 3, given, 3),
+        (tasks.AGAIN, OSError, 1, given, 3),
+        (tasks.AGAIN + 1, RuntimeError, 3, "RuntimeError('task 0')", 3),
+        (tasks.AGAIN + 1, OSError, 3, "OSError('task 0')", 3),
+        (tasks.AGAIN + 1, MemoryError, 9, "RuntimeError('MemoryError: task 0')", 3),
+        (9, lambda _: told, 2, [told] * 7, 1),
     )
-    for counts, threads, wanted, tries in cases:
+    for fails, error, threads, wanted, tries in cases:
+        counts = Counts(fails, min(threads, 7), error)
         got = counts.answers(7, local.Machine(threads, False))
-        faults = [f"{got}, and not {wanted}"] if got != wanted and wanted else []
+        faults = [f"{got}, and not {wanted}"] if got != wanted else []
         faults += [f"{counts.tried} tries"] if {*counts.tried.values()} != {tries} or len(counts.tried) != 7 else []
         faults += [] if counts.most == min(threads, 7) else [f"{counts.most} at once"]
-        tally.check(f"cluster_machine: {wanted} by {threads} after {counts.fails} errors", faults)
+        tally.check(f"cluster_machine: {wanted} by {threads} after {fails} errors", faults)
 
 
 def ends(call):
@@ -141,39 +164,28 @@ def run_ends(tally):
                 tally.check(f"cluster_machine: {name} is to end", ends(call))
 
 
-def is_ended(number):
-    """Whether a process ends soon."""
-    until = time.monotonic() + cluster.SECONDS
-    while time.monotonic() < until:
-        path = pathlib.Path(f"/proc/{number}/stat")
-        if not path.exists() or path.read_text().rpartition(")")[2].split()[0] == "Z":
-            return True
-        time.sleep(0.05)
-    return False
-
-
 def run_interrupted(tally):
     """A script that joins is interrupted by the keyboard, or killed, while a program runs: that ends."""
-    waits = 'echo $$ > "$0.new" && mv "$0.new" "$0.number"; exec sleep 60'
     for name in cluster_ends.STEPS:
         for way, told in ((signal.SIGINT, b"interrupted 1\n"), (signal.SIGKILL, b"")):
             with harness.folder() as place:
                 folder = pathlib.Path(place)
                 cluster_ends.write_tables(folder)
-                programs = cluster_ends.programs_in(folder / "programs", name, waits)
+                programs = cluster_ends.programs_in(folder / "programs", name, cluster_ends.WAITS.format("$$"))
                 known = {it.name for it in folder.iterdir()}
                 with subprocess.Popen([sys.executable, "-c", JOINS.format(PACKAGE)], cwd=folder, stdout=subprocess.PIPE) as running:
                     number = cluster_ends.number_in(programs, name)
                     os.kill(running.pid, way)
                     got, _ = running.communicate(timeout=cluster.SECONDS)
                 faults = [f"{got}, and not {told}"] if got != told else []
-                faults += [] if number and is_ended(number) else [f"{number} goes on"]
+                faults += [] if number and cluster_ends.is_ended(number) else [f"{number} goes on"]
                 faults += [f"{it} was left behind" for it in cluster.left_behind(folder, known)] if way == signal.SIGINT else []
                 tally.check(f"cluster_machine: {way.name} while {name} runs", faults)
 
 
 def run_all(tally):
     run_without_dask(tally)
+    run_start(tally)
     run_answers(tally)
     run_ends(tally)
     run_interrupted(tally)

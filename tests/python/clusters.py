@@ -1,7 +1,9 @@
-"""`radixjoin.cluster.join` on this machine and over a Dask client, and `python -m radixjoin.cluster`: the bytes that `radixjoin` writes, or its fault.
+"""`radixjoin.cluster.join` on this machine and, where there is Dask, over its client, and `python -m radixjoin.cluster`: the bytes that
+`radixjoin` writes, or its fault.
 
 usage: clusters.py FOLDER      the folder of the programs"""
 import functools
+import importlib.util
 import logging
 import os
 import pathlib
@@ -12,7 +14,6 @@ import tempfile
 from unittest import mock
 
 import telling
-from distributed import Client, LocalCluster
 from faults import CLOSED, without
 
 import radixjoin
@@ -244,23 +245,34 @@ def run_joins(where, join, programs):
             telling.attempt(f"radixjoin.cluster.join {where}, {title}", test, join, programs, pathlib.Path(name))
 
 
-def arguments(join, folder):
-    """Of a client and a number of processes one alone can be given."""
-    error = telling.raised(join, "left.csv", "right.csv", CLAUSE, output=folder / "out.csv", processes=2, **TYPES)
-    yield from telling.differs("client and processes", repr(error), repr(TypeError("processes= is of this machine, and client= of a cluster")))
-    error = telling.raised(cluster.join, "left.csv", "right.csv", CLAUSE, output=folder / "out.csv", processes=0, **TYPES)
-    yield from telling.differs("no processes", repr(error), repr(ValueError("processes= is from 1 to 1024")))
+def arguments(folder):
+    """Of a client and a number of processes one alone can be given, and the latter in its limits."""
+    cases = (
+        ({"client": object(), "processes": 2}, TypeError("processes= is of this machine, and client= of a cluster")),
+        ({"processes": 0}, ValueError("processes= is from 1 to 1024")),
+        ({"processes": 1025}, ValueError("processes= is from 1 to 1024")),
+    )
+    for named, wanted in cases:
+        error = telling.raised(cluster.join, "left.csv", "right.csv", CLAUSE, output=folder / "out.csv", **named, **TYPES)
+        yield from telling.differs(f"{[*named]}", repr(error), repr(wanted))
+
+
+def over_client(programs):
+    """The tests of joins over a Dask client."""
+    from distributed import Client, LocalCluster
+
+    for name in ("asyncio", "tornado", "distributed"):
+        logging.getLogger(name).setLevel(logging.CRITICAL)
+    with LocalCluster(n_workers=2, threads_per_worker=1, memory_limit=0, dashboard_address=":0", silence_logs=50) as local, Client(local) as client:
+        run_joins("over a client", functools.partial(cluster.join, client=client), programs)
 
 
 def main(programs):
-    for name in ("asyncio", "tornado", "distributed"):
-        logging.getLogger(name).setLevel(logging.CRITICAL)
     run_joins("on this machine", functools.partial(cluster.join, processes=2), programs)
-    with LocalCluster(n_workers=2, threads_per_worker=1, memory_limit=0, dashboard_address=":0", silence_logs=50) as local, Client(local) as client:
-        join = functools.partial(cluster.join, client=client)
-        run_joins("over a client", join, programs)
-        with tempfile.TemporaryDirectory(prefix="radixjoin-test-") as name:
-            telling.attempt("radixjoin.cluster.join, where tasks are done", arguments, join, pathlib.Path(name))
+    if importlib.util.find_spec("distributed"):
+        over_client(programs)
+    with tempfile.TemporaryDirectory(prefix="radixjoin-test-") as name:
+        telling.attempt("radixjoin.cluster.join, where tasks are done", arguments, pathlib.Path(name))
     with tempfile.TemporaryDirectory(prefix="radixjoin-test-") as name:
         telling.attempt("python -m radixjoin.cluster", command, programs, pathlib.Path(name))
     with tempfile.TemporaryDirectory(prefix="radixjoin-test-") as name:
