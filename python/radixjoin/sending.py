@@ -167,4 +167,5 @@ class Cluster:
 
     def tasks_in_process(self) -> int:
         """How many of these one process does, where it does the most, by which files are counted that it may have open."""
-        return max((1, *self.client.nthreads().values()))
+        threads: Dict[str, int] = self.client.nthreads()
+        return max([1, *threads.values()])
