@@ -4,6 +4,7 @@ there is Dask, by the processes of a cluster."""
 import collections
 import pathlib
 import subprocess
+import types
 from unittest import mock
 
 import cluster
@@ -12,7 +13,7 @@ import cluster_pieces
 import harness
 import shards
 
-from radixjoin import local
+from radixjoin import local, sending
 
 SCRIPT = shards.SCRIPT
 MIB = 1 << 20
@@ -60,10 +61,11 @@ def run_numbers(tally):
         for tasks, joins, size, wanted in CASES:
             got = SCRIPT.ranges_of_merge(shards.OneByOne(tasks), joins, size)
             tally.check(f"cluster_merges: {tasks} tasks, {joins} tables of {size} bytes", [] if got == wanted else [f"{got}, and not {wanted}"])
-        for joins, wanted in ((8, 4), (9, 1)):
-            # (whose tasks have their files open in one process)
-            got = SCRIPT.ranges_of_merge(local.Machine(4, False), joins, 1 << 40)
-            tally.check(f"cluster_merges: {joins} tables on one machine", [] if got == wanted else [f"{got}, and not {wanted}"])
+        # (whose tasks have their files open in one process, or in one of several, by its threads)
+        machine, uneven = local.Machine(4, False), sending.Cluster(types.SimpleNamespace(nthreads=lambda: {"a": 1, "b": 4, "c": 2}), False)
+        for title, on, joins, wanted in (("one machine", machine, 8, 4), ("one machine", machine, 9, 1), ("threads", uneven, 8, 7), ("threads", uneven, 9, 1)):
+            got = SCRIPT.ranges_of_merge(on, joins, 1 << 40)
+            tally.check(f"cluster_merges: {joins} tables, {title}", [] if got == wanted else [f"{got}, and not {wanted}"])
 
 
 def run_ways(tally):
