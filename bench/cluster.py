@@ -1,13 +1,14 @@
 #!/usr/bin/env python3
 """Times cluster/radixjoin-cluster on this machine beside radixjoin alone, on a workload: the time of each run, the time that all its
 processes had of the processors (which says more on a machine that does something else too), and the peak of memory of the largest
-process of each program, Python's own among them. The bytes of all runs are compared. It needs Dask.
+process of each program, Python's own among them. The bytes of all runs are compared.
 
 usage: cluster.py FOLDER [--workload NAME] [--exchanged] [--scale F] [--parts N] [--processes N ..] [--merges N ..] [--spread BYTES ..] [--limit]
     FOLDER      where the tables are made, if they aren't there, and the results
     --workload  foreign_key, hot_left, in which half of all left rows have one key, or zipf_1.25
     --exchanged the left table as the right one, and the right as the left
     --spread    each run is done with each of these limits of a shard's bytes
+    --processes each of these numbers of programs that run side by side
     --merges    each number of processes joins with each of these numbers of ranges of the merge, and not with the script's own
     --limit     also joins with a quarter of the address space that radixjoin alone needs"""
 import argparse

@@ -1,13 +1,15 @@
-"""Runs cluster/radixjoin-cluster on a Dask cluster of three processes of this machine, and compares what it writes with what
-`radixjoin` does: on the examples, on some hundred thousand rows, and where a process is killed in the middle.
+"""Runs cluster/radixjoin-cluster on this machine, three programs side by side, and compares what it writes with what `radixjoin` does: on
+the examples, and on some hundred thousand rows. And all of this once more on a Dask cluster of three processes of this machine, of which
+one is killed in the middle.
 
-It needs Dask, which `./test` installs (Debian's python3-dask and python3-distributed). Where it can't be had, this part is
-left out and says so."""
+The latter needs Dask, which `./test` installs (Debian's python3-dask and python3-distributed). Where it can't be had, that is left out
+and said."""
 import os
 import pathlib
 import random
 import signal
 import subprocess
+import sys
 import time
 import tomllib
 
@@ -21,27 +23,40 @@ SECONDS = 120
 NO_KEY = b"shards: the clause has no key, so that its tables can't be divided\n"
 
 
-class Cluster:
-    """Processes that wait for tasks, and a folder with links to the built programs."""
+class Machine:
+    """This machine, where so many programs run side by side, and a folder with links to the built ones."""
 
-    def __init__(self, python, programs):
-        self.python = python
+    python, title = sys.executable, "on this machine"
+    # The words for where tasks are done.
+    where = ("--processes", PROCESSES)
+
+    def __init__(self, programs):
         self.programs = programs
         for name in ("radixjoin", "shards", "merges"):
             pathlib.Path(programs, name).symlink_to(harness.program(name))
+
+    def words(self, words, *more):
+        """The command that joins there."""
+        return [self.python, SCRIPT, *self.where, "--programs", self.programs, *words, "--out", "out.csv", *more]
+
+
+class Cluster(Machine):
+    """Processes that wait for tasks."""
+
+    title = "on a cluster"
+
+    def __init__(self, python, programs):
+        super().__init__(programs)
+        self.python = python
         words = [python, harness.ROOT / "tests" / "cluster_processes.py", str(PROCESSES)]
         self.running = subprocess.Popen(words, stdin=subprocess.PIPE, stdout=subprocess.PIPE, stderr=subprocess.DEVNULL)
-        self.address = self.running.stdout.readline().decode().strip()
+        self.where = ("--scheduler", self.running.stdout.readline().decode().strip())
 
     def numbers(self):
         """The numbers of the processes."""
         self.running.stdin.write(b"\n")
         self.running.stdin.flush()
         return [int(word) for word in self.running.stdout.readline().split()]
-
-    def words(self, words, *more):
-        """The command that joins on these processes."""
-        return [self.python, SCRIPT, "--scheduler", self.address, "--programs", self.programs, *words, "--out", "out.csv", *more]
 
     def close(self):
         self.running.stdin.close()
@@ -54,7 +69,7 @@ def left_behind(folder, known):
 
 
 def faults_of_run(ran, folder, known, wanted):
-    """How a run on the cluster, which ended so, differs from `radixjoin`'s own."""
+    """How a run, which ended so, differs from `radixjoin`'s own."""
     faults = harness.differences(harness.Ran(ran.returncode, b"", ran.stderr), b"", wanted.stderr, wanted.status)
     out = folder / "out.csv"
     if wanted.status == 0:
@@ -66,8 +81,8 @@ def faults_of_run(ran, folder, known, wanted):
     return faults + [f"{name} was left behind" for name in left_behind(folder, known)]
 
 
-def started(cluster, words, folder, *more):
-    return subprocess.Popen([str(word) for word in cluster.words(words, *more)], cwd=folder, stdin=subprocess.DEVNULL, stdout=subprocess.DEVNULL, stderr=subprocess.PIPE)
+def started(on, words, folder, *more):
+    return subprocess.Popen([str(word) for word in on.words(words, *more)], cwd=folder, stdin=subprocess.DEVNULL, stdout=subprocess.DEVNULL, stderr=subprocess.PIPE)
 
 
 def ended(process):
@@ -76,26 +91,26 @@ def ended(process):
     return subprocess.CompletedProcess(process.args, process.returncode, None, stderr)
 
 
-def run_example(cluster, case, files, tally):
-    """Runs one example by `radixjoin` and on the cluster: they tell the same. A clause without a key is refused in a line of its own."""
+def run_example(on, case, files, tally):
+    """Runs one example by `radixjoin` and in shards: they tell the same. A clause without a key is refused in a line of its own."""
     with harness.folder() as name:
         folder = pathlib.Path(name)
         words = examples.words_of(case, files, folder)
         known = {it.name for it in folder.iterdir()}
         wanted = harness.run([harness.program("radixjoin"), *words], folder)
-        ran = ended(started(cluster, words, folder, "--parts", "3"))
+        ran = ended(started(on, words, folder, "--parts", "3"))
         wanted = harness.Ran(4, b"", NO_KEY) if ran.stderr == NO_KEY else shards.told_first(words, folder, wanted)
-        tally.check(f"cluster: {case['name']}", faults_of_run(ran, folder, known, wanted))
+        tally.check(f"cluster: {case['name']} {on.title}", faults_of_run(ran, folder, known, wanted))
     return ran.stderr == NO_KEY
 
 
-def run_examples(cluster, tally):
+def run_examples(on, tally):
     with open(harness.ROOT / "tests" / "examples.toml", "rb") as text:
         table = tomllib.load(text)
     cases = [case for case in table["case"] if shards.is_example(case)]
-    tasks = [lambda own, case=case: run_example(cluster, case, table["file"], own) for case in cases]
+    tasks = [lambda own, case=case: run_example(on, case, table["file"], own) for case in cases]
     without_key = sum(harness.side_by_side(tally, tasks))
-    tally.check("cluster: most examples have a key", [] if 0 < without_key < len(cases) / 2 else [f"{without_key} of {len(cases)} have none"])
+    tally.check(f"cluster: most examples have a key {on.title}", [] if 0 < without_key < len(cases) / 2 else [f"{without_key} of {len(cases)} have none"])
 
 
 def write_table(path, name, rows, seed):
@@ -126,42 +141,54 @@ def kill_one(cluster, folder):
     return False
 
 
-def run_large(cluster, tally):
-    """Joins 200,000 by 50,000 rows, undisturbed and with a process killed in the middle, and checks a fault's row through the whole file."""
+def run_large(on, tally):
+    """Joins 200,000 by 50,000 rows, and checks a fault's row through the whole file."""
     with harness.folder() as name:
         folder = pathlib.Path(name)
         words = write_tables(folder)
         known = {it.name for it in folder.iterdir()}
         wanted = harness.run([harness.program("radixjoin"), *words], folder)
         for more in (["--parts", "5"], ["--parts", "16", "--ranges", "7", "--workers", "2", "--merges", "3"], ["--parts", "1", "--memory", "700"], ["--parts", "4", "--spread", "400000", "--merges", "3"]):
-            ran = ended(started(cluster, words, folder, *more))
-            tally.check(f"cluster: 200,000 by 50,000 rows, {' '.join(more)}", faults_of_run(ran, folder, known, wanted))
+            ran = ended(started(on, words, folder, *more))
+            tally.check(f"cluster: 200,000 by 50,000 rows {on.title}, {' '.join(more)}", faults_of_run(ran, folder, known, wanted))
             (folder / "out.csv").unlink(missing_ok=True)
         by_left = [*words, "--order", "left"]
-        ran = ended(started(cluster, by_left, folder, "--parts", "8", "--merges", "5"))
-        tally.check("cluster: 200,000 by 50,000 rows, each left row at its place", faults_of_run(ran, folder, known, harness.run([harness.program("radixjoin"), *by_left], folder)))
+        ran = ended(started(on, by_left, folder, "--parts", "8", "--merges", "5"))
+        tally.check(f"cluster: 200,000 by 50,000 rows {on.title}, each left row at its place", faults_of_run(ran, folder, known, harness.run([harness.program("radixjoin"), *by_left], folder)))
         (folder / "out.csv").unlink(missing_ok=True)
+        for row in (3, 150_000, 199_999):
+            run_with_fault(on, folder, words, row, tally)
+
+
+def run_killed(cluster, tally):
+    """Joins 200,000 by 50,000 rows, while a process is killed."""
+    with harness.folder() as name:
+        folder = pathlib.Path(name)
+        words = write_tables(folder)
+        known = {it.name for it in folder.iterdir()}
+        wanted = harness.run([harness.program("radixjoin"), *words], folder)
         running = started(cluster, words, folder, "--parts", "64", "--ranges", "12")
         was_killed = kill_one(cluster, folder)
         faults = faults_of_run(ended(running), folder, known, wanted)
         tally.check("cluster: a process is killed", faults + ([] if was_killed else ["there was none to kill"]))
-        (folder / "out.csv").unlink(missing_ok=True)
-        for row in (3, 150_000, 199_999):
-            run_with_fault(cluster, folder, words, row, tally)
 
 
-def run_with_fault(cluster, folder, words, row, tally):
+def run_with_fault(on, folder, words, row, tally):
     """Joins with a left file whose row of this number has a key that is none."""
     path = folder / "faulty.csv"
     path.write_text("k,a\n" + "7,x\n" * (row - 1) + "seven,x\n" + "7,x\n" * 10 + "eight,x\n")
     words = ["faulty.csv" if word == "left.csv" else word for word in words]
     wanted = harness.Ran(3, b"", b"radixjoin: E6 BadInteger left row %d column 1\n" % row)
-    ran = ended(started(cluster, words, folder, "--ranges", "6"))
-    tally.check(f"cluster: a fault in row {row}", faults_of_run(ran, folder, {*[it.name for it in folder.iterdir() if it.suffix == ".csv"]}, wanted))
+    ran = ended(started(on, words, folder, "--ranges", "6"))
+    tally.check(f"cluster: a fault in row {row} {on.title}", faults_of_run(ran, folder, {*[it.name for it in folder.iterdir() if it.suffix == ".csv"]}, wanted))
     path.unlink()
 
 
 def run_all(tally):
+    with harness.folder() as programs:
+        on = Machine(programs)
+        run_examples(on, tally)
+        run_large(on, tally)
     python = harness.python_with_dask("cluster")
     if python is None:
         return
@@ -171,5 +198,6 @@ def run_all(tally):
             tally.check("cluster: its processes", [] if len(cluster.numbers()) == PROCESSES else [f"they are {cluster.numbers()}"])
             run_examples(cluster, tally)
             run_large(cluster, tally)
+            run_killed(cluster, tally)
         finally:
             cluster.close()

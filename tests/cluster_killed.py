@@ -15,12 +15,12 @@ import tempfile
 from unittest import mock
 
 import cluster_ends
-import cluster_lost
+import cluster_processes
 import cluster_sent
 import harness
 import shards
 
-from radixjoin import local, sending, tasks
+from radixjoin import sending
 
 SECONDS = 600
 PROCESSES = 3
@@ -81,11 +81,11 @@ def client_of(count, config=None):
     for name in ("asyncio", "tornado", "distributed"):
         logging.getLogger(name).setLevel(logging.CRITICAL)
     with tempfile.TemporaryDirectory(prefix="radixjoin-test-", ignore_cleanup_errors=True) as space:
-        with dask.config.set({"temporary-directory": space, **(config or {})}), local.local_cluster(count) as processes, Client(processes) as client:
+        with dask.config.set({"temporary-directory": space, **cluster_processes.LATE, **(config or {})}), cluster_sent.processes(count) as local, Client(local) as client:
             yield client
 
 
-class Notes(tasks.Cluster):
+class Notes(sending.Cluster):
     """A cluster that notes among which kinds of tasks a flag came, which tells that a process is killed."""
 
     def __init__(self, client, flag):
@@ -128,7 +128,7 @@ def faults_of(client, folder, kind, flag, of_script, of_both):
 
 def run_cuts(client, folder, flags, tally):
     """A process is killed while it looks for cuts."""
-    programs = cluster_ends.programs_in(flags / "programs", "shards", cluster_lost.KILLS, step="--cuts ")
+    programs = cluster_ends.programs_in(flags / "programs", "shards", cluster_ends.KILLS, step="--cuts ")
     faults = faults_of(client, folder, "cuts_of", programs / "shards.once", ["--programs", programs], [])
     tally.check("cluster_killed: cuts_of, while shards --cuts runs", faults)
 

@@ -2,7 +2,7 @@
 what it tells before Dask is loaded, of the command line, the result's place, the headers and the clause; and how far a join is, which is
 shown on a terminal and nowhere else.
 
-The last needs Dask, as tests/cluster.py does."""
+The last needs Dask for a cluster, as tests/cluster.py does."""
 import os
 import pathlib
 import re
@@ -56,7 +56,7 @@ ITS_OWN = (
     ({"left": "none.csv", "explain": ""}, {}, 6, "radixjoin: E19 ReadDevice left\n  FOLDER/none.csv: No such file or directory"),
     ({"strict": "", "explain": ""}, {"left.csv": b'k,"a"x\n1,y\n'}, 3, "radixjoin: E22 AfterQuote left row 0 column 2\n  in the header"),
     ({"output": "none/out.csv", "scratch": "."}, {}, 6, 'radixjoin-cluster: E20 WriteDevice "FOLDER/none/out.csv": No such file or directory'),
-    ({}, {}, 1, "radixjoin-cluster: No module named 'distributed'"),
+    ({"scheduler": "tcp://127.0.0.1:9"}, {}, 1, "radixjoin-cluster: No module named 'distributed'"),
 )
 
 
@@ -115,20 +115,35 @@ def faults_of_lines(lines):
     return faults
 
 
-def run_shown(python, programs, more, tally):
+def dashboard_in(told):
+    """The address of Dask's dashboard that is told first on a terminal, if one is, and what is told behind it."""
+    found = re.match(rb"radixjoin-cluster: the dashboard is at (http://\S+:\d+/status)\r?\n", told)
+    return (found[1], told[found.end() :]) if found else (None, told)
+
+
+def run_steps(on, tally):
+    """Each step is shown, whoever does its tasks."""
+    shown = harness.side_by_side(tally, [lambda own, more=more: run_shown(on, more, own) for more in cluster_sent.WAYS])
+    lacking = {*tasks.STEPS.values()} - {name for names in shown for name in names}
+    tally.check(f"cluster_manners: each step is shown {on.title}", [f"no line of {name}" for name in lacking])
+
+
+def run_shown(on, more, tally):
     """A join in a pipe, and on a terminal, where it is shown and taken away. It gives the steps that are shown."""
     with harness.folder() as place:
         folder = pathlib.Path(place)
         words = [*cluster_sent.write_tables(folder), *more]
         wanted = harness.run([harness.program("radixjoin"), *cluster_sent.alone(words)], folder)
-        line = [python, cluster.SCRIPT, *words, "--programs", programs, "--output", "out.csv", "--progress"]
+        line = on.words(words, "--progress")
         piped = harness.run(line, folder)
-        tally.check(f"cluster_manners: in a pipe {more}", harness.differences(piped, b"", wanted.stderr, wanted.status))
+        tally.check(f"cluster_manners: in a pipe {more} {on.title}", harness.differences(piped, b"", wanted.stderr, wanted.status))
         shown = on_terminal(line, folder)
-        lines, rest = progress.lines_of(shown.stderr)
+        dashboard, told = dashboard_in(shown.stderr)
+        lines, rest = progress.lines_of(told)
         result = (folder / "out.csv").read_bytes() if shown.status == 0 else b""
         faults = harness.differences(harness.Ran(shown.status, result, rest), wanted.stdout, wanted.stderr, wanted.status) + faults_of_lines(lines)
-        tally.check(f"cluster_manners: on a terminal {more}", faults + ([shown.stdout] if shown.stdout else []))
+        faults += [] if bool(dashboard) == (on.title == cluster.Cluster.title) else [f"the dashboard is {dashboard}"]
+        tally.check(f"cluster_manners: on a terminal {more} {on.title}", faults + ([shown.stdout] if shown.stdout else []))
         return {line.decode().removeprefix("radixjoin-cluster: ").rpartition(",")[0] for line in lines}
 
 
@@ -137,10 +152,14 @@ def run_all(tally):
     cases = [*AS_ALONE, *((options, contents, told) for options, contents, *told in ITS_OWN)]
     harness.side_by_side(tally, [lambda own, it=it: run_early(own, *it) for it in cases])
     tally.check("cluster_manners: kinds of tasks", [] if {*tasks.STEPS} == cluster_sent.KINDS else [f"{sorted(tasks.STEPS)}"])
-    if python := harness.python_with_dask("cluster_manners"):
-        with harness.folder() as programs:
-            for name in ("radixjoin", "shards", "merges"):
-                pathlib.Path(programs, name).symlink_to(harness.program(name))
-            shown = harness.side_by_side(tally, [lambda own, more=more: run_shown(python, programs, more, own) for more in cluster_sent.WAYS])
-        lacking = {*tasks.STEPS.values()} - {name for names in shown for name in names}
-        tally.check("cluster_manners: each step is shown", [f"no line of {name}" for name in lacking])
+    with harness.folder() as programs:
+        run_steps(cluster.Machine(programs), tally)
+    python = harness.python_with_dask("cluster_manners")
+    if python is None:
+        return
+    with harness.folder() as programs:
+        on = cluster.Cluster(python, programs)
+        try:
+            run_steps(on, tally)
+        finally:
+            on.close()

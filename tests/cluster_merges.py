@@ -1,9 +1,10 @@
 """In how many ranges a joined table is merged, by as many tasks, where --merges isn't given: by the tasks that are done at once, by the
-bytes of the joined shards, and by the files that a process may have open. One task after another and without Dask, and, where there is
-Dask, by processes of this machine and of a cluster."""
+bytes of the joined shards, and by the files that a process may have open. One task after another, by programs of this machine, and, where
+there is Dask, by the processes of a cluster."""
 import collections
 import pathlib
 import subprocess
+import types
 from unittest import mock
 
 import cluster
@@ -11,6 +12,8 @@ import cluster_ends
 import cluster_pieces
 import harness
 import shards
+
+from radixjoin import local, sending
 
 SCRIPT = shards.SCRIPT
 MIB = 1 << 20
@@ -58,6 +61,11 @@ def run_numbers(tally):
         for tasks, joins, size, wanted in CASES:
             got = SCRIPT.ranges_of_merge(shards.OneByOne(tasks), joins, size)
             tally.check(f"cluster_merges: {tasks} tasks, {joins} tables of {size} bytes", [] if got == wanted else [f"{got}, and not {wanted}"])
+        # (whose tasks have their files open in one process, or in one of several, by its threads)
+        machine, uneven = local.Machine(4, False), sending.Cluster(types.SimpleNamespace(nthreads=lambda: {"a": 1, "b": 4, "c": 2}), False)
+        for title, on, joins, wanted in (("one machine", machine, 8, 4), ("one machine", machine, 9, 1), ("threads", uneven, 8, 7), ("threads", uneven, 9, 1)):
+            got = SCRIPT.ranges_of_merge(on, joins, 1 << 40)
+            tally.check(f"cluster_merges: {joins} tables, {title}", [] if got == wanted else [f"{got}, and not {wanted}"])
 
 
 def run_ways(tally):
@@ -92,34 +100,32 @@ def run_many(tally):
         tally.check("cluster_merges: too many files for the ranges that are asked for", harness.differences(ran, b"", line, 2))
 
 
-def run_by(python, on, tally):
-    """By two processes of this machine, and by the three of a cluster: `merges` runs as often."""
+def run_by(on, tally):
+    """By three programs side by side, or three processes of a cluster: `merges` runs as often."""
     with harness.folder() as place:
         folder = pathlib.Path(place)
         words = cluster_ends.write_tables(folder, 600)
         programs = cluster_ends.programs_in(folder / "counts", "merges", f'mktemp -d "{folder}/merged.XXXXXX" >/dev/null', is_once=False)
         wanted = harness.run([harness.program("radixjoin"), *words], folder)
-        for where, count in ((["--processes", "2"], 2), (["--scheduler", on.address], cluster.PROCESSES)):
-            line = [python, "-c", SMALL, *words, *where, "--programs", programs, "--parts", "8", "--out", "out.csv"]
-            ran = subprocess.run([str(word) for word in line], cwd=folder, stdin=subprocess.DEVNULL, capture_output=True, timeout=cluster.SECONDS, check=False)
-            merged = list(folder.glob("merged.*"))
-            faults = cluster.faults_of_run(ran, folder, {it.name for it in (*merged, programs)} | {"left.csv", "right.csv"}, wanted)
-            tally.check(f"cluster_merges: {where[0]}", faults + ([] if len(merged) == count else [f"{len(merged)} ranges, and not {count}"]))
-            for it in merged:
-                it.rmdir()
-            (folder / "out.csv").unlink(missing_ok=True)
+        line = [on.python, "-c", SMALL, *words, *on.where, "--programs", programs, "--parts", "8", "--out", "out.csv"]
+        ran = subprocess.run([str(word) for word in line], cwd=folder, stdin=subprocess.DEVNULL, capture_output=True, timeout=cluster.SECONDS, check=False)
+        merged = list(folder.glob("merged.*"))
+        faults = cluster.faults_of_run(ran, folder, {it.name for it in (*merged, programs)} | {"left.csv", "right.csv"}, wanted)
+        tally.check(f"cluster_merges: {on.title}", faults + ([] if len(merged) == cluster.PROCESSES else [f"{len(merged)} ranges, and not {cluster.PROCESSES}"]))
 
 
 def run_all(tally):
     run_numbers(tally)
     run_ways(tally)
     run_many(tally)
+    with harness.folder() as programs:
+        run_by(cluster.Machine(programs), tally)
     python = harness.python_with_dask("cluster_merges: by processes")
     if python is None:
         return
     with harness.folder() as programs:
         on = cluster.Cluster(python, programs)
         try:
-            run_by(python, on, tally)
+            run_by(on, tally)
         finally:
             on.close()

@@ -1,11 +1,11 @@
-"""Random joins through one running Dask cluster of processes, which is kept for all of them: each with and without `--spread`, so that
-its shards are joined in pieces and as they are, beside `radixjoin` alone, byte for byte. The tables are those of
-tests/cluster_pieces.py, which joins them without Dask.
+"""Random joins by programs of this machine that run side by side, and through one running Dask cluster of processes, which is kept for all of
+them: each with and without `--spread`, so that its shards are joined in pieces and as they are, beside `radixjoin` alone, byte for
+byte. The tables are those of tests/cluster_pieces.py, which joins them one task after another.
 
 usage: cluster_random.py [RUNS [FIRST [PROCESSES]]]
 
-RUNS random joins from the seed FIRST on, by so many processes (20 from 0 by 2, where they aren't given). It needs Dask, as
-tests/cluster.py does. The last line is 'N passed, M failed'."""
+RUNS random joins through a cluster from the seed FIRST on, by so many processes (20 from 0 by 2, where they aren't given). It needs
+Dask, as tests/cluster.py does. The last line is 'N passed, M failed'."""
 import logging
 import pathlib
 import random
@@ -17,29 +17,31 @@ import cluster_pieces
 import harness
 import shards
 
-from radixjoin import sending, tasks
+from radixjoin import local, sending, tasks
 
 SCRIPT = shards.SCRIPT
 RUNS, FIRST, PROCESSES = 20, 0, 2
 SECONDS = 600
 
 
-class OnCluster(tasks.Cluster):
-    """A running cluster. It counts joins, and finds the cuts of small files here, since `shards --cuts` leaves these whole."""
+class Counts:
+    """Counts joins of what does tasks, of so many ranges, and finds the cuts of small files here, since `shards --cuts` leaves these whole."""
 
-    def __init__(self, client, count):
-        super().__init__(client, False)
-        self.count = count
+    def __init__(self, otherwise, ranges):
+        self.otherwise, self.ranges = otherwise, ranges
         self.joins = 0
 
     def tasks_at_once(self):
-        return self.count
+        return self.ranges
+
+    def tasks_in_process(self):
+        return self.otherwise.tasks_in_process()
 
     def answers(self, words):
         words = list(words)
         names = [task.__name__ for task, *_ in words]
         self.joins += names.count("join_shard")
-        return [tasks.answer(*it) for it in words] if "cuts_of" in names else super().answers(words)
+        return [tasks.answer(*it) for it in words] if "cuts_of" in names else self.otherwise.answers(words)
 
 
 def sources(otherwise=sending.sources):
@@ -50,8 +52,8 @@ def sources(otherwise=sending.sources):
     return {**code, "placed.py": small}
 
 
-def run_one(client, seed, tally):
-    """One random join, in two ways. It gives how many joins there were beside those of whole shards, and how it ended."""
+def run_one(does, seed, tally):
+    """One random join, in two ways, by what does tasks. It gives how many joins there were beside those of whole shards, and how it ended."""
     pick = random.Random(f"radixjoin: shards in a cluster {seed}")
     with harness.folder() as name:
         folder = pathlib.Path(name)
@@ -61,7 +63,7 @@ def run_one(client, seed, tally):
         more = [f"--parts={parts}", f"--merges={pick.choice((1, 3))}"]
         further = 0
         for spread in ([], [f"--spread={pick.choice((100, 150, 400))}"]):
-            on = OnCluster(client, ranges)
+            on = Counts(does(), ranges)
             ran = shards.joined([*words, *more, *spread], folder, ranges, cluster=lambda _, on=on: on)
             faults = harness.differences(ran, wanted.stdout, wanted.stderr, wanted.status)
             tally.check(f"cluster_random: {seed}: {words} {more} {spread} of {ranges} ranges", faults)
@@ -69,10 +71,10 @@ def run_one(client, seed, tally):
         return further, wanted.status
 
 
-def run_random(client, seeds, tally):
+def run_random(does, seeds, tally):
     """Such joins. Where they are many shards were cut in more than a third of them."""
     with mock.patch.object(SCRIPT, "cuts_of", cluster_pieces.cuts_of), mock.patch.object(sending, "sources", sources):
-        ran = harness.side_by_side(tally, [lambda own, seed=seed: run_one(client, seed, own) for seed in seeds])
+        ran = harness.side_by_side(tally, [lambda own, seed=seed: run_one(does, seed, own) for seed in seeds])
     if len(ran) >= RUNS:
         cut = sum(further > 0 for further, _ in ran)
         tally.check("cluster_random: shards that are cut", [] if cut > len(ran) / 3 else [f"in {cut} of {len(ran)} runs"])
@@ -80,6 +82,7 @@ def run_random(client, seeds, tally):
 
 
 def run_all(tally):
+    run_random(lambda: local.Machine(3, False), range(RUNS), tally)
     if python := harness.python_with_dask("cluster_random", "tomllib"):
         harness.run_script(tally, python, [__file__], SECONDS)
 
@@ -92,7 +95,7 @@ def main(words):
     tally, start = harness.Tally(), time.monotonic()
     runs, first, processes = [*map(int, words), *(RUNS, FIRST, PROCESSES)[len(words) :]]
     with LocalCluster(n_workers=processes, threads_per_worker=1, memory_limit=0, dashboard_address=":0", silence_logs=50) as cluster, Client(cluster) as client:
-        further = run_random(client, range(first, first + runs), tally)
+        further = run_random(lambda: sending.Cluster(client, False), range(first, first + runs), tally)
     print(f"cluster_random: {runs} joins, {further} joins beside those of whole shards, {time.monotonic() - start:.0f} s")
     print(f"{tally.passed} passed, {tally.failed} failed")
     return 1 if tally.failed else 0

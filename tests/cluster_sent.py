@@ -1,6 +1,6 @@
-"""What is sent to the processes of a Dask cluster: each kind of task as the script submits it is small, whatever the package's size;
-the package's code is read once by each process, by one that takes the place of another one too; and processes that work for two
-versions of it don't mix them.
+"""What is sent to the processes of a Dask cluster: each kind of task as the script submits it is small, whatever the package's size, and has
+the name of its step; the package's code is read once by each process, by one that takes the place of another one too; and processes
+that work for two versions of it don't mix them.
 
 It needs Dask, as tests/cluster.py does; without arguments it runs by a Python that has it, and with one by its own. The last line is
 'N passed, M failed'."""
@@ -29,6 +29,7 @@ class Notes:
     def __init__(self, client):
         self.client = client
         self.sizes = []
+        self.names = []
 
     def __getattr__(self, name):
         return getattr(self.client, name)
@@ -37,10 +38,11 @@ class Notes:
         from distributed.protocol import pickle
 
         self.sizes.append(len(pickle.dumps(function)) + len(pickle.dumps(words)))
+        self.names.append(how["key"])
         return self.client.submit(function, *words, **how)
 
 
-class Cluster(tasks.Cluster):
+class Cluster(sending.Cluster):
     """Notes for each kind of task how many bytes it has, and how many of these are of its own words. Something may be done before
     the first tasks of a kind."""
 
@@ -50,13 +52,19 @@ class Cluster(tasks.Cluster):
         self.shows_progress = shows_progress
         self.before = before or {}
         self.kinds = {}
+        # By which names Dask shows tasks of a kind.
+        self.steps = {}
 
     def answers(self, words):
+        from dask.utils import key_split
+
         words = list(words)
         for kind in {task.__name__ for task, *_ in words}:
             self.before.pop(kind, lambda _: None)(words[0][1])
         self.client.sizes.clear()
+        self.client.names.clear()
         found = super().answers(words)
+        self.steps[words[0][0].__name__] = {key_split(name) for name in self.client.names}
         for (task, _, *own), size in zip(words, self.client.sizes):
             self.kinds.setdefault(task.__name__, []).append((size, len(sending.packed(own))))
         return found
@@ -84,7 +92,8 @@ def joined(client, folder, words, before=None, shows_progress=False):
     wanted = harness.run([harness.program("radixjoin"), *alone(words)], folder)
     on = Cluster(client, before, shows_progress)
     ran = shards.joined(words, folder, 2, cluster=lambda _: on)
-    return harness.differences(ran, wanted.stdout, wanted.stderr, wanted.status), on.kinds
+    faults = [f"{kind} is shown as {names}" for kind, names in on.steps.items() if names != {tasks.STEPS[kind].replace(" ", "-")}]
+    return faults + harness.differences(ran, wanted.stdout, wanted.stderr, wanted.status), on.kinds
 
 
 def sizes_of(client, folder, tally, title):

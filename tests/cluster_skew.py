@@ -4,7 +4,7 @@ of the rows with their places, as each join reads them, without headers. The byt
 joins that are handed more are those of a row that is longer than half of that, which stands alone in its run, and those of a shard that
 would have more than 4,096 joins: it has fewer, of longer runs.
 
-One task after another and without Dask."""
+By programs of this machine that run side by side."""
 import argparse
 import collections
 import pathlib
@@ -15,7 +15,7 @@ import cluster_pieces
 import harness
 import shards
 
-from radixjoin import spread
+from radixjoin import local, spread
 
 SCRIPT = shards.SCRIPT
 PARTS, RANGES, MOST_JOINS = 16, 3, 4_096
@@ -85,7 +85,7 @@ def bytes_and_rows(folder, side):
 def joined(words, folder, more):
     """A run: how it ended, and for each of its joins how many bytes and rows of both tables it was handed."""
     cluster_pieces.TABLES.of(folder).clear()
-    ran = shards.joined([*words, *more], folder, RANGES)
+    ran = shards.joined([*words, *more], folder, RANGES, cluster=lambda count: local.Machine(count, False))
     return ran, dict(cluster_pieces.TABLES.of(folder))
 
 

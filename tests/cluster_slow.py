@@ -16,7 +16,7 @@ import cluster_killed
 import harness
 import shards
 
-from radixjoin import tasks
+from radixjoin import sending
 
 SECONDS = 600
 PROCESSES = 5
@@ -55,7 +55,7 @@ def ran(client, words, folder, programs, more):
     """A join by the processes of a client, and how it ended."""
     parts = [] if "--parts" in more else ["--parts", "3"]
     words = [*words, *parts, "--ranges", "2", *more, "--programs", programs]
-    return cluster_killed.joined(words, folder, tasks.Cluster(client, False))
+    return cluster_killed.joined(words, folder, sending.Cluster(client, False))
 
 
 def run_slow(client, way, name, text, more, tally):

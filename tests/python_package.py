@@ -1,6 +1,6 @@
 """Tests the Python package `radixjoin` of python/ over the built programs, by the scripts of tests/python.
 
-Frames need pandas, values Hypothesis, and the cluster Dask, which `./test` installs (Debian's python3-pandas, python3-hypothesis and
+Frames need pandas, values Hypothesis, and joins over a cluster Dask, which `./test` installs (Debian's python3-pandas, python3-hypothesis and
 python3-distributed). What needs one that can't be had is left out, and says so."""
 import ast
 import json
@@ -52,9 +52,13 @@ def tasks_of_scripts(programs):
     yield run_script(frames or sys.executable, "chosen")
     yield run_script(frames or sys.executable, "arguments")
     yield run_script(frames or sys.executable, "times")
-    needed = {"values": ("pandas", "hypothesis"), "clusters": ("distributed",), **dict.fromkeys(("memory", "pages", "foreign", "merges"), ("pandas",))}
+    dask = harness.python_with("distributed")
+    if dask is None:
+        print("skipped: joins over a Dask client: distributed is not installed")
+    yield run_script(dask or sys.executable, "clusters", programs)
+    needed = {"values": ("pandas", "hypothesis"), **dict.fromkeys(("memory", "pages", "foreign", "merges"), ("pandas",))}
     page = harness.ROOT / "docs" / "user" / "python.md"
-    words = {"pages": [page], "merges": [page], "clusters": [programs]}
+    words = {"pages": [page], "merges": [page]}
     for script, modules in needed.items():
         python = harness.python_with(*modules)
         if python is None:

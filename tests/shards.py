@@ -38,6 +38,9 @@ class OneByOne:
     def tasks_at_once(self):
         return self.number
 
+    def tasks_in_process(self):
+        return 1
+
     def answers(self, words):
         return [tasks.answer(*task) for task in words]
 

@@ -5,7 +5,7 @@
 
 `join` takes DataFrames, rows, open files and paths, and gives what came in; `stats` counts, and `suggest_types` reads types from a file's
 cells. A fault is a `Fault`, of which there is a class for each exit status of the program. `radixjoin.cluster` joins what is larger than
-memory, over a Dask cluster.
+memory, on this machine or over a Dask cluster.
 """
 from .faults import ClauseFault, DeviceFault, ExpectationFault, Fault, InputFault, LineFault, MemoryFault
 from .joining import Stats, join, stats

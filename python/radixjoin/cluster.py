@@ -1,12 +1,12 @@
-"""Joins two CSV files that are larger than one machine's memory, shard by shard, in the processes of a Dask cluster.
+"""Joins two CSV files that are larger than one machine's memory, shard by shard, on this machine or in the processes of a Dask cluster.
 
 Both files are divided by the hash of their rows' keys (the program `shards`, one task for each range of a file), the two
 parts of each shard are joined (`radixjoin`, one task a shard, or several where it is too large), and what these joins give is merged
 (`merges`, one task for each range of the joined table). The bytes written are those that `radixjoin` would write. docs/user/cluster.md says what of this is proved, and how to run it.
 
 Every task writes under a new name and renames at its end, so that a task may run twice. The parts of a range stand in one file. What
-a step made is removed when the next one is done, and all that is half made at the end, whether it is a good one or not. It needs
-Dask (Debian's python3-dask and python3-distributed).
+a step made is removed when the next one is done, and all that is half made at the end, whether it is a good one or not. With
+--scheduler it needs Dask (Debian's python3-dask and python3-distributed).
 """
 from __future__ import annotations
 
@@ -36,7 +36,7 @@ from .explained import of_cell, of_row, of_unread
 from .faults import Fault, fault_of
 from .feeding import FILES_OF_INPUT, Input, bytes_of, run_program
 from .lists import lower, read_list, with_place
-from .local import local_cluster
+from .local import Machine
 from .making import append, beginning, folder_beside, made, remove
 from .nulls import Texts, texts_of
 from .outputs import refuse_input
@@ -46,11 +46,13 @@ from .placed import LEFT, RIGHT, SAMPLES, Index, Place, Shard, cut_places, sampl
 from .programs import ProgramNotFound, encoded, find_all
 from .spread import TABLE, Join, are_many, joins_of, length_of, limit_of, most_tables, next_length, runs_of
 from .tables import PathTable
-from .tasks import FULL, Cluster, Told, answer, first_fault, unwritten
+from .tasks import FULL, Told, answer, first_fault, unwritten
 from .text import header_in
 
 if TYPE_CHECKING:
     from distributed import Client
+
+    from .sending import Cluster
 
 # The options that go to `radixjoin` alone, as they are.
 OF_ONE_JOIN = ("workers", "bits1", "bits2", "hash", "block", "capacity", "lanes", "retries", "piece", "rows", "order")
@@ -58,6 +60,8 @@ OF_ONE_JOIN = ("workers", "bits1", "bits2", "hash", "block", "capacity", "lanes"
 # both sides, whose columns have to stand in the joined shards.
 OF_WHOLE_TABLES = {"columns": "all"}
 SIDES = ("left", "right")
+# The signals that end the script.
+ENDS = (signal.SIGTERM, signal.SIGINT, signal.SIGHUP)
 # The options that may be given again.
 SEVERAL = ("--left-null", "--right-null")
 PLACES = {"left": LEFT, "right": RIGHT}
@@ -96,15 +100,15 @@ def parser() -> Parser:
     line.add_argument("--strict", nargs="?", const="on", choices=("on", "full"), help="refuse files that aren't of RFC 4180's grammar; full: also those whose last line has no end")
     line.add_argument("--output", "--out", dest="out", required=True, metavar="FILE", help="file of the joined table; it is there when the whole table is")
     line.add_argument("--parts", type=int, default=16, metavar="N", help="shards that the tables are divided into, 1 to 1024 [default: 16]")
-    line.add_argument("--ranges", type=int, metavar="N", help="ranges of a file that are divided side by side [default: one for each task that the processes do at once]")
+    line.add_argument("--ranges", type=int, metavar="N", help="ranges of a file that are divided side by side [default: one for each task that is done at once]")
     line.add_argument("--spread", type=int, metavar="BYTES", help="bytes of both tables above which a shard is joined in pieces of no more [default: twice the mean of all shards, no less than 16 MiB]")
-    line.add_argument("--merges", type=int, metavar="N", help="ranges of the joined table, of about as many bytes each, that are merged side by side, 1 to 1024 [default: one for each task that the processes do at once, and no more than one for each 16 MiB]")
+    line.add_argument("--merges", type=int, metavar="N", help="ranges of the joined table, of about as many bytes each, that are merged side by side, 1 to 1024 [default: one for each task that is done at once, and no more than one for each 16 MiB]")
     line.add_argument("--scratch", metavar="FOLDER", help="folder for what is half made, which every process can write [default: that of --output]")
     line.add_argument("--programs", metavar="FOLDER", help="folder of radixjoin, shards and merges [default: that of the environment variable RADIXJOIN, this tree's, or those on the PATH]")
     line.add_argument("--memory", type=int, metavar="MIB", help="address space that each program may take, in MiB [default: no limit]")
     where = line.add_mutually_exclusive_group()
     where.add_argument("--scheduler", metavar="ADDRESS", help="scheduler of a Dask cluster, as tcp://node1:8786")
-    where.add_argument("--processes", type=int, default=1, metavar="N", help="processes of this machine that work side by side [default: 1]")
+    where.add_argument("--processes", type=int, default=1, metavar="N", help="programs that run side by side on this machine [default: 1]")
     line.add_argument("--progress", action="store_true", help="show on a terminal which step is done, and how many of its tasks")
     line.add_argument("--explain", action="store_true", help="tell behind the line of a fault where it is, and what stands there")
     for option in OF_ONE_JOIN:
@@ -203,7 +207,7 @@ class Job:
 
     def run(self, name: str, words: Sequence[str], output: Any = subprocess.PIPE, writes: Optional[str] = None, inputs: Sequence[Input] = ()) -> bytes:
         """Runs a program, on these inputs beside the files that its words name, and gives what it printed. What it refuses is told; that
-        it was killed is an error, so that Dask tries again. What can't be written is told as what the program writes, or as the folder
+        it was killed is an error, so that the task runs again. What can't be written is told as what the program writes, or as the folder
         for what is half made."""
         how = {"cwd": self.scratch, "stdin": subprocess.DEVNULL, "stdout": output, "preexec_fn": beginning(self.memory)}
         ran = run_program([self.programs[name], *words], inputs, **how)
@@ -511,7 +515,7 @@ def refuse_files(job: Job) -> None:
 
 
 def refuse(job: Job) -> None:
-    """Tells what is wrong beside the rows, before there are processes for these: what `radixjoin` tells of two files of these headers that
+    """Tells what is wrong beside the rows, before these are read: what `radixjoin` tells of two files of these headers that
     have no rows, and what keeps a join from being done in shards. It is told by `shards`, which divides no bytes of each file."""
     bad_null = refuse_line(job)
     refuse_files(job)
@@ -611,7 +615,7 @@ def ranges_of_merge(cluster: Any, joins: int, size: int) -> int:
     """How many ranges of so many joined tables, of so many bytes in all, are merged side by side where that isn't given: one for each
     task that is done at once, but none of few bytes. It is one alone where a process can't have open what a range needs of each table:
     to merge all it needs one file of each."""
-    if joins > most_tables(FILES_OF_INPUT):
+    if joins > most_tables(FILES_OF_INPUT * cluster.tasks_in_process()):
         return 1
     tasks: int = cluster.tasks_at_once()
     return max(1, min(tasks, size // LEAST_MERGED, MOST_MERGES))
@@ -621,7 +625,7 @@ def run(job: Job, cluster: Any, count: int, merges: Optional[int]) -> None:
     """Divides, joins and merges, in as many ranges as are given."""
     ranges, sizes = divided(job, cluster, count)
     joins = joins_of_shards(job, cluster, ranges, sizes)
-    refuse_many(joins, job.parts, FILES_OF_INPUT if merges and merges > 1 else 1)
+    refuse_many(joins, job.parts, FILES_OF_INPUT * min(merges, cluster.tasks_in_process()) if merges and merges > 1 else 1)
     joined = cluster.answers([(join_shard, job, one, ranges) for one in joins])
     first_fault(joined)
     job.clear("left-*", "right-*")
@@ -635,24 +639,30 @@ def run(job: Job, cluster: Any, count: int, merges: Optional[int]) -> None:
 
 
 @contextlib.contextmanager
-def cluster_of(asked: argparse.Namespace) -> Iterator[Cluster]:
-    """The cluster that is asked for, or one on this machine."""
+def cluster_of(asked: argparse.Namespace) -> Iterator[Union[Machine, Cluster]]:
+    """The cluster that is asked for, or this machine."""
+    if not asked.scheduler:
+        yield Machine(asked.processes, asked.progress)
+        return
     from distributed import Client
 
     # (what ends late or is called off at the end is no fault of the join)
     for name in ("asyncio", "tornado", "distributed"):
         logging.getLogger(name).setLevel(logging.CRITICAL)
-    if asked.scheduler:
-        with Client(asked.scheduler) as client:
-            yield Cluster(client, asked.progress)
-        return
-    with local_cluster(asked.processes) as cluster, Client(cluster) as client:
-        yield Cluster(client, asked.progress)
+    with Client(asked.scheduler) as client:
+        yield cluster_by(client, asked.progress)
+
+
+def cluster_by(client: Client, progress: bool) -> Cluster:
+    """The cluster of a Dask client. (What is needed for it alone is loaded here.)"""
+    from .sending import Cluster
+
+    return Cluster(client, progress)
 
 
 def run_in(asked: argparse.Namespace, cluster: contextlib.AbstractContextManager[Any]) -> None:
-    """Joins as asked by the processes of a cluster, in a scratch folder that is removed at the end. What can be refused without the rows
-    is refused before the cluster is there."""
+    """Joins as asked on this machine or a cluster, in a scratch folder that is removed at the end. What can be refused without the rows is
+    refused before the cluster is there."""
     refuse_input(asked.out, asked.left, asked.right)
     folder = str(Path(asked.scratch or Path(asked.out).resolve().parent).resolve())
     with scratch_in(folder) as scratch, output_of(Job(asked, scratch)) as job:
@@ -662,11 +672,12 @@ def run_in(asked: argparse.Namespace, cluster: contextlib.AbstractContextManager
 
 
 def join(
-    client: Client,
     left: Union[str, os.PathLike[str]],
     right: Union[str, os.PathLike[str]],
     clause: str,
     *,
+    client: Optional[Client] = None,
+    processes: Optional[int] = None,
     left_types: Types,
     right_types: Types,
     output: Union[str, os.PathLike[str]],
@@ -686,8 +697,8 @@ def join(
     explain: bool = False,
     **of_one_join: Any,
 ) -> Any:
-    """Joins two files by the processes of a Dask client, and gives the path of the result, `output`. All processes have to see the
-    files, the programs and the scratch folder under the same names.
+    """Joins two files shard by shard, and gives the path of the result, `output`: on this machine, where no more than `processes` programs
+    run side by side (1, where it isn't given), or by the processes of a Dask client. These have to see the files, the programs and the scratch folder under the same names.
 
     The arguments are the options of the command line `radixjoin-cluster` (docs/user/cluster.md): `left_null` and `right_null`, a text or
     up to four, and `out_null`, in place of `null`; `strict`, True or "full", has files refused that aren't of RFC 4180's grammar; with `explain`, a `Fault` has an `explanation`;
@@ -703,6 +714,8 @@ def join(
             stand), in this tree or on the PATH.
         RuntimeError: a program was ended by a signal, or a process of the cluster ended, each time that a task was tried.
     """
+    if client is not None and processes is not None:
+        raise TypeError("processes= is of this machine, and client= of a cluster")
     unknown = next((name for name in of_one_join if name not in OF_ONE_JOIN), None)
     if unknown is not None:
         raise TypeError(f"{unknown}= is no option of the join of a shard")
@@ -717,11 +730,11 @@ def join(
     if strict and strict not in (True, "full"):
         raise ValueError(f"strict={strict!r} is none of True, False and 'full'")
     how = {"strict": "full" if strict == "full" else "on" if strict else None, "parts": parts, "ranges": ranges, "spread": spread, "merges": merges, "memory": memory, "progress": progress, "explain": explain}
-    asked = argparse.Namespace(join=os.fsdecode(encoded(given(clause))), processes=1, **how, **files, **folders, **types, **nulls, **each)
+    asked = argparse.Namespace(join=os.fsdecode(encoded(given(clause))), processes=processes, **how, **files, **folders, **types, **nulls, **each)
     for name, least, most in beyond(asked):
         raise ValueError(f"{name}= is from {least} to {most}")
     try:
-        run_in(asked, contextlib.nullcontext(Cluster(client, progress)))
+        run_in(asked, contextlib.nullcontext(Machine(processes or 1, progress) if client is None else cluster_by(client, progress)))
     except Told as told:
         raise fault_of(str(told), told.status) from None
     return output
@@ -735,8 +748,9 @@ def _types(side: str, path: str, types: Types) -> str:
 
 
 def ended_by(number: int, _: Any) -> None:
-    """Ends the script where a signal asks for it: what is half made is removed, and goes on being so where it asks again."""
-    signal.signal(number, signal.SIG_IGN)
+    """Ends the script where a signal asks for it: what is half made is removed, and goes on being so where one asks again."""
+    for it in ENDS:
+        signal.signal(it, signal.SIG_IGN)
     # (Dask's own timers may end before they began, of which Python would tell a line on standard error)
     warnings.filterwarnings("ignore", "coroutine .* was never awaited", RuntimeWarning)
     sys.exit(128 + number)
@@ -745,7 +759,7 @@ def ended_by(number: int, _: Any) -> None:
 def main() -> int:
     """The command line."""
     open_streams()
-    for number in (signal.SIGTERM, signal.SIGINT, signal.SIGHUP):
+    for number in ENDS:
         # (what nohup starts goes on when its terminal is gone)
         if number != signal.SIGHUP or signal.getsignal(number) != signal.SIG_IGN:
             signal.signal(number, ended_by)
@@ -759,7 +773,7 @@ def main() -> int:
         print(f"radixjoin-cluster: {error}", file=sys.stderr)
         return 2
     except (OSError, RuntimeError, ImportError) as error:
-        # (of a module it is Dask that isn't there)
+        # (of a module it is Dask that isn't there, which a scheduler needs)
         print(f"radixjoin-cluster: {error}", file=sys.stderr)
         return 6 if isinstance(error, OSError) else 1
     return 0

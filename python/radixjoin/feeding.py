@@ -8,6 +8,7 @@ import selectors
 import subprocess
 from typing import Any, Generator, List, Sequence, Tuple
 
+from .ending import go_on
 from .pipes import pipe
 from .programs import environment
 
@@ -16,6 +17,8 @@ Input = Tuple[str, Generator[bytes, None, None]]
 # How many files are open for each input: one that its bytes are of, and both ends of its pipe.
 FILES_OF_INPUT = 3
 _CHUNK = 1 << 16
+# The seconds after which a task that waits for a program asks again whether it is to go on.
+_TURN = 0.1
 
 
 def bytes_of(path: str, stretches: Sequence[Tuple[int, int]]) -> Generator[bytes, None, None]:
@@ -77,10 +80,19 @@ def _write(feeds: Sequence[_Feed]) -> None:
         for it in feeds:
             waiting.register(it.writes, selectors.EVENT_WRITE, it)
         while waiting.get_map():
-            for key, _ in waiting.select():
+            go_on()
+            for key, _ in waiting.select(_TURN):
                 if key.data.is_done():
                     waiting.unregister(key.data.writes)
                     key.data.writes.close()
+
+
+def _end(process: "subprocess.Popen[bytes]") -> Tuple[bytes, bytes]:
+    """What a program printed and told, once it has ended."""
+    while True:
+        go_on()
+        with contextlib.suppress(subprocess.TimeoutExpired):
+            return process.communicate(timeout=_TURN)
 
 
 def run_program(line: Sequence[str], inputs: Sequence[Input], **how: Any) -> "subprocess.CompletedProcess[bytes]":
@@ -98,7 +110,7 @@ def run_program(line: Sequence[str], inputs: Sequence[Input], **how: Any) -> "su
                 for it in feeds:
                     it.reads.close()
                 _write(feeds)
-                printed, told = process.communicate()
+                printed, told = _end(process)
             except BaseException:
                 process.kill()
                 raise

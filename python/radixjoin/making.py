@@ -11,18 +11,22 @@ import time
 import uuid
 from typing import BinaryIO, Callable, Iterator, Optional
 
+from .ending import go_on
+
 # How often, and after how many seconds, it is tried again to remove what is half made.
 TRIES, SECONDS = 20, 0.1
 # How many bytes are copied at once by a call of the system, and by this process.
-_MOST, _CHUNK = 1 << 30, 1 << 20
+_MOST, _CHUNK = 1 << 26, 1 << 20
 
 
 def beginning(memory: Optional[int]) -> Callable[[], None]:
-    """What a program's process does before it becomes the program: it ends when the process that began it does, and takes no more than its memory."""
+    """What a program's process does before it becomes the program: it ends when the thread that began it does, and takes no more than its
+    memory. (What it needs for that is looked up before: it is forked while other threads run.)"""
+    prctl = ctypes.CDLL(None).prctl
+    most = resource.getrlimit(resource.RLIMIT_NOFILE)[1]
 
     def begin() -> None:
-        ctypes.CDLL(None).prctl(1, signal.SIGKILL)  # PR_SET_PDEATHSIG
-        most = resource.getrlimit(resource.RLIMIT_NOFILE)[1]
+        prctl(1, signal.SIGKILL)  # PR_SET_PDEATHSIG
         resource.setrlimit(resource.RLIMIT_NOFILE, (most, most))  # `merges` opens the file of each part
         if memory:
             resource.setrlimit(resource.RLIMIT_AS, (memory, memory))
@@ -64,8 +68,15 @@ def append(path: str, whole: BinaryIO) -> None:
     with open(path, "rb", buffering=0) as file:
         with contextlib.suppress(OSError, AttributeError):
             while os.copy_file_range(file.fileno(), whole.fileno(), _MOST):
-                pass
-        shutil.copyfileobj(file, whole, _CHUNK)
+                go_on()
+        whole.writelines(_chunks(file))
+
+
+def _chunks(file: BinaryIO) -> Iterator[bytes]:
+    """What is left of a file."""
+    while chunk := file.read(_CHUNK):
+        go_on()
+        yield chunk
 
 
 def remove(path: str) -> None:

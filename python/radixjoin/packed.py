@@ -16,6 +16,8 @@ import struct
 import zlib
 from typing import BinaryIO, Generator, Iterator, List, Sequence, Tuple
 
+from .ending import go_on
+
 # The bytes of a table that a join takes: stretches of files, from which byte up to which one, the first of which is the header, and
 # the sum of all these bytes.
 Run = Tuple[List[Tuple[str, int, int]], int]
@@ -32,6 +34,7 @@ def _form(count: int) -> str:
 def _chunks(file: BinaryIO, size: int) -> Iterator[bytes]:
     """So many bytes of a file, or those up to its end."""
     while size > 0:
+        go_on()
         chunk = file.read(min(size, _CHUNK))
         if not chunk:
             return
@@ -103,6 +106,7 @@ class Part:
         Raises:
             FileNotFoundError: at the end, where these aren't the bytes that were written.
         """
+        go_on()
         chunk = self._file.read(min(size, self.end - self._file.tell()))
         self._total = zlib.crc32(chunk, self._total)
         if not chunk and self._total != self._sum:

@@ -10,6 +10,7 @@ from bisect import bisect_left
 from codecs import BOM_UTF8
 from typing import BinaryIO, Iterable, Iterator, List, Tuple
 
+from .ending import go_on
 from .text import end_of_record, end_of_records, fields_in, records_in
 
 # The names of the columns of places.
@@ -74,6 +75,7 @@ class Shard:
         at, before, size = self.begin, 0, PIECE
         with open(self.path, "rb") as file:
             while True:
+                go_on()
                 file.seek(at)
                 piece = file.read(size)
                 end = end_of_records(piece)

@@ -1,19 +1,16 @@
-"""Tasks that the processes of a Dask cluster run: how they are sent, and what each gives or tells."""
+"""Tasks of a join in shards: what each gives or tells, and how it is shown how many are done."""
 from __future__ import annotations
 
 import contextlib
 import errno
 import itertools
 import sys
-from typing import TYPE_CHECKING, Any, Callable, Dict, List, Sequence, Tuple
-
-from .sending import FILE, job_in, packed, unpacked, work, write
-
-if TYPE_CHECKING:
-    from distributed import Client
+from typing import Any, Callable, Iterable, Iterator, Sequence, Tuple
 
 # What the system tells where there is no room, which no second try changes.
 FULL = (errno.ENOSPC, errno.EDQUOT, errno.EROFS)
+# How often a task runs again whose program was killed.
+AGAIN = 2
 # What is shown of a step, by the name of its tasks' function.
 STEPS = {
     "cuts_of": "looking for cuts",
@@ -62,73 +59,40 @@ def answer(task: Callable[..., Any], job: Any, *words: Any) -> Any:
         return unwritten(job.folder())
 
 
-def answered(path: str, task: bytes) -> bytes:
-    """What a packed task gives in a process, or the fault that it told, packed as well."""
-    function, words = unpacked(task)
-    return packed(answer(function, job_in(path), *words))
-
-
-def _show(step: str, futures: Sequence[Any]) -> None:
-    """Shows on the terminal how many tasks of a step are done, until all are."""
-    from distributed import as_completed
-
+@contextlib.contextmanager
+def in_one_line() -> Iterator[None]:
+    """Has what goes wrong be an OSError or a RuntimeError, which the script tells in a line."""
     try:
-        for done, _ in enumerate(itertools.chain([None], as_completed(futures))):
-            _put(f"{_CLEARED}radixjoin-cluster: {step}, {done} of {len(futures)} tasks")
+        yield
+    except (OSError, RuntimeError):
+        raise
+    except Exception as error:
+        raise RuntimeError(f"{type(error).__name__}: {error}") from error
+
+
+def step_of(tasks: Sequence[Tuple[Any, ...]]) -> str:
+    """The step of some tasks, of one or more."""
+    return STEPS[tasks[0][0].__name__]
+
+
+def are_shown(is_asked: bool) -> bool:
+    """Whether steps are shown: where that is asked for, on a terminal."""
+    return is_asked and sys.stderr is not None and sys.stderr.isatty()
+
+
+def show(tasks: Sequence[Tuple[Any, ...]], done: Iterable[Any]) -> None:
+    """Shows on the terminal how many tasks of a step are done, until all are."""
+    try:
+        for number, _ in enumerate(itertools.chain([None], done)):
+            put(f"{_CLEARED}radixjoin-cluster: {step_of(tasks)}, {number} of {len(tasks)} tasks")
     finally:
-        _put(_CLEARED)
+        put(_CLEARED)
 
 
-def _put(text: str) -> None:
+def put(text: str) -> None:
     """Writes on the terminal, if it is still there."""
     with contextlib.suppress(OSError):
         print(text, end="", file=sys.stderr, flush=True)
-
-
-class Cluster:
-    """The processes that tasks are sent to."""
-
-    def __init__(self, client: Client, shows_progress: bool) -> None:
-        self.client = client
-        self.shows_progress = shows_progress and sys.stderr is not None and sys.stderr.isatty()
-        # The files that were written for the processes, and the name of the package in each.
-        self.sent: Dict[str, str] = {}
-
-    def answers(self, tasks: Sequence[Tuple[Any, ...]]) -> List[Any]:
-        """What tasks give, in their order. Each is a function, the job and further words. Dask runs a task again whose process ended, or
-        whose program was killed."""
-        futures = [self.client.submit(work, *self._sent(job), packed((function, words)), pure=False, retries=2) for function, job, *words in tasks]
-        # (what Dask waits for and shows it asks of the client that is current, which may be another one in a script of several)
-        with self.client.as_current():
-            if self.shows_progress:
-                _show(STEPS[tasks[0][0].__name__], futures)
-            return [unpacked(it) for it in self._gathered(futures)]
-
-    def _sent(self, job: Any) -> Tuple[str, str]:
-        """The file that the processes read for a job, which is written once, and the name of the package in it."""
-        path = job.place(FILE)
-        if path not in self.sent:
-            name = answer(write, job, path)
-            first_fault([name])
-            self.sent[path] = name
-        return path, self.sent[path]
-
-    def _gathered(self, futures: List[Any]) -> List[Any]:
-        """What all tasks gave, once none of them runs any more. What Dask tells, as of processes that end each time, is a RuntimeError."""
-        from distributed import wait
-
-        try:
-            wait(futures)
-            return list(self.client.gather(futures))
-        except (OSError, RuntimeError):
-            raise
-        except Exception as error:
-            raise RuntimeError(f"{type(error).__name__}: {error}") from error
-
-    def tasks_at_once(self) -> int:
-        """How many tasks they do at once: a process does one in each of its threads."""
-        threads: Dict[str, int] = self.client.nthreads()
-        return max(1, sum(threads.values()))
 
 
 def first_fault(answers: Sequence[Any]) -> None:

@@ -1,6 +1,9 @@
-"""`radixjoin.cluster.join` over a Dask client, and `python -m radixjoin.cluster`: the bytes that `radixjoin` writes, or its fault.
+"""`radixjoin.cluster.join` on this machine and, where there is Dask, over its client, and `python -m radixjoin.cluster`: the bytes that
+`radixjoin` writes, or its fault.
 
 usage: clusters.py FOLDER      the folder of the programs"""
+import functools
+import importlib.util
 import logging
 import os
 import pathlib
@@ -11,7 +14,6 @@ import tempfile
 from unittest import mock
 
 import telling
-from distributed import Client, LocalCluster
 from faults import CLOSED, without
 
 import radixjoin
@@ -24,33 +26,33 @@ CLAUSE = "FULL JOIN USING (id)"
 SECONDS = 60
 
 
-def joins(client, programs, folder):
+def joins(join, programs, folder):
     """A join as the program does it, each fault as its exception, and nothing left behind."""
     left, right, out = folder / "left.csv", folder / "right.csv", folder / "out.csv"
     left.write_text(LEFT)
     right.write_text(RIGHT)
     alone = radixjoin.join(left, right, CLAUSE, output=folder / "alone.csv", strict=False, program=programs / "radixjoin", **TYPES)
     options = {"output": out, "programs": programs, **TYPES}
-    gave = cluster.join(client, left, right, CLAUSE, parts=3, ranges=2, workers=2, **options)
+    gave = join(left, right, CLAUSE, parts=3, ranges=2, workers=2, **options)
     yield from telling.differs("the path", gave, out)
     yield from telling.differs("the bytes", out.read_bytes() == alone.read_bytes(), True)
     out.unlink()
-    cluster.join(client, left, right, CLAUSE, parts=2, spread=10_000, merges=2, **options)
+    join(left, right, CLAUSE, parts=2, spread=10_000, merges=2, **options)
     yield from telling.differs("the bytes of shards in pieces", out.read_bytes() == alone.read_bytes(), True)
     out.unlink()
     for clause, code in (("JOIN USING (id", "E11"), ("JOIN USING (nmae)", "E13"), ("CROSS JOIN", None)):
-        error = telling.raised(cluster.join, client, left, right, clause, **options)
+        error = telling.raised(join, left, right, clause, **options)
         yield from [] if isinstance(error, radixjoin.ClauseFault) and error.code == code else [f"{clause}: {error!r}"]
     left.write_text(LEFT + "x,y\n")
-    error = telling.raised(cluster.join, client, left, right, CLAUSE, ranges=2, **options)
+    error = telling.raised(join, left, right, CLAUSE, ranges=2, **options)
     yield from telling.differs("a fault's place", repr(error), repr(radixjoin.InputFault("radixjoin: E6 BadInteger left row 3001 column 1", 3)))
     for named in ({"parts": 0}, {"no_such_option": 1}, {"ranges": 0}, {"spread": 0}, {"memory": 0}):
-        error = telling.raised(cluster.join, client, left, right, CLAUSE, **named, **options)
+        error = telling.raised(join, left, right, CLAUSE, **named, **options)
         yield from [] if isinstance(error, (TypeError, ValueError)) and next(iter(named)) in str(error) else [f"{named}: {error!r}"]
     yield from telling.differs("files", sorted(os.listdir(folder)), ["alone.csv", "left.csv", "right.csv"])
 
 
-def by_side(client, programs, folder):
+def by_side(join, programs, folder):
     """Null texts by side and types by name, as texts, in files and by Python's own names; what is written as null is; a full result."""
     left, right, out, types = folder / "left.csv", folder / "right.csv", folder / "out.csv", folder / "left.types"
     left.write_text(LEFT.replace("n11\n", "none\n").replace("n12\n", "\n"))
@@ -60,7 +62,7 @@ def by_side(client, programs, folder):
     alone = radixjoin.join(left, right, CLAUSE, output=folder / "alone.csv", program=programs / "radixjoin", **nulls, **TYPES)
     options = {"output": out, "programs": programs, "parts": 3, "ranges": 2}
     for each in (f"@{types}", "id=int,*=text", ["*=text", "ID=int"], {"id": int, "*": "text"}, {"name": str, "id": "int"}):
-        cluster.join(client, left, right, CLAUSE, left_types=each, right_types="*=text,id=int", strict=True, **nulls, **options)
+        join(left, right, CLAUSE, left_types=each, right_types="*=text,id=int", strict=True, **nulls, **options)
         yield from telling.differs(f"the bytes {each}", out.read_bytes() == alone.read_bytes(), True)
         out.unlink()
     for more, kind, line in (
@@ -70,7 +72,7 @@ def by_side(client, programs, folder):
         ({"left_types": 'id=int,"row 007"=int,*=text'}, radixjoin.InputFault, 'radixjoin: E27 TypeName left "row 007"'),
         ({"output": folder}, radixjoin.DeviceFault, f'radixjoin-cluster: E20 WriteDevice "{folder.resolve()}": Is a directory'),
     ):
-        error = telling.raised(cluster.join, client, left, right, CLAUSE, **{**TYPES, "strict": "full", **options, **more})
+        error = telling.raised(join, left, right, CLAUSE, **{**TYPES, "strict": "full", **options, **more})
         wanted = telling.raised(radixjoin.join, left, right, CLAUSE, strict="full", explain=False, output=folder / "alone.csv", **{**TYPES, **more}) if line is None else line
         yield from telling.differs(f"{more}", (type(error), str(error)), (kind, str(wanted)))
     yield from telling.differs("a place that has no side", (error.code, error.name, error.side, error.row), ("E20", "WriteDevice", None, None))
@@ -104,7 +106,7 @@ def faulty_calls(folder):
     yield {"program": str(folder)}, False
 
 
-def as_join_does(client, programs, folder):
+def as_join_does(join, programs, folder):
     """Each fault is raised as `radixjoin.join` raises it, and nothing is left."""
     (folder / "left.csv").write_text(LEFT)
     (folder / "right.csv").write_text(RIGHT)
@@ -121,7 +123,7 @@ def as_join_does(client, programs, folder):
         with mock.patch.dict(os.environ, {"RADIXJOIN": named.pop("RADIXJOIN", "unused")}):
             tables = [named.pop(name) for name in ("left", "right", "clause")]
             wanted = telling.raised(radixjoin.join, *tables, program=alone, **{"explain": False, **named})
-            error = telling.raised(cluster.join, client, *tables, parts=2, **program, **named)
+            error = telling.raised(join, *tables, parts=2, **program, **named)
         yield from [] if isinstance(wanted, Exception) else [f"{str(case)[:99]}: radixjoin.join raises nothing"]
         yield from telling.differs(f"{str(case)[:99]}", type(error), type(wanted))
         yield from telling.differs(f"{str(case)[:99]}: code, status", *([getattr(it, name, None) for name in ("code", "status", "side")] for it in (error, wanted)))
@@ -129,7 +131,7 @@ def as_join_does(client, programs, folder):
         yield from telling.differs(f"{str(case)[:99]}: files", sorted(os.listdir(folder)), before)
 
 
-def by_variable(client, programs, folder):
+def by_variable(join, programs, folder):
     """The programs that the environment variable RADIXJOIN names: the one, and those beside it; else those of this tree or on the PATH. And
     paths of bytes."""
     left, right, out = folder / "left.csv", folder / "right.csv", folder / "out.csv"
@@ -143,16 +145,16 @@ def by_variable(client, programs, folder):
             (folder / place / name).chmod(0o755)
         path = {"PATH": f"{programs}:{os.environ['PATH']}"} if place == "one" else {}
         with mock.patch.dict(os.environ, {"RADIXJOIN": str(folder / place / "radixjoin"), **path}):
-            cluster.join(client, left, right, CLAUSE, output=out, parts=2, ranges=2, **TYPES)
+            join(left, right, CLAUSE, output=out, parts=2, ranges=2, **TYPES)
         yield from telling.differs(f"{place}: the bytes", out.read_bytes() == alone.read_bytes(), True)
         out.unlink()
         started = sorted(it.suffix[1:] for it in folder.glob(f"{place}.*"))
         yield from telling.differs(f"{place}: the programs that ran", started, sorted(names))
-    gave = cluster.join(client, os.fsencode(left), str(right), CLAUSE, output=os.fsencode(out), programs=os.fsencode(programs), parts=2, **TYPES)
+    gave = join(os.fsencode(left), str(right), CLAUSE, output=os.fsencode(out), programs=os.fsencode(programs), parts=2, **TYPES)
     yield from telling.differs("paths of bytes", (gave, out.read_bytes() == alone.read_bytes()), (os.fsencode(out), True))
 
 
-def over_inputs(client, programs, folder):
+def over_inputs(join, programs, folder):
     """A result in the file of a table is refused, by whatever name, and the table stays."""
     left, right, linked, symbolic = (folder / name for name in ("left.csv", "right.csv", "linked.csv", "symbolic.csv"))
     left.write_text(LEFT)
@@ -169,7 +171,7 @@ def over_inputs(client, programs, folder):
         ("right", left, symbolic, right),
         ("left", left, left, left),
     ):
-        fault = telling.raised(cluster.join, client, one, other, CLAUSE, output=output, programs=programs, parts=2, **TYPES)
+        fault = telling.raised(join, one, other, CLAUSE, output=output, programs=programs, parts=2, **TYPES)
         title = f"{one.__class__.__name__} {output}"
         yield from telling.differs(title, (type(fault), str(fault)), (radixjoin.DeviceFault, f"radixjoin: E29 OutputIsInput {side}"))
         after = sorted(os.listdir(folder)), left.read_text(), right.read_text(), os.path.samefile(left, linked), symbolic.is_symlink()
@@ -226,19 +228,51 @@ def command_without_streams(programs, folder):
         yield from telling.differs(f"without {streams}: files", sorted(os.listdir(folder)), before)
 
 
-def main(programs):
+# The tests of joins, whoever does their tasks.
+TESTS = {
+    "joins": joins,
+    "null texts by side and types by name": by_side,
+    "as join does": as_join_does,
+    "by variable": by_variable,
+    "a result in the file of a table": over_inputs,
+}
+
+
+def run_joins(where, join, programs):
+    """The tests of a join on this machine, or over a client."""
+    for title, test in TESTS.items():
+        with tempfile.TemporaryDirectory(prefix="radixjoin-test-") as name:
+            telling.attempt(f"radixjoin.cluster.join {where}, {title}", test, join, programs, pathlib.Path(name))
+
+
+def arguments(folder):
+    """Of a client and a number of processes one alone can be given, and the latter in its limits."""
+    cases = (
+        ({"client": object(), "processes": 2}, TypeError("processes= is of this machine, and client= of a cluster")),
+        ({"processes": 0}, ValueError("processes= is from 1 to 1024")),
+        ({"processes": 1025}, ValueError("processes= is from 1 to 1024")),
+    )
+    for named, wanted in cases:
+        error = telling.raised(cluster.join, "left.csv", "right.csv", CLAUSE, output=folder / "out.csv", **named, **TYPES)
+        yield from telling.differs(f"{[*named]}", repr(error), repr(wanted))
+
+
+def over_client(programs):
+    """The tests of joins over a Dask client."""
+    from distributed import Client, LocalCluster
+
     for name in ("asyncio", "tornado", "distributed"):
         logging.getLogger(name).setLevel(logging.CRITICAL)
+    with LocalCluster(n_workers=2, threads_per_worker=1, memory_limit=0, dashboard_address=":0", silence_logs=50) as local, Client(local) as client:
+        run_joins("over a client", functools.partial(cluster.join, client=client), programs)
+
+
+def main(programs):
+    run_joins("on this machine", functools.partial(cluster.join, processes=2), programs)
+    if importlib.util.find_spec("distributed"):
+        over_client(programs)
     with tempfile.TemporaryDirectory(prefix="radixjoin-test-") as name:
-        with LocalCluster(n_workers=2, threads_per_worker=1, memory_limit=0, dashboard_address=":0", silence_logs=50) as local, Client(local) as client:
-            telling.attempt("radixjoin.cluster.join", joins, client, programs, pathlib.Path(name))
-            with tempfile.TemporaryDirectory(prefix="radixjoin-test-left-") as other:
-                telling.attempt("radixjoin.cluster.join, null texts by side and types by name", by_side, client, programs, pathlib.Path(other))
-            for test in (as_join_does, by_variable):
-                with tempfile.TemporaryDirectory(prefix="radixjoin-test-") as other:
-                    telling.attempt(f"radixjoin.cluster.join, {test.__name__.replace('_', ' ')}", test, client, programs, pathlib.Path(other))
-            with tempfile.TemporaryDirectory(prefix="radixjoin-test-over-") as other:
-                telling.attempt("radixjoin.cluster.join, a result in the file of a table", over_inputs, client, programs, pathlib.Path(other))
+        telling.attempt("radixjoin.cluster.join, where tasks are done", arguments, pathlib.Path(name))
     with tempfile.TemporaryDirectory(prefix="radixjoin-test-") as name:
         telling.attempt("python -m radixjoin.cluster", command, programs, pathlib.Path(name))
     with tempfile.TemporaryDirectory(prefix="radixjoin-test-") as name:
