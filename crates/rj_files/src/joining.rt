@@ -206,7 +206,9 @@ where
     ensures fault { IfErr result.0 (λ ended. IsAskedFault line.now tables.left.items tables.right.items ended.fault) }
     ensures unchanged { IfErr result.0 (λ ended. ended.fault ≢ Fault.WriteDevice → result.1 ≡ writer) }
 {
-    let mut writer = CountedWriter::new(ErrorRecordingWriter::new(WatchedWriter::new(progress, writer)));
+    let mut writer = CountedWriter::new(ErrorRecordingWriter::new(WatchedWriter::new(
+        progress, writer,
+    )));
     let written = write_asked(rt, line, progress, tables, &mut writer);
     let (writer, error) = writer.into_inner().into_parts();
     let writer = writer.into_inner();
