@@ -1,11 +1,13 @@
 //! Dividing a range of a file.
 
-ghost use Rattle.std.specs.Prelude.{◌≡◌, ◌<◌, ◌≤◌, ◌-◌, ◌^◌, All, IfOk, IsTrue, length, true};
+ghost use Rattle.std.specs.Prelude.{◌≡◌, ◌<◌, ◌≤◌, ◌-◌, ◌^◌, ◌==◌, All, IfOk, IfSome, IsTrue, length, map, min, true};
 ghost use Rattle.rj_condition.specs.Fits.{fits};
 ghost use Rattle.rj_condition.specs.Parts.{split_fits};
 ghost use Rattle.rj_csv_io.specs.Tables.{is_null_text};
 ghost use Rattle.rj_csv_io.specs.Typed.{null_texts};
-ghost use Rattle.rj_divide.specs.Divisions.{written_null};
+ghost use Rattle.rj_divide.specs.Blocks.{IsRangeDivided};
+ghost use Rattle.rj_divide.specs.Divisions.{dividing, written_null};
+ghost use Rattle.shards.specs.Ranges.{IsDividedBy, place_name};
 
 use crate::failure::Failure;
 use crate::files::{Head, open_range, read_head};
@@ -14,9 +16,10 @@ use crate::outputs::{Nowhere, OnePart, part_files};
 use rj_columns::{ColumnType, Table};
 use rj_command::{Strictness, bind_clause, fault_of_text, types_of_header};
 use rj_condition::{BoundJoin, split};
-use rj_csv_io::{CountedWriter, Input, Output, are_lawful_nulls};
+use rj_csv_io::{CountedWriter, Input, Output};
 use rj_divide::{
-    BlockRefused, DivideRefused, Division, Route, divide, divide_strictly, write_headers,
+    BlockRefused, DivideRefused, Division, Route, divide, divide_strictly, have_lawful_nulls,
+    write_headers,
 };
 use rj_fault::{Fault, Side, fault_of_read};
 use rj_radix::Mixed;
@@ -44,7 +47,9 @@ struct Range<'a> {
 }
 
 // The name of the column with the places of a side's rows.
-fn place_name(side: Side) -> &'static str {
+fn place_name(side: Side) -> &'static str
+    ensures { result.now ≡ place_name side }
+{
     match side {
         Side::Left => "left_place",
         Side::Right => "right_place",
@@ -154,6 +159,30 @@ fn fault_of_block(side: Side, refused: BlockRefused) -> Fault {
     }
 }
 
+// Divides what a device tells, which has to be of RFC 4180's grammar.
+fn divide_lines<I: Input, W: Route, O: Output>(
+    alloc: Global,
+    side: Side,
+    input: &mut I,
+    division: &Division<'_, W>,
+    full: bool,
+    outputs: &mut [O],
+) -> Result<u64, Fault>
+    requires types { W.fits division.now.route.now division.now.types.now }
+    requires outputs { length outputs.old ≡ W.count division.now.route.now }
+    requires first { division.now.first ≤ 2 ^ 62 }
+    requires null { IsTrue (is_null_text (written_null (null_texts division.now.nulls.now))) }
+    requires reads { I.count input.old < 2 ^ 64 - 1 }
+    requires writes { All (λ o. O.count o < 2 ^ 64 - 1) outputs.old }
+    ensures { IfOk result (λ n. IfSome (I.tells input.old) (λ text.
+        IsRangeDivided (dividing W.part division.now) full text (map O.told outputs.old) (map O.told outputs.new) n)) }
+{
+    match divide_strictly(alloc, input, division, full, BLOCK, outputs) {
+        Ok(rows) => Ok(rows),
+        Err(refused) => Err(fault_of_block(side, refused)),
+    }
+}
+
 // Divides what a device tells, as strictly as is asked for.
 fn divide_input<I: Input, W: Route, O: Output>(
     alloc: Global,
@@ -168,22 +197,37 @@ fn divide_input<I: Input, W: Route, O: Output>(
     requires null { IsTrue (is_null_text (written_null (null_texts division.now.nulls.now))) }
     requires reads { I.count input.old < 2 ^ 64 - 1 }
     requires writes { All (λ o. O.count o < 2 ^ 64 - 1) outputs.old }
+    ensures { IfOk result (λ n. IfSome (I.tells input.old) (λ text. IsDividedBy range.now.line.now.strict (range.now.from == 0)
+        (dividing W.part division.now) text (map O.told outputs.old) (map O.told outputs.new) n)) }
 {
     let side = range.line.side;
-    let full = match range.line.strict {
+    match range.line.strict {
         Strictness::Off => {
             let is_first = range.from == 0;
-            return match divide(alloc, input, division, is_first, BLOCK, outputs) {
+            match divide(alloc, input, division, is_first, BLOCK, outputs) {
                 Ok(rows) => Ok(rows),
                 Err(refused) => Err(fault_of_division(side, refused)),
-            };
+            }
         }
-        Strictness::On => false,
-        Strictness::Full => true,
-    };
-    match divide_strictly(alloc, input, division, full, BLOCK, outputs) {
-        Ok(rows) => Ok(rows),
-        Err(refused) => Err(fault_of_block(side, refused)),
+        Strictness::On => divide_lines(alloc, side, input, division, false, outputs),
+        Strictness::Full => divide_lines(alloc, side, input, division, true, outputs),
+    }
+}
+
+// How the rows of a range are divided: their places count from the range's first byte.
+fn division_of<'a, W: Route>(range: &Range<'a>, route: &'a W) -> Division<'a, W>
+    ensures header { result.header.now ≡ range.now.head.now.header }
+    ensures types { result.types.now ≡ range.now.types.now }
+    ensures nulls { result.nulls.now ≡ range.now.nulls.now }
+    ensures route { result.route.now ≡ route.now }
+    ensures first { result.first ≡ min range.now.from (2 ^ 62) }
+{
+    Division {
+        header: &range.head.header,
+        types: range.types,
+        nulls: range.nulls,
+        route,
+        first: range.from.min(MOST),
     }
 }
 
@@ -207,13 +251,7 @@ fn divide_rows<R: Files + AllocGlobal, W: Route, O: Output>(
         range.from
     };
     let mut input = open_range(rt, file, side, begin, range.to)?;
-    let division = Division {
-        header: &range.head.header,
-        types: range.types,
-        nulls: range.nulls,
-        route,
-        first: range.from.min(MOST),
-    };
+    let division = division_of(range, route);
     let rows = divide_input(rt.alloc(), range, &mut input, &division, outputs)?;
     Ok(rows)
 }
@@ -279,17 +317,6 @@ fn unlawful_null(head: Result<Head, Fault>) -> Failure {
         Err(Fault::Memory) => Failure::Told(Fault::Memory),
         _ => Failure::Told(Fault::BadNull),
     }
-}
-
-// Whether the null texts of a side are lawful, the one that is written among them, and so are those of the other.
-#[tactic(auto, using(crate::proofs::Nulls::written_lawful))]
-fn have_lawful_nulls(nulls: &[&str], others: &[&str]) -> bool
-    ensures { result ≡ true → is_null_text (written_null (null_texts nulls.now)) ≡ true }
-{
-    if !are_lawful_nulls(nulls) {
-        return false;
-    }
-    are_lawful_nulls(others)
 }
 
 /// Divides the bytes of a side's file from one place up to another, or to its end, among the files of a folder, and prints how
