@@ -1,11 +1,13 @@
 //! Dividing a range of a file.
 
-ghost use Rattle.std.specs.Prelude.{◌≡◌, ◌<◌, ◌≤◌, ◌-◌, ◌^◌, All, IfOk, IsTrue, length, true};
+ghost use Rattle.std.specs.Prelude.{◌≡◌, ◌<◌, ◌≤◌, ◌-◌, ◌^◌, ◌==◌, All, IfErr, IfOk, IfSome, IsTrue, Ok, OnOk, length, map, true};
+ghost use Rattle.rj_columns.specs.Tables.{TableValue};
 ghost use Rattle.rj_condition.specs.Fits.{fits};
 ghost use Rattle.rj_condition.specs.Parts.{split_fits};
 ghost use Rattle.rj_csv_io.specs.Tables.{is_null_text};
 ghost use Rattle.rj_csv_io.specs.Typed.{null_texts};
 ghost use Rattle.rj_divide.specs.Divisions.{written_null};
+ghost use Rattle.shards.specs.Ranges.{IsDividedBy, IsRefusedBy, division_fault, place_name, range_begun, range_dividing, range_fault};
 
 use crate::failure::Failure;
 use crate::files::{Head, open_range, read_head};
@@ -14,9 +16,10 @@ use crate::outputs::{Nowhere, OnePart, part_files};
 use rj_columns::{ColumnType, Table};
 use rj_command::{Strictness, bind_clause, fault_of_text, types_of_header};
 use rj_condition::{BoundJoin, split};
-use rj_csv_io::{CountedWriter, Input, Output, are_lawful_nulls};
+use rj_csv_io::{CountedWriter, Input, Output};
 use rj_divide::{
-    BlockRefused, DivideRefused, Division, Route, divide, divide_strictly, write_headers,
+    BlockRefused, DivideRefused, Division, Route, divide, divide_strictly, have_lawful_nulls,
+    write_headers,
 };
 use rj_fault::{Fault, Side, fault_of_read};
 use rj_radix::Mixed;
@@ -32,7 +35,7 @@ pub(crate) const BLOCK: usize = 8 << 20;
 // The last byte at which a range may begin, 2^62.
 const MOST: u64 = 1 << 62;
 
-// The range of a side's file that is divided, under its header.
+// The range of a side's file that is divided, under its header. It begins at a byte up to 2^62.
 #[derive(Clone, Copy)]
 struct Range<'a> {
     line: &'a Line<'a>,
@@ -44,7 +47,9 @@ struct Range<'a> {
 }
 
 // The name of the column with the places of a side's rows.
-fn place_name(side: Side) -> &'static str {
+fn place_name(side: Side) -> &'static str
+    ensures { result.now ≡ place_name side }
+{
     match side {
         Side::Left => "left_place",
         Side::Right => "right_place",
@@ -137,7 +142,9 @@ fn plan<R: Files + AllocGlobal>(
 }
 
 /// The error of a side's file that wasn't divided.
-pub(crate) fn fault_of_division(side: Side, refused: DivideRefused) -> Fault {
+pub(crate) fn fault_of_division(side: Side, refused: DivideRefused) -> Fault
+    ensures { result ≡ division_fault side refused }
+{
     match refused {
         DivideRefused::Read(refused) => fault_of_read(side, refused),
         DivideRefused::TooLong => Fault::TooManyRows(side),
@@ -147,43 +154,56 @@ pub(crate) fn fault_of_division(side: Side, refused: DivideRefused) -> Fault {
     }
 }
 
-fn fault_of_block(side: Side, refused: BlockRefused) -> Fault {
+// The fault of a range that wasn't divided.
+fn fault_of_range(side: Side, refused: BlockRefused) -> Fault
+    ensures { result ≡ range_fault side refused }
+{
     match refused {
         BlockRefused::Broken(fault) => fault_of_text(side, fault),
         BlockRefused::Divided(refused) => fault_of_division(side, refused),
     }
 }
 
-// Divides the bytes of a device, as strictly as is asked for.
+// Divides the bytes that a device tells of a range, as strictly as is asked for. Places count from
+// the range's first byte.
 fn divide_input<I: Input, W: Route, O: Output>(
     alloc: Global,
     range: &Range<'_>,
+    route: &W,
     input: &mut I,
-    division: &Division<'_, W>,
     outputs: &mut [O],
-) -> Result<u64, Fault>
-    requires types { W.fits division.now.route.now division.now.types.now }
-    requires outputs { length outputs.old ≡ W.count division.now.route.now }
-    requires first { division.now.first ≤ 2 ^ 62 }
-    requires null { IsTrue (is_null_text (written_null (null_texts division.now.nulls.now))) }
+) -> Result<u64, BlockRefused>
+    requires types { W.fits route.now range.now.types.now }
+    requires outputs { length outputs.old ≡ W.count route.now }
+    requires from { range.now.from ≤ 2 ^ 62 }
+    requires null { IsTrue (is_null_text (written_null (null_texts range.now.nulls.now))) }
     requires reads { I.count input.old < 2 ^ 64 - 1 }
     requires writes { All (λ o. O.count o < 2 ^ 64 - 1) outputs.old }
+    ensures divided { IfOk result (λ n. IfSome (I.tells input.old) (λ text. IsDividedBy range.now.line.now.strict (range.now.from == 0)
+        (range_dividing W.part range.now route.now) text (map O.told outputs.old) (map O.told outputs.new) n)) }
+    ensures begins { OnOk result ((t : TableValue) × (range_begun range.now ≡ Ok t)) }
+
+    // where the header and the types go together, an error comes for this alone
+    ensures fault { IfErr result (λ e. (t : TableValue) → range_begun range.now ≡ Ok t → IfSome (I.tells input.old) (λ text.
+        IsRefusedBy range.now.line.now.strict (range.now.from == 0) (range_dividing W.part range.now route.now) BLOCK text (length outputs.old) e)) }
 {
-    let side = range.line.side;
-    let full = match range.line.strict {
+    let division = Division {
+        header: &range.head.header,
+        types: range.types,
+        nulls: range.nulls,
+        route,
+        first: range.from,
+    };
+    match range.line.strict {
         Strictness::Off => {
             let is_first = range.from == 0;
-            return match divide(alloc, input, division, is_first, BLOCK, outputs) {
+            match divide(alloc, input, &division, is_first, BLOCK, outputs) {
                 Ok(rows) => Ok(rows),
-                Err(refused) => Err(fault_of_division(side, refused)),
-            };
+                Err(refused) => Err(BlockRefused::Divided(refused)),
+            }
         }
-        Strictness::On => false,
-        Strictness::Full => true,
-    };
-    match divide_strictly(alloc, input, division, full, BLOCK, outputs) {
-        Ok(rows) => Ok(rows),
-        Err(refused) => Err(fault_of_block(side, refused)),
+        Strictness::On => divide_strictly(alloc, input, &division, false, BLOCK, outputs),
+        Strictness::Full => divide_strictly(alloc, input, &division, true, BLOCK, outputs),
     }
 }
 
@@ -196,6 +216,7 @@ fn divide_rows<R: Files + AllocGlobal, W: Route, O: Output>(
 ) -> Result<u64, Failure>
     requires types { W.fits route.now range.now.types.now }
     requires outputs { length outputs.old ≡ W.count route.now }
+    requires from { range.now.from ≤ 2 ^ 62 }
     requires null { IsTrue (is_null_text (written_null (null_texts range.now.nulls.now))) }
     requires writes { All (λ o. O.count o < 2 ^ 64 - 1) outputs.old }
 {
@@ -207,15 +228,10 @@ fn divide_rows<R: Files + AllocGlobal, W: Route, O: Output>(
         range.from
     };
     let mut input = open_range(rt, file, side, begin, range.to)?;
-    let division = Division {
-        header: &range.head.header,
-        types: range.types,
-        nulls: range.nulls,
-        route,
-        first: range.from.min(MOST),
-    };
-    let rows = divide_input(rt.alloc(), range, &mut input, &division, outputs)?;
-    Ok(rows)
+    match divide_input(rt.alloc(), range, route, &mut input, outputs) {
+        Ok(rows) => Ok(rows),
+        Err(refused) => Err(Failure::Told(fault_of_range(side, refused))),
+    }
 }
 
 // Prints how many rows a range has, and how many bytes the header of each part has.
@@ -236,6 +252,7 @@ fn divide_among_files<R: Files + AllocGlobal + Print>(
     folder: &str,
 ) -> Result<(), Failure>
     requires keys { All (λ c. c < length range.now.types.now) plan.now.1.items }
+    requires from { range.now.from ≤ 2 ^ 62 }
     requires null { IsTrue (is_null_text (written_null (null_texts range.now.nulls.now))) }
 {
     let (shards, columns) = plan;
@@ -265,6 +282,7 @@ fn look_at_rows<R: Files + AllocGlobal + Print>(
     range: &Range<'_>,
     failure: Failure,
 ) -> Result<(), Failure>
+    requires from { range.now.from ≤ 2 ^ 62 }
     requires null { IsTrue (is_null_text (written_null (null_texts range.now.nulls.now))) }
 {
     let mut nowhere = [Nowhere];
@@ -280,18 +298,6 @@ fn unlawful_null(head: Result<Head, Fault>) -> Failure {
         Err(Fault::Memory) => Failure::Told(Fault::Memory),
         _ => Failure::Told(Fault::BadNull),
     }
-}
-
-// Whether all NULL texts of a side are valid, the written one among them, and also those of the
-// other side.
-#[tactic(auto, using(crate::proofs::Nulls::written_lawful))]
-fn have_lawful_nulls(nulls: &[&str], others: &[&str]) -> bool
-    ensures { result ≡ true → is_null_text (written_null (null_texts nulls.now)) ≡ true }
-{
-    if !are_lawful_nulls(nulls) {
-        return false;
-    }
-    are_lawful_nulls(others)
 }
 
 /// Divides the bytes of a side's file from one place up to another, or to its end, among the files
@@ -322,7 +328,7 @@ pub(crate) fn divide_range<R: Files + AllocGlobal + Print>(
         head: &head,
         types: types.as_slice(),
         nulls,
-        from,
+        from: from.min(MOST),
         to: to.unwrap_or(MOST),
     };
     match plan(rt, line, &table) {

@@ -1,5 +1,8 @@
 //! `--explain`: the lines that are added after the line of an error.
 
+ghost use Rattle.std.specs.Prelude.{◌≡◌};
+ghost use Rattle.shards.specs.Explained.{is_of_headers};
+
 use crate::failure::Failure;
 use crate::files::read_beginning;
 use rj_command::{read_line, tell};
@@ -70,7 +73,9 @@ fn words_of_join<'w>(alloc: Global, words: &[&'w str]) -> Result<Vec<&'w str>, A
 }
 
 // Whether an error is in a header, in a type list that doesn't fit one, or in the clause.
-fn is_of_headers(fault: &Fault) -> bool {
+fn is_of_headers(fault: &Fault) -> bool
+    ensures { result ≡ is_of_headers fault.now }
+{
     match fault {
         Fault::BadName(_, _)
         | Fault::RepeatedName(_, _)

@@ -1,15 +1,13 @@
-//! The files that are read and written.
+//! The files that are read.
 
 ghost use Rattle.std.specs.Prelude.{◌≡◌, IfOk};
 ghost use Rattle.rj_csv_io.specs.Devices.{read_failures_of};
 
 use crate::first_line::head_of_lines;
 use rj_command::{Fault, Side, Strictness, fault_of_read};
-use rj_csv_io::{
-    CountedReader, CountedWriter, Failed, Header, Output, last_cut, read_up_to, without_bom,
-};
+use rj_csv_io::{CountedReader, Header, last_cut, read_up_to, without_bom};
 use std::alloc::Global;
-use std::fs::{self, Files, OpenFile, OpenOptions};
+use std::fs::{self, Files, OpenFile};
 use std::io::{ErrorKind, Read, Seek, SeekFrom, Take};
 
 /// The bytes that are read from a file for its header at first.
@@ -139,68 +137,5 @@ pub(crate) fn read_beginning<R: Files + AllocGlobal>(
     match read_up_to(&mut input, &mut bytes, BEGINNING) {
         Ok(_) => Ok(bytes),
         Err(refused) => Err(fault_of_read(side, refused)),
-    }
-}
-
-/// A file to which a part of the rows is written. It is open only while something is put, so that
-/// there can be more parts than a process may have open files.
-#[derive(Drop)]
-pub(crate) struct PartFile<'r, R: Files> {
-    rt: &'r R,
-    path: String,
-    is_begun: bool,
-    failures: u64,
-}
-
-impl<'r, R: Files> PartFile<'r, R> {
-    /// The file at this path. It is made anew when something is put for the first time.
-    pub(crate) fn new(rt: &'r R, path: String) -> PartFile<'r, R>
-        ensures { result.failures ≡ 0 }
-    {
-        PartFile {
-            rt,
-            path,
-            is_begun: false,
-            failures: 0,
-        }
-    }
-
-    // Puts bytes at the end of the file.
-    fn append(&self, bytes: &[u8]) -> Result<(), Failed> {
-        let mut options = OpenOptions::new();
-        let opened = if self.is_begun {
-            options.append(true).open(self.rt, self.path.as_str())
-        } else {
-            options
-                .write(true)
-                .create(true)
-                .truncate(true)
-                .open(self.rt, self.path.as_str())
-        };
-        match opened {
-            Ok(file) => CountedWriter::new(file).put(bytes),
-            Err(_) => Err(Failed),
-        }
-    }
-}
-
-impl<'r, R: Files> Output for PartFile<'r, R> {
-    ghost count = { λ f. f.failures };
-
-    fn put(&mut self, bytes: &[u8]) -> Result<(), Failed> {
-        match self.append(bytes) {
-            Ok(()) => {
-                self.is_begun = true;
-                Ok(())
-            }
-            Err(Failed) => {
-                self.failures += 1;
-                Err(Failed)
-            }
-        }
-    }
-
-    fn failures(&self) -> u64 {
-        self.failures
     }
 }

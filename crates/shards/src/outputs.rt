@@ -1,11 +1,11 @@
 //! Where rows go: to the files of a folder, or nowhere.
 
 ghost use Rattle.std.specs.Prelude.{◌≡◌, ◌<◌, ◌-◌, ◌^◌, All, IfOk, length};
+ghost use Rattle.rj_divide.specs.Stored.{put_failures_of};
 
-use crate::files::PartFile;
 use rj_columns::Table;
 use rj_csv_io::{Failed, Output};
-use rj_divide::Route;
+use rj_divide::{PartFile, Route, StoredPart};
 use std::alloc::AllocError;
 use std::fs::{self, Files};
 
@@ -55,15 +55,15 @@ pub(crate) fn part_files<'r, R: Files + AllocGlobal>(
     rt: &'r R,
     folder: &str,
     parts: u32,
-) -> Result<Vec<PartFile<'r, R>>, AllocError>
+) -> Result<Vec<StoredPart<PartFile<'r, R>>>, AllocError>
     ensures count { IfOk result (λ v. length v.items ≡ parts) }
-    ensures writes { IfOk result (λ v. All (λ f. f.failures < 2 ^ 64 - 1) v.items) }
+    ensures writes { IfOk result (λ v. All (λ f. put_failures_of f < 2 ^ 64 - 1) v.items) }
 {
     let _ = fs::create_dir_all(rt, folder);
     let mut files = Vec::new(rt.alloc());
     for part in 0..parts {
         let path = format!(in rt.alloc(); "{folder}/{part:04}.csv")?;
-        files.push(PartFile::new(rt, path))?;
+        files.push(StoredPart::new(PartFile::new(rt, path)))?;
     }
     Ok(files)
 }
