@@ -9,8 +9,8 @@ use crate::suggesting::suggest;
 use rj_command::{Line, Stats};
 use rj_fault::{Fault, read_words, texts_of};
 use rj_files::{
-    Ended, NamedStream, Progress, Terminals, read_lists, read_words_of_line, refuse_inputs,
-    tell_ended, write_output,
+    ExplainedFault, NamedStream, Progress, Terminals, read_lists, read_words_of_line,
+    refuse_inputs, tell_explained, write_output,
 };
 use std::env::Env;
 use std::fs::Files;
@@ -25,7 +25,7 @@ fn write_watched<R: Files + Input + AllocGlobal + Print + Eprint + Threads + Wai
     rt: &R,
     line: &Line<'_>,
     terminals: Terminals,
-) -> Result<Option<Stats>, Ended> {
+) -> Result<Option<Stats>, ExplainedFault> {
     let progress = Progress::of(rt, line, terminals);
     let (left, right) = (
         NamedStream::new(rt, line.left),
@@ -41,7 +41,7 @@ fn join<R: Files + Input + AllocGlobal + Print + Eprint + Threads + Wait + Clock
     rt: &R,
     words: Vec<String>,
     terminals: Terminals,
-) -> Result<(), Ended> {
+) -> Result<(), ExplainedFault> {
     let alloc = rt.alloc();
     let words = read_lists(rt, words)?;
     let texts = texts_of(alloc, words.as_slice())?;
@@ -71,9 +71,9 @@ fn words_to_suggest(words: &[String]) -> Option<&[String]> {
 fn run<R: Env + Files + Input + AllocGlobal + Print + Eprint + Threads + Wait + Clock + Sync>(
     rt: &R,
     terminals: Terminals,
-) -> Result<(), Ended> {
+) -> Result<(), ExplainedFault> {
     let Some(words) = read_words(rt)? else {
-        return Err(Ended::from(Fault::NotText));
+        return Err(ExplainedFault::from(Fault::NotText));
     };
     if let Some(behind) = words_to_suggest(words.as_slice()) {
         let texts = texts_of(rt.alloc(), behind)?;
@@ -91,6 +91,6 @@ fn main(rt: HostRuntime) -> ExitCode {
     };
     match run(&rt, terminals) {
         Ok(()) => ExitCode::SUCCESS,
-        Err(ended) => ExitCode::from(tell_ended(&rt, &ended)),
+        Err(e) => ExitCode::from(tell_explained(&rt, &e)),
     }
 }

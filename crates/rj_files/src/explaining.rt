@@ -3,7 +3,7 @@
 ghost use Rattle.std.specs.Prelude.{◌≡◌, IfOk, IfSome, length, string_bytes};
 ghost use Rattle.rj_files.specs.Texts.{memory_text};
 
-use crate::ended::Ended;
+use crate::explained::ExplainedFault;
 use crate::named::told_by_system;
 use crate::outputs::output_of;
 use rj_command::{Line, OpenGate, Violation, first_violation, read_line};
@@ -34,12 +34,15 @@ fn explain_line(
 ///
 /// Those of `read_line`. A list of types that is invalid is explained if `--explain` is one of the
 /// words.
-pub fn read_words_of_line<'a>(alloc: Global, words: &'a [&'a str]) -> Result<Line<'a>, Ended> {
+pub fn read_words_of_line<'a>(
+    alloc: Global,
+    words: &'a [&'a str],
+) -> Result<Line<'a>, ExplainedFault> {
     match read_line(alloc, words) {
         Ok(line) => Ok(line),
         Err(fault) => match explain_line(alloc, words, &fault) {
-            Ok(Some(lines)) => Err(Ended::explained(fault, Ok(lines))),
-            Ok(None) | Err(_) => Err(Ended::from(fault)),
+            Ok(Some(lines)) => Err(ExplainedFault::new(fault, Ok(lines))),
+            Ok(None) | Err(_) => Err(ExplainedFault::from(fault)),
         },
     }
 }
@@ -102,13 +105,13 @@ pub(crate) fn explained<R: AllocGlobal + Threads + Wait + Clock + Sync>(
     rt: &R,
     fault: Fault,
     inputs: &Inputs<'_, '_>,
-) -> Ended
+) -> ExplainedFault
     ensures fault { result.fault ≡ fault }
     ensures memory { fault ≡ Fault.Memory
         → IfSome result.lines (λ text. string_bytes text ≡ memory_text (length inputs.now.left.now) (length inputs.now.right.now)) }
 {
     let lines = lines_of(rt, &fault, inputs);
-    Ended::explained(fault, lines)
+    ExplainedFault::new(fault, lines)
 }
 
 /// The error of a result that can't be written, explained if that is asked for, with the output's
@@ -118,14 +121,14 @@ pub(crate) fn unwritten(
     line: &Line<'_>,
     fault: Fault,
     error: &Option<io::Error>,
-) -> Ended
+) -> ExplainedFault
     ensures { result.fault ≡ fault }
 {
     if !line.explain || !is_unwritten(&fault) {
-        return Ended::from(fault);
+        return ExplainedFault::from(fault);
     }
     let name = output_of(line).unwrap_or("standard output");
-    Ended::explained(fault, told_by_system(alloc, name, error))
+    ExplainedFault::new(fault, told_by_system(alloc, name, error))
 }
 
 fn is_unwritten(fault: &Fault) -> bool {
@@ -139,17 +142,17 @@ fn is_unwritten(fault: &Fault) -> bool {
 pub(crate) fn with_write_error(
     alloc: Global,
     line: &Line<'_>,
-    ended: Ended,
+    e: ExplainedFault,
     error: &Option<io::Error>,
-) -> Ended
-    ensures { result.fault ≡ ended.fault }
+) -> ExplainedFault
+    ensures { result.fault ≡ e.fault }
 {
-    let (fault, lines) = ended.into_parts();
+    let (fault, lines) = e.into_parts();
     if is_unwritten(&fault) {
         return unwritten(alloc, line, fault, error);
     }
     match lines {
-        Some(lines) => Ended::explained(fault, Ok(lines)),
-        None => Ended::from(fault),
+        Some(lines) => ExplainedFault::new(fault, Ok(lines)),
+        None => ExplainedFault::from(fault),
     }
 }

@@ -5,7 +5,7 @@ ghost use Rattle.rj_command.specs.Counts.{IsCountFault, WritesCounts};
 ghost use Rattle.rj_command.specs.Runs.{IsRunFault, WritesJoined};
 ghost use Rattle.rj_files.specs.Streams.{IsAskedFault, WritesAsked};
 
-use crate::ended::Ended;
+use crate::explained::ExplainedFault;
 use crate::explaining::{explained, with_write_error};
 use crate::progress::Progress;
 use crate::recording::ErrorRecordingWriter;
@@ -45,14 +45,14 @@ fn join_explained<R, O>(
     progress: &Progress<'_, R>,
     tables: &Tables,
     writer: &mut O,
-) -> Result<Stats, Ended>
+) -> Result<Stats, ExplainedFault>
 where
     R: AllocGlobal + Eprint + Threads + Wait + Clock + Sync,
     O: Output,
     requires { O.count writer.old < 2 ^ 64 - 1 }
     ensures joined { IfOk result (WritesJoined tables.now.left.items tables.now.right.items line.now.request (O.told writer.old) (O.told writer.new)) }
-    ensures fault { IfErr result (λ ended. IsRunFault tables.now.left.items tables.now.right.items line.now.request ended.fault) }
-    ensures unchanged { IfErr result (λ ended. ended.fault ≢ Fault.WriteDevice → writer.new ≡ writer.old) }
+    ensures fault { IfErr result (λ e. IsRunFault tables.now.left.items tables.now.right.items line.now.request e.fault) }
+    ensures unchanged { IfErr result (λ e. e.fault ≢ Fault.WriteDevice → writer.new ≡ writer.old) }
 {
     let (alloc, request) = (rt.alloc(), &line.request);
     let (left, right) = (tables.left.as_slice(), tables.right.as_slice());
@@ -76,14 +76,14 @@ fn join_tables<R, O>(
     progress: &Progress<'_, R>,
     tables: Tables,
     writer: &mut O,
-) -> Result<Stats, Ended>
+) -> Result<Stats, ExplainedFault>
 where
     R: AllocGlobal + Eprint + Threads + Wait + Clock + Sync,
     O: Output,
     requires { O.count writer.old < 2 ^ 64 - 1 }
     ensures joined { IfOk result (WritesJoined tables.left.items tables.right.items line.now.request (O.told writer.old) (O.told writer.new)) }
-    ensures fault { IfErr result (λ ended. IsRunFault tables.left.items tables.right.items line.now.request ended.fault) }
-    ensures unchanged { IfErr result (λ ended. ended.fault ≢ Fault.WriteDevice → writer.new ≡ writer.old) }
+    ensures fault { IfErr result (λ e. IsRunFault tables.left.items tables.right.items line.now.request e.fault) }
+    ensures unchanged { IfErr result (λ e. e.fault ≢ Fault.WriteDevice → writer.new ≡ writer.old) }
 {
     if line.explain {
         return join_explained(rt, line, progress, &tables, writer);
@@ -92,7 +92,7 @@ where
     let Tables { left, right } = tables;
     match run_owned(rt, alloc, left, right, request, progress, writer) {
         Ok(stats) => Ok(stats),
-        Err(fault) => Err(Ended::from(fault)),
+        Err(fault) => Err(ExplainedFault::from(fault)),
     }
 }
 
@@ -103,19 +103,19 @@ fn count_explained<R, O>(
     progress: &Progress<'_, R>,
     tables: &Tables,
     writer: &mut O,
-) -> Result<(), Ended>
+) -> Result<(), ExplainedFault>
 where
     R: AllocGlobal + Eprint + Threads + Wait + Clock + Sync,
     O: Output,
     requires { O.count writer.old < 2 ^ 64 - 1 }
     ensures counted { OnOk result (WritesCounts tables.now.left.items tables.now.right.items line.now.request (O.told writer.old) (O.told writer.new)) }
-    ensures fault { IfErr result (λ ended. IsCountFault tables.now.left.items tables.now.right.items line.now.request ended.fault) }
-    ensures unchanged { IfErr result (λ ended. ended.fault ≢ Fault.WriteDevice → writer.new ≡ writer.old) }
+    ensures fault { IfErr result (λ e. IsCountFault tables.now.left.items tables.now.right.items line.now.request e.fault) }
+    ensures unchanged { IfErr result (λ e. e.fault ≢ Fault.WriteDevice → writer.new ≡ writer.old) }
 {
     let (alloc, request) = (rt.alloc(), &line.request);
     let Tables { left, right } = match tables.copied() {
         Ok(copied) => copied,
-        Err(_) => return Err(Ended::from(Fault::Memory)),
+        Err(_) => return Err(ExplainedFault::from(Fault::Memory)),
     };
     match count(rt, alloc, left, right, request, progress, writer) {
         Ok(()) => Ok(()),
@@ -137,14 +137,14 @@ fn count_tables<R, O>(
     progress: &Progress<'_, R>,
     tables: Tables,
     writer: &mut O,
-) -> Result<(), Ended>
+) -> Result<(), ExplainedFault>
 where
     R: AllocGlobal + Eprint + Threads + Wait + Clock + Sync,
     O: Output,
     requires { O.count writer.old < 2 ^ 64 - 1 }
     ensures counted { OnOk result (WritesCounts tables.left.items tables.right.items line.now.request (O.told writer.old) (O.told writer.new)) }
-    ensures fault { IfErr result (λ ended. IsCountFault tables.left.items tables.right.items line.now.request ended.fault) }
-    ensures unchanged { IfErr result (λ ended. ended.fault ≢ Fault.WriteDevice → writer.new ≡ writer.old) }
+    ensures fault { IfErr result (λ e. IsCountFault tables.left.items tables.right.items line.now.request e.fault) }
+    ensures unchanged { IfErr result (λ e. e.fault ≢ Fault.WriteDevice → writer.new ≡ writer.old) }
 {
     if line.explain {
         return count_explained(rt, line, progress, &tables, writer);
@@ -153,7 +153,7 @@ where
     let Tables { left, right } = tables;
     match count(rt, alloc, left, right, request, progress, writer) {
         Ok(()) => Ok(()),
-        Err(fault) => Err(Ended::from(fault)),
+        Err(fault) => Err(ExplainedFault::from(fault)),
     }
 }
 
@@ -164,24 +164,24 @@ fn write_asked<R, O>(
     progress: &Progress<'_, R>,
     tables: Tables,
     writer: &mut O,
-) -> Result<Option<Stats>, Ended>
+) -> Result<Option<Stats>, ExplainedFault>
 where
     R: AllocGlobal + Eprint + Threads + Wait + Clock + Sync,
     O: Output,
     requires { O.count writer.old < 2 ^ 64 - 1 }
     ensures written { IfOk result (WritesAsked line.now tables.left.items tables.right.items (O.told writer.old) (O.told writer.new)) }
-    ensures fault { IfErr result (λ ended. IsAskedFault line.now tables.left.items tables.right.items ended.fault) }
-    ensures unchanged { IfErr result (λ ended. ended.fault ≢ Fault.WriteDevice → writer.new ≡ writer.old) }
+    ensures fault { IfErr result (λ e. IsAskedFault line.now tables.left.items tables.right.items e.fault) }
+    ensures unchanged { IfErr result (λ e. e.fault ≢ Fault.WriteDevice → writer.new ≡ writer.old) }
 {
     if line.count {
         return match count_tables(rt, line, progress, tables, writer) {
             Ok(()) => Ok(None),
-            Err(ended) => Err(ended),
+            Err(e) => Err(e),
         };
     }
     match join_tables(rt, line, progress, tables, writer) {
         Ok(stats) => Ok(Some(stats)),
-        Err(ended) => Err(ended),
+        Err(e) => Err(e),
     }
 }
 
@@ -198,13 +198,13 @@ pub(crate) fn write_tables<R, W>(
     progress: &Progress<'_, R>,
     tables: Tables,
     writer: W,
-) -> (Result<Option<Stats>, Ended>, W)
+) -> (Result<Option<Stats>, ExplainedFault>, W)
 where
     R: AllocGlobal + Eprint + Threads + Wait + Clock + Sync,
     W: Write,
     ensures written { IfOk result.0 (WritesAsked line.now tables.left.items tables.right.items (W.contents writer) (W.contents result.1)) }
-    ensures fault { IfErr result.0 (λ ended. IsAskedFault line.now tables.left.items tables.right.items ended.fault) }
-    ensures unchanged { IfErr result.0 (λ ended. ended.fault ≢ Fault.WriteDevice → result.1 ≡ writer) }
+    ensures fault { IfErr result.0 (λ e. IsAskedFault line.now tables.left.items tables.right.items e.fault) }
+    ensures unchanged { IfErr result.0 (λ e. e.fault ≢ Fault.WriteDevice → result.1 ≡ writer) }
 {
     let mut writer = CountedWriter::new(ErrorRecordingWriter::new(WatchedWriter::new(
         progress, writer,
@@ -214,9 +214,6 @@ where
     let writer = writer.into_inner();
     match written {
         Ok(stats) => (Ok(stats), writer),
-        Err(ended) => (
-            Err(with_write_error(rt.alloc(), line, ended, &error)),
-            writer,
-        ),
+        Err(e) => (Err(with_write_error(rt.alloc(), line, e, &error)), writer),
     }
 }

@@ -5,7 +5,7 @@
 #![tactic(auto)]
 
 mod draft;
-mod ended;
+mod explained;
 mod explaining;
 mod joining;
 mod lists;
@@ -19,7 +19,7 @@ mod streams;
 mod suggesting;
 mod watched;
 
-pub use ended::{Ended, tell_ended};
+pub use explained::{ExplainedFault, tell_explained};
 pub use explaining::read_words_of_line;
 pub use lists::read_lists;
 pub use named::{NamedStream, StreamReader};

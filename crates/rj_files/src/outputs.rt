@@ -5,7 +5,7 @@ ghost use Rattle.rj_files.specs.Outputs.{file_of};
 ghost use Rattle.rj_files.specs.Streams.{IsFaultOf, IsWrittenOf};
 
 use crate::draft::{Draft, Unwritten};
-use crate::ended::Ended;
+use crate::explained::ExplainedFault;
 use crate::explaining::unwritten;
 use crate::named::is_standard_stream;
 use crate::progress::Progress;
@@ -102,13 +102,13 @@ fn write_file<R, L, S>(
     left: &L,
     right: &S,
     name: &str,
-) -> Result<Option<Stats>, Ended>
+) -> Result<Option<Stats>, ExplainedFault>
 where
     R: Files + AllocGlobal + Eprint + Threads + Wait + Clock + Sync,
     L: Stream,
     S: Stream,
     ensures written { IfOk result (IsWrittenOf line.now (L.tells left.now) (S.tells right.now)) }
-    ensures fault { IfErr result (λ ended. IsFaultOf line.now (L.tells left.now) (S.tells right.now) ended.fault) }
+    ensures fault { IfErr result (λ e. IsFaultOf line.now (L.tells left.now) (S.tells right.now) e.fault) }
 {
     let (draft, file) = match Draft::open(rt, name) {
         Ok(opened) => opened,
@@ -120,9 +120,9 @@ where
             Ok(()) => Ok(stats),
             Err(Unwritten { fault, error }) => Err(unwritten(rt.alloc(), line, fault, &error)),
         },
-        Err(ended) => {
+        Err(e) => {
             draft.discard(rt);
-            Err(ended)
+            Err(e)
         }
     }
 }
@@ -141,13 +141,13 @@ pub fn write_output<R, L, S>(
     progress: &Progress<'_, R>,
     left: &L,
     right: &S,
-) -> Result<Option<Stats>, Ended>
+) -> Result<Option<Stats>, ExplainedFault>
 where
     R: Files + AllocGlobal + Print + Eprint + Threads + Wait + Clock + Sync,
     L: Stream,
     S: Stream,
     ensures written { IfOk result (IsWrittenOf line.now (L.tells left.now) (S.tells right.now)) }
-    ensures fault { IfErr result (λ ended. IsFaultOf line.now (L.tells left.now) (S.tells right.now) ended.fault) }
+    ensures fault { IfErr result (λ e. IsFaultOf line.now (L.tells left.now) (S.tells right.now) e.fault) }
 {
     match output_of(line) {
         Some(name) => write_file(rt, line, progress, left, right, name),

@@ -3,7 +3,7 @@
 ghost use Rattle.std.specs.Prelude.{◌≡◌, ◌≢◌, ◌⊎◌, IfOk, IfErr};
 ghost use Rattle.rj_files.specs.Streams.{AreBytesOf, IsFaultOf, IsUnread, WritesOf};
 
-use crate::ended::Ended;
+use crate::explained::ExplainedFault;
 use crate::joining::{Tables, write_tables};
 use crate::progress::Progress;
 use crate::reading::{Stream, read_stream};
@@ -35,19 +35,19 @@ fn read_side<R: AllocGlobal + Eprint + Clock, S: Stream>(
     progress: &Progress<'_, R>,
     stream: &S,
     side: Side,
-) -> Result<Vec<u8>, Ended>
+) -> Result<Vec<u8>, ExplainedFault>
     ensures bytes { IfOk result (λ v. AreBytesOf (S.tells stream.now) v.items) }
-    ensures fault { IfErr result (λ ended. IsUnread side ended.fault) }
+    ensures fault { IfErr result (λ e. IsUnread side e.fault) }
 {
     let alloc = rt.alloc();
     match read_stream(alloc, stream, side, progress) {
         Ok(bytes) => Ok(bytes),
         Err(fault) => {
             if !line.explain {
-                return Err(Ended::from(fault));
+                return Err(ExplainedFault::from(fault));
             }
             let lines = unread_lines(alloc, stream, side, &fault);
-            Err(Ended::explained(fault, lines))
+            Err(ExplainedFault::new(fault, lines))
         }
     }
 }
@@ -59,18 +59,18 @@ fn read_both<R: AllocGlobal + Eprint + Clock, L: Stream, S: Stream>(
     progress: &Progress<'_, R>,
     left: &L,
     right: &S,
-) -> Result<Tables, Ended>
+) -> Result<Tables, ExplainedFault>
     ensures left { IfOk result (λ tables. AreBytesOf (L.tells left.now) tables.left.items) }
     ensures right { IfOk result (λ tables. AreBytesOf (S.tells right.now) tables.right.items) }
-    ensures fault { IfErr result (λ ended. IsUnread Side.Left ended.fault ⊎ IsUnread Side.Right ended.fault) }
+    ensures fault { IfErr result (λ e. IsUnread Side.Left e.fault ⊎ IsUnread Side.Right e.fault) }
 {
     let left = match read_side(rt, line, progress, left, Side::Left) {
         Ok(bytes) => bytes,
-        Err(ended) => return Err(ended),
+        Err(e) => return Err(e),
     };
     match read_side(rt, line, progress, right, Side::Right) {
         Ok(right) => Ok(Tables { left, right }),
-        Err(ended) => Err(ended),
+        Err(e) => Err(e),
     }
 }
 
@@ -93,18 +93,18 @@ pub fn write_streams<R, L, S, W>(
     left: &L,
     right: &S,
     writer: W,
-) -> (Result<Option<Stats>, Ended>, W)
+) -> (Result<Option<Stats>, ExplainedFault>, W)
 where
     R: AllocGlobal + Eprint + Threads + Wait + Clock + Sync,
     L: Stream,
     S: Stream,
     W: Write,
     ensures written { IfOk result.0 (WritesOf line.now (L.tells left.now) (S.tells right.now) (W.contents writer) (W.contents result.1)) }
-    ensures fault { IfErr result.0 (λ ended. IsFaultOf line.now (L.tells left.now) (S.tells right.now) ended.fault) }
-    ensures unchanged { IfErr result.0 (λ ended. ended.fault ≢ Fault.WriteDevice → result.1 ≡ writer) }
+    ensures fault { IfErr result.0 (λ e. IsFaultOf line.now (L.tells left.now) (S.tells right.now) e.fault) }
+    ensures unchanged { IfErr result.0 (λ e. e.fault ≢ Fault.WriteDevice → result.1 ≡ writer) }
 {
     match read_both(rt, line, progress, left, right) {
         Ok(tables) => write_tables(rt, line, progress, tables, writer),
-        Err(ended) => (Err(ended), writer),
+        Err(e) => (Err(e), writer),
     }
 }

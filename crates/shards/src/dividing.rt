@@ -12,7 +12,7 @@ ghost use Rattle.shards.specs.Ranges.{IsDividedBy, IsRefusedBy, division_fault, 
 use crate::failure::Failure;
 use crate::files::{Head, open_range, read_head};
 use crate::line::{Line, Operand};
-use crate::outputs::{Nowhere, OnePart, part_files};
+use crate::outputs::{NullSink, OnePart, part_files};
 use rj_columns::{ColumnType, Table};
 use rj_command::{Strictness, bind_clause, fault_of_text, types_of_header};
 use rj_condition::{BoundJoin, split};
@@ -285,8 +285,8 @@ fn look_at_rows<R: Files + AllocGlobal + Print>(
     requires from { range.now.from ≤ 2 ^ 62 }
     requires null { IsTrue (is_null_text (written_null (null_texts range.now.nulls.now))) }
 {
-    let mut nowhere = [Nowhere];
-    let rows = divide_rows(rt, range, &OnePart, nowhere.as_mut_slice())?;
+    let mut sink = [NullSink];
+    let rows = divide_rows(rt, range, &OnePart, sink.as_mut_slice())?;
     print_counts(rt, rows, 0)?;
     Err(failure)
 }

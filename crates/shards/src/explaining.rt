@@ -13,32 +13,32 @@ use std::fs::Files;
 
 /// Why there is no output, and the lines that explain it.
 #[derive(Drop)]
-pub(crate) struct Ended {
+pub(crate) struct ExplainedFailure {
     failure: Failure,
     lines: Option<String>,
 }
 
-impl From<Failure> for Ended {
-    fn from(failure: Failure) -> Ended {
-        Ended {
+impl From<Failure> for ExplainedFailure {
+    fn from(failure: Failure) -> ExplainedFailure {
+        ExplainedFailure {
             failure,
             lines: None,
         }
     }
 }
 
-impl From<Fault> for Ended {
-    fn from(fault: Fault) -> Ended {
-        Ended {
+impl From<Fault> for ExplainedFailure {
+    fn from(fault: Fault) -> ExplainedFailure {
+        ExplainedFailure {
             failure: Failure::Told(fault),
             lines: None,
         }
     }
 }
 
-impl From<AllocError> for Ended {
-    fn from(_error: AllocError) -> Ended {
-        Ended {
+impl From<AllocError> for ExplainedFailure {
+    fn from(_error: AllocError) -> ExplainedFailure {
+        ExplainedFailure {
             failure: Failure::Told(Fault::Memory),
             lines: None,
         }
@@ -130,19 +130,19 @@ fn lines_of<R: Files + AllocGlobal>(
 }
 
 /// A failure of a run with these words, explained if they ask for it and there was memory for it.
-pub(crate) fn explained<R: Files + AllocGlobal>(rt: &R, words: &[&str], failure: Failure) -> Ended {
+pub(crate) fn explained<R: Files + AllocGlobal>(rt: &R, words: &[&str], failure: Failure) -> ExplainedFailure {
     let lines = if words.iter().any(|word| *word == "--explain") {
         lines_of(rt, words, &failure).unwrap_or(None)
     } else {
         None
     };
-    Ended { failure, lines }
+    ExplainedFailure { failure, lines }
 }
 
 /// Prints a failure, and what explains it, on standard error, and returns the exit status.
-pub(crate) fn tell_ended<R: Print + Eprint>(rt: &R, ended: &Ended) -> u8 {
-    let status = tell(rt, &ended.failure);
-    if let Some(lines) = &ended.lines {
+pub(crate) fn tell_explained<R: Print + Eprint>(rt: &R, reason: &ExplainedFailure) -> u8 {
+    let status = tell(rt, &reason.failure);
+    if let Some(lines) = &reason.lines {
         let _ = eprint!(rt; "{lines}");
     }
     status

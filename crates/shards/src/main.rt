@@ -15,7 +15,7 @@ mod outputs;
 
 use crate::cutting::print_cuts;
 use crate::dividing::divide_range;
-use crate::explaining::{Ended, explained, tell_ended};
+use crate::explaining::{ExplainedFailure, explained, tell_explained};
 use crate::failure::Failure;
 use crate::line::{Task, read_line};
 use rj_command::{read_words, texts_of};
@@ -33,9 +33,9 @@ fn work<R: Files + AllocGlobal + Print>(rt: &R, words: &[&str]) -> Result<(), Fa
 }
 
 // Reads the command line, and does what it asks for.
-fn run<R: Env + Files + AllocGlobal + Print>(rt: &R) -> Result<(), Ended> {
+fn run<R: Env + Files + AllocGlobal + Print>(rt: &R) -> Result<(), ExplainedFailure> {
     let Some(words) = read_words(rt)? else {
-        return Err(Ended::from(Failure::NotText));
+        return Err(ExplainedFailure::from(Failure::NotText));
     };
     let texts = texts_of(rt.alloc(), words.as_slice())?;
     match work(rt, texts.as_slice()) {
@@ -47,6 +47,6 @@ fn run<R: Env + Files + AllocGlobal + Print>(rt: &R) -> Result<(), Ended> {
 fn main(rt: HostRuntime) -> ExitCode {
     match run(&rt) {
         Ok(()) => ExitCode::SUCCESS,
-        Err(ended) => ExitCode::from(tell_ended(&rt, &ended)),
+        Err(e) => ExitCode::from(tell_explained(&rt, &e)),
     }
 }

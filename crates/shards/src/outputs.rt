@@ -31,9 +31,9 @@ impl Route for OnePart {
 
 /// An output that takes all bytes and discards them.
 #[derive(Clone, Copy)]
-pub(crate) struct Nowhere;
+pub(crate) struct NullSink;
 
-impl Output for Nowhere {
+impl Output for NullSink {
     ghost count = { λ _. 0 };
 
     fn put(&mut self, _bytes: &[u8]) -> Result<(), Failed> {

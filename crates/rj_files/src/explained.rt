@@ -8,42 +8,42 @@ use std::alloc::AllocError;
 
 /// Why there is no output, and the lines that explain it, if there are any.
 #[derive(Drop)]
-pub struct Ended {
+pub struct ExplainedFault {
     fault: Fault,
     lines: Option<String>,
 }
 
-impl From<Fault> for Ended {
-    ghost from_gives = { λ fault ended. ended.fault ≡ fault };
+impl From<Fault> for ExplainedFault {
+    ghost from_gives = { λ fault e. e.fault ≡ fault };
 
-    fn from(fault: Fault) -> Ended {
-        Ended { fault, lines: None }
+    fn from(fault: Fault) -> ExplainedFault {
+        ExplainedFault { fault, lines: None }
     }
 }
 
-impl From<AllocError> for Ended {
+impl From<AllocError> for ExplainedFault {
     ghost use Rattle.rj_fault.specs.declared.fault.Fault.TheVariants.{Memory};
 
-    ghost from_gives = { λ _ ended. ended.fault ≡ Memory };
+    ghost from_gives = { λ _ e. e.fault ≡ Memory };
 
-    fn from(_error: AllocError) -> Ended {
-        Ended::from(Fault::Memory)
+    fn from(_error: AllocError) -> ExplainedFault {
+        ExplainedFault::from(Fault::Memory)
     }
 }
 
-impl Ended {
+impl ExplainedFault {
     /// An error with the lines that explain it, if there was memory for them.
-    pub fn explained(fault: Fault, lines: Result<String, AllocError>) -> Ended
+    pub fn new(fault: Fault, lines: Result<String, AllocError>) -> ExplainedFault
         ensures fault { result.fault ≡ fault }
         ensures lines { IfOk lines (λ text. result.lines ≡ Some text) }
         ensures none { IfErr lines (λ _. result.lines ≡ None) }
     {
         match lines {
-            Ok(lines) => Ended {
+            Ok(lines) => ExplainedFault {
                 fault,
                 lines: Some(lines),
             },
-            Err(_) => Ended { fault, lines: None },
+            Err(_) => ExplainedFault { fault, lines: None },
         }
     }
 
@@ -51,7 +51,7 @@ impl Ended {
     pub(crate) fn into_parts(self) -> (Fault, Option<String>)
         ensures { result ≡ (self.fault, self.lines) }
     {
-        let Ended { fault, lines } = self;
+        let ExplainedFault { fault, lines } = self;
         (fault, lines)
     }
 }
@@ -59,11 +59,11 @@ impl Ended {
 /// Prints on standard error why there is no output, and what explains it. The answer is the exit
 /// status: that of the error or, if help or the version was asked for and couldn't be printed, that
 /// of a failed write.
-pub fn tell_ended<R: Print + Eprint>(rt: &R, ended: &Ended) -> u8
-    ensures { (result ≡ status_of ended.now.fault) ⊎ (IsAskedFor (clap_error_of ended.now.fault) × (result ≡ status_of Fault.WriteDevice)) }
+pub fn tell_explained<R: Print + Eprint>(rt: &R, reason: &ExplainedFault) -> u8
+    ensures { (result ≡ status_of reason.now.fault) ⊎ (IsAskedFor (clap_error_of reason.now.fault) × (result ≡ status_of Fault.WriteDevice)) }
 {
-    let status = tell(rt, &ended.fault);
-    if let Some(lines) = &ended.lines {
+    let status = tell(rt, &reason.fault);
+    if let Some(lines) = &reason.lines {
         let _ = eprint!(rt; "{lines}");
     }
     status
