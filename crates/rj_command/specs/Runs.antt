@@ -88,20 +88,20 @@ pub record IsCounted (value : List Content → ℕ) (q : Request) (l r : TableVa
 
 -- the operands' joined table can be written: its columns have names, it is as expected, its nulls can be told from its cells, and this is
 -- counted of it
-pub record IsReady (value : List Content → ℕ) (q : Request) (o : Operands) (stats : Stats) : Type 0 where
-  pub counted : IsCounted value q o.left o.right o.join stats
+pub record IsReady (q : Request) (o : Operands) (stats : Stats) : Type 0 where
+  pub counted : IsCounted (hash_value q.hash) q o.left o.right o.join stats
   pub expected : IsExpected q o.join o.left o.right
   pub told_apart : IsToldApart q.strict q.out_null.now (chosen_view q.choice o.join o.left o.right).cells
   pub names : List (List ℕ)
   pub named : AreNames q o.join o.left o.right names
 
 -- something is counted of it
-abbrev pub CanBeWritten : (List Content → ℕ) → Request → Operands → Type 0
-CanBeWritten value q o = (stats : Stats) × IsReady value q o stats
+abbrev pub CanBeWritten : Request → Operands → Type 0
+CanBeWritten q o = (stats : Stats) × IsReady q o stats
 
 -- the text of what is chosen of it was written behind what the writer had been told
-abbrev pub WritesTables : (List Content → ℕ) → Request → Operands → Option (List ℕ) → Option (List ℕ) → Stats → Type 0
-WritesTables value q o before after stats = (j : IsReady value q o stats) × Appends before after (chosen_text q j.names o.join o.left o.right)
+abbrev pub WritesTables : Request → Operands → Option (List ℕ) → Option (List ℕ) → Stats → Type 0
+WritesTables q o before after stats = (j : IsReady q o stats) × Appends before after (chosen_text q j.names o.join o.left o.right)
 
 -- a column that is chosen is to be renamed and has no free name, and this fault tells the first one
 abbrev pub IsNameFault : Request → BoundJoin → TableValue → TableValue → Fault → Type 0
@@ -115,6 +115,10 @@ IsResultFault q join l r f =
     IsNameFault q join l r f
     ⊎ (((names : List (List ℕ)) × AreNames q join l r names)
     × (IsUnexpected q join l r f ⊎ (IsExpected q join l r × IsNullFault q.strict q.out_null.now (chosen_view q.choice join l r).cells f)))
+
+-- why operands' joined table can't be written: that, or want of memory
+abbrev pub IsUnprepared : Request → Operands → Fault → Type 0
+IsUnprepared q o f = (f ≡ fault.Memory) ⊎ IsResultFault q o.join o.left o.right f
 
 -- why operands' joined table isn't written: that, want of memory, or that the writer failed
 abbrev pub IsUnwritten : Request → Operands → Fault → Type 0
