@@ -18,7 +18,7 @@ use Rattle.rj_csv_io.specs.declared.refused.ReadRefused.TheVariants as read
 use Rattle.rj_command.specs.Operands.{AreOperands, IsFirstFault, IsJoinFault, bind_fault, in_clause, in_left, in_right, parse_fault, unbound, unread}
 use Rattle.rj_command.specs.Sides.{IsStrictFault, IsTableFaultBy, fault_below, has_lawful_nulls, header_records, is_no_header, nulls_of, of_records, of_text, records_in_lines, side_records, stands, strict_fault, told, told_first, types_of}
 use Rattle.rj_fault.specs.Faults.{read_fault}
-use Rattle.rj_command.specs.Runs.{CanBeWritten, HasJoined, IsJoined, IsReady, IsRunFault, IsUnwritten, WritesJoined, WritesTables, chosen_text, hash_value}
+use Rattle.rj_command.specs.Runs.{CanBeWritten, HasJoined, IsJoined, IsReady, IsRunFault, IsUnwritten, WritesJoined, WritesTables, chosen_text}
 use Rattle.rj_fault.specs.declared.fault.Fault.{Fault}
 use Rattle.rj_fault.specs.declared.fault.Fault.TheVariants as fault
 use Rattle.rj_fault.specs.declared.fault.Side.{Side}
@@ -33,7 +33,7 @@ use Rattle.rj_strict.specs.declared.fault.StrictFault.TheVariants as strict
 
 -- what can be written of the operands' joined table is the text of that of the bytes
 pub joined_of_ready : (left right : List ℕ) (q : Request) (o : Operands) (stats : Stats) → AreOperands left right q o.left o.right o.join
-    → (j : IsReady (hash_value q.hash) q o stats) → IsJoined left right q stats (chosen_text q j.names o.join o.left o.right)
+    → (j : IsReady q o stats) → IsJoined left right q stats (chosen_text q j.names o.join o.left o.right)
 joined_of_ready left right q o stats operands j = record {
   l = o.left;
   r = o.right;
@@ -50,13 +50,13 @@ joined_of_ready left right q o stats operands j = record {
 -- what was written of the operands was written of the bytes
 pub joined_of_operands : (left right : List ℕ) (q : Request) (o : Operands) (before after : Option (List ℕ)) (result : Result Stats Fault)
     → AreOperands left right q o.left o.right o.join
-    → IfOk result (WritesTables (hash_value q.hash) q o before after) → IfOk result (WritesJoined left right q before after)
+    → IfOk result (WritesTables q o before after) → IfOk result (WritesJoined left right q before after)
 joined_of_operands left right q o before after result operands =
     IfOk-weaker result _ _ (λ stats h. (chosen_text q h.0.names o.join o.left o.right, joined_of_ready left right q o stats operands h.0, h.1))
 
 -- what can be written of the operands can be written of the bytes
 pub has_joined : (left right : List ℕ) (q : Request) (o : Operands) → AreOperands left right q o.left o.right o.join
-    → CanBeWritten (hash_value q.hash) q o → HasJoined left right q
+    → CanBeWritten q o → HasJoined left right q
 has_joined left right q o operands h = (h.0, chosen_text q h.1.names o.join o.left o.right, joined_of_ready left right q o h.0 operands h.1)
 
 -- the first fault of the operands is one of a run
@@ -78,7 +78,7 @@ no_other left right q o result operands = IfErr-weaker result _ _ (λ f h m d. e
   ]
 ])
 
-abbrev is_device : Fault → Bool
+abbrev pub is_device : Fault → Bool
 is_device fault.WriteDevice = true
 is_device _ = false
 

@@ -88,22 +88,22 @@ pub record IsCounted (value : List Content → ℕ) (q : Request) (l r : TableVa
   pub tells_pieces : stats.tells_pieces ≡ q.tells_pieces
   pub report : IsReported q join l r stats.report
 
--- the operands' joined table can be written: its columns have names, it is as expected, its NULLs
--- can be told from its cells, and these are its statistics
-pub record IsReady (value : List Content → ℕ) (q : Request) (o : Operands) (stats : Stats) : Type 0 where
-  pub counted : IsCounted value q o.left o.right o.join stats
+-- the operands' joined table can be written: its columns have names, it is as expected, its NULLs can be told from its cells, and these
+-- are its counts
+pub record IsReady (q : Request) (o : Operands) (stats : Stats) : Type 0 where
+  pub counted : IsCounted (hash_value q.hash) q o.left o.right o.join stats
   pub expected : IsExpected q o.join o.left o.right
   pub told_apart : IsToldApart q.strict q.out_null.now (chosen_view q.choice o.join o.left o.right).cells
   pub names : List (List ℕ)
   pub named : AreNames q o.join o.left o.right names
 
--- it has some statistics
-abbrev pub CanBeWritten : (List Content → ℕ) → Request → Operands → Type 0
-CanBeWritten value q o = (stats : Stats) × IsReady value q o stats
+-- something is counted of it
+abbrev pub CanBeWritten : Request → Operands → Type 0
+CanBeWritten q o = (stats : Stats) × IsReady q o stats
 
 -- the text of what is chosen of it was written after what the writer already had
-abbrev pub WritesTables : (List Content → ℕ) → Request → Operands → Option (List ℕ) → Option (List ℕ) → Stats → Type 0
-WritesTables value q o before after stats = (j : IsReady value q o stats) × Appends before after (chosen_text q j.names o.join o.left o.right)
+abbrev pub WritesTables : Request → Operands → Option (List ℕ) → Option (List ℕ) → Stats → Type 0
+WritesTables q o before after stats = (j : IsReady q o stats) × Appends before after (chosen_text q j.names o.join o.left o.right)
 
 -- a chosen column is to be renamed and has no free name, and this error reports the first one
 abbrev pub IsNameFault : Request → BoundJoin → TableValue → TableValue → Fault → Type 0
@@ -118,7 +118,11 @@ IsResultFault q join l r f =
     ⊎ (((names : List (List ℕ)) × AreNames q join l r names)
     × (IsUnexpected q join l r f ⊎ (IsExpected q join l r × IsNullFault q.strict q.out_null.now (chosen_view q.choice join l r).cells f)))
 
--- why the operands' joined table isn't written: such an error, out of memory, or the writer failed
+-- why the operands' joined table can't be written: such an error, or out of memory
+abbrev pub IsUnprepared : Request → Operands → Fault → Type 0
+IsUnprepared q o f = (f ≡ fault.Memory) ⊎ IsResultFault q o.join o.left o.right f
+
+-- why it isn't written: such an error, out of memory, or the writer failed
 abbrev pub IsUnwritten : Request → Operands → Fault → Type 0
 IsUnwritten q o f = (f ≡ fault.Memory) ⊎ ((f ≡ fault.WriteDevice) ⊎ IsResultFault q o.join o.left o.right f)
 

@@ -7,9 +7,10 @@ use Rattle.rj_columns.specs.Contents.{Content}
 use Rattle.rj_columns.specs.Tables.{TableValue}
 use Rattle.rj_csv_io.specs.Shown.{rows_text, shown}
 use Rattle.rj_engine.specs.Join.{JoinedValue}
-use Rattle.rj_engine.specs.Shown.{IsRunWithin, run_view}
+use Rattle.rj_engine.specs.Shown.{IsRunWithin, IsShownOf, run_view, shown_view}
 use Rattle.rj_engine.specs.declared.runs.Run.{Run}
 use Rattle.rj_engine.specs.declared.shown.Shown.{Shown}
+use Rattle.rj_command.specs.declared.join.texts.Written.{Written}
 
 -- texts, one after another
 abbrev pub whole_text : Vec (Vec ℕ Global) Global → List ℕ
@@ -42,6 +43,18 @@ no_table = record { names = []; types = []; rows = [] }
 -- the text of a run, by all segments
 abbrev pub text_in : List ℕ → Shown → List TableValue → TableValue → JoinedValue → Run → List ℕ
 text_in null s segments r v run = run_text null s (slice_index_or segments run.segment no_table) r v run
+
+-- what is written is of the joined table of this left table
+abbrev pub AreShownOf : Written → TableValue → Type 0
+AreShownOf w left = IsShownOf left w.right.now w.joined.now.members w.shown.now
+
+-- the cells that are written of it
+abbrev pub shown_cells : Written → TableValue → List (List Content)
+shown_cells w left = (shown_view w.shown.now left w.right.now w.joined.now.members).cells
+
+-- the text of a run of what is written, by all segments
+abbrev pub texts_in : Written → List TableValue → Run → List ℕ
+texts_in w segments = text_in w.null.now w.shown.now segments w.right.now w.joined.now.members
 
 -- there are these texts for each segment, one for each of its runs, in their order
 abbrev pub AreTextsOf : (Run → List ℕ) → List Run → List (Vec (Vec (Vec ℕ Global) Global) Global) → Type 0

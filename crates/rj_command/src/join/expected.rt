@@ -1,15 +1,22 @@
-//! Joined tables that aren't as expected.
+//! The operands' joined table, where it is as expected.
 
-ghost use Rattle.std.specs.Prelude.{◌≡◌, ◌⊎◌, IfErr, OnOk};
+ghost use Rattle.std.specs.Prelude.{◌≡◌, ◌⊎◌, IfErr, IfOk, OnOk, true};
+ghost use Rattle.rj_condition.specs.Fits.{fits};
 ghost use Rattle.rj_engine.specs.Expected.{IsAsExpected};
 ghost use Rattle.rj_engine.specs.Results.{joined_of};
-ghost use Rattle.rj_command.specs.Expected.{IsUnexpected, refusal_of};
+ghost use Rattle.rj_command.specs.Expected.{IsExpected, IsUnexpected, refusal_of};
+ghost use Rattle.rj_command.specs.Prepared.{IsOutcome};
 
 use crate::join::operands::Operands;
-use rj_engine::{Joined, is_as_expected};
+use crate::join::watching::Watch;
+use rj_engine::{Gate, Joined, is_as_expected, run_join};
 use rj_fault::Fault;
-use rj_line::Request;
+use rj_line::{Hash, Request};
+use rj_radix::{Mixed, Plain};
 use std::alloc::{AllocError, Global};
+use std::sync::Wait;
+use std::thread::Threads;
+use std::time::Clock;
 
 // The error of a joined table, given whether it is as expected, or that this couldn't be found out.
 fn refusal(is_expected: Result<bool, AllocError>) -> Result<(), Fault>
@@ -22,12 +29,9 @@ fn refusal(is_expected: Result<bool, AllocError>) -> Result<(), Fault>
     }
 }
 
-/// Refuses a joined table that isn't as expected.
-///
-/// # Errors
-///
-/// `NotAsExpected` exactly if it isn't. `Memory` comes only when memory ran out.
-pub(crate) fn refuse_unexpected(
+// Refuses a joined table that isn't as expected: `NotAsExpected` comes exactly if it isn't, and
+// `Memory` only when memory ran out.
+fn refuse_unexpected(
     alloc: Global,
     operands: &Operands,
     joined: &Joined,
@@ -46,4 +50,47 @@ pub(crate) fn refuse_unexpected(
         joined,
         expectation,
     ))
+}
+
+// The joined table of the operands, by the hash of their keys that is asked for.
+fn join_by_hash<R: Threads + Wait + Clock + Sync, G: Gate + Sync>(
+    rt: &R,
+    alloc: Global,
+    operands: &Operands,
+    request: &Request<'_>,
+    gate: &G,
+) -> Result<Joined, AllocError>
+    requires { fits operands.now.join operands.now.left.types operands.now.right.types ≡ true }
+    ensures { IfOk result (IsOutcome request.now operands.now) }
+{
+    let (left, right, join) = (&operands.left, &operands.right, &operands.join);
+    let settings = &request.settings;
+    match request.hash {
+        Hash::Plain => run_join(rt, alloc, left, right, join, settings, &Plain, gate),
+        Hash::Mixed => run_join(rt, alloc, left, right, join, settings, &Mixed, gate),
+    }
+}
+
+/// The joined table of the operands, where it is as the request expects.
+///
+/// # Errors
+///
+/// `NotAsExpected` exactly where it isn't. `Memory` comes only where a growth was refused.
+pub(crate) fn join_as_expected<R: Threads + Wait + Clock + Sync, G: Watch + Sync>(
+    rt: &R,
+    alloc: Global,
+    operands: &Operands,
+    request: &Request<'_>,
+    gate: &G,
+) -> Result<Joined, Fault>
+    requires { fits operands.now.join operands.now.left.types operands.now.right.types ≡ true }
+    ensures joined { IfOk result (IsOutcome request.now operands.now) }
+    ensures expected { OnOk result (IsExpected request.now operands.now.join operands.now.left operands.now.right) }
+    ensures fault { IfErr result (λ f. (f ≡ Fault.Memory) ⊎ IsUnexpected request.now operands.now.join operands.now.left operands.now.right f) }
+{
+    gate.begin(operands.join_step());
+    let mut joined = join_by_hash(rt, alloc, operands, request, gate)?;
+    joined.forget_delivered();
+    refuse_unexpected(alloc, operands, &joined, request)?;
+    Ok(joined)
 }

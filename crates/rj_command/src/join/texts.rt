@@ -1,19 +1,19 @@
 //! The texts of the rows that are shown of a joined table, made segment by segment of its left table.
 
-ghost use Rattle.std.specs.Prelude.{◌≡◌, ◌≢◌, ◌<◌, ◌+◌, ◌-◌, ◌^◌, ℕ, Err, IsTrue, List, OnOk, All, IfOk, IfSome, Ok, Some, length, map, slice_index_or};
+ghost use Rattle.std.specs.Prelude.{◌≡◌, ◌≢◌, ◌<◌, ◌+◌, ◌-◌, ◌^◌, ℕ, Err, IsTrue, List, OnOk, All, IfOk, IfSome, Ok, Some, length, map, slice_index_or, string_bytes};
 ghost use Rattle.std.specs.Io.KnownBytes.{Appends};
 ghost use Rattle.std.specs.List.{concat};
 ghost use Rattle.std.specs.Option.{ForSome};
 ghost use Rattle.rj_csv_io.specs.Shown.{table_text};
 ghost use Rattle.rj_csv_io.specs.Tables.{is_null_text};
-ghost use Rattle.rj_engine.specs.Shown.{IsShownOf, shown_view};
 ghost use Rattle.rj_engine.specs.declared.runs.Run.{Run};
 ghost use Rattle.rj_command.specs.declared.join.texts.Share.{Share};
-ghost use Rattle.rj_command.specs.Texts.{AreCounted, AreRunTexts, AreTextsOf, AreWithin, cells_text, no_table, text_in, whole_text};
+ghost use Rattle.rj_command.specs.Texts.{AreCounted, AreRunTexts, AreShownOf, AreTextsOf, AreWithin, cells_text, no_table, shown_cells, texts_in, whole_text};
 
 use rj_columns::Table;
 use rj_csv_io::{Output, WriteRefused, texts_of_rows, write_rows_in_parts, write_texts};
 use rj_engine::{Joined, Run, RunView, Shown, cut_runs};
+use rj_fault::texts_of;
 use std::alloc::{AllocError, Global};
 use std::thread::{self, Threads};
 
@@ -23,6 +23,19 @@ const SHARE_ROWS: u64 = 98_304;
 
 // The texts of consecutive rows, one after another.
 type Texts = Vec<Vec<u8>>;
+
+/// What is written of a joined table, but for its left table: the rows that are shown of it, under
+/// these names and with this text for NULL. At most `workers` threads make their texts, the calling
+/// one among them.
+#[derive(Drop)]
+pub(crate) struct Written<'a> {
+    pub(crate) names: &'a [String],
+    pub(crate) right: &'a Table,
+    pub(crate) joined: &'a Joined,
+    pub(crate) shown: &'a Shown,
+    pub(crate) null: &'a str,
+    pub(crate) workers: usize,
+}
 
 // A segment of the left table until the texts of its runs are made, and then these texts.
 #[derive(Drop)]
@@ -166,25 +179,23 @@ fn make_shares<R: Threads + Sync>(
     made
 }
 
-// The texts of the runs of each segment, made by at most this many threads.
+// The texts of the runs of each segment.
 fn texts_of_segments<R: Threads + Sync>(
     rt: &R,
     alloc: Global,
     segments: Vec<Table>,
-    right: &Table,
-    joined: &Joined,
-    shown: &Shown,
+    written: &Written<'_>,
     runs: &[Run],
-    null: &str,
-    workers: usize,
 ) -> Result<Vec<Vec<Texts>>, AllocError>
-    requires workers { 0 < workers }
+    requires workers { 0 < written.now.workers }
     requires within { (k : ℕ) → k < length segments.items
-        → AreWithin (slice_index_or segments.items k no_table) right.now joined.now.members shown.now k runs.now }
+        → AreWithin (slice_index_or segments.items k no_table) written.now.right.now written.now.joined.now.members written.now.shown.now k runs.now }
     ensures { IfOk result (λ v. (length v.items ≡ length segments.items)
-        × AreTextsOf (text_in null.now shown.now segments.items right.now joined.now.members) runs.now v.items) }
+        × AreTextsOf (texts_in written.now segments.items) runs.now v.items) }
 {
     let shares = shares_of(alloc, segments)?;
+    let (right, joined, shown) = (written.right, written.joined, written.shown);
+    let (null, workers) = (written.null, written.workers);
     let made = make_shares(rt, alloc, shares, right, joined, shown, runs, null, workers);
     all_made(alloc, made)
 }
@@ -209,79 +220,58 @@ fn texts_of_runs<R: Threads + Sync>(
     rt: &R,
     alloc: Global,
     segments: Vec<Table>,
-    right: &Table,
-    joined: &Joined,
-    shown: &Shown,
+    written: &Written<'_>,
     runs: &[Run],
-    null: &str,
-    workers: usize,
 ) -> Result<Texts, AllocError>
-    requires workers { 0 < workers }
+    requires workers { 0 < written.now.workers }
     requires segments { All (λ run. run.segment < length segments.items) runs.now }
     requires within { (k : ℕ) → k < length segments.items
-        → AreWithin (slice_index_or segments.items k no_table) right.now joined.now.members shown.now k runs.now }
-    ensures { IfOk result (λ v. whole_text v ≡ concat (map (text_in null.now shown.now segments.items right.now joined.now.members) runs.now)) }
+        → AreWithin (slice_index_or segments.items k no_table) written.now.right.now written.now.joined.now.members written.now.shown.now k runs.now }
+    ensures { IfOk result (λ v. whole_text v ≡ concat (map (texts_in written.now segments.items) runs.now)) }
 {
-    let made = texts_of_segments(
-        rt, alloc, segments, right, joined, shown, runs, null, workers,
-    )?;
+    let made = texts_of_segments(rt, alloc, segments, written, runs)?;
     in_order(alloc, made, runs)
 }
 
-/// The texts of the rows that are shown of the joined table of two tables, one after another. At
-/// most this many threads make them, the calling one among them, and at least one. The left table
-/// is taken apart into segments of at most 65,536 rows. A thread takes segments one after another,
-/// and frees each as soon as the texts of its rows are there.
-///
-/// # Errors
-///
-/// It fails only when memory runs out.
-pub(crate) fn texts_of_joined<R: Threads + Sync>(
+// The texts of the rows that are shown, one after another. The left table is taken apart into
+// segments of at most 65,536 rows. A thread takes segments one after another, and frees each as soon
+// as the texts of its rows are there. It fails only when memory runs out.
+fn texts_of_joined<R: Threads + Sync>(
     rt: &R,
     alloc: Global,
     left: Table,
-    right: &Table,
-    joined: &Joined,
-    shown: &Shown,
-    null: &str,
-    workers: usize,
+    written: &Written<'_>,
 ) -> Result<Texts, AllocError>
-    requires workers { 0 < workers }
-    requires shown { IsShownOf left right.now joined.now.members shown.now }
-    ensures { IfOk result (λ v. whole_text v ≡ cells_text null.now (shown_view shown.now left right.now joined.now.members).cells) }
+    requires workers { 0 < written.now.workers }
+    requires shown { AreShownOf written.now left }
+    ensures { IfOk result (λ v. whole_text v ≡ cells_text written.now.null.now (shown_cells written.now left)) }
 {
     let _rows = left.rows();
     let segments = left.into_segments(alloc)?;
-    let runs = cut_runs(alloc, &segments, joined, shown)?;
-    texts_of_runs(
-        rt, alloc, segments, right, joined, shown, &runs, null, workers,
-    )
+    let runs = cut_runs(alloc, &segments, written.joined, written.shown)?;
+    texts_of_runs(rt, alloc, segments, written, &runs)
 }
 
-// Writes a header and then the rows that are shown of the joined table of two tables. Their texts
-// are made segment by segment of the left table.
+// Writes a header and then the rows that are shown. Their texts are made segment by segment of the
+// left table.
 fn write_segments<R: Threads + Sync, O: Output>(
     rt: &R,
     alloc: Global,
     writer: &mut O,
     header: &[&str],
     left: Table,
-    right: &Table,
-    joined: &Joined,
-    shown: &Shown,
-    null: &str,
-    workers: usize,
+    written: &Written<'_>,
 ) -> Result<(), WriteRefused>
-    requires workers { 0 < workers }
-    requires shown { IsShownOf left right.now joined.now.members shown.now }
+    requires workers { 0 < written.now.workers }
+    requires shown { AreShownOf written.now left }
     requires failures { O.count writer.old < 2 ^ 64 - 1 }
     ensures ok { OnOk result (Appends (O.told writer.old) (O.told writer.new)
-        (table_text null.now (map (λ n. n.now) header.now) (shown_view shown.now left right.now joined.now.members).cells)) }
+        (table_text written.now.null.now (map (λ n. n.now) header.now) (shown_cells written.now left))) }
     ensures memory { result ≡ Err WriteRefused.Memory → writer.new ≡ writer.old }
     ensures device { result ≡ Err WriteRefused.WriteDevice → O.count writer.new ≡ O.count writer.old + 1 }
     ensures kept { result ≢ Err WriteRefused.WriteDevice → O.count writer.new ≡ O.count writer.old }
 {
-    let Ok(texts) = texts_of_joined(rt, alloc, left, right, joined, shown, null, workers) else {
+    let Ok(texts) = texts_of_joined(rt, alloc, left, written) else {
         return Err(WriteRefused::Memory);
     };
     write_texts(alloc, writer, header, texts.as_slice())
@@ -294,30 +284,26 @@ fn write_whole<R: Threads + Sync, O: Output>(
     writer: &mut O,
     header: &[&str],
     left: &Table,
-    right: &Table,
-    joined: &Joined,
-    shown: &Shown,
-    null: &str,
-    workers: usize,
+    written: &Written<'_>,
 ) -> Result<(), WriteRefused>
-    requires shown { IsShownOf left.now right.now joined.now.members shown.now }
-    requires header { length header.now ≡ length shown.now.origins.items }
-    requires null { IsTrue (is_null_text null.now) }
+    requires shown { AreShownOf written.now left.now }
+    requires header { length header.now ≡ length written.now.shown.now.origins.items }
+    requires null { IsTrue (is_null_text written.now.null.now) }
     requires failures { O.count writer.old < 2 ^ 64 - 1 }
     ensures ok { OnOk result (Appends (O.told writer.old) (O.told writer.new)
-        (table_text null.now (map (λ n. n.now) header.now) (shown_view shown.now left.now right.now joined.now.members).cells)) }
+        (table_text written.now.null.now (map (λ n. n.now) header.now) (shown_cells written.now left.now))) }
     ensures memory { result ≡ Err WriteRefused.Memory → writer.new ≡ writer.old }
     ensures device { result ≡ Err WriteRefused.WriteDevice → O.count writer.new ≡ O.count writer.old + 1 }
     ensures kept { result ≢ Err WriteRefused.WriteDevice → O.count writer.new ≡ O.count writer.old }
 {
-    let rows = RunView::whole(left, right, joined, shown);
+    let rows = RunView::whole(left, written.right, written.joined, written.shown);
+    let (null, workers) = (written.null, written.workers);
     write_rows_in_parts(rt, alloc, writer, header, &rows, null, workers)
 }
 
-/// Writes a header and then the rows that are shown of the joined table of two tables. At most this
-/// many threads make their texts, and all texts are made before the first is put. A left table of
-/// many rows is freed segment by segment, as the texts of its rows are made. If it has few, the
-/// rows are divided evenly among the threads.
+/// Writes the names as a header, and then the rows that are shown of the joined table of two tables.
+/// All texts are made before the first is put. A left table of many rows is freed segment by segment,
+/// as the texts of its rows are made. If it has few, the rows are divided evenly among the threads.
 ///
 /// # Errors
 ///
@@ -327,30 +313,25 @@ pub(crate) fn write_shown<R: Threads + Sync, O: Output>(
     rt: &R,
     alloc: Global,
     writer: &mut O,
-    header: &[&str],
     left: Table,
-    right: &Table,
-    joined: &Joined,
-    shown: &Shown,
-    null: &str,
-    workers: usize,
+    written: &Written<'_>,
 ) -> Result<(), WriteRefused>
-    requires shown { IsShownOf left right.now joined.now.members shown.now }
-    requires header { length header.now ≡ length shown.now.origins.items }
-    requires null { IsTrue (is_null_text null.now) }
+    requires shown { AreShownOf written.now left }
+    requires names { length written.now.names.now ≡ length written.now.shown.now.origins.items }
+    requires null { IsTrue (is_null_text written.now.null.now) }
     requires failures { O.count writer.old < 2 ^ 64 - 1 }
     ensures ok { OnOk result (Appends (O.told writer.old) (O.told writer.new)
-        (table_text null.now (map (λ n. n.now) header.now) (shown_view shown.now left right.now joined.now.members).cells)) }
+        (table_text written.now.null.now (map string_bytes written.now.names.now) (shown_cells written.now left))) }
     ensures memory { result ≡ Err WriteRefused.Memory → writer.new ≡ writer.old }
     ensures device { result ≡ Err WriteRefused.WriteDevice → O.count writer.new ≡ O.count writer.old + 1 }
     ensures kept { result ≢ Err WriteRefused.WriteDevice → O.count writer.new ≡ O.count writer.old }
 {
-    if workers > 0 && left.rows() / SHARE_ROWS >= workers as u64 {
-        return write_segments(
-            rt, alloc, writer, header, left, right, joined, shown, null, workers,
-        );
+    let Ok(header) = texts_of(alloc, written.names) else {
+        return Err(WriteRefused::Memory);
+    };
+    let header = header.as_slice();
+    if written.workers > 0 && left.rows() / SHARE_ROWS >= written.workers as u64 {
+        return write_segments(rt, alloc, writer, header, left, written);
     }
-    write_whole(
-        rt, alloc, writer, header, &left, right, joined, shown, null, workers,
-    )
+    write_whole(rt, alloc, writer, header, &left, written)
 }

@@ -3,14 +3,14 @@ use Rattle.rj_command.proofs.RunFacts.{has_joined, joined_of_operands, no_other,
 use Rattle.rj_command.proofs.join.running.run_owned.Goals as goal
 
 pub returns-clause-joined : goal.returns-clause-joined
-returns-clause-joined g c = joined_of_operands _ _ _ c.in_ok-operands.operands _ _ c.write_by_hash.result c.in_ok-operands.ensures.operands c.write_by_hash.ensures.ok
+returns-clause-joined g c = joined_of_operands _ _ _ c.in_ok-operands.operands _ _ c.write_joined.result c.in_ok-operands.ensures.operands c.write_joined.ensures.ok
 
 pub returns-clause-fault : goal.returns-clause-fault
-returns-clause-fault g c = no_other c.args.left.items c.args.right.items c.args.request.now c.in_ok-operands.operands c.write_by_hash.result c.in_ok-operands.ensures.operands c.write_by_hash.ensures.fault
+returns-clause-fault g c = no_other c.args.left.items c.args.right.items c.args.request.now c.in_ok-operands.operands c.write_joined.result c.in_ok-operands.ensures.operands c.write_joined.ensures.fault
 
 pub returns-clause-failed : goal.returns-clause-failed
 returns-clause-failed g c = λ failed.
-    has_joined c.args.left.items c.args.right.items c.args.request.now c.in_ok-operands.operands c.in_ok-operands.ensures.operands (c.write_by_hash.ensures.failed failed)
+    has_joined c.args.left.items c.args.right.items c.args.request.now c.in_ok-operands.operands c.in_ok-operands.ensures.operands (c.write_joined.ensures.failed failed)
 
 pub returns-in_err-operands-clause-fault : goal.returns-in_err-operands-clause-fault
 returns-in_err-operands-clause-fault g c = of_operands c.args.left.items c.args.right.items c.args.request.now c.from_residual.result c.in_err-operands.field-0.0 (search rules) c.in_err-operands.ensures.fault

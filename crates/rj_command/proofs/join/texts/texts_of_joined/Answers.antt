@@ -11,9 +11,9 @@ use Rattle.rj_command.proofs.join.texts.texts_of_joined.Goals as goal
 
 pub texts_of_runs-requires-clause-within : goal.texts_of_runs-requires-clause-within
 texts_of_runs-requires-clause-within g c κs within = λ k low.
-    let s = c.args.shown.now in
-    let r = c.args.right.now in
-    let v = c.args.joined.now.members in
+    let s = c.args.written.now.shown.now in
+    let r = c.args.written.now.right.now in
+    let v = c.args.written.now.joined.now.members in
     let segments = c.in_ok-segments.segments.items in
     let runs = c.in_ok-runs.runs.items in
     let types : All (λ (t : TableValue). t.types ≡ c.args.left.types) segments = λ i d lt. (c.in_ok-segments.ensures.same i d lt).1 in
@@ -23,10 +23,10 @@ texts_of_runs-requires-clause-within g c κs within = λ k low.
 
 pub returns : goal.returns
 returns g c =
-    let s = c.args.shown.now in
-    let r = c.args.right.now in
-    let v = c.args.joined.now.members in
-    let null = c.args.null.now in
+    let s = c.args.written.now.shown.now in
+    let r = c.args.written.now.right.now in
+    let v = c.args.written.now.joined.now.members in
+    let null = c.args.written.now.null.now in
     let segments = c.in_ok-segments.segments.items in
     let runs = c.in_ok-runs.runs.items in
     let types : All (λ (t : TableValue). t.types ≡ c.args.left.types) segments = λ i d lt. (c.in_ok-segments.ensures.same i d lt).1 in

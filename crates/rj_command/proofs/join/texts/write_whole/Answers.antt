@@ -13,4 +13,4 @@ returns-clause-ok g c =
     let before = g.O.Output.told c.args.writer.now in
     let after = g.O.Output.told c.write_rows_in_parts.new.output in
     let header = map (λ (n : Bor (List ℕ)). n.now) c.args.header.now in
-    subst (λ (v : ViewValue). OnOk c.write_rows_in_parts.result (Appends before after (table_text c.args.null.now header v.cells))) c.whole-rows.ensures c.write_rows_in_parts.ensures.ok
+    subst (λ (v : ViewValue). OnOk c.write_rows_in_parts.result (Appends before after (table_text c.args.written.now.null.now header v.cells))) c.whole-rows.ensures c.write_rows_in_parts.ensures.ok
