@@ -140,21 +140,20 @@ fn first_untyped<'h>(
     Ok(None)
 }
 
-// What is told of a header of one name that has the separators of another kind of file in it.
-fn separator_line(alloc: Global, names: &[&[u8]]) -> Result<String, AllocError> {
-    let [name] = names else {
-        return Ok(String::new(alloc));
-    };
-    let separator = if name.contains(&b';') {
-        "a semicolon"
-    } else if name.contains(&b'\t') {
-        "a tab"
-    } else {
-        return Ok(String::new(alloc));
-    };
-    format!(in alloc;
-        "  the one name has {separator} in it: fields are separated by commas, and perhaps not in this file\n"
-    )
+// The lines that tell of a header of one name that has the separators of another kind of file in it.
+const SEMICOLON: &str =
+    "  the one name has a semicolon in it: fields are separated by commas, and perhaps not in this file\n";
+
+const TAB: &str =
+    "  the one name has a tab in it: fields are separated by commas, and perhaps not in this file\n";
+
+// What is told of such a header.
+fn separator_line(names: &[&[u8]]) -> &'static str {
+    match names {
+        [name] if name.contains(&b';') => SEMICOLON,
+        [name] if name.contains(&b'\t') => TAB,
+        _ => "",
+    }
 }
 
 // The line that tells how many names and types there are, and the first name without a type.
@@ -187,9 +186,8 @@ fn lines_of_count(
     ensures { IfOk result (λ s. IsCountTold entries.now (map (λ n. n.now) names.now) (string_bytes s)) }
 {
     let types = types_under(alloc, entries, names)?.len();
-    let separator = separator_line(alloc, names)?;
     let untyped = first_untyped(alloc, entries, names)?;
-    count_line(alloc, names.len(), types, untyped, separator.as_str())
+    count_line(alloc, names.len(), types, untyped, separator_line(names))
 }
 
 /// What is told of a header that has more or fewer names than there are types: both counts, and the first name without a type.

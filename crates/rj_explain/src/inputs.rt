@@ -2,14 +2,17 @@
 
 ghost use Rattle.std.specs.Prelude.{◌≡◌, IfOk};
 ghost use Rattle.csv.specs.Reading.{strip_bom};
+ghost use Rattle.rj_csv_io.specs.Pieces.{names_in};
+ghost use Rattle.rj_types.specs.Columns as columns;
 ghost use Rattle.rj_explain.specs.Explained as explained;
 ghost use Rattle.rj_explain.specs.Explained.{IsQuotedText, IsReadText, file_of, header_names, names_of, text_in, types_of};
 
+use rj_columns::ColumnType;
 use rj_csv_io::{Header as Names, without_bom};
 use rj_fault::Side;
 use rj_line::{Request, Strictness};
 use rj_strict::{Header, above_fault, check, quote_empty_lines};
-use rj_types::TypeEntry;
+use rj_types::{TypeEntry, types_under};
 use std::alloc::{AllocError, Global};
 
 /// What a run had read when its fault was found.
@@ -63,6 +66,23 @@ impl<'a, 'r> Inputs<'a, 'r> {
         ensures { IfOk result (λ o. names_of o ≡ header_names (file_of side self.now)) }
     {
         Names::of(alloc, without_bom(self.file(side)))
+    }
+
+    /// The types of a side's columns under this header.
+    ///
+    /// # Errors
+    ///
+    /// It fails only where memory is refused.
+    pub(crate) fn kinds(
+        &self,
+        alloc: Global,
+        side: Side,
+        header: &Names,
+    ) -> Result<Vec<ColumnType>, AllocError>
+        ensures { IfOk result (λ v. v.items ≡ columns.types_under (types_of side self.now) (names_in header.now)) }
+    {
+        let names = header.names(alloc)?;
+        types_under(alloc, self.types(side), names.as_slice())
     }
 
     /// The text of a side as its records are read, where that isn't the file's own: read strictly, an empty line is a record.

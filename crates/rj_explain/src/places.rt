@@ -11,7 +11,7 @@ ghost use Rattle.rj_explain.specs.Places as places;
 
 /// Where a reader stands: before a record, at the start of a further field, in one, between quotes, behind the quote that
 /// closed, and behind a CR that ended a record.
-#[derive(Clone, Copy, Debug, PartialEq, Eq)]
+#[derive(Clone, Copy)]
 pub(crate) enum Standing {
     Record,
     Field,

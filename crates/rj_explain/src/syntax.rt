@@ -6,6 +6,7 @@ use crate::inputs::Inputs;
 use crate::shown::Shown;
 use rj_condition::{ParseRefused, parse, quoted};
 use std::alloc::{AllocError, Global};
+use std::fmt;
 
 // What may stand in a clause, and what it is called.
 const WORDS: [(&str, &str); 26] = [
@@ -37,34 +38,47 @@ const WORDS: [(&str, &str); 26] = [
     ("UNKNOWN", "UNKNOWN"),
 ];
 
-// Whether a clause may begin with a text and then this word.
-fn may_follow(alloc: Global, text: &str, word: &str) -> Result<bool, AllocError> {
-    let tried = format!(in alloc; "{text} {word}")?;
-    match parse(alloc, tried.as_str()) {
+// Whether this text is a clause, or one begins with it.
+fn is_begun(alloc: Global, text: &str) -> Result<bool, AllocError> {
+    match parse(alloc, text) {
         Ok(_) => Ok(true),
-        Err(ParseRefused::Syntax(byte)) => Ok(byte >= tried.len() as u64),
+        Err(ParseRefused::Syntax(byte)) => Ok(byte >= text.len() as u64),
         Err(ParseRefused::Memory) => Err(AllocError),
         Err(_) => Ok(false),
     }
 }
 
-// What may stand behind a text that a clause begins with.
-fn wanted(alloc: Global, text: &str) -> Result<String, AllocError> {
-    let mut list = String::new(alloc);
+// Whether a clause may begin with a text and then this word.
+fn may_follow(alloc: Global, text: &str, word: &str) -> Result<bool, AllocError> {
+    let tried = format!(in alloc; "{text} {word}")?;
+    is_begun(alloc, tried.as_str())
+}
+
+// Adds one of several to a list.
+fn push_called(list: &mut String, called: &str) -> Result<(), AllocError> {
+    if !list.is_empty() {
+        list.push_str(" or ")?;
+    }
+    list.push_str(called)
+}
+
+// Adds to a list what may stand behind a text that a clause begins with.
+fn push_wanted(alloc: Global, text: &str, list: &mut String) -> Result<(), AllocError> {
     for (word, called) in &WORDS {
         if may_follow(alloc, text, *word)? {
-            if !list.is_empty() {
-                list.push_str(" or ")?;
-            }
-            list.push_str(*called)?;
+            push_called(list, *called)?;
         }
     }
     if parse(alloc, text).is_ok() {
-        if !list.is_empty() {
-            list.push_str(" or ")?;
-        }
-        list.push_str("the end")?;
+        push_called(list, "the end")?;
     }
+    Ok(())
+}
+
+// What may stand behind a text that a clause begins with.
+fn wanted(alloc: Global, text: &str) -> Result<String, AllocError> {
+    let mut list = String::new(alloc);
+    push_wanted(alloc, text, &mut list)?;
     Ok(list)
 }
 
@@ -121,21 +135,54 @@ fn token_len(alloc: Global, text: &str) -> Result<usize, AllocError> {
 }
 
 // The part of a clause round a byte, and under it a mark at that byte.
-fn marked(alloc: Global, clause: &str, byte: usize) -> Result<String, AllocError> {
-    let (mut shown, mut mark) = (
-        String::from_str(alloc, "  ")?,
-        String::from_str(alloc, "  ")?,
-    );
-    for (at, c) in clause.char_indices() {
-        if at + 50 < byte || at > byte + 30 {
-            continue;
-        }
-        shown.push(if c.is_ascii_control() { ' ' } else { c })?;
-        if at < byte {
-            mark.push(' ')?;
-        }
+#[derive(Clone, Copy)]
+struct Marked<'c> {
+    clause: &'c str,
+    byte: usize,
+}
+
+impl Marked<'_> {
+    // Whether the character at a byte is shown.
+    fn is_near(self, at: usize) -> bool {
+        at.saturating_add(50) >= self.byte && at <= self.byte.saturating_add(30)
     }
-    format!(in alloc; "{shown}\n{mark}^\n")
+}
+
+impl fmt::Display for Marked<'_> {
+    fn fmt<W: fmt::Write>(&self, f: &mut fmt::Formatter<W>) -> fmt::Result {
+        f.write_str("  ")?;
+        for (at, c) in self.clause.char_indices() {
+            if self.is_near(at) {
+                f.write_char(if c.is_ascii_control() { ' ' } else { c })?;
+            }
+        }
+        f.write_str("\n  ")?;
+        for (at, _) in self.clause.char_indices() {
+            if self.is_near(at) && at < self.byte {
+                f.write_char(' ')?;
+            }
+        }
+        f.write_str("^\n")
+    }
+}
+
+// What is told of what stands at a byte of a clause, by what might stand there.
+fn found_lines(
+    alloc: Global,
+    behind: &str,
+    wanted: &str,
+    marked: Marked<'_>,
+) -> Result<String, AllocError> {
+    if behind.is_empty() {
+        return format!(in alloc; "  found the end, wanted {wanted}\n{marked}");
+    }
+    let Some((token, _)) = behind.split_at_checked(token_len(alloc, behind)?) else {
+        return format!(in alloc; "{marked}");
+    };
+    let found = Shown {
+        bytes: token.as_bytes(),
+    };
+    format!(in alloc; "  found {found}, wanted {wanted}\n{marked}")
 }
 
 /// What is told of a text that stops being a clause at a byte: what stands there, what might stand there, and the text with a mark.
@@ -148,20 +195,10 @@ pub(crate) fn syntax_lines(
     inputs: &Inputs<'_, '_>,
     byte: u64,
 ) -> Result<String, AllocError> {
-    let clause = inputs.request.clause;
-    let Some((before, behind)) = clause.split_at_checked(byte as usize) else {
+    let (clause, byte) = (inputs.request.clause, byte as usize);
+    let Some((before, behind)) = clause.split_at_checked(byte) else {
         return Ok(String::new(alloc));
     };
     let wanted = wanted(alloc, before)?;
-    let marked = marked(alloc, clause, byte as usize)?;
-    if behind.is_empty() {
-        return format!(in alloc; "  found the end, wanted {wanted}\n{marked}");
-    }
-    let Some((token, _)) = behind.split_at_checked(token_len(alloc, behind)?) else {
-        return Ok(marked);
-    };
-    let found = Shown {
-        bytes: token.as_bytes(),
-    };
-    format!(in alloc; "  found {found}, wanted {wanted}\n{marked}")
+    found_lines(alloc, behind, wanted.as_str(), Marked { clause, byte })
 }
