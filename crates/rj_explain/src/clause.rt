@@ -54,19 +54,10 @@ pub(crate) fn columns_of(
 }
 
 /// The columns of both sides' files, each as a table without rows.
+#[derive(Drop)]
 pub(crate) struct BothColumns {
     pub(crate) left: Table,
     pub(crate) right: Table,
-}
-
-// By hand, so that a drop is one call in the proofs of those who hold both.
-impl Drop for BothColumns {
-    fn drop(self) {
-        let BothColumns {
-            left: _left,
-            right: _right,
-        } = self;
-    }
 }
 
 impl BothColumns {
@@ -239,18 +230,6 @@ fn lacking_side_of(
     Ok(lacking_side(columns, &name))
 }
 
-// The name of either table that is nearest to another one, by the left table first.
-fn nearest_of_both<'t>(
-    alloc: Global,
-    wanted: &str,
-    columns: &'t BothColumns,
-) -> Result<Option<&'t str>, AllocError> {
-    match nearest(alloc, wanted, &columns.left)? {
-        Some(name) => Ok(Some(name)),
-        None => nearest(alloc, wanted, &columns.right),
-    }
-}
-
 // What is said of a name without a qualifier that can't be found: in USING one table may have it.
 fn words_of_bare(
     alloc: Global,
@@ -259,13 +238,16 @@ fn words_of_bare(
     columns: &BothColumns,
 ) -> Result<String, AllocError> {
     let wanted = found.name.as_str();
-    let Some(side) = lacking_side_of(alloc, clause, found, columns)? else {
-        let meant = nearest_of_both(alloc, wanted, columns)?;
-        return words_of_both(alloc, columns, meant);
+    if let Some(side) = lacking_side_of(alloc, clause, found, columns)? {
+        let table = columns.of(side);
+        let meant = nearest(alloc, wanted, table)?;
+        return words_of_side(alloc, side, "lacks it, and has", table, meant);
+    }
+    let meant = match nearest(alloc, wanted, &columns.left)? {
+        Some(name) => Some(name),
+        None => nearest(alloc, wanted, &columns.right)?,
     };
-    let table = columns.of(side);
-    let meant = nearest(alloc, wanted, table)?;
-    words_of_side(alloc, side, "lacks it, and has", table, meant)
+    words_of_both(alloc, columns, meant)
 }
 
 // What is said of a name that can't be found.

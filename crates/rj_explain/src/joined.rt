@@ -13,7 +13,7 @@ use crate::inputs::Inputs;
 use crate::row::field_at;
 use crate::shown::Shown;
 use rj_columns::Table;
-use rj_condition::{BoundJoin, Split, bind, parse, split};
+use rj_condition::{BoundJoin, bind, parse, split};
 use rj_engine::{chosen_header, written_names};
 use rj_fault::Side;
 use rj_line::Request;
@@ -138,18 +138,13 @@ pub(crate) fn null_text_lines(
     }
 }
 
-// The columns of a side's table, counted from 0, that are keys of a join which is split so.
-fn keys_in(alloc: Global, split: &Split<'_>, side: Side) -> Result<Vec<usize>, AllocError> {
+// The columns of a side's table, counted from 0, that are keys of a join.
+fn keys_on(alloc: Global, join: &BoundJoin, side: Side) -> Result<Vec<usize>, AllocError> {
+    let split = split(alloc, join)?;
     match side {
         Side::Left => split.left_columns(alloc),
         Side::Right => split.right_columns(alloc),
     }
-}
-
-// Those of a join.
-fn keys_on(alloc: Global, join: &BoundJoin, side: Side) -> Result<Vec<usize>, AllocError> {
-    let split = split(alloc, join)?;
-    keys_in(alloc, &split, side)
 }
 
 // The same of the join that is asked for, by the columns of both tables.

@@ -6,7 +6,6 @@ use crate::inputs::Inputs;
 use crate::shown::Shown;
 use rj_condition::{ParseRefused, parse, quoted};
 use std::alloc::{AllocError, Global};
-use std::fmt;
 
 // What may stand in a clause, and what it is called.
 const WORDS: [(&str, &str); 26] = [
@@ -134,53 +133,44 @@ fn token_len(alloc: Global, text: &str) -> Result<usize, AllocError> {
     Ok(first.max(long_token_len(alloc, text)?))
 }
 
+// Whether a character at one byte of a clause is shown round another byte.
+fn is_near(at: usize, byte: usize) -> bool {
+    at.saturating_add(50) >= byte && at <= byte.saturating_add(30)
+}
+
+// Adds the part of a clause round a byte to a text, and tells how many of its characters stand before that byte.
+fn push_near(text: &mut String, clause: &str, byte: usize) -> Result<usize, AllocError> {
+    let mut before = 0usize;
+    for (at, c) in clause.char_indices() {
+        if is_near(at, byte) {
+            text.push(if c.is_ascii_control() { ' ' } else { c })?;
+            before = before.saturating_add(usize::from(at < byte));
+        }
+    }
+    Ok(before)
+}
+
 // The part of a clause round a byte, and under it a mark at that byte.
-#[derive(Clone, Copy)]
-struct Marked<'c> {
-    clause: &'c str,
-    byte: usize,
+fn marked(alloc: Global, clause: &str, byte: usize) -> Result<String, AllocError> {
+    let mut shown = String::new(alloc);
+    let before = push_near(&mut shown, clause, byte)?;
+    let blanks = " ".repeat(alloc, before)?;
+    format!(in alloc; "  {shown}\n  {blanks}^\n")
 }
 
-impl Marked<'_> {
-    // Whether the character at a byte is shown.
-    fn is_near(self, at: usize) -> bool {
-        at.saturating_add(50) >= self.byte && at <= self.byte.saturating_add(30)
-    }
-}
-
-impl fmt::Display for Marked<'_> {
-    fn fmt<W: fmt::Write>(&self, f: &mut fmt::Formatter<W>) -> fmt::Result {
-        f.write_str("  ")?;
-        for (at, c) in self.clause.char_indices() {
-            if self.is_near(at) {
-                f.write_char(if c.is_ascii_control() { ' ' } else { c })?;
-            }
-        }
-        f.write_str("\n  ")?;
-        for (at, _) in self.clause.char_indices() {
-            if self.is_near(at) && at < self.byte {
-                f.write_char(' ')?;
-            }
-        }
-        f.write_str("^\n")
-    }
-}
-
-// What is told of what stands at a byte of a clause, by what might stand there.
+// The line that tells what stands at a byte of a clause, and what might stand there, before its part round that byte.
 fn found_lines(
     alloc: Global,
     behind: &str,
     wanted: &str,
-    marked: Marked<'_>,
+    marked: &str,
 ) -> Result<String, AllocError> {
     if behind.is_empty() {
         return format!(in alloc; "  found the end, wanted {wanted}\n{marked}");
     }
-    let Some((token, _)) = behind.split_at_checked(token_len(alloc, behind)?) else {
-        return format!(in alloc; "{marked}");
-    };
+    let len = token_len(alloc, behind)?;
     let found = Shown {
-        bytes: token.as_bytes(),
+        bytes: &behind.as_bytes()[..len.min(behind.len())],
     };
     format!(in alloc; "  found {found}, wanted {wanted}\n{marked}")
 }
@@ -195,10 +185,11 @@ pub(crate) fn syntax_lines(
     inputs: &Inputs<'_, '_>,
     byte: u64,
 ) -> Result<String, AllocError> {
-    let (clause, byte) = (inputs.request.clause, byte as usize);
-    let Some((before, behind)) = clause.split_at_checked(byte) else {
+    let clause = inputs.request.clause;
+    let Some((before, behind)) = clause.split_at_checked(byte as usize) else {
         return Ok(String::new(alloc));
     };
+    let marked = marked(alloc, clause, byte as usize)?;
     let wanted = wanted(alloc, before)?;
-    found_lines(alloc, behind, wanted.as_str(), Marked { clause, byte })
+    found_lines(alloc, behind, wanted.as_str(), marked.as_str())
 }
