@@ -1,7 +1,9 @@
 -- How much of a text is shown.
-use Rattle.std.proofs.Common.{◌≡◌, ◌∙◌, ℕ, ◌≤◌, List, length, take, ap, arith, sym}
+use Rattle.std.proofs.Common.{◌≡◌, ◌∙◌, ℕ, ◌≤◌, List, [], ◌∷◌, ◌++◌, length, take, ap, append-nil, arith, sym}
 use Rattle.std.specs.Prelude.{IsUtf8}
+use Rattle.std.specs.List.{flat_map}
 use Rattle.std.specs.Str.Lossy.{utf8_valid_len}
+use Rattle.std.proofs.lemmas.Grind.{flat_map-append}
 use Rattle.std.proofs.lemmas.List.{length-take-le, take-take, take_all}
 use Rattle.std.proofs.lemmas.Str.{utf8_valid_len-IsUtf8}
 use Rattle.rj_explain.specs.Shown.{shown_part}
@@ -23,3 +25,7 @@ head_shown text head is utf8 long =
 pub front_shown : (text head part : List ℕ) (n : ℕ) → head ≡ take 60 text → n ≡ utf8_valid_len head → n ≤ 60 → part ≡ take n head → part ≡ shown_part text
 front_shown text head part n is len low front =
     front ∙ (ap (take n) is ∙ (take-take n 60 text low ∙ ap (λ m. take m text) (len ∙ ap utf8_valid_len is)))
+
+-- one more character
+pub flat_map-one : (f : ℕ → List ℕ) (cs : List ℕ) (c : ℕ) → flat_map f cs ++ f c ≡ flat_map f (cs ++ c ∷ [])
+flat_map-one f cs c = ap (λ xs. flat_map f cs ++ xs) (sym (append-nil (f c))) ∙ sym (flat_map-append f cs (c ∷ []))

@@ -1,9 +1,9 @@
 //! Rows and cells that can't be read.
 
-ghost use Rattle.std.specs.Prelude.{◌≡◌, ◌-◌, ◌⊎◌, IfOk, MatchOption, length, slice_get, string_bytes};
+ghost use Rattle.std.specs.Prelude.{◌≡◌, ◌-◌, ◌⊎◌, ℕ, IfOk, List, MatchOption, length, slice_get, string_bytes};
 ghost use Rattle.rj_csv_io.specs.Pieces.{names_in};
 ghost use Rattle.rj_types.specs.Columns as columns;
-ghost use Rattle.rj_explain.specs.Explained.{IsCellTold, IsRaggedTold, types_of};
+ghost use Rattle.rj_explain.specs.Explained.{IsCellTold, IsRaggedTold, IsReadText, file_of, types_of};
 ghost use Rattle.rj_explain.specs.Lines as lines;
 ghost use Rattle.rj_explain.specs.Lines.{cell_of_row};
 ghost use Rattle.rj_explain.specs.Places.{HasNoRow, IsRow};
@@ -13,7 +13,6 @@ use crate::row::{Row, field_at, find_row};
 use crate::shown::{Shown, Wanted};
 use rj_columns::ColumnType;
 use rj_fault::Side;
-use rj_types::types_under;
 use std::alloc::{AllocError, Global};
 
 // The type of a header's column, counted from 1.
@@ -26,8 +25,7 @@ fn kind_at(
 ) -> Result<Option<ColumnType>, AllocError>
     ensures { IfOk result (λ o. o ≡ slice_get (columns.types_under (types_of side inputs.now) (names_in header.now.record)) (column - 1)) }
 {
-    let names = header.record.names(alloc)?;
-    let kinds = types_under(alloc, inputs.types(side), names.as_slice())?;
+    let kinds = inputs.kinds(alloc, side, &header.record)?;
     match kinds.get((column as usize).saturating_sub(1)) {
         Some(kind) => Ok(Some(*kind)),
         None => Ok(None),
@@ -53,22 +51,23 @@ fn cell_line(
 }
 
 // The header of a text, and one of its rows.
-#[derive(Drop)]
 pub(crate) struct HeaderAndRow {
     pub(crate) header: Row,
     pub(crate) row: Row,
 }
 
-/// Both, if the text has them.
-///
-/// # Errors
-///
-/// It fails only when memory runs out.
-pub(crate) fn header_and_row(
-    alloc: Global,
-    text: &[u8],
-    row: u64,
-) -> Result<Option<HeaderAndRow>, AllocError>
+// By hand, so that a drop is one call in the proofs of those who hold both.
+impl Drop for HeaderAndRow {
+    fn drop(self) {
+        let HeaderAndRow {
+            header: _header,
+            row: _row,
+        } = self;
+    }
+}
+
+// Both, where the text has them.
+fn header_and_row(alloc: Global, text: &[u8], row: u64) -> Result<Option<HeaderAndRow>, AllocError>
     ensures { IfOk result (λ o. MatchOption o (HasNoRow text.now 0 ⊎ HasNoRow text.now row)
         (λ b. IsRow text.now 0 b.header.line (names_in b.header.record) × IsRow text.now row b.row.line (names_in b.row.record))) }
 {
@@ -81,7 +80,26 @@ pub(crate) fn header_and_row(
     }
 }
 
-// The line for a cell in a row at hand.
+/// Both of a side's file, where it has them.
+///
+/// # Errors
+///
+/// It fails only where memory is refused.
+pub(crate) fn find_both(
+    alloc: Global,
+    inputs: &Inputs<'_, '_>,
+    side: Side,
+    row: u64,
+) -> Result<Option<HeaderAndRow>, AllocError>
+    ensures { IfOk result (λ o. (text : List ℕ) × IsReadText inputs.now.request.now.strict (file_of side inputs.now) text
+        × MatchOption o (HasNoRow text 0 ⊎ HasNoRow text row)
+        (λ b. IsRow text 0 b.header.line (names_in b.header.record) × IsRow text row b.row.line (names_in b.row.record))) }
+{
+    let quoted = inputs.quoted_text(alloc, side)?;
+    header_and_row(alloc, text_of(&quoted, inputs.file(side)), row)
+}
+
+// What is told of a cell in a row at hand.
 fn lines_of_cell(
     alloc: Global,
     inputs: &Inputs<'_, '_>,
@@ -119,8 +137,7 @@ pub(crate) fn cell_lines(
 ) -> Result<String, AllocError>
     ensures { IfOk result (λ s. IsCellTold side row column inputs.now (string_bytes s)) }
 {
-    let quoted = inputs.quoted_text(alloc, side)?;
-    match header_and_row(alloc, text_of(&quoted, inputs.file(side)), row)? {
+    match find_both(alloc, inputs, side, row)? {
         Some(found) => lines_of_cell(alloc, inputs, side, &found, column),
         None => Ok(String::new(alloc)),
     }
@@ -149,8 +166,7 @@ pub(crate) fn ragged_lines(
 ) -> Result<String, AllocError>
     ensures { IfOk result (λ s. IsRaggedTold side row inputs.now (string_bytes s)) }
 {
-    let quoted = inputs.quoted_text(alloc, side)?;
-    match header_and_row(alloc, text_of(&quoted, inputs.file(side)), row)? {
+    match find_both(alloc, inputs, side, row)? {
         Some(found) => ragged_line(alloc, &found),
         None => Ok(String::new(alloc)),
     }

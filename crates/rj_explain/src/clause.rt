@@ -2,9 +2,10 @@
 
 ghost use Rattle.std.specs.Prelude.{◌≡◌, ◌⊎◌, ◌∷◌, [], ◌++◌, codes, IfOk, MatchOption, None, Ok, string_bytes};
 ghost use Rattle.std.specs.Option.{option_copied};
+ghost use Rattle.rj_csv_io.specs.Pieces.{names_in};
 ghost use Rattle.rj_fault.specs.Faults.{side_text};
 ghost use Rattle.rj_fault.specs.declared.fault.Side.TheVariants as sides;
-ghost use Rattle.rj_explain.specs.Explained.{AreColumns, IsNameTold, IsRefusalTold, IsToldOfName, columns_in};
+ghost use Rattle.rj_explain.specs.Explained.{AreColumns, IsNameTold, IsRefusalTold, IsToldOfName, columns_in, file_of, header_names};
 ghost use Rattle.rj_explain.specs.Lines.{clause_line};
 ghost use Rattle.rj_explain.specs.Shown.{meant_text, names_text};
 
@@ -13,13 +14,30 @@ use crate::names::{Meant, NamesOf, nearest};
 use crate::shown::Shown;
 use rj_columns::Table;
 use rj_condition::{BindRefused, Name, RefusedColumn, Word, refused_column};
-use rj_csv_io::ReadRefused;
+use rj_csv_io::{Header, ReadRefused};
 use rj_fault::Side;
-use rj_types::types_under;
 use std::alloc::{AllocError, Global};
 
 // The most bytes of a clause.
 const LONGEST: usize = 65_536;
+
+// The table without rows whose columns are those of this header of a side's file, if there is one.
+fn table_under(
+    alloc: Global,
+    inputs: &Inputs<'_, '_>,
+    side: Side,
+    header: &Header,
+) -> Result<Option<Table>, AllocError>
+    requires { names_in header.now ≡ header_names (file_of side inputs.now) }
+    ensures { IfOk result (λ o. AreColumns side inputs.now o) }
+{
+    let kinds = inputs.kinds(alloc, side, header)?;
+    match header.table(alloc, kinds.as_slice()) {
+        Ok(table) => Ok(Some(table)),
+        Err(ReadRefused::Memory) => Err(AllocError),
+        Err(_) => Ok(None),
+    }
+}
 
 /// The table without rows whose columns are those of a side's file, if there is one.
 pub(crate) fn columns_of(
@@ -29,15 +47,9 @@ pub(crate) fn columns_of(
 ) -> Result<Option<Table>, AllocError>
     ensures { IfOk result (λ o. AreColumns side inputs.now o) }
 {
-    let Some(header) = inputs.header(alloc, side)? else {
-        return Ok(None);
-    };
-    let names = header.names(alloc)?;
-    let kinds = types_under(alloc, inputs.types(side), names.as_slice())?;
-    match header.table(alloc, kinds.as_slice()) {
-        Ok(table) => Ok(Some(table)),
-        Err(ReadRefused::Memory) => Err(AllocError),
-        Err(_) => Ok(None),
+    match inputs.header(alloc, side)? {
+        Some(header) => table_under(alloc, inputs, side, &header),
+        None => Ok(None),
     }
 }
 
@@ -205,19 +217,29 @@ fn lacking_side(columns: &BothColumns, name: &Name) -> Option<Side> {
     }
 }
 
-// The words for an unqualified name that can't be resolved. In USING one table may have it.
+// The same for a name that can't be found.
+fn lacking_side_of(
+    alloc: Global,
+    clause: &str,
+    found: &RefusedColumn,
+    columns: &BothColumns,
+) -> Result<Option<Side>, AllocError> {
+    let name = Name {
+        text: Word::new(alloc, found.name.as_str())?,
+        delimited: is_delimited_at(clause, found.at),
+    };
+    Ok(lacking_side(columns, &name))
+}
+
+// What is said of a name without a qualifier that can't be found: in USING one table may have it.
 fn words_of_bare(
     alloc: Global,
     clause: &str,
     found: &RefusedColumn,
     columns: &BothColumns,
 ) -> Result<String, AllocError> {
-    let name = Name {
-        text: Word::new(alloc, found.name.as_str())?,
-        delimited: is_delimited_at(clause, found.at),
-    };
     let wanted = found.name.as_str();
-    if let Some(side) = lacking_side(columns, &name) {
+    if let Some(side) = lacking_side_of(alloc, clause, found, columns)? {
         let table = columns.of(side);
         let meant = nearest(alloc, wanted, table)?;
         return words_of_side(alloc, side, "lacks it, and has", table, meant);

@@ -11,7 +11,7 @@ ghost use Rattle.rj_explain.specs.Lines.{repeated_at, repeated_told};
 ghost use Rattle.rj_explain.specs.Places.{at_column};
 
 use crate::inputs::Inputs;
-use crate::names::before_name;
+use crate::names::Listed;
 use crate::row::field_at;
 use crate::shown::Shown;
 use rj_csv_io::Header;
@@ -140,21 +140,20 @@ fn first_untyped<'h>(
     Ok(None)
 }
 
-// The line for a header of one name that contains the separators of another kind of file.
-fn separator_line(alloc: Global, names: &[&[u8]]) -> Result<String, AllocError> {
-    let [name] = names else {
-        return Ok(String::new(alloc));
-    };
-    let separator = if name.contains(&b';') {
-        "a semicolon"
-    } else if name.contains(&b'\t') {
-        "a tab"
-    } else {
-        return Ok(String::new(alloc));
-    };
-    format!(in alloc;
-        "  the one name has {separator} in it: fields are separated by commas, and perhaps not in this file\n"
-    )
+// The lines that tell of a header of one name that has the separators of another kind of file in it.
+const SEMICOLON: &str =
+    "  the one name has a semicolon in it: fields are separated by commas, and perhaps not in this file\n";
+
+const TAB: &str =
+    "  the one name has a tab in it: fields are separated by commas, and perhaps not in this file\n";
+
+// What is told of such a header.
+fn separator_line(names: &[&[u8]]) -> &'static str {
+    match names {
+        [name] if name.contains(&b';') => SEMICOLON,
+        [name] if name.contains(&b'\t') => TAB,
+        _ => "",
+    }
 }
 
 // The line with the numbers of names and types, and the first name without a type.
@@ -187,9 +186,8 @@ fn lines_of_count(
     ensures { IfOk result (λ s. IsCountTold entries.now (map (λ n. n.now) names.now) (string_bytes s)) }
 {
     let types = types_under(alloc, entries, names)?.len();
-    let separator = separator_line(alloc, names)?;
     let untyped = first_untyped(alloc, entries, names)?;
-    count_line(alloc, names.len(), types, untyped, separator.as_str())
+    count_line(alloc, names.len(), types, untyped, separator_line(names))
 }
 
 /// The lines for a header that has more or fewer names than there are types: both counts, and the
@@ -216,14 +214,8 @@ pub(crate) fn type_count_lines(
 fn names_line(alloc: Global, names: &[&[u8]]) -> Result<String, AllocError>
     ensures { IfOk result (λ s. string_bytes s ≡ lines.names_line (map (λ n. n.now) names.now)) }
 {
-    let mut list = String::from_str(alloc, "  the header has ")?;
-    for i in 0..names.len() {
-        let (before, name) = (before_name(i), Shown { bytes: names[i] });
-        let more = format!(in alloc; "{before}{name}")?;
-        list.push_str(more.as_str())?;
-    }
-    list.push_str("\n")?;
-    Ok(list)
+    let names = Listed { names };
+    format!(in alloc; "  the header has {names}\n")
 }
 
 /// The lines for a name in a type list that means no column of the header: the names that the

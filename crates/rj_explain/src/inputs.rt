@@ -2,14 +2,17 @@
 
 ghost use Rattle.std.specs.Prelude.{◌≡◌, IfOk};
 ghost use Rattle.csv.specs.Reading.{strip_bom};
+ghost use Rattle.rj_csv_io.specs.Pieces.{names_in};
+ghost use Rattle.rj_types.specs.Columns as columns;
 ghost use Rattle.rj_explain.specs.Explained as explained;
 ghost use Rattle.rj_explain.specs.Explained.{IsQuotedText, IsReadText, file_of, header_names, names_of, text_in, types_of};
 
+use rj_columns::ColumnType;
 use rj_csv_io::{Header as Names, without_bom};
 use rj_fault::Side;
 use rj_line::{Request, Strictness};
 use rj_strict::{Header, above_fault, check, quote_empty_lines};
-use rj_types::TypeEntry;
+use rj_types::{TypeEntry, types_under};
 use std::alloc::{AllocError, Global};
 
 /// What a run had read when its error was found.
@@ -65,8 +68,24 @@ impl<'a, 'r> Inputs<'a, 'r> {
         Names::of(alloc, without_bom(self.file(side)))
     }
 
-    /// The text from which a side's records are read, if that isn't the file's own. If files are
-    /// read strictly, an empty line is a record.
+    /// The types of a side's columns under this header.
+    ///
+    /// # Errors
+    ///
+    /// It fails only where memory is refused.
+    pub(crate) fn kinds(
+        &self,
+        alloc: Global,
+        side: Side,
+        header: &Names,
+    ) -> Result<Vec<ColumnType>, AllocError>
+        ensures { IfOk result (λ v. v.items ≡ columns.types_under (types_of side self.now) (names_in header.now)) }
+    {
+        let names = header.names(alloc)?;
+        types_under(alloc, self.types(side), names.as_slice())
+    }
+
+    /// The text of a side as its records are read, where that isn't the file's own: read strictly, an empty line is a record.
     ///
     /// # Errors
     ///

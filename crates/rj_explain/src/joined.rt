@@ -7,9 +7,9 @@ ghost use Rattle.rj_engine.specs.Naming as naming;
 ghost use Rattle.rj_explain.specs.Explained.{AreNamesWritten, IsCellOfResultTold, IsJoinOf, IsNullTold, IsPairedTold};
 ghost use Rattle.rj_explain.specs.Lines as lines;
 
-use crate::cells::{HeaderAndRow, header_and_row};
+use crate::cells::{HeaderAndRow, find_both};
 use crate::clause::{BothColumns, columns_of_both};
-use crate::inputs::{Inputs, text_of};
+use crate::inputs::Inputs;
 use crate::row::field_at;
 use crate::shown::Shown;
 use rj_columns::Table;
@@ -172,7 +172,27 @@ fn key_columns(
     }
 }
 
-// The names of these columns, counted from 0, and what is under each in a row.
+// Adds to a text the name of a column, counted from 0, and what stands under it in a row.
+fn push_field(
+    alloc: Global,
+    found: &HeaderAndRow,
+    column: usize,
+    text: &mut String,
+) -> Result<(), AllocError> {
+    let at = (column as u64).saturating_add(1);
+    let (Some(name), Some(value)) = (
+        field_at(alloc, &found.header.record, at)?,
+        field_at(alloc, &found.row.record, at)?,
+    ) else {
+        return Ok(());
+    };
+    let sign = if text.is_empty() { ":" } else { "," };
+    let (name, value) = (Shown { bytes: name }, Shown { bytes: value });
+    let more = format!(in alloc; "{sign} {name} is {value}")?;
+    text.push_str(more.as_str())
+}
+
+// The names of these columns, counted from 0, and what stands under each in a row.
 fn fields_text(
     alloc: Global,
     found: &HeaderAndRow,
@@ -180,17 +200,7 @@ fn fields_text(
 ) -> Result<String, AllocError> {
     let mut text = String::new(alloc);
     for column in columns {
-        let at = (*column as u64).saturating_add(1);
-        let (Some(name), Some(value)) = (
-            field_at(alloc, &found.header.record, at)?,
-            field_at(alloc, &found.row.record, at)?,
-        ) else {
-            continue;
-        };
-        let sign = if text.is_empty() { ":" } else { "," };
-        let (name, value) = (Shown { bytes: name }, Shown { bytes: value });
-        let more = format!(in alloc; "{sign} {name} is {value}")?;
-        text.push_str(more.as_str())?;
+        push_field(alloc, found, *column, &mut text)?;
     }
     Ok(text)
 }
@@ -211,18 +221,29 @@ fn paired_line(
     )
 }
 
-// The lines for a row at hand, whose key is in these columns.
+// What stands in the key's columns of a row at hand.
+fn key_text(
+    alloc: Global,
+    inputs: &Inputs<'_, '_>,
+    found: &HeaderAndRow,
+    side: Side,
+) -> Result<String, AllocError> {
+    let columns = key_columns(alloc, inputs, side)?;
+    fields_text(alloc, found, columns.as_slice())
+}
+
+// What is told of a row at hand.
 fn lines_of_paired(
     alloc: Global,
+    inputs: &Inputs<'_, '_>,
     found: &HeaderAndRow,
-    columns: &[usize],
     side: Side,
     row: u64,
     pairs: u64,
 ) -> Result<String, AllocError>
     ensures { IfOk result (λ s. (key : List ℕ) × (string_bytes s ≡ lines.row_line side row pairs found.now.row.line key)) }
 {
-    let key = fields_text(alloc, found, columns)?;
+    let key = key_text(alloc, inputs, found, side)?;
     paired_line(alloc, side, row, pairs, found.row.line, key.as_str())
 }
 
@@ -241,10 +262,8 @@ pub fn explain_row(
 ) -> Result<String, AllocError>
     ensures { IfOk result (λ s. IsPairedTold side row pairs inputs.now (string_bytes s)) }
 {
-    let columns = key_columns(alloc, inputs, side)?;
-    let quoted = inputs.quoted_text(alloc, side)?;
-    match header_and_row(alloc, text_of(&quoted, inputs.file(side)), row)? {
-        Some(found) => lines_of_paired(alloc, &found, columns.as_slice(), side, row, pairs),
+    match find_both(alloc, inputs, side, row)? {
+        Some(found) => lines_of_paired(alloc, inputs, &found, side, row, pairs),
         None => Ok(String::new(alloc)),
     }
 }

@@ -9,9 +9,9 @@ ghost use Rattle.csv.specs.declared.parser.State.TheVariants as st;
 ghost use Rattle.rj_explain.specs.Places.{EndsFirst, HasNoRow, StandsAt, state_of};
 ghost use Rattle.rj_explain.specs.Places as places;
 
-/// Where a reader is: before a record, at the start of a further field, in a field, between quotes,
-/// after the closing quote, and after a CR that ended a record.
-#[derive(Clone, Copy, Debug, PartialEq, Eq)]
+/// Where a reader stands: before a record, at the start of a further field, in one, between quotes, behind the quote that
+/// closed, and behind a CR that ended a record.
+#[derive(Clone, Copy)]
 pub(crate) enum Standing {
     Record,
     Field,

@@ -1,6 +1,6 @@
 //! How bytes of a file and types are shown.
 
-ghost use Rattle.std.specs.Prelude.{◌≡◌, false, true, MatchOption, Some, take};
+ghost use Rattle.std.specs.Prelude.{◌≡◌, ◌++◌, false, true, MatchOption, Some, take};
 ghost use Rattle.std.specs.Fmt.{WritesOnOk};
 ghost use Rattle.std.specs.List.{flat_map};
 ghost use Rattle.std.specs.Str.{chars};
@@ -94,14 +94,14 @@ fn write_loose_bytes<W: fmt::Write>(f: &mut fmt::Formatter<W>, bytes: &[u8]) -> 
     Ok(())
 }
 
-// Writes how many bytes come after what is shown, if there are any.
-fn write_more<W: fmt::Write>(f: &mut fmt::Formatter<W>, count: usize) -> fmt::Result
-    ensures { WritesOnOk W.write_str_gives f.old result (more_text count) f.new }
+// Writes the quote behind what is shown, and how many bytes more there are, where there are any.
+fn write_more<W: fmt::Write>(f: &mut fmt::Formatter<W>, quote: &str, count: usize) -> fmt::Result
+    ensures { WritesOnOk W.write_str_gives f.old result (quote.now ++ more_text count) f.new }
 {
     if count == 0 {
-        return f.write_str("");
+        return f.write_str(quote);
     }
-    write!(f, " and {count} more bytes")
+    write!(f, "{quote} and {count} more bytes")
 }
 
 // The characters of a text that end within the first bytes.
@@ -149,8 +149,7 @@ fn write_shown_text<W: fmt::Write>(f: &mut fmt::Formatter<W>, text: &str) -> fmt
     let part = shown_part(text);
     f.write_str("\"")?;
     write_characters(f, part)?;
-    f.write_str("\"")?;
-    write_more(f, text.len().saturating_sub(part.len()))
+    write_more(f, "\"", text.len().saturating_sub(part.len()))
 }
 
 // Writes bytes that aren't a text between double quotes.
@@ -159,8 +158,7 @@ fn write_shown_bytes<W: fmt::Write>(f: &mut fmt::Formatter<W>, bytes: &[u8]) -> 
 {
     f.write_str("\"")?;
     write_loose_bytes(f, first_bytes(bytes))?;
-    f.write_str("\"")?;
-    write_more(f, bytes.len().saturating_sub(MOST))
+    write_more(f, "\"", bytes.len().saturating_sub(MOST))
 }
 
 impl fmt::Display for Shown<'_> {
@@ -190,8 +188,7 @@ impl fmt::Display for ShownText<'_> {
         let part = shown_part(self.text);
         f.write_str("'")?;
         write_literal(f, part)?;
-        f.write_str("'")?;
-        write_more(f, self.text.len().saturating_sub(part.len()))
+        write_more(f, "'", self.text.len().saturating_sub(part.len()))
     }
 }
 

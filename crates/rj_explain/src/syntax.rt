@@ -37,34 +37,47 @@ const WORDS: [(&str, &str); 26] = [
     ("UNKNOWN", "UNKNOWN"),
 ];
 
-// Whether a clause may begin with a text and then this word.
-fn may_follow(alloc: Global, text: &str, word: &str) -> Result<bool, AllocError> {
-    let tried = format!(in alloc; "{text} {word}")?;
-    match parse(alloc, tried.as_str()) {
+// Whether this text is a clause, or one begins with it.
+fn is_begun(alloc: Global, text: &str) -> Result<bool, AllocError> {
+    match parse(alloc, text) {
         Ok(_) => Ok(true),
-        Err(ParseRefused::Syntax(byte)) => Ok(byte >= tried.len() as u64),
+        Err(ParseRefused::Syntax(byte)) => Ok(byte >= text.len() as u64),
         Err(ParseRefused::Memory) => Err(AllocError),
         Err(_) => Ok(false),
     }
 }
 
-// What may come after a text that a clause begins with.
-fn wanted(alloc: Global, text: &str) -> Result<String, AllocError> {
-    let mut list = String::new(alloc);
+// Whether a clause may begin with a text and then this word.
+fn may_follow(alloc: Global, text: &str, word: &str) -> Result<bool, AllocError> {
+    let tried = format!(in alloc; "{text} {word}")?;
+    is_begun(alloc, tried.as_str())
+}
+
+// Adds one of several to a list.
+fn push_called(list: &mut String, called: &str) -> Result<(), AllocError> {
+    if !list.is_empty() {
+        list.push_str(" or ")?;
+    }
+    list.push_str(called)
+}
+
+// Adds to a list what may stand behind a text that a clause begins with.
+fn push_wanted(alloc: Global, text: &str, list: &mut String) -> Result<(), AllocError> {
     for (word, called) in &WORDS {
         if may_follow(alloc, text, *word)? {
-            if !list.is_empty() {
-                list.push_str(" or ")?;
-            }
-            list.push_str(*called)?;
+            push_called(list, *called)?;
         }
     }
     if parse(alloc, text).is_ok() {
-        if !list.is_empty() {
-            list.push_str(" or ")?;
-        }
-        list.push_str("the end")?;
+        push_called(list, "the end")?;
     }
+    Ok(())
+}
+
+// What may stand behind a text that a clause begins with.
+fn wanted(alloc: Global, text: &str) -> Result<String, AllocError> {
+    let mut list = String::new(alloc);
+    push_wanted(alloc, text, &mut list)?;
     Ok(list)
 }
 
@@ -124,22 +137,46 @@ fn token_len(alloc: Global, text: &str) -> Result<usize, AllocError> {
     Ok(first.max(long_token_len(alloc, text)?))
 }
 
-// The part of a clause around a byte, and under it a mark at that byte.
-fn marked(alloc: Global, clause: &str, byte: usize) -> Result<String, AllocError> {
-    let (mut shown, mut mark) = (
-        String::from_str(alloc, "  ")?,
-        String::from_str(alloc, "  ")?,
-    );
+// Whether a character at one byte of a clause is shown round another byte.
+fn is_near(at: usize, byte: usize) -> bool {
+    at.saturating_add(50) >= byte && at <= byte.saturating_add(30)
+}
+
+// Adds the part of a clause round a byte to a text, and tells how many of its characters stand before that byte.
+fn push_near(text: &mut String, clause: &str, byte: usize) -> Result<usize, AllocError> {
+    let mut before = 0usize;
     for (at, c) in clause.char_indices() {
-        if at + 50 < byte || at > byte + 30 {
-            continue;
-        }
-        shown.push(if c.is_ascii_control() { ' ' } else { c })?;
-        if at < byte {
-            mark.push(' ')?;
+        if is_near(at, byte) {
+            text.push(if c.is_ascii_control() { ' ' } else { c })?;
+            before = before.saturating_add(usize::from(at < byte));
         }
     }
-    format!(in alloc; "{shown}\n{mark}^\n")
+    Ok(before)
+}
+
+// The part of a clause round a byte, and under it a mark at that byte.
+fn marked(alloc: Global, clause: &str, byte: usize) -> Result<String, AllocError> {
+    let mut shown = String::new(alloc);
+    let before = push_near(&mut shown, clause, byte)?;
+    let blanks = " ".repeat(alloc, before)?;
+    format!(in alloc; "  {shown}\n  {blanks}^\n")
+}
+
+// The line that tells what stands at a byte of a clause, and what might stand there, before its part round that byte.
+fn found_lines(
+    alloc: Global,
+    behind: &str,
+    wanted: &str,
+    marked: &str,
+) -> Result<String, AllocError> {
+    if behind.is_empty() {
+        return format!(in alloc; "  found the end, wanted {wanted}\n{marked}");
+    }
+    let len = token_len(alloc, behind)?;
+    let found = Shown {
+        bytes: &behind.as_bytes()[..len.min(behind.len())],
+    };
+    format!(in alloc; "  found {found}, wanted {wanted}\n{marked}")
 }
 
 /// The lines for a text that stops being a clause at a byte: what is there, what might be there,
@@ -157,16 +194,7 @@ pub(crate) fn syntax_lines(
     let Some((before, behind)) = clause.split_at_checked(byte as usize) else {
         return Ok(String::new(alloc));
     };
-    let wanted = wanted(alloc, before)?;
     let marked = marked(alloc, clause, byte as usize)?;
-    if behind.is_empty() {
-        return format!(in alloc; "  found the end, wanted {wanted}\n{marked}");
-    }
-    let Some((token, _)) = behind.split_at_checked(token_len(alloc, behind)?) else {
-        return Ok(marked);
-    };
-    let found = Shown {
-        bytes: token.as_bytes(),
-    };
-    format!(in alloc; "  found {found}, wanted {wanted}\n{marked}")
+    let wanted = wanted(alloc, before)?;
+    found_lines(alloc, behind, wanted.as_str(), marked.as_str())
 }
