@@ -217,20 +217,6 @@ fn lacking_side(columns: &BothColumns, name: &Name) -> Option<Side> {
     }
 }
 
-// The same for a name that can't be found.
-fn lacking_side_of(
-    alloc: Global,
-    clause: &str,
-    found: &RefusedColumn,
-    columns: &BothColumns,
-) -> Result<Option<Side>, AllocError> {
-    let name = Name {
-        text: Word::new(alloc, found.name.as_str())?,
-        delimited: is_delimited_at(clause, found.at),
-    };
-    Ok(lacking_side(columns, &name))
-}
-
 // What is said of a name without a qualifier that can't be found: in USING one table may have it.
 fn words_of_bare(
     alloc: Global,
@@ -238,8 +224,12 @@ fn words_of_bare(
     found: &RefusedColumn,
     columns: &BothColumns,
 ) -> Result<String, AllocError> {
+    let name = Name {
+        text: Word::new(alloc, found.name.as_str())?,
+        delimited: is_delimited_at(clause, found.at),
+    };
     let wanted = found.name.as_str();
-    if let Some(side) = lacking_side_of(alloc, clause, found, columns)? {
+    if let Some(side) = lacking_side(columns, &name) {
         let table = columns.of(side);
         let meant = nearest(alloc, wanted, table)?;
         return words_of_side(alloc, side, "lacks it, and has", table, meant);

@@ -11,7 +11,7 @@ ghost use Rattle.rj_explain.specs.Lines.{repeated_at, repeated_told};
 ghost use Rattle.rj_explain.specs.Places.{at_column};
 
 use crate::inputs::Inputs;
-use crate::names::Listed;
+use crate::names::before_name;
 use crate::row::field_at;
 use crate::shown::Shown;
 use rj_csv_io::Header;
@@ -214,8 +214,14 @@ pub(crate) fn type_count_lines(
 fn names_line(alloc: Global, names: &[&[u8]]) -> Result<String, AllocError>
     ensures { IfOk result (λ s. string_bytes s ≡ lines.names_line (map (λ n. n.now) names.now)) }
 {
-    let names = Listed { names };
-    format!(in alloc; "  the header has {names}\n")
+    let mut list = String::from_str(alloc, "  the header has ")?;
+    for i in 0..names.len() {
+        let (before, name) = (before_name(i), Shown { bytes: names[i] });
+        let more = format!(in alloc; "{before}{name}")?;
+        list.push_str(more.as_str())?;
+    }
+    list.push_str("\n")?;
+    Ok(list)
 }
 
 /// The lines for a name in a type list that means no column of the header: the names that the

@@ -172,26 +172,6 @@ fn key_columns(
     }
 }
 
-// Adds to a text the name of a column, counted from 0, and what stands under it in a row.
-fn push_field(
-    alloc: Global,
-    found: &HeaderAndRow,
-    column: usize,
-    text: &mut String,
-) -> Result<(), AllocError> {
-    let at = (column as u64).saturating_add(1);
-    let (Some(name), Some(value)) = (
-        field_at(alloc, &found.header.record, at)?,
-        field_at(alloc, &found.row.record, at)?,
-    ) else {
-        return Ok(());
-    };
-    let sign = if text.is_empty() { ":" } else { "," };
-    let (name, value) = (Shown { bytes: name }, Shown { bytes: value });
-    let more = format!(in alloc; "{sign} {name} is {value}")?;
-    text.push_str(more.as_str())
-}
-
 // The names of these columns, counted from 0, and what stands under each in a row.
 fn fields_text(
     alloc: Global,
@@ -200,7 +180,17 @@ fn fields_text(
 ) -> Result<String, AllocError> {
     let mut text = String::new(alloc);
     for column in columns {
-        push_field(alloc, found, *column, &mut text)?;
+        let at = (*column as u64).saturating_add(1);
+        let (Some(name), Some(value)) = (
+            field_at(alloc, &found.header.record, at)?,
+            field_at(alloc, &found.row.record, at)?,
+        ) else {
+            continue;
+        };
+        let sign = if text.is_empty() { ":" } else { "," };
+        let (name, value) = (Shown { bytes: name }, Shown { bytes: value });
+        let more = format!(in alloc; "{sign} {name} is {value}")?;
+        text.push_str(more.as_str())?;
     }
     Ok(text)
 }

@@ -1,10 +1,10 @@
 //! Names of columns: those that a header has, and the one that may have been meant.
 
-ghost use Rattle.std.specs.Prelude.{◌≡◌, ◌≤◌, ◌==◌, [], if◌then◌else◌, codes, IfOk, IfSome, Some, length, map, take};
+ghost use Rattle.std.specs.Prelude.{◌≡◌, ◌≤◌, ◌==◌, [], if◌then◌else◌, codes, IfOk, IfSome, Some, length, take};
 ghost use Rattle.std.specs.Fmt.{WritesOnOk};
 ghost use Rattle.std.specs.Option.{option_copied};
 ghost use Rattle.rj_explain.specs.Names.{AreEdits, IsNear, lowered};
-ghost use Rattle.rj_explain.specs.Shown.{listed, meant_text, names_text, shown};
+ghost use Rattle.rj_explain.specs.Shown.{listed, meant_text, names_text};
 
 use crate::shown::Shown;
 use rj_columns::Table;
@@ -15,34 +15,11 @@ use strsim::damerau_levenshtein;
 // How many names are listed.
 const MOST: usize = 20;
 
-// What stands before a name in a list.
-fn before_name(column: usize) -> &'static str
+/// What stands before a name in a list.
+pub(crate) fn before_name(column: usize) -> &'static str
     ensures { result.now ≡ (if column == 0 then [] else codes ", ") }
 {
     if column == 0 { "" } else { ", " }
-}
-
-/// Names of a header, with commas between.
-#[derive(Clone, Copy)]
-pub(crate) struct Listed<'n> {
-    pub(crate) names: &'n [&'n [u8]],
-}
-
-impl fmt::Display for Listed<'_> {
-    ghost output = { λ l. Some (listed (map shown (map (λ n. n.now) l.names.now))) };
-
-    fn fmt<W: fmt::Write>(&self, f: &mut fmt::Formatter<W>) -> fmt::Result {
-        for i in 0..self.names.len() {
-            let (before, name) = (
-                before_name(i),
-                Shown {
-                    bytes: self.names[i],
-                },
-            );
-            write!(f, "{before}{name}")?;
-        }
-        Ok(())
-    }
 }
 
 // Writes the first names of a table's columns, with commas between.
