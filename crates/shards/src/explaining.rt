@@ -130,7 +130,11 @@ fn lines_of<R: Files + AllocGlobal>(
 }
 
 /// A failure of a run with these words, explained if they ask for it and there was memory for it.
-pub(crate) fn explained<R: Files + AllocGlobal>(rt: &R, words: &[&str], failure: Failure) -> ExplainedFailure {
+pub(crate) fn explained<R: Files + AllocGlobal>(
+    rt: &R,
+    words: &[&str],
+    failure: Failure,
+) -> ExplainedFailure {
     let lines = if words.iter().any(|word| *word == "--explain") {
         lines_of(rt, words, &failure).unwrap_or(None)
     } else {
