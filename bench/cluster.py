@@ -148,7 +148,7 @@ def main():
         with open(alone, "wb") as out:
             *_, peaks = timed([built / "radixjoin", *words], "VmPeak", stdout=out, env=programs.environment())
         quarter = int(peaks["radixjoin"] / 4)
-        told(f"1 process, each program in {quarter} MiB of address space", *timed([*script, "--memory", quarter, "--processes", 1], "VmPeak"))
+        told(f"1 process, each program in {quarter} MiB of address space", *timed([*script, "--address-space", f"{quarter}M", "--processes", 1], "VmPeak"))
         compare(alone, sharded)
 
 

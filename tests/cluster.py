@@ -1,5 +1,5 @@
-"""Runs cluster/radixjoin-cluster on this machine, three programs side by side, and compares what it writes with what `radixjoin` does: on
-the examples, and on some hundred thousand rows. And all of this once more on a Dask cluster of three processes of this machine, of which
+"""Runs cluster/radixjoin-cluster on this machine, three programs side by side or one run of `radixjoin`, and compares what it writes with
+what `radixjoin` does: on the examples, and on some hundred thousand rows. And all of this once more on a Dask cluster of three processes of this machine, of which
 one is killed in the middle.
 
 The latter needs Dask, which `./test` installs (Debian's python3-dask and python3-distributed). Where it can't be had, that is left out
@@ -20,6 +20,8 @@ import shards
 SCRIPT = harness.ROOT / "cluster" / "radixjoin-cluster"
 PROCESSES = 3
 SECONDS = 120
+# Options by which small files are joined in shards, and on this machine by one run.
+SHARDS, ONE_RUN = ["--parts", "3"], ["--memory", "1G"]
 NO_KEY = b"shards: the clause has no key, so that its tables can't be divided\n"
 
 
@@ -91,24 +93,24 @@ def ended(process):
     return subprocess.CompletedProcess(process.args, process.returncode, None, stderr)
 
 
-def run_example(on, case, files, tally):
-    """Runs one example by `radixjoin` and in shards: they tell the same. A clause without a key is refused in a line of its own."""
+def run_example(on, case, files, more, tally):
+    """Runs one example by `radixjoin` and by the script: they tell the same. A clause without a key is refused in a line of its own."""
     with harness.folder() as name:
         folder = pathlib.Path(name)
         words = examples.words_of(case, files, folder)
         known = {it.name for it in folder.iterdir()}
         wanted = harness.run([harness.program("radixjoin"), *words], folder)
-        ran = ended(started(on, words, folder, "--parts", "3"))
+        ran = ended(started(on, words, folder, *more))
         wanted = harness.Ran(4, b"", NO_KEY) if ran.stderr == NO_KEY else shards.told_first(words, folder, wanted)
-        tally.check(f"cluster: {case['name']} {on.title}", faults_of_run(ran, folder, known, wanted))
+        tally.check(f"cluster: {case['name']} {' '.join(more)} {on.title}", faults_of_run(ran, folder, known, wanted))
     return ran.stderr == NO_KEY
 
 
-def run_examples(on, tally):
+def run_examples(on, more, tally):
     with open(harness.ROOT / "tests" / "examples.toml", "rb") as text:
         table = tomllib.load(text)
     cases = [case for case in table["case"] if shards.is_example(case)]
-    tasks = [lambda own, case=case: run_example(on, case, table["file"], own) for case in cases]
+    tasks = [lambda own, case=case: run_example(on, case, table["file"], more, own) for case in cases]
     without_key = sum(harness.side_by_side(tally, tasks))
     tally.check(f"cluster: most examples have a key {on.title}", [] if 0 < without_key < len(cases) / 2 else [f"{without_key} of {len(cases)} have none"])
 
@@ -148,7 +150,7 @@ def run_large(on, tally):
         words = write_tables(folder)
         known = {it.name for it in folder.iterdir()}
         wanted = harness.run([harness.program("radixjoin"), *words], folder)
-        for more in (["--parts", "5"], ["--parts", "16", "--ranges", "7", "--workers", "2", "--merges", "3"], ["--parts", "1", "--memory", "700"], ["--parts", "4", "--spread", "400000", "--merges", "3"]):
+        for more in ([], ["--memory", "2M"], ["--parts", "5"], ["--parts", "16", "--ranges", "7", "--workers", "2", "--merges", "3"], ["--parts", "1", "--address-space", "700M"], ["--parts", "4", "--spread", "400000", "--merges", "3"]):
             ran = ended(started(on, words, folder, *more))
             tally.check(f"cluster: 200,000 by 50,000 rows {on.title}, {' '.join(more)}", faults_of_run(ran, folder, known, wanted))
             (folder / "out.csv").unlink(missing_ok=True)
@@ -187,7 +189,8 @@ def run_with_fault(on, folder, words, row, tally):
 def run_all(tally):
     with harness.folder() as programs:
         on = Machine(programs)
-        run_examples(on, tally)
+        run_examples(on, SHARDS, tally)
+        run_examples(on, ONE_RUN, tally)
         run_large(on, tally)
     python = harness.python_with_dask("cluster")
     if python is None:
@@ -196,7 +199,7 @@ def run_all(tally):
         cluster = Cluster(python, programs)
         try:
             tally.check("cluster: its processes", [] if len(cluster.numbers()) == PROCESSES else [f"they are {cluster.numbers()}"])
-            run_examples(cluster, tally)
+            run_examples(cluster, SHARDS, tally)
             run_large(cluster, tally)
             run_killed(cluster, tally)
         finally:

@@ -58,7 +58,7 @@ def programs_in(folder, name, does, is_once=True, step=None, again=":"):
 
 def begun(python, words, folder, *more, environment=None):
     """Starts the script."""
-    words = [python, cluster.SCRIPT, *words, *([] if "--parts" in more else ["--parts", "3"]), *([] if "--out" in more else ["--out", "out.csv"]), *more]
+    words = [python, cluster.SCRIPT, *words, *([] if {"--parts", "--memory"} & {*more} else ["--parts", "3"]), *([] if "--out" in more else ["--out", "out.csv"]), *more]
     # (these tests may be run by nohup, which has the script go on when its terminal is gone)
     how = {"stdin": subprocess.DEVNULL, "stdout": subprocess.DEVNULL, "stderr": subprocess.PIPE, "env": environment, "preexec_fn": lambda: signal.signal(signal.SIGHUP, signal.SIG_DFL)}
     return subprocess.Popen([str(word) for word in words], cwd=folder, **how)

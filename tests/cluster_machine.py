@@ -35,16 +35,18 @@ PATIENCE = 20
 
 
 def run_without_dask(tally):
-    """A whole join, by which nothing of Dask is loaded."""
+    """Whole joins, in shards and by one run, by which nothing of Dask is loaded."""
     with harness.folder() as place:
         folder = pathlib.Path(place)
         words = cluster_ends.write_tables(folder, 600)
         programs = cluster_ends.programs_in(folder / "programs", "radixjoin", ":")
         wanted = harness.run([harness.program("radixjoin"), *words], folder)
         line = [harness.python_with("distributed") or sys.executable, "-c", LOADS.format(PACKAGE), *words, "--programs", programs, "--processes", "2", "--out", "out.csv"]
-        ran = harness.run(line, folder)
-        faults = harness.differences(ran, b"[]\n") + ([] if (folder / "out.csv").read_bytes() == wanted.stdout else ["out.csv is another one"])
-        tally.check("cluster_machine: without Dask", faults)
+        for more in (["--parts", "16"], ["--memory", "1G"]):
+            ran = harness.run([*line, *more], folder)
+            faults = harness.differences(ran, b"[]\n") + ([] if (folder / "out.csv").read_bytes() == wanted.stdout else ["out.csv is another one"])
+            tally.check(f"cluster_machine: without Dask {more}", faults)
+            (folder / "out.csv").unlink(missing_ok=True)
 
 
 def run_start(tally):

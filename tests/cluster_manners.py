@@ -1,6 +1,6 @@
 """The manners of cluster/radixjoin-cluster: its version, the two names of the result's option, and faults of the command line in one line;
-what it tells before Dask is loaded, of the command line, the result's place, the headers and the clause; and how far a join is, which is
-shown on a terminal and nowhere else.
+what it tells before Dask is loaded, of the command line, the result's place, the headers and the clause; and how a join is planned and how
+far it is, which is shown on a terminal and nowhere else.
 
 The last needs Dask for a cluster, as tests/cluster.py does."""
 import os
@@ -28,6 +28,15 @@ LINES = (
     (GOOD, ["--nul=x"], "unrecognized arguments: --nul=x"),
     (GOOD, ["--parts=many"], "argument --parts: invalid int value: 'many'"),
     (GOOD, ["--parts=0"], "--parts is from 1 to 1024"),
+    (GOOD, ["--memory=many"], "argument --memory: 'many' is no size, as 500M or 8G"),
+    (GOOD, ["--memory=1T"], "argument --memory: '1T' is no size, as 500M or 8G"),
+    (GOOD, ["--memory=-1"], "argument --memory: '-1' is no size, as 500M or 8G"),
+    (GOOD, ["--memory="], "argument --memory: '' is no size, as 500M or 8G"),
+    (GOOD, ["--memory=0G"], "--memory is from 1 to 1152921504606846976"),
+    (GOOD, ["--memory=1073741825G"], "--memory is from 1 to 1152921504606846976"),
+    (GOOD, ["--memory=1G", "--memory=2G"], "--memory can be given once"),
+    (GOOD, ["--address-space=1.5G"], "argument --address-space: '1.5G' is no size, as 500M or 8G"),
+    (GOOD, ["--address-space=0"], "--address-space is from 1 to 1152921504606846976"),
     (GOOD, ["--output=out.csv"], "--output can be given once"),
     (GOOD, ["--out=other.csv"], "--out is --output, which can be given once"),
     ({**GOOD, "output": "-"}, [], "--output: the result can't be standard output, give a file"),
@@ -121,6 +130,12 @@ def dashboard_in(told):
     return (found[1], told[found.end() :]) if found else (None, told)
 
 
+def plan_in(told):
+    """What is told of the plan at the beginning, and what behind it."""
+    found = re.match(rb"radixjoin-cluster: the plan is ([^\r\n]+)\r?\n", told)
+    return (found[1].decode(), told[found.end() :]) if found else (None, told)
+
+
 def run_steps(on, tally):
     """Each step is shown, whoever does its tasks."""
     shown = harness.side_by_side(tally, [lambda own, more=more: run_shown(on, more, own) for more in cluster_sent.WAYS])
@@ -139,9 +154,11 @@ def run_shown(on, more, tally):
         tally.check(f"cluster_manners: in a pipe {more} {on.title}", harness.differences(piped, b"", wanted.stderr, wanted.status))
         shown = on_terminal(line, folder)
         dashboard, told = dashboard_in(shown.stderr)
+        plan, told = plan_in(told)
         lines, rest = progress.lines_of(told)
         result = (folder / "out.csv").read_bytes() if shown.status == 0 else b""
         faults = harness.differences(harness.Ran(shown.status, result, rest), wanted.stdout, wanted.stderr, wanted.status) + faults_of_lines(lines)
+        faults += [] if plan == "2 shards, 3 at a time" else [f"the plan is {plan}"]
         faults += [] if bool(dashboard) == (on.title == cluster.Cluster.title) else [f"the dashboard is {dashboard}"]
         tally.check(f"cluster_manners: on a terminal {more} {on.title}", faults + ([shown.stdout] if shown.stdout else []))
         return {line.decode().removeprefix("radixjoin-cluster: ").rpartition(",")[0] for line in lines}
@@ -151,7 +168,7 @@ def run_all(tally):
     run_lines(tally)
     cases = [*AS_ALONE, *((options, contents, told) for options, contents, *told in ITS_OWN)]
     harness.side_by_side(tally, [lambda own, it=it: run_early(own, *it) for it in cases])
-    tally.check("cluster_manners: kinds of tasks", [] if {*tasks.STEPS} == cluster_sent.KINDS else [f"{sorted(tasks.STEPS)}"])
+    tally.check("cluster_manners: kinds of tasks", [] if {*tasks.STEPS} == {*cluster_sent.KINDS, "join_whole"} else [f"{sorted(tasks.STEPS)}"])
     with harness.folder() as programs:
         run_steps(cluster.Machine(programs), tally)
     python = harness.python_with_dask("cluster_manners")

@@ -34,6 +34,7 @@ PARTS = (
     "cluster_killed",
     "cluster_machine",
     "cluster_manners",
+    "cluster_memory",
     "cluster_merges",
     "cluster_pieces",
     "cluster_random",

@@ -1,8 +1,9 @@
-"""Joins two CSV files that are larger than one machine's memory, shard by shard, on this machine or in the processes of a Dask cluster.
+"""Joins two CSV files that may be larger than one machine's memory, on this machine or in the processes of a Dask cluster.
 
-Both files are divided by the hash of their rows' keys (the program `shards`, one task for each range of a file), the two
-parts of each shard are joined (`radixjoin`, one task a shard, or several where it is too large), and what these joins give is merged
-(`merges`, one task for each range of the joined table). The bytes written are those that `radixjoin` would write. docs/user/cluster.md says what of this is proved, and how to run it.
+Where memory has room for the whole, one run of `radixjoin` does it. Else both files are divided by the hash of their rows' keys (the
+program `shards`, one task for each range of a file), the two parts of each shard are joined (`radixjoin`, one task a shard, or several
+where it is too large), and what these joins give is merged (`merges`, one task for each range of the joined table). The bytes written
+are those that `radixjoin` would write. docs/user/cluster.md says what of this is proved, and how to run it.
 
 Every task writes under a new name and renames at its end, so that a task may run twice. The parts of a range stand in one file. What
 a step made is removed when the next one is done, and all that is half made at the end, whether it is a good one or not. With
@@ -13,6 +14,7 @@ from __future__ import annotations
 import argparse
 import codecs
 import contextlib
+import copy
 import errno
 import glob
 import itertools
@@ -27,7 +29,7 @@ import sys
 import tempfile
 import warnings
 from pathlib import Path
-from typing import TYPE_CHECKING, Any, Dict, Iterator, List, Mapping, NoReturn, Optional, Sequence, Tuple, Union
+from typing import TYPE_CHECKING, Any, BinaryIO, Dict, Iterator, List, Mapping, Optional, Sequence, Tuple, Union
 
 from .arguments import refuse_values
 from .clauses import clause_of, given, refuse_rows
@@ -35,18 +37,21 @@ from .columns import Types
 from .explained import of_cell, of_row, of_unread
 from .faults import Fault, fault_of
 from .feeding import FILES_OF_INPUT, Input, bytes_of, run_program
-from .lists import lower, read_list, with_place
+from .line import MOST_MERGES, OF_ONE_JOIN, SIDES, beyond, read_line
+from .lists import lower, with_place
 from .local import Machine
 from .making import append, beginning, folder_beside, made, remove
+from .memory import size_in
 from .nulls import Texts, texts_of
 from .outputs import refuse_input
 from .packed import Run, give_back, pack, rows_of_part, rows_of_run, sizes_of, told_of
 from .pipes import open_streams
 from .placed import LEFT, RIGHT, SAMPLES, Index, Place, Shard, cut_places, sampled
+from .plans import Plan, plan_of
 from .programs import ProgramNotFound, encoded, find_all
 from .spread import TABLE, Join, are_many, joins_of, length_of, limit_of, most_tables, next_length, runs_of
 from .tables import PathTable
-from .tasks import FULL, Told, answer, first_fault, unwritten
+from .tasks import FULL, Told, answer, first_fault, tell, unwritten
 from .text import header_in
 
 if TYPE_CHECKING:
@@ -54,128 +59,16 @@ if TYPE_CHECKING:
 
     from .sending import Cluster
 
-# The options that go to `radixjoin` alone, as they are.
-OF_ONE_JOIN = ("workers", "bits1", "bits2", "hash", "block", "capacity", "lanes", "retries", "piece", "rows", "order")
-# The options of `radixjoin` that a join in shards has no other value of than this one: the merge goes by the places of the rows of
-# both sides, whose columns have to stand in the joined shards.
-OF_WHOLE_TABLES = {"columns": "all"}
-SIDES = ("left", "right")
 # The signals that end the script.
 ENDS = (signal.SIGTERM, signal.SIGINT, signal.SIGHUP)
-# The options that may be given again.
-SEVERAL = ("--left-null", "--right-null")
 PLACES = {"left": LEFT, "right": RIGHT}
-# The most ranges of a merge, and the bytes of the joined tables that each has at least where it isn't given how many there are to be: a
-# smaller one isn't worth a task.
-MOST_MERGES, LEAST_MERGED = 1024, 16 << 20
-LIMITS = (("parts", 1, 1024), ("processes", 1, 1024), ("ranges", 1, 100_000), ("spread", 1, 1 << 60), ("merges", 1, MOST_MERGES), ("memory", 1, 1 << 40))
+# The bytes of the joined tables that each range of a merge has at least where it isn't given how many there are to be: a smaller one
+# isn't worth a task.
+LEAST_MERGED = 16 << 20
 PROGRAMS = ("radixjoin", "shards", "merges")
-# Stands for the text `--` of an option while the line is read: no word of a command line has this letter.
-DASHES = "\0"
+# The status of a program for which memory was short.
+OUT_OF_MEMORY = 5
 AMBIGUOUS = re.compile(r"radixjoin: E28 AmbiguousNull row (\d+) column (\d+)")
-
-
-class Parser(argparse.ArgumentParser):
-    """What reads a command line. It tells a fault of it in one line."""
-
-    def error(self, message: str) -> NoReturn:
-        self.exit(2, f"{self.prog}: {message}\n")
-
-
-def parser() -> Parser:
-    """What reads the command line, and has its help."""
-    from . import __version__
-
-    line = Parser(prog="radixjoin-cluster", description=__doc__, formatter_class=argparse.RawDescriptionHelpFormatter, allow_abbrev=False)
-    line.add_argument("-V", "--version", action="version", version=f"radixjoin-cluster {__version__}")
-    for side in SIDES:
-        line.add_argument(f"--{side}", required=True, metavar="FILE", help=f"CSV file of the {side} table, which every process can read")
-    for side in SIDES:
-        line.add_argument(f"--{side}-types", required=True, metavar="TYPES", help=f"types of the {side} columns, as 'int,num(9,2),text' or 'id=int,*=text', or @FILE that has them")
-    line.add_argument("--join", required=True, metavar="CLAUSE", help="how to join, as 'LEFT JOIN USING (id)'; it needs a key")
-    line.add_argument("--null", metavar="TEXT", help="text of a field that is null, read and written [default: an empty field]")
-    for side in SIDES:
-        line.add_argument(f"--{side}-null", action="append", metavar="TEXT", help=f"text of a {side} field that is null; up to four by giving it again [default: as --null]")
-    line.add_argument("--out-null", metavar="TEXT", help="text that is written for null [default: as --null]")
-    line.add_argument("--strict", nargs="?", const="on", choices=("on", "full"), help="refuse files that aren't of RFC 4180's grammar; full: also those whose last line has no end")
-    line.add_argument("--output", "--out", dest="out", required=True, metavar="FILE", help="file of the joined table; it is there when the whole table is")
-    line.add_argument("--parts", type=int, default=16, metavar="N", help="shards that the tables are divided into, 1 to 1024 [default: 16]")
-    line.add_argument("--ranges", type=int, metavar="N", help="ranges of a file that are divided side by side [default: one for each task that is done at once]")
-    line.add_argument("--spread", type=int, metavar="BYTES", help="bytes of both tables above which a shard is joined in pieces of no more [default: twice the mean of all shards, no less than 16 MiB]")
-    line.add_argument("--merges", type=int, metavar="N", help="ranges of the joined table, of about as many bytes each, that are merged side by side, 1 to 1024 [default: one for each task that is done at once, and no more than one for each 16 MiB]")
-    line.add_argument("--scratch", metavar="FOLDER", help="folder for what is half made, which every process can write [default: that of --output]")
-    line.add_argument("--programs", metavar="FOLDER", help="folder of radixjoin, shards and merges [default: that of the environment variable RADIXJOIN, this tree's, or those on the PATH]")
-    line.add_argument("--memory", type=int, metavar="MIB", help="address space that each program may take, in MiB [default: no limit]")
-    where = line.add_mutually_exclusive_group()
-    where.add_argument("--scheduler", metavar="ADDRESS", help="scheduler of a Dask cluster, as tcp://node1:8786")
-    where.add_argument("--processes", type=int, default=1, metavar="N", help="programs that run side by side on this machine [default: 1]")
-    line.add_argument("--progress", action="store_true", help="show on a terminal which step is done, and how many of its tasks")
-    line.add_argument("--explain", action="store_true", help="tell behind the line of a fault where it is, and what stands there")
-    for option in OF_ONE_JOIN:
-        line.add_argument(f"--{option}", metavar="X", help=f"as radixjoin's --{option}, for the join of each shard")
-    for option in OF_WHOLE_TABLES:
-        line.add_argument(f"--{option}", help=argparse.SUPPRESS)
-    return line
-
-
-def read_line(words: Sequence[str]) -> argparse.Namespace:
-    """What the words of the command line ask for."""
-    line = parser()
-    asked = shown(line.parse_args(hidden(with_lists(words))))
-    given = [word.partition("=")[0] for word in words if word.startswith("--")]
-    for option in given:
-        if given.count(option) > 1 and option not in SEVERAL:
-            line.error(f"{option} can be given once")
-    if {"--output", "--out"} <= set(given):
-        line.error("--out is --output, which can be given once")
-    for side in SIDES:
-        if getattr(asked, side) == "-":
-            line.error(f"--{side}: standard input can't be divided, give a file")
-    if asked.out == "-":
-        line.error("--output: the result can't be standard output, give a file")
-    for name, least, most in beyond(asked):
-        line.error(f"--{name} is from {least} to {most}")
-    for option, only in OF_WHOLE_TABLES.items():
-        if getattr(asked, option) not in (None, only):
-            line.error(f"--{option}: a join in shards writes all columns, so leave those out of the files that aren't wanted")
-    if "matched-left" in (asked.rows or "").split(","):
-        line.error("--rows: a join in shards has no matched-left, so join by USING with a right file of the keys alone, each once")
-    return asked
-
-
-def hidden(words: Sequence[str]) -> List[str]:
-    """The words with each text `--` of an option, as in `--null=--`, in a form that argparse doesn't leave out."""
-    return [f"{word[:-2]}{DASHES}" if word.startswith("--") and word.partition("=")[2] == "--" else word for word in words]
-
-
-def shown(asked: argparse.Namespace) -> argparse.Namespace:
-    """What is asked for with each such text as it was given."""
-    for name, value in vars(asked).items():
-        if isinstance(value, list):
-            setattr(asked, name, ["--" if it == DASHES else it for it in value])
-        elif value == DASHES:
-            setattr(asked, name, "--")
-    return asked
-
-
-def with_lists(words: Sequence[str]) -> List[str]:
-    """The words with each list of types that a file has in the place of `@FILE`, as `radixjoin` reads them."""
-    sides = {f"--{side}-types": side for side in SIDES}
-    read, side = [], None
-    for word in words:
-        option, has_file, file = word.partition("=@")
-        if side is not None:
-            read.append(read_list(word[1:], side) if word.startswith("@") else word)
-        else:
-            read.append(f"{option}={read_list(file, sides[option])}" if has_file and option in sides else word)
-        side = sides.get(word)
-    return read
-
-
-def beyond(asked: argparse.Namespace) -> List[Tuple[str, int, int]]:
-    """The numbers that are out of their limits, with these."""
-    numbers = [(name, least, most, getattr(asked, name)) for name, least, most in LIMITS]
-    return [(name, least, most) for name, least, most, number in numbers if number is not None and not least <= number <= most]
 
 
 class Job:
@@ -195,11 +88,12 @@ class Job:
         self.is_apart = bool(asked.strict) and any(self.out_null not in (nulls[side] or [null]) for side in SIDES)
         self.strict = [f"--strict={asked.strict}"] if asked.strict else []
         self.explain = ["--explain"] if asked.explain else []
-        self.parts = asked.parts
-        self.spread = asked.spread
+        # (these are known when the join is planned)
+        self.parts, self.spread = 1, asked.spread
         self.order = asked.order or "pairs"
         self.one_join = [f"--{option}={getattr(asked, option)}" for option in OF_ONE_JOIN if getattr(asked, option) is not None]
-        self.memory = asked.memory and asked.memory << 20
+        # The address space that each program may take.
+        self.space: Optional[int] = asked.address_space
         self.scratch = scratch
         self.out = str(Path(asked.out).resolve())
         # The first letters of the names of results that are half made.
@@ -209,7 +103,7 @@ class Job:
         """Runs a program, on these inputs beside the files that its words name, and gives what it printed. What it refuses is told; that
         it was killed is an error, so that the task runs again. What can't be written is told as what the program writes, or as the folder
         for what is half made."""
-        how = {"cwd": self.scratch, "stdin": subprocess.DEVNULL, "stdout": output, "preexec_fn": beginning(self.memory)}
+        how = {"cwd": self.scratch, "stdin": subprocess.DEVNULL, "stdout": output, "preexec_fn": beginning(self.space)}
         ran = run_program([self.programs[name], *words], inputs, **how)
         if ran.returncode < 0:
             raise RuntimeError(f"{name} was ended by signal {-ran.returncode}")
@@ -422,19 +316,37 @@ def merging(job: Job, joins: Sequence[Join]) -> List[str]:
     return [f"--null={job.out_null}", f"--order={job.order}", *([f"--copies={','.join(copies)}"] if {*copies} != {"1"} else [])]
 
 
-def refused(job: Job, error: OSError) -> Told:
-    """The fault of a result that the system doesn't take."""
-    return unwritten(job.out) if error.errno in FULL else unwritten(job.out, error.strerror)
+@contextlib.contextmanager
+def result_of(job: Job) -> Iterator[BinaryIO]:
+    """The file of the joined table, which takes its place once it is whole. What the system doesn't take of it is told."""
+    try:
+        with made(job.out, job.half) as new, open(new, "wb") as output:
+            yield output
+            output.flush()
+            os.fsync(output.fileno())
+    except OSError as error:
+        raise unwritten(job.out) if error.errno in FULL else unwritten(job.out, error.strerror) from None
+
+
+def join_whole(job: Job, workers: int) -> bool:
+    """Joins the two files by one run of `radixjoin`. It gives whether there was memory for it: there wasn't, too, where it was killed."""
+    words = [*(f"--{side}={job.files[side]}" for side in SIDES), *job.joining(job.types), *job.strict, *job.explain]
+    if not any(word.startswith("--workers=") for word in words):
+        words.append(f"--workers={workers}")
+    try:
+        with result_of(job) as output:
+            job.run("radixjoin", words, output, job.out)
+    except (Told, RuntimeError) as error:
+        if isinstance(error, Told) and error.status != OUT_OF_MEMORY:
+            raise
+        return False
+    return True
 
 
 def merge_shards(job: Job, joins: Sequence[Join]) -> None:
     """Merges the joined tables into the one of the whole. They are named by their places in the scratch folder: there may be many."""
-    try:
-        with made(job.out, job.half) as new, open(new, "wb") as output:
-            job.run("merges", [*merging(job, joins), *(one.table() for one in joins)], output, job.out)
-            os.fsync(output.fileno())
-    except OSError as error:
-        raise refused(job, error) from None
+    with result_of(job) as output:
+        job.run("merges", [*merging(job, joins), *(one.table() for one in joins)], output, job.out)
 
 
 def merge_range(job: Job, number: int, runs: Sequence[Tuple[Join, Tuple[int, int, int]]]) -> None:
@@ -451,14 +363,9 @@ def merge_range(job: Job, number: int, runs: Sequence[Tuple[Join, Tuple[int, int
 
 def put_together(job: Job, count: int) -> None:
     """Puts the merged ranges one after another into the joined table."""
-    try:
-        with made(job.out, job.half) as new, open(new, "wb") as output:
-            for number in range(count):
-                append(job.merged(number), output)
-            output.flush()
-            os.fsync(output.fileno())
-    except OSError as error:
-        raise refused(job, error) from None
+    with result_of(job) as output:
+        for number in range(count):
+            append(job.merged(number), output)
 
 
 def counted_on(line: str, before: int) -> str:
@@ -642,7 +549,7 @@ def run(job: Job, cluster: Any, count: int, merges: Optional[int]) -> None:
 def cluster_of(asked: argparse.Namespace) -> Iterator[Union[Machine, Cluster]]:
     """The cluster that is asked for, or this machine."""
     if not asked.scheduler:
-        yield Machine(asked.processes, asked.progress)
+        yield Machine(asked.processes or 1, asked.progress)
         return
     from distributed import Client
 
@@ -660,6 +567,29 @@ def cluster_by(client: Client, progress: bool) -> Cluster:
     return Cluster(client, progress)
 
 
+def is_joined_whole(job: Job, cluster: Any, plan: Plan) -> bool:
+    """Joins the two files by one run of `radixjoin`, if there is memory for it. It gives whether there was."""
+    alone = copy.copy(job)
+    alone.space = min(plan.space(), job.space or plan.space())
+    found: List[Any] = cluster.answers([(join_whole, alone, plan.workers)])
+    first_fault(found)
+    return bool(found[0])
+
+
+def run_as_planned(asked: argparse.Namespace, job: Job, cluster: Any) -> None:
+    """Joins by one run of `radixjoin` where that fits into memory, and else in shards. The plan is shown where that is asked for."""
+    size, why = sum(os.path.getsize(file) for file in job.files.values()), ""
+    plan = plan_of(asked, size, cluster)
+    if plan.is_one_run:
+        tell(asked.progress, plan.told(size, cluster))
+        if is_joined_whole(job, cluster, plan):
+            return
+        plan, why = plan._replace(is_one_run=False), "memory was short, so "
+    tell(asked.progress, why + plan.told(size, cluster))
+    job.parts, job.spread = plan.parts, plan.spread
+    run(job, cluster, asked.ranges or cluster.tasks_at_once(), asked.merges)
+
+
 def run_in(asked: argparse.Namespace, cluster: contextlib.AbstractContextManager[Any]) -> None:
     """Joins as asked on this machine or a cluster, in a scratch folder that is removed at the end. What can be refused without the rows is
     refused before the cluster is there."""
@@ -668,7 +598,7 @@ def run_in(asked: argparse.Namespace, cluster: contextlib.AbstractContextManager
     with scratch_in(folder) as scratch, output_of(Job(asked, scratch)) as job:
         first_fault([answer(refuse, job)])
         with cluster as it:
-            run(job, it, asked.ranges or it.tasks_at_once(), asked.merges)
+            run_as_planned(asked, job, it)
 
 
 def join(
@@ -686,24 +616,30 @@ def join(
     right_null: Texts = None,
     out_null: Optional[str] = None,
     strict: Union[bool, str] = False,
-    parts: int = 16,
+    parts: Optional[int] = None,
     ranges: Optional[int] = None,
     spread: Optional[int] = None,
     merges: Optional[int] = None,
     scratch: Union[str, os.PathLike[str], None] = None,
     programs: Union[str, os.PathLike[str], None] = None,
-    memory: Optional[int] = None,
+    memory: Union[int, str, None] = None,
+    address_space: Union[int, str, None] = None,
     progress: bool = False,
     explain: bool = False,
     **of_one_join: Any,
 ) -> Any:
-    """Joins two files shard by shard, and gives the path of the result, `output`: on this machine, where no more than `processes` programs
-    run side by side (1, where it isn't given), or by the processes of a Dask client. These have to see the files, the programs and the scratch folder under the same names.
+    """Joins two files that may be larger than memory, and gives the path of the result, `output`: on this machine, where no more than
+    `processes` programs run side by side (1, where it isn't given), or by the processes of a Dask client. These have to see the files, the programs and the scratch folder under the same names.
+
+    `memory`, a number of bytes or a text as "8G", decides how (half of what is free, where it isn't given): on this machine by one run of
+    `radixjoin` where about three times the bytes of both files fit into it, by `processes` threads or, where that isn't given, as many as there are
+    processors; else in shards, as many as it takes for those that are joined at the same time to fit, on a cluster in each process. With `parts`, `spread`,
+    `ranges` or `merges` it is done in shards.
 
     The arguments are the options of the command line `radixjoin-cluster` (docs/user/cluster.md): `left_null` and `right_null`, a text or
     up to four, and `out_null`, in place of `null`; `strict`, True or "full", has files refused that aren't of RFC 4180's grammar; with `explain`, a `Fault` has an `explanation`;
     `parts` that the tables are divided into (1 to 1,024), `ranges` of a file that are divided side by side, `spread`, the bytes of
-    both tables above which a shard is joined in pieces, `merges`, the ranges of the joined table that are merged side by side, `memory` in MiB for each program; `workers` and other options of the join of each shard go to `radixjoin`. Types are a list, a text as the program
+    both tables above which a shard is joined in pieces, `merges`, the ranges of the joined table that are merged side by side, `address_space` that each program may take, as `memory`; `workers` and other options of each join go to `radixjoin`. Types are a list, a text as the program
     has it (`"int,text"`, `"id=int,*=text"`, `"@FILE"`), or a mapping by name, in which `*` stands for all other columns.
 
     Raises:
@@ -729,8 +665,9 @@ def join(
     nulls = {"null": null, "left_null": texts_of("left_null", left_null), "right_null": texts_of("right_null", right_null), "out_null": out_null}
     if strict and strict not in (True, "full"):
         raise ValueError(f"strict={strict!r} is none of True, False and 'full'")
-    how = {"strict": "full" if strict == "full" else "on" if strict else None, "parts": parts, "ranges": ranges, "spread": spread, "merges": merges, "memory": memory, "progress": progress, "explain": explain}
-    asked = argparse.Namespace(join=os.fsdecode(encoded(given(clause))), processes=processes, **how, **files, **folders, **types, **nulls, **each)
+    sizes = {"memory": _size("memory", memory), "address_space": _size("address_space", address_space)}
+    how = {"strict": "full" if strict == "full" else "on" if strict else None, "parts": parts, "ranges": ranges, "spread": spread, "merges": merges, "progress": progress, "explain": explain}
+    asked = argparse.Namespace(join=os.fsdecode(encoded(given(clause))), processes=processes, **how, **sizes, **files, **folders, **types, **nulls, **each)
     for name, least, most in beyond(asked):
         raise ValueError(f"{name}= is from {least} to {most}")
     try:
@@ -738,6 +675,14 @@ def join(
     except Told as told:
         raise fault_of(str(told), told.status) from None
     return output
+
+
+def _size(name: str, given: Union[int, str, None]) -> Optional[int]:
+    """The bytes of a size, if it is given."""
+    try:
+        return None if given is None else size_in(given)
+    except (TypeError, ValueError) as error:
+        raise type(error)(f"{name}={error}") from None
 
 
 def _types(side: str, path: str, types: Types) -> str:

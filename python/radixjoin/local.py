@@ -6,12 +6,16 @@ import threading
 from concurrent.futures import ThreadPoolExecutor, as_completed, wait
 from typing import Any, List, Sequence, Tuple
 
+from . import memory
 from .ending import end_with, go_on
 from .tasks import AGAIN, answer, are_shown, in_one_line, show
 
 
 class Machine:
     """Does so many tasks at once."""
+
+    # Whether tasks are done on the machine of the script alone.
+    is_here = True
 
     def __init__(self, count: int, shows_progress: bool) -> None:
         self.count = count
@@ -40,6 +44,10 @@ class Machine:
     def tasks_in_process(self) -> int:
         """How many of these are done by one process."""
         return self.count
+
+    def free(self) -> int:
+        """How many bytes of memory are free for these."""
+        return memory.free()
 
 
 def _tried(task: Tuple[Any, ...]) -> Any:

@@ -19,17 +19,19 @@ TRIES, SECONDS = 20, 0.1
 _MOST, _CHUNK = 1 << 26, 1 << 20
 
 
-def beginning(memory: Optional[int]) -> Callable[[], None]:
+def beginning(space: Optional[int]) -> Callable[[], None]:
     """What a program's process does before it becomes the program: it ends when the thread that began it does, and takes no more than its
-    memory. (What it needs for that is looked up before: it is forked while other threads run.)"""
+    address space, nor than this process may. (What it needs for that is looked up before: it is forked while other threads run.)"""
     prctl = ctypes.CDLL(None).prctl
     most = resource.getrlimit(resource.RLIMIT_NOFILE)[1]
+    own = resource.getrlimit(resource.RLIMIT_AS)[0]
+    limit = space if own == resource.RLIM_INFINITY or not space else min(space, own)
 
     def begin() -> None:
         prctl(1, signal.SIGKILL)  # PR_SET_PDEATHSIG
         resource.setrlimit(resource.RLIMIT_NOFILE, (most, most))  # `merges` opens the file of each part
-        if memory:
-            resource.setrlimit(resource.RLIMIT_AS, (memory, memory))
+        if limit:
+            resource.setrlimit(resource.RLIMIT_AS, (limit, limit))
 
     return begin
 

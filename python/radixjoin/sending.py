@@ -17,6 +17,7 @@ import uuid
 import zipfile
 from typing import TYPE_CHECKING, Any, Callable, Dict, List, Optional, Sequence, Tuple
 
+from . import memory
 from .tasks import AGAIN, answer, are_shown, first_fault, in_one_line, put, show, step_of
 
 if TYPE_CHECKING:
@@ -118,6 +119,8 @@ def answered(path: str, task: bytes) -> bytes:
 class Cluster:
     """The processes that tasks are sent to."""
 
+    is_here = False
+
     def __init__(self, client: Client, shows_progress: bool) -> None:
         self.client = client
         self.shows_progress = are_shown(shows_progress)
@@ -169,3 +172,11 @@ class Cluster:
         """How many of these one process does, where it does the most, by which files are counted that it may have open."""
         threads: Dict[str, int] = self.client.nthreads()
         return max([1, *threads.values()])
+
+    def free(self) -> int:
+        """How many bytes of memory one process may take, where it may take the least: Dask's limit of it, where it has one, or its share of
+        what is free on this machine."""
+        told: Dict[str, Dict[str, Any]] = self.client.scheduler_info()["workers"]
+        limits: List[int] = [it["memory_limit"] for it in told.values() if it["memory_limit"]]
+        threads: Dict[str, int] = self.client.nthreads()
+        return min(limits, default=memory.free() // max(1, len(threads)))

@@ -13,6 +13,7 @@ FULL = (errno.ENOSPC, errno.EDQUOT, errno.EROFS)
 AGAIN = 2
 # What is shown of a step, by the name of its tasks' function.
 STEPS = {
+    "join_whole": "joining",
     "cuts_of": "looking for cuts",
     "divide": "dividing",
     "cut_side": "cutting large shards",
@@ -87,6 +88,12 @@ def show(tasks: Sequence[Tuple[Any, ...]], done: Iterable[Any]) -> None:
             put(f"{_CLEARED}radixjoin-cluster: {step_of(tasks)}, {number} of {len(tasks)} tasks")
     finally:
         put(_CLEARED)
+
+
+def tell(is_asked: bool, text: str) -> None:
+    """Tells something in a line of the terminal that stays, where steps are shown."""
+    if are_shown(is_asked):
+        put(f"radixjoin-cluster: {text}\n")
 
 
 def put(text: str) -> None:

@@ -40,15 +40,23 @@ def joins(join, programs, folder):
     join(left, right, CLAUSE, parts=2, spread=10_000, merges=2, **options)
     yield from telling.differs("the bytes of shards in pieces", out.read_bytes() == alone.read_bytes(), True)
     out.unlink()
+    for planned in ({}, {"memory": "1G"}, {"memory": 1 << 30, "processes": 2}, {"memory": 1_000}, {"memory": "64k", "ranges": 2, "address_space": "1G"}):
+        if "client" not in getattr(join, "keywords", {}) or "processes" not in planned:
+            join(left, right, CLAUSE, **planned, **options)
+            yield from telling.differs(f"the bytes as {planned} has it planned", out.read_bytes() == alone.read_bytes(), True)
+            out.unlink()
     for clause, code in (("JOIN USING (id", "E11"), ("JOIN USING (nmae)", "E13"), ("CROSS JOIN", None)):
         error = telling.raised(join, left, right, clause, **options)
         yield from [] if isinstance(error, radixjoin.ClauseFault) and error.code == code else [f"{clause}: {error!r}"]
     left.write_text(LEFT + "x,y\n")
     error = telling.raised(join, left, right, CLAUSE, ranges=2, **options)
     yield from telling.differs("a fault's place", repr(error), repr(radixjoin.InputFault("radixjoin: E6 BadInteger left row 3001 column 1", 3)))
-    for named in ({"parts": 0}, {"no_such_option": 1}, {"ranges": 0}, {"spread": 0}, {"memory": 0}):
+    for named in ({"parts": 0}, {"no_such_option": 1}, {"ranges": 0}, {"spread": 0}, {"memory": 0}, {"address_space": 0}):
         error = telling.raised(join, left, right, CLAUSE, **named, **options)
         yield from [] if isinstance(error, (TypeError, ValueError)) and next(iter(named)) in str(error) else [f"{named}: {error!r}"]
+    for name, given in ((name, given) for name in ("memory", "address_space") for given in ("8T", "", 0.5)):
+        error = telling.raised(join, left, right, CLAUSE, **{name: given}, **options)
+        yield from telling.differs(f"{name}={given!r}", (type(error), str(error).startswith(f"{name}={given!r} is no size")), (ValueError if isinstance(given, str) else TypeError, True))
     yield from telling.differs("files", sorted(os.listdir(folder)), ["alone.csv", "left.csv", "right.csv"])
 
 
