@@ -78,7 +78,7 @@ def parser() -> Parser:
     where.add_argument("--scheduler", metavar="ADDRESS", help="scheduler of a Dask cluster, as tcp://node1:8786")
     where.add_argument("--processes", type=int, metavar="N", help="programs that run side by side on this machine, or threads of one run [default: 1, and for one run as many as there are processors]")
     line.add_argument("--progress", action="store_true", help="show on a terminal how the join is planned, which step is done, and how many of its tasks")
-    line.add_argument("--explain", action="store_true", help="tell behind the line of a fault where it is, and what stands there")
+    line.add_argument("--explain", action="store_true", help="print after the line of an error where it is, and what is there")
     for option in OF_ONE_JOIN:
         line.add_argument(f"--{option}", metavar="X", help=f"as radixjoin's --{option}, for each join")
     for option in OF_WHOLE_TABLES:
