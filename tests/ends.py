@@ -139,7 +139,7 @@ def closed_standard_error(folder):
 
 
 def output_that_nobody_reads(folder):
-    """A pipe whose reader has gone is a writer that failed."""
+    """A pipe whose reader has gone is a writer that failed; of the result of a join nothing is printed then, as of `| head`."""
     joined = ["joined.csv"]
     (folder / joined[0]).write_text("left_place,a,right_place\n0,x,5\n")
     for name, words in (("radixjoin", two_files(folder)), ("arrivals", ARRIVALS), ("merges", joined)):
@@ -147,7 +147,7 @@ def output_that_nobody_reads(folder):
         os.close(reader)
         ran = run(name, words, folder, stdout=writer)
         os.close(writer)
-        yield f"{name}: a pipe without a reader", harness.differences(ran, b"", f"{name}: E20 WriteDevice\n".encode(), 6)
+        yield f"{name}: a pipe without a reader", harness.differences(ran, b"", b"" if name == "radixjoin" else f"{name}: E20 WriteDevice\n".encode(), 6)
 
 
 def run_with_permissions(name, words, folder):

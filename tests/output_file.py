@@ -91,15 +91,37 @@ def counts(folder):
 
 
 def modes(folder):
-    """A file gets the mode that the umask leaves, whatever stood there before."""
+    """A new file gets the mode that the umask leaves, and otherwise the mode of the file that stood there stays."""
     words = two_files(folder)
-    for mask, before in ((0o022, None), (0o077, None), (0o002, None), (0o022, 0o600), (0o022, 0o444)):
+    for mask, before in ((0o022, None), (0o077, None), (0o002, None), (0o022, 0o600), (0o022, 0o444), (0o077, 0o664)):
         written = Written(folder, None if before is None else BEFORE)
         if before is not None:
             written.file.chmod(before)
         ran = ends.run_command(["sh", "-c", f'umask {mask:o}; exec "$@"', "sh", harness.program("radixjoin"), *words, "--output", NAME], folder)
         mode = stat.S_IMODE(written.file.stat().st_mode) if written.file.exists() else None
-        yield f"umask {mask:o} over {before}", written.faults(ran) + ([] if mode == 0o666 & ~mask else [f"mode {mode}"])
+        kept = 0o666 & ~mask if before is None else before
+        yield f"umask {mask:o} over {before}", written.faults(ran) + ([] if mode == kept else [f"mode {mode}"])
+
+
+def owners(folder):
+    """The owner and the group of the file that stood there stay, if whoever runs the program may give files away."""
+    if os.getuid() != 0:
+        print("output_file: owners are left out, since only root gives files away")
+        return
+    words = two_files(folder)
+    folder.chmod(0o777)
+    copy = folder / "program"
+    copy.write_bytes(harness.program("radixjoin").read_bytes())
+    copy.chmod(0o755)
+    someone = NOBODY - 1
+    for user, kept in ((0, someone), (NOBODY, NOBODY)):
+        written = Written(folder)
+        os.chown(written.file, someone, someone)
+        written.file.chmod(0o640)
+        ran = ends.run_command([copy, *words, "--output", NAME], folder, user=user, group=user, extra_groups=[])
+        found = written.file.stat()
+        held = (found.st_uid, found.st_gid, stat.S_IMODE(found.st_mode))
+        yield f"written by user {user}", written.faults(ran) + ([] if held == (kept, kept, 0o640) else [f"owner, group and mode {held}"])
 
 
 def links(folder):
@@ -327,6 +349,7 @@ def run_all(tally):
         files,
         counts,
         modes,
+        owners,
         links,
         names,
         special_files,

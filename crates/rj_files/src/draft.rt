@@ -8,6 +8,7 @@ use rj_fault::Fault;
 use std::alloc::Global;
 use std::fs::{self, Files, Metadata, OpenFile, OpenOptions};
 use std::io::{self, ErrorKind};
+use std::os::unix::fs::{MetadataExt, chown};
 use std::path::Path;
 
 // How many symbolic links are followed: as many as Linux follows.
@@ -103,10 +104,22 @@ fn is_special(found: &io::Result<Metadata>) -> bool {
     }
 }
 
+// Gives a new file the owner, the group and the mode of the file whose place it is to take, if one
+// is there. A user who may not give files away stays the owner.
+fn take_after<R: Files>(rt: &R, name: &str, target: &str) -> io::Result<()> {
+    let Ok(there) = fs::metadata(rt, target) else {
+        return Ok(());
+    };
+    match chown(rt, name, Some(there.uid()), Some(there.gid())) {
+        Err(error) if error.kind() != ErrorKind::PermissionDenied => Err(error),
+        _ => fs::set_permissions(rt, name, there.permissions()),
+    }
+}
+
 impl Draft {
-    /// Opens a file to which a result for this output is written: a new one in the same folder, or
-    /// the pipe or device that is there. So it is known before anything is read whether such a file
-    /// can be made.
+    /// Opens a file to which a result for this output is written: a new one in the same folder, with
+    /// the owner and the mode of the file that is there, or the pipe or device that is there. So it
+    /// is known before anything is read whether such a file can be made.
     ///
     /// # Errors
     ///
@@ -137,12 +150,30 @@ impl Draft {
                 .create_new(true)
                 .open(rt, name.as_str());
             match made {
-                Ok(file) => return Ok((Draft::Replacing { name, target }, file)),
+                Ok(file) => return Draft::made(rt, name, target, file),
                 Err(error) if error.kind() == ErrorKind::AlreadyExists => {}
                 Err(error) => return Err(unwritten_by(error)),
             }
         }
         Err(Unwritten::from(Fault::WriteDevice))
+    }
+
+    // A new file that was made, with the owner and the mode of the target.
+    fn made<R: Files>(
+        rt: &R,
+        name: String,
+        target: String,
+        file: R::File,
+    ) -> Result<(Draft, R::File), Unwritten>
+        ensures { IfErr result (λ refused. IsOfWriting refused.fault) }
+    {
+        match take_after(rt, name.as_str(), target.as_str()) {
+            Ok(()) => Ok((Draft::Replacing { name, target }, file)),
+            Err(error) => {
+                let _ = fs::remove_file(rt, name.as_str());
+                Err(unwritten_by(error))
+            }
+        }
     }
 
     /// Syncs the file to the disk and renames it to the target.

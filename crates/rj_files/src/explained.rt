@@ -6,18 +6,24 @@ ghost use Rattle.rj_fault.specs.Faults.{IsAskedFor, clap_error_of, status_of};
 use rj_fault::{Fault, tell};
 use std::alloc::AllocError;
 
-/// Why there is no output, and the lines that explain it, if there are any.
+/// Why there is no output, and the lines that explain it, if there are any. If nobody reads the
+/// output any more, nothing is printed of it.
 #[derive(Drop)]
 pub struct ExplainedFault {
     fault: Fault,
     lines: Option<String>,
+    is_told: bool,
 }
 
 impl From<Fault> for ExplainedFault {
     ghost from_gives = { λ fault e. e.fault ≡ fault };
 
     fn from(fault: Fault) -> ExplainedFault {
-        ExplainedFault { fault, lines: None }
+        ExplainedFault {
+            fault,
+            lines: None,
+            is_told: true,
+        }
     }
 }
 
@@ -42,8 +48,24 @@ impl ExplainedFault {
             Ok(lines) => ExplainedFault {
                 fault,
                 lines: Some(lines),
+                is_told: true,
             },
-            Err(_) => ExplainedFault { fault, lines: None },
+            Err(_) => ExplainedFault {
+                fault,
+                lines: None,
+                is_told: true,
+            },
+        }
+    }
+
+    /// An error of which nothing is printed: whoever reads the output has gone.
+    pub(crate) fn unheard(fault: Fault) -> ExplainedFault
+        ensures { result.fault ≡ fault }
+    {
+        ExplainedFault {
+            fault,
+            lines: None,
+            is_told: false,
         }
     }
 
@@ -51,17 +73,24 @@ impl ExplainedFault {
     pub(crate) fn into_parts(self) -> (Fault, Option<String>)
         ensures { result ≡ (self.fault, self.lines) }
     {
-        let ExplainedFault { fault, lines } = self;
+        let ExplainedFault {
+            fault,
+            lines,
+            is_told: _,
+        } = self;
         (fault, lines)
     }
 }
 
-/// Prints on standard error why there is no output, and what explains it. The answer is the exit
-/// status: that of the error or, if help or the version was asked for and couldn't be printed, that
-/// of a failed write.
+/// Prints on standard error why there is no output, and what explains it, unless whoever reads the
+/// output has gone. The answer is the exit status: that of the error or, if help or the version was
+/// asked for and couldn't be printed, that of a failed write.
 pub fn tell_explained<R: Print + Eprint>(rt: &R, reason: &ExplainedFault) -> u8
     ensures { (result ≡ status_of reason.now.fault) ⊎ (IsAskedFor (clap_error_of reason.now.fault) × (result ≡ status_of Fault.WriteDevice)) }
 {
+    if !reason.is_told {
+        return reason.fault.status();
+    }
     let status = tell(rt, &reason.fault);
     if let Some(lines) = &reason.lines {
         let _ = eprint!(rt; "{lines}");

@@ -10,7 +10,7 @@ use rj_command::{Line, OpenGate, Violation, first_violation, read_line};
 use rj_explain::{Inputs, explain, explain_row, explain_words};
 use rj_fault::{Fault, Side};
 use std::alloc::{AllocError, Global};
-use std::io;
+use std::io::{self, ErrorKind};
 use std::sync::Wait;
 use std::thread::Threads;
 use std::time::Clock;
@@ -114,8 +114,16 @@ pub(crate) fn explained<R: AllocGlobal + Threads + Wait + Clock + Sync>(
     ExplainedFault::new(fault, lines)
 }
 
+// Whether the output is a pipe that nobody reads any more, as behind `| head`.
+fn has_no_reader(error: &Option<io::Error>) -> bool {
+    match error {
+        Some(error) => error.kind() == ErrorKind::BrokenPipe,
+        None => false,
+    }
+}
+
 /// The error of a result that can't be written, explained if that is asked for, with the output's
-/// name and the system's words.
+/// name and the system's words. If whoever reads the output has gone, it isn't printed.
 pub(crate) fn unwritten(
     alloc: Global,
     line: &Line<'_>,
@@ -124,6 +132,9 @@ pub(crate) fn unwritten(
 ) -> ExplainedFault
     ensures { result.fault ≡ fault }
 {
+    if is_unwritten(&fault) && has_no_reader(error) {
+        return ExplainedFault::unheard(fault);
+    }
     if !line.explain || !is_unwritten(&fault) {
         return ExplainedFault::from(fault);
     }
