@@ -66,6 +66,7 @@ PARTS = (
     "output_file",
     "progress",
     "streams",
+    "people",
     "comparisons",
 )
 TABLES = ("examples.toml", "arrivals.toml", "ends.toml", "merges.toml")
