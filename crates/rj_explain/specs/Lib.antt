@@ -1,3 +1,4 @@
+pub mod Entries
 pub mod Explained
 pub mod Lines
 pub mod Listed
