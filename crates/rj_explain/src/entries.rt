@@ -68,8 +68,12 @@ fn next_entry(list: &str) -> (&str, Option<&str>)
     (entry, behind.strip_prefix(','))
 }
 
-// Whether a text is a type list.
-fn is_list(alloc: Global, text: &str) -> Result<bool, AllocError>
+/// Whether a text is a type list.
+///
+/// # Errors
+///
+/// It fails only when memory runs out.
+pub(crate) fn is_list(alloc: Global, text: &str) -> Result<bool, AllocError>
     ensures { IfOk result (λ b. MatchBool b (IsList text.now) (IsNoList text.now)) }
 {
     Ok(read_list(alloc, text)?.is_some())

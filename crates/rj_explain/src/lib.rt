@@ -18,6 +18,7 @@ mod lists;
 mod mismatch;
 mod names;
 mod places;
+mod quoting;
 mod row;
 mod shown;
 mod strict;

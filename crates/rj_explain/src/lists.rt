@@ -4,7 +4,8 @@ ghost use Rattle.std.specs.Prelude.{◌≡◌, IfOk, string_bytes};
 ghost use Rattle.rj_explain.specs.Lines as lines;
 ghost use Rattle.rj_explain.specs.Listed.{IsListTold};
 
-use crate::entries::bad_entry;
+use crate::entries::{bad_entry, is_list};
+use crate::quoting::delimited;
 use crate::shown::Shown;
 use std::alloc::{AllocError, Global};
 
@@ -27,12 +28,8 @@ fn why_no_numeric(numbers: &str) -> &'static str {
     }
 }
 
-// Why an entry is invalid.
-fn why_no_entry(entry: &str) -> &'static str {
-    let word = match entry.rsplit_once('=') {
-        Some((_, word)) => word,
-        None => entry,
-    };
+// Why this isn't the word of a type.
+fn why_no_type(word: &str) -> &'static str {
     match word.strip_prefix("num(") {
         Some(numbers) => why_no_numeric(numbers),
         None => match word.strip_prefix("num:") {
@@ -40,6 +37,31 @@ fn why_no_entry(entry: &str) -> &'static str {
             None => "a type is int, num(p,s) or text, and a name before it stands before =",
         },
     }
+}
+
+// Why this isn't a name that stands before a type.
+fn why_no_name(alloc: Global, name: &str, word: &str) -> Result<String, AllocError> {
+    match delimited(alloc, name)? {
+        Some(name) => format!(in alloc; "a name like this is between double quotes: {name}={word}"),
+        None => String::from_str(alloc, "a name like this is between double quotes"),
+    }
+}
+
+// Why an entry is invalid.
+fn why_no_entry(alloc: Global, entry: &str) -> Result<String, AllocError> {
+    if is_list(alloc, entry.trim())? {
+        return String::from_str(alloc, "no blank stands before or behind an entry");
+    }
+    let Some((name, word)) = entry.rsplit_once('=') else {
+        return String::from_str(alloc, why_no_type(entry));
+    };
+    if !is_list(alloc, word.trim())? || name.is_empty() || name.contains('"') {
+        return String::from_str(alloc, why_no_type(word));
+    }
+    if name.trim().len() < name.len() || word.trim().len() < word.len() {
+        return String::from_str(alloc, "no blank stands before or behind =");
+    }
+    why_no_name(alloc, name, word)
 }
 
 // The line that shows an entry, and what it has to be.
@@ -61,7 +83,7 @@ pub fn explain_list(alloc: Global, list: &str) -> Result<String, AllocError>
     ensures { IfOk result (λ s. IsListTold list.now (string_bytes s)) }
 {
     match bad_entry(alloc, list)? {
-        Some(entry) => entry_line(alloc, entry, why_no_entry(entry)),
+        Some(entry) => entry_line(alloc, entry, why_no_entry(alloc, entry)?.as_str()),
         None => format!(in alloc;
             "  a name stands before each type or before none, and * before one at most\n"
         ),
