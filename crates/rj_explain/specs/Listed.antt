@@ -9,7 +9,7 @@ use Rattle.rj_fault.specs.declared.fault.Side.TheVariants as side
 use Rattle.rj_types.specs.Lists.{IsTypeList}
 use Rattle.rj_types.specs.declared.entry.TypeEntry.{TypeEntry}
 use Rattle.rj_explain.specs.Entries.{split_entries}
-use Rattle.rj_explain.specs.Lines.{entry_line, mixed_line}
+use Rattle.rj_explain.specs.Lines.{entry_line, mixed_line, rows_rule}
 
 abbrev pub IsList : List ℕ → Type 0
 IsList text = (entries : List TypeEntry) × IsTypeList text entries
@@ -50,7 +50,9 @@ IsValueTold None told = told ≡ None
 IsValueTold (Some list) None = ⊥
 IsValueTold (Some list) (Some lines) = IsListTold list lines
 
--- the lines for an error of the command line with these words: those for an invalid type list
+-- the lines for an error of the command line with these words: those for an invalid type list or list
+-- of rows
 abbrev pub AreWordsTold : Fault → List (List ℕ) → Option (List ℕ) → Type 0
 AreWordsTold (fault.BadTypeList s) words told = IsValueTold (value_of (types_option s) words) told
+AreWordsTold fault.BadRows words told = told ≡ Some rows_rule
 AreWordsTold _ words told = told ≡ None

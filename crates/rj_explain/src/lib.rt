@@ -12,6 +12,7 @@ mod clause;
 mod entries;
 mod explanation;
 mod headers;
+mod hints;
 mod inputs;
 mod joined;
 mod lists;

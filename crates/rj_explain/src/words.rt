@@ -10,6 +10,10 @@ use crate::lists::explain_list;
 use rj_fault::{Fault, Side};
 use std::alloc::{AllocError, Global};
 
+// Which rows may be asked for.
+const ROWS_RULE: &str =
+    "  --rows takes pairs or matched-left, lone-left and lone-right, once each, with single commas\n";
+
 // The value in a word that is an option, `=` and its value.
 fn value_in<'w>(word: &'w str, option: &str) -> Option<&'w str>
     ensures { MatchOption result (starts_with nat_eq word.now (option.now ++ 61 ∷ []) ≡ false)
@@ -60,7 +64,8 @@ fn lines_of_value(alloc: Global, list: Option<&str>) -> Result<Option<String>, A
 
 /// The lines for an error of the command line with these words. They are those of
 /// [`explain_list`], if the error is an invalid type list and its option has a value among the
-/// words. For all else there is no more to say.
+/// words. A list of rows that is invalid is told what it may be. For all else there is no more to
+/// say.
 ///
 /// # Errors
 ///
@@ -76,6 +81,7 @@ pub fn explain_words(
         Fault::BadTypeList(side) => {
             lines_of_value(alloc, value_among(words, types_option(*side)))
         }
+        Fault::BadRows => Ok(Some(String::from_str(alloc, ROWS_RULE)?)),
         _ => Ok(None),
     }
 }
