@@ -1,4 +1,6 @@
+pub mod EntryFacts
 pub mod InputFacts
 pub mod NameFacts
 pub mod PlaceFacts
 pub mod ShownFacts
+pub mod WordFacts

@@ -1,6 +1,6 @@
 -- The lines for each error, by what was read. The words are those of `Lines`. No lines mean that
 -- there is no such place.
-use Rattle.std.specs.Prelude.{ℕ, ◌≡◌, ◌<◌, ◌⊎◌, ◌-◌, ◌==◌, Bool, false, true, List, [], ◌∷◌, codes, length, Option, None, Some, Result, Ok, Err, if◌then◌else◌, slice_get}
+use Rattle.std.specs.Prelude.{ℕ, ◌≡◌, ◌<◌, ◌⊎◌, ◌-◌, ◌==◌, Bool, false, true, List, [], ◌∷◌, codes, length, Option, None, Some, ◌++◌, Result, Ok, Err, if◌then◌else◌, slice_get}
 use Rattle.std.specs.declared.alloc.Global.{Global}
 use Rattle.std.specs.declared.vec.Vec.{Vec}
 use Rattle.csv.specs.Reading.{default_config, records, strip_bom}
@@ -34,7 +34,8 @@ use Rattle.rj_strict.specs.declared.header.Header.TheVariants.{First}
 use Rattle.rj_types.specs.Columns.{types_under}
 use Rattle.rj_types.specs.declared.entry.TypeEntry.{TypeEntry}
 use Rattle.rj_explain.specs.declared.inputs.Inputs.{Inputs}
-use Rattle.rj_explain.specs.Lines.{cell_of_row, clause_line, count_line, grammar_line, mismatch_line, name_line, names_line, null_line, ragged_line, repeated_told, row_line}
+use Rattle.rj_explain.specs.Hints.{file_line, file_side, file_words}
+use Rattle.rj_explain.specs.Lines.{cell_of_row, clause_line, columns_line, count_line, grammar_line, mismatch_line, name_line, names_line, null_line, null_rule, ragged_line, repeated_told, row_line}
 use Rattle.rj_explain.specs.Places.{HasNoRow, IsRow, at_column}
 use Rattle.rj_explain.specs.Strict.{IsFaultLine}
 
@@ -65,11 +66,10 @@ abbrev pub names_of : Option Header → List (List ℕ)
 names_of None = []
 names_of (Some header) = names_in header
 
--- Both counts of names and types. No definition says which name has no type, nor what is said of
--- separators.
+-- Both counts of names and types. No definition says which name has no type.
 abbrev pub IsCountTold : List TypeEntry → List (List ℕ) → List ℕ → Type 0
 IsCountTold entries names lines =
-    (untyped : Option (List ℕ)) × (separator : List ℕ) × (lines ≡ count_line (length names) (length (types_under entries names)) untyped separator)
+    (untyped : Option (List ℕ)) × (lines ≡ count_line (length names) (length (types_under entries names)) untyped)
 
 abbrev pub IsTypeCountTold : Side → Inputs → List ℕ → Type 0
 IsTypeCountTold s inputs lines =
@@ -212,20 +212,34 @@ IsStrictExplained (fault.EmptyLine s row) inputs lines = IsStrictTold s row 0 (c
 IsStrictExplained (fault.CutShort s row) inputs lines = IsStrictTold s row 0 (codes "it has no line end") inputs lines
 IsStrictExplained _ inputs lines = lines ≡ []
 
--- The lines for an error. No definition fixes those of E11.
-abbrev pub IsExplained : Fault → Inputs → List ℕ → Type 0
-IsExplained (fault.BadName s column) inputs lines = lines ≡ name_line (at_column column (header_names (file_of s inputs)))
-IsExplained (fault.RepeatedName s column) inputs lines =
+-- The lines for the place of an error. No definition fixes those of E11.
+abbrev pub IsPlaceTold : Fault → Inputs → List ℕ → Type 0
+IsPlaceTold (fault.BadName s column) inputs lines = lines ≡ name_line (at_column column (header_names (file_of s inputs)))
+IsPlaceTold (fault.RepeatedName s column) inputs lines =
     lines ≡ repeated_told (header_names (file_of s inputs)) (at_column column (header_names (file_of s inputs)))
-IsExplained (fault.RaggedRow s row) inputs lines = IsRaggedTold s row inputs lines
-IsExplained (fault.BadInteger s row column) inputs lines = IsCellTold s row column inputs lines
-IsExplained (fault.BadText s row column) inputs lines = IsCellTold s row column inputs lines
-IsExplained fault.UnknownColumn inputs lines = IsNameTold inputs lines
-IsExplained fault.AmbiguousColumn inputs lines = IsNameTold inputs lines
-IsExplained fault.RepeatedUsing inputs lines = IsNameTold inputs lines
-IsExplained fault.TypeMismatch inputs lines = IsMismatchTold inputs lines
-IsExplained (fault.TypeCount s) inputs lines = IsTypeCountTold s inputs lines
-IsExplained (fault.TypeName s name) inputs lines = IsTypeNameTold s inputs lines
-IsExplained (fault.Syntax byte) inputs lines = Unit {0}
-IsExplained (fault.AmbiguousNull row column) inputs lines = IsNullTold row column inputs lines
-IsExplained f inputs lines = IsStrictExplained f inputs lines
+IsPlaceTold (fault.TooManyColumns s) inputs lines = lines ≡ columns_line (length (header_names (file_of s inputs)))
+IsPlaceTold (fault.RaggedRow s row) inputs lines = IsRaggedTold s row inputs lines
+IsPlaceTold (fault.BadInteger s row column) inputs lines = IsCellTold s row column inputs lines
+IsPlaceTold (fault.BadText s row column) inputs lines = IsCellTold s row column inputs lines
+IsPlaceTold fault.UnknownColumn inputs lines = IsNameTold inputs lines
+IsPlaceTold fault.AmbiguousColumn inputs lines = IsNameTold inputs lines
+IsPlaceTold fault.RepeatedUsing inputs lines = IsNameTold inputs lines
+IsPlaceTold fault.TypeMismatch inputs lines = IsMismatchTold inputs lines
+IsPlaceTold (fault.TypeCount s) inputs lines = IsTypeCountTold s inputs lines
+IsPlaceTold (fault.TypeName s name) inputs lines = IsTypeNameTold s inputs lines
+IsPlaceTold (fault.Syntax byte) inputs lines = Unit {0}
+IsPlaceTold (fault.AmbiguousNull row column) inputs lines = IsNullTold row column inputs lines
+IsPlaceTold fault.BadNull inputs lines = lines ≡ null_rule
+IsPlaceTold f inputs lines = IsStrictExplained f inputs lines
+
+-- what is said of the whole file in which an error is
+abbrev pub file_told_of : Fault → Inputs → Option Side → List ℕ
+file_told_of f inputs None = []
+file_told_of f inputs (Some s) = file_line s (file_words f (file_of s inputs) (header_names (file_of s inputs)))
+
+abbrev pub file_told : Fault → Inputs → List ℕ
+file_told f inputs = file_told_of f inputs (file_side f)
+
+-- the lines for an error
+abbrev pub IsExplained : Fault → Inputs → List ℕ → Type 0
+IsExplained f inputs lines = (place : List ℕ) × IsPlaceTold f inputs place × (lines ≡ place ++ file_told f inputs)

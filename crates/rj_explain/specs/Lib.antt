@@ -1,4 +1,6 @@
+pub mod Entries
 pub mod Explained
+pub mod Hints
 pub mod Lines
 pub mod Listed
 pub mod Names

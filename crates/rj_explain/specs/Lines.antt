@@ -9,7 +9,7 @@ use Rattle.rj_fault.specs.declared.fault.Side.{Side}
 use Rattle.rj_types.specs.Columns.{types_under}
 use Rattle.rj_types.specs.declared.entry.TypeEntry.{TypeEntry}
 use Rattle.rj_explain.specs.Places.{at_column}
-use Rattle.rj_explain.specs.Shown.{listed, shown, wanted_word}
+use Rattle.rj_explain.specs.Shown.{listed, shown, wanted_rule, wanted_word}
 
 -- a line that names a line of the file, and what comes after that
 abbrev pub file_line : ℕ → List ℕ → List ℕ
@@ -18,7 +18,7 @@ file_line line more = codes "  line " ++ (decimal line ++ (codes " of the file" 
 -- a cell that isn't of its column's type
 abbrev pub cell_line : ℕ → List ℕ → List ℕ → ColumnType → List ℕ
 cell_line line name value kind =
-    file_line line (codes ", column " ++ (shown name ++ (codes ": " ++ (shown value ++ (codes " is no " ++ (wanted_word kind ++ 10 ∷ []))))))
+    file_line line (codes ", column " ++ (shown name ++ (codes ": " ++ (shown value ++ (codes " is no " ++ (wanted_word kind ++ (wanted_rule kind ++ 10 ∷ [])))))))
 
 -- the same, if the row has the column
 abbrev pub cell_told : ℕ → Option ColumnType → Option (List ℕ) → Option (List ℕ) → List ℕ
@@ -60,13 +60,15 @@ abbrev pub repeated_told : List (List ℕ) → Option (List ℕ) → List ℕ
 repeated_told names None = []
 repeated_told names (Some name) = repeated_at names name (position_from (str_eq_ignore_ascii_case name) 0 names)
 
--- how many names and types there are, the first name without a type, if there is one, and the words
--- about separators
-abbrev pub count_line : ℕ → ℕ → Option (List ℕ) → List ℕ → List ℕ
-count_line names types None separator = codes "  " ++ (decimal names ++ (codes " names, " ++ (decimal types ++ (codes " types" ++ 10 ∷ separator))))
-count_line names types (Some name) separator =
-    codes "  " ++ (decimal names ++ (codes " names, " ++ (decimal types ++ (codes " types; the first without a type is "
-    ++ (shown name ++ 10 ∷ separator)))))
+-- how many names and types there are, and the first name without a type, if there is one
+abbrev pub count_line : ℕ → ℕ → Option (List ℕ) → List ℕ
+count_line names types None = codes "  " ++ (decimal names ++ (codes " names, " ++ (decimal types ++ (codes " types" ++ 10 ∷ []))))
+count_line names types (Some name) =
+    codes "  " ++ (decimal names ++ (codes " names, " ++ (decimal types ++ (codes " types; the first without a type is " ++ (shown name ++ 10 ∷ [])))))
+
+-- how many names a header has, and how many it may have
+abbrev pub columns_line : ℕ → List ℕ
+columns_line names = codes "  the header has " ++ (decimal names ++ (codes " names, and a table has at most 256 columns" ++ 10 ∷ []))
 
 -- the names of a header
 abbrev pub names_line : List (List ℕ) → List ℕ
@@ -100,3 +102,11 @@ entry_line entry why = codes "  " ++ (shown entry ++ (codes ": " ++ (why ++ 10 �
 -- the line for a list whose entries are valid, each by itself
 abbrev pub mixed_line : List ℕ
 mixed_line = codes "  a name stands before each type or before none, and * before one at most" ++ 10 ∷ []
+
+-- the line for a text that can't be written for NULL
+abbrev pub null_rule : List ℕ
+null_rule = codes "  a text for null has at most 16 printable ASCII bytes, and no digit, comma, double quote or space" ++ 10 ∷ []
+
+-- the line for an invalid list of rows
+abbrev pub rows_rule : List ℕ
+rows_rule = codes "  --rows takes pairs or matched-left, lone-left and lone-right, once each, with single commas" ++ 10 ∷ []

@@ -62,6 +62,12 @@ wanted_word kind.Int = type_word kind.Int
 wanted_word (kind.Num t) = type_word (kind.Num t)
 wanted_word kind.Text = codes "UTF-8"
 
+-- how many digits it may have
+abbrev pub wanted_rule : ColumnType → List ℕ
+wanted_rule (kind.Num t) =
+    codes ": at most " ++ (decimal (t.precision - t.scale) ++ (codes " digits before the point and " ++ (decimal t.scale ++ codes " after it")))
+wanted_rule _ = []
+
 -- names with commas between
 abbrev pub listed : List (List ℕ) → List ℕ
 listed [] = []

@@ -10,7 +10,7 @@ ghost use Rattle.rj_explain.specs.Places.{HasNoRow, IsRow};
 
 use crate::inputs::{Inputs, text_of};
 use crate::row::{Row, field_at, find_row};
-use crate::shown::{Shown, Wanted};
+use crate::shown::{Shown, Wanted, WantedRule};
 use rj_columns::ColumnType;
 use rj_fault::Side;
 use std::alloc::{AllocError, Global};
@@ -42,12 +42,9 @@ fn cell_line(
 ) -> Result<String, AllocError>
     ensures { IfOk result (λ s. string_bytes s ≡ lines.cell_line line name.now value.now kind) }
 {
-    let (name, value, wanted) = (
-        Shown { bytes: name },
-        Shown { bytes: value },
-        Wanted { kind },
-    );
-    format!(in alloc; "  line {line} of the file, column {name}: {value} is no {wanted}\n")
+    let (name, value) = (Shown { bytes: name }, Shown { bytes: value });
+    let (wanted, rule) = (Wanted { kind }, WantedRule { kind });
+    format!(in alloc; "  line {line} of the file, column {name}: {value} is no {wanted}{rule}\n")
 }
 
 // The header of a text, and one of its rows.

@@ -170,6 +170,32 @@ fn is_behind_delimited(clause: &str, at: u64) -> bool {
     }
 }
 
+// Whether a delimited name begins at a byte of a clause.
+fn is_delimited_at(clause: &str, at: u64) -> bool {
+    match clause.as_bytes().get(at as usize) {
+        Some(byte) => *byte == b'"',
+        None => false,
+    }
+}
+
+// The name of a table's column that differs from this one by ASCII case alone.
+fn other_case<'t>(table: &'t Table, name: &str) -> Option<&'t str> {
+    for column in 0..table.columns() {
+        if table.name(column).eq_ignore_ascii_case(name) {
+            return Some(table.name(column));
+        }
+    }
+    None
+}
+
+// The words for a delimited name that differs from one of a side's table by ASCII case alone.
+fn words_of_case(alloc: Global, side: Side, name: &str) -> Result<String, AllocError> {
+    let name = Shown {
+        bytes: name.as_bytes(),
+    };
+    format!(in alloc; "; {side} has {name}: between double quotes a name matches exactly\n")
+}
+
 // The words for a name after a qualifier that can't be resolved.
 fn words_of_qualified(
     alloc: Global,
@@ -182,17 +208,14 @@ fn words_of_qualified(
     let Some(side) = side_of(qualifier, delimited) else {
         return words_of_no_table(alloc, qualifier);
     };
-    let table = columns.of(side);
-    let meant = nearest(alloc, found.name.as_str(), table)?;
-    words_of_side(alloc, side, "has", table, meant)
-}
-
-// Whether a delimited name begins at a byte of a clause.
-fn is_delimited_at(clause: &str, at: u64) -> bool {
-    match clause.as_bytes().get(at as usize) {
-        Some(byte) => *byte == b'"',
-        None => false,
+    let (table, wanted) = (columns.of(side), found.name.as_str());
+    if is_delimited_at(clause, found.at) {
+        if let Some(name) = other_case(table, wanted) {
+            return words_of_case(alloc, side, name);
+        }
     }
+    let meant = nearest(alloc, wanted, table)?;
+    words_of_side(alloc, side, "has", table, meant)
 }
 
 // Whether a table has a column that a name means.
@@ -217,6 +240,28 @@ fn lacking_side(columns: &BothColumns, name: &Name) -> Option<Side> {
     }
 }
 
+// The side that has a name which differs from a delimited one by ASCII case alone: the side that
+// lacks the name, if one does, and else any.
+fn side_of_case<'c>(
+    columns: &'c BothColumns,
+    lacking: Option<Side>,
+    name: &str,
+) -> Option<(Side, &'c str)> {
+    let left = match other_case(&columns.left, name) {
+        Some(called) => Some((Side::Left, called)),
+        None => None,
+    };
+    let right = match other_case(&columns.right, name) {
+        Some(called) => Some((Side::Right, called)),
+        None => None,
+    };
+    match lacking {
+        Some(Side::Left) => left,
+        Some(Side::Right) => right,
+        None => left.or(right),
+    }
+}
+
 // What is said of a name without a qualifier that can't be found: in USING one table may have it.
 fn words_of_bare(
     alloc: Global,
@@ -229,7 +274,13 @@ fn words_of_bare(
         delimited: is_delimited_at(clause, found.at),
     };
     let wanted = found.name.as_str();
-    if let Some(side) = lacking_side(columns, &name) {
+    let lacking = lacking_side(columns, &name);
+    if name.delimited {
+        if let Some((side, called)) = side_of_case(columns, lacking, wanted) {
+            return words_of_case(alloc, side, called);
+        }
+    }
+    if let Some(side) = lacking {
         let table = columns.of(side);
         let meant = nearest(alloc, wanted, table)?;
         return words_of_side(alloc, side, "lacks it, and has", table, meant);

@@ -1,11 +1,14 @@
 //! The lines that explain an error.
 
 ghost use Rattle.std.specs.Prelude.{IfOk, string_bytes};
-ghost use Rattle.rj_explain.specs.Explained.{IsExplained, IsStrictExplained};
+ghost use Rattle.rj_explain.specs.Explained.{IsExplained, IsPlaceTold, IsStrictExplained};
 
 use crate::cells::{cell_lines, ragged_lines};
 use crate::clause::name_lines;
-use crate::headers::{bad_name_lines, repeated_name_lines, type_count_lines, type_name_lines};
+use crate::headers::{
+    bad_name_lines, repeated_name_lines, too_many_lines, type_count_lines, type_name_lines,
+};
+use crate::hints::file_lines;
 use crate::inputs::Inputs;
 use crate::joined::null_text_lines;
 use crate::mismatch::mismatch_lines;
@@ -26,6 +29,10 @@ const NO_LINE_FEED: &str = "no line feed follows the carriage return behind the 
 const EMPTY: &str = "it is empty, under more than one name";
 
 const CUT_SHORT: &str = "it has no line end";
+
+// Which texts may stand for NULL.
+const NULL_RULE: &str =
+    "  a text for null has at most 16 printable ASCII bytes, and no digit, comma, double quote or space\n";
 
 // The lines for an error of RFC 4180's grammar; for other errors there are none.
 fn explain_grammar(
@@ -54,15 +61,13 @@ fn explain_grammar(
     }
 }
 
-/// The lines that say more about an error than its own line does: where the error is, and what is
-/// there. Each has two blanks in front and its line end. There are none for an error of which there
-/// is no more to say.
-///
-/// # Errors
-///
-/// It fails only when memory runs out.
-pub fn explain(alloc: Global, fault: &Fault, inputs: &Inputs<'_, '_>) -> Result<String, AllocError>
-    ensures { IfOk result (λ s. IsExplained fault.now inputs.now (string_bytes s)) }
+// The lines for the place of an error.
+fn explain_place(
+    alloc: Global,
+    fault: &Fault,
+    inputs: &Inputs<'_, '_>,
+) -> Result<String, AllocError>
+    ensures { IfOk result (λ s. IsPlaceTold fault.now inputs.now (string_bytes s)) }
 {
     match *fault {
         Fault::BadName(side, column) => bad_name_lines(alloc, inputs, side, column),
@@ -75,9 +80,27 @@ pub fn explain(alloc: Global, fault: &Fault, inputs: &Inputs<'_, '_>) -> Result<
         }
         Fault::TypeMismatch => mismatch_lines(alloc, inputs),
         Fault::AmbiguousNull(row, column) => null_text_lines(alloc, inputs, row, column),
+        Fault::TooManyColumns(side) => too_many_lines(alloc, inputs, side),
+        Fault::BadNull => String::from_str(alloc, NULL_RULE),
         Fault::RaggedRow(side, row) => ragged_lines(alloc, inputs, side, row),
         Fault::BadInteger(side, row, column) => cell_lines(alloc, inputs, side, row, column),
         Fault::BadText(side, row, column) => cell_lines(alloc, inputs, side, row, column),
         _ => explain_grammar(alloc, fault, inputs),
     }
+}
+
+/// The lines that say more about an error than its own line does: where the error is, and what is
+/// there, and what the whole file seems to be. Each has two blanks in front and its line end. There
+/// are none for an error of which there is no more to say.
+///
+/// # Errors
+///
+/// It fails only when memory runs out.
+pub fn explain(alloc: Global, fault: &Fault, inputs: &Inputs<'_, '_>) -> Result<String, AllocError>
+    ensures { IfOk result (λ s. IsExplained fault.now inputs.now (string_bytes s)) }
+{
+    let mut lines = explain_place(alloc, fault, inputs)?;
+    let more = file_lines(alloc, fault, inputs)?;
+    lines.push_str(more.as_str())?;
+    Ok(lines)
 }

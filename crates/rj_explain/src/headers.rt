@@ -140,40 +140,23 @@ fn first_untyped<'h>(
     Ok(None)
 }
 
-// The lines that tell of a header of one name that has the separators of another kind of file in it.
-const SEMICOLON: &str =
-    "  the one name has a semicolon in it: fields are separated by commas, and perhaps not in this file\n";
-
-const TAB: &str =
-    "  the one name has a tab in it: fields are separated by commas, and perhaps not in this file\n";
-
-// What is told of such a header.
-fn separator_line(names: &[&[u8]]) -> &'static str {
-    match names {
-        [name] if name.contains(&b';') => SEMICOLON,
-        [name] if name.contains(&b'\t') => TAB,
-        _ => "",
-    }
-}
-
 // The line with the numbers of names and types, and the first name without a type.
 fn count_line(
     alloc: Global,
     names: usize,
     types: usize,
     untyped: Option<&[u8]>,
-    separator: &str,
 ) -> Result<String, AllocError>
-    ensures { IfOk result (λ s. string_bytes s ≡ lines.count_line names types (option_copied untyped.entry) separator.now) }
+    ensures { IfOk result (λ s. string_bytes s ≡ lines.count_line names types (option_copied untyped.entry)) }
 {
     match untyped {
         Some(bytes) => {
             let name = Shown { bytes };
             format!(in alloc;
-                "  {names} names, {types} types; the first without a type is {name}\n{separator}"
+                "  {names} names, {types} types; the first without a type is {name}\n"
             )
         }
-        None => format!(in alloc; "  {names} names, {types} types\n{separator}"),
+        None => format!(in alloc; "  {names} names, {types} types\n"),
     }
 }
 
@@ -187,7 +170,7 @@ fn lines_of_count(
 {
     let types = types_under(alloc, entries, names)?.len();
     let untyped = first_untyped(alloc, entries, names)?;
-    count_line(alloc, names.len(), types, untyped, separator_line(names))
+    count_line(alloc, names.len(), types, untyped)
 }
 
 /// The lines for a header that has more or fewer names than there are types: both counts, and the
@@ -208,6 +191,31 @@ pub(crate) fn type_count_lines(
     };
     let names = header.names(alloc)?;
     lines_of_count(alloc, inputs.types(side), names.as_slice())
+}
+
+// The line with the number of names of a header, and the most that there may be.
+fn columns_line(alloc: Global, names: usize) -> Result<String, AllocError>
+    ensures { IfOk result (λ s. string_bytes s ≡ lines.columns_line names) }
+{
+    format!(in alloc; "  the header has {names} names, and a table has at most 256 columns\n")
+}
+
+/// The line for a header that has too many names: their number.
+///
+/// # Errors
+///
+/// It fails only when memory runs out.
+pub(crate) fn too_many_lines(
+    alloc: Global,
+    inputs: &Inputs<'_, '_>,
+    side: Side,
+) -> Result<String, AllocError>
+    ensures { IfOk result (λ s. string_bytes s ≡ lines.columns_line (length (header_names (file_of side inputs.now)))) }
+{
+    match inputs.header(alloc, side)? {
+        Some(header) => columns_line(alloc, header.columns()),
+        None => columns_line(alloc, 0),
+    }
 }
 
 // The line that lists names.

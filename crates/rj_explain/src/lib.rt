@@ -9,23 +9,28 @@
 
 mod cells;
 mod clause;
+mod entries;
 mod explanation;
 mod headers;
+mod hints;
 mod inputs;
 mod joined;
 mod lists;
 mod mismatch;
 mod names;
 mod places;
+mod quoting;
 mod row;
 mod shown;
 mod strict;
 mod syntax;
+mod words;
 
 pub use explanation::explain;
 pub use inputs::Inputs;
 pub use joined::explain_row;
-pub use lists::{explain_list, explain_words};
+pub use lists::explain_list;
 pub use row::{Row, field_at, find_row};
 pub use shown::Shown;
 pub use strict::line_of_fault;
+pub use words::explain_words;

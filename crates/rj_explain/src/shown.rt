@@ -5,7 +5,7 @@ ghost use Rattle.std.specs.Fmt.{WritesOnOk};
 ghost use Rattle.std.specs.List.{flat_map};
 ghost use Rattle.std.specs.Str.{chars};
 ghost use Rattle.rj_explain.specs.Shown as spec;
-ghost use Rattle.rj_explain.specs.Shown.{byte_text, is_text, literal, literal_char, more_text, shown, shown_byte, shown_bytes, shown_char, type_word, wanted_word};
+ghost use Rattle.rj_explain.specs.Shown.{byte_text, is_text, literal, literal_char, more_text, shown, shown_byte, shown_bytes, shown_char, type_word, wanted_rule, wanted_word};
 
 use rj_columns::ColumnType;
 use std::{fmt, str};
@@ -132,8 +132,8 @@ fn first_bytes(bytes: &[u8]) -> &[u8]
     &bytes[..MOST]
 }
 
-// The text that these bytes are, if they are UTF-8.
-fn text_in(bytes: &[u8]) -> Option<&str>
+/// The text that these bytes are, if they are UTF-8.
+pub(crate) fn text_in(bytes: &[u8]) -> Option<&str>
     ensures { MatchOption result (is_text bytes.now ≡ false) (λ text. (text.now ≡ bytes.now) × (is_text bytes.now ≡ true)) }
 {
     match str::from_utf8(bytes) {
@@ -227,6 +227,32 @@ impl fmt::Display for Wanted {
         match self.kind {
             ColumnType::Int | ColumnType::Num(_) => write!(f, "{word}"),
             ColumnType::Text => f.write_str("UTF-8"),
+        }
+    }
+}
+
+/// How many digits a cell of a numeric type may have, behind the type. For other types it is empty.
+#[derive(Clone, Copy)]
+pub(crate) struct WantedRule {
+    pub(crate) kind: ColumnType,
+}
+
+impl fmt::Display for WantedRule {
+    ghost output = { λ r. Some (wanted_rule r.kind) };
+
+    fn fmt<W: fmt::Write>(&self, f: &mut fmt::Formatter<W>) -> fmt::Result {
+        match self.kind {
+            ColumnType::Num(numeric) => {
+                let (before, after) = (
+                    numeric.precision.saturating_sub(numeric.scale),
+                    numeric.scale,
+                );
+                write!(
+                    f,
+                    ": at most {before} digits before the point and {after} after it"
+                )
+            }
+            ColumnType::Int | ColumnType::Text => f.write_str(""),
         }
     }
 }

@@ -3,6 +3,7 @@
 ghost use Rattle.std.specs.Prelude.{◌<◌};
 
 use crate::inputs::Inputs;
+use crate::quoting::quoting_line;
 use crate::shown::Shown;
 use rj_condition::{ParseRefused, parse, quoted};
 use std::alloc::{AllocError, Global};
@@ -180,7 +181,7 @@ fn found_lines(
 }
 
 /// The lines for a text that stops being a clause at a byte: what is there, what might be there,
-/// and the text with a mark.
+/// and the text with a mark. If a column's name is there that needs double quotes, also that.
 ///
 /// # Errors
 ///
@@ -194,7 +195,8 @@ pub(crate) fn syntax_lines(
     let Some((before, behind)) = clause.split_at_checked(byte as usize) else {
         return Ok(String::new(alloc));
     };
-    let marked = marked(alloc, clause, byte as usize)?;
+    let mut marked = marked(alloc, clause, byte as usize)?;
+    marked.push_str(quoting_line(alloc, inputs, byte)?.as_str())?;
     let wanted = wanted(alloc, before)?;
     found_lines(alloc, behind, wanted.as_str(), marked.as_str())
 }

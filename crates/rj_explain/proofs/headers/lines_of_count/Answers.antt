@@ -10,12 +10,10 @@ pub returns : goal.returns
 returns c =
     let names = map (λ n. n.now) c.args.names.now in
     let untyped = option_copied c.in_ok-untyped.untyped in
-    let separator = c.separator_line.result.now in
     let many : length names ≡ length c.args.names.now = length-map c.args.names.now (λ n. n.now) in
     let types : c.len-types.result ≡ length (types_under c.args.entries.now names) = c.len-types.ensures ∙ (c.in_ok-types_under.field-0.ok.0 ∙ ap length c.in_ok-types_under.ensures) in
     IfOk-weaker c.count_line.result _ _
     (λ s told. (
       untyped,
-      separator,
-      told ∙ (ap (λ n. count_line n c.len-types.result untyped separator) (sym many) ∙ ap (λ n. count_line (length names) n untyped separator) types),
+      told ∙ (ap (λ n. count_line n c.len-types.result untyped) (sym many) ∙ ap (λ n. count_line (length names) n untyped) types),
     )) c.count_line.ensures

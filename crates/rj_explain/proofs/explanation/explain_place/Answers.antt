@@ -1,4 +1,4 @@
-use Rattle.rj_explain.proofs.explanation.explain.Goals as goal
+use Rattle.rj_explain.proofs.explanation.explain_place.Goals as goal
 
 pub returns-in-BadInteger : goal.returns-in-BadInteger
 returns-in-BadInteger c = rw c.in-BadInteger.is c.cell_lines.ensures

@@ -1,0 +1,70 @@
+-- What is said of a whole file that is no CSV in UTF-8 with commas.
+use Rattle.std.specs.Prelude.{ℕ, Bool, false, ◌==◌, ◌||◌, not, List, [], ◌∷◌, ◌++◌, codes, nat_eq, Option, None, Some, if◌then◌else◌}
+use Rattle.std.specs.List.{list_any, starts_with}
+use Rattle.rj_fault.specs.Faults.{side_text}
+use Rattle.rj_fault.specs.declared.fault.Fault.{Fault}
+use Rattle.rj_fault.specs.declared.fault.Fault.TheVariants as fault
+use Rattle.rj_fault.specs.declared.fault.Side.{Side}
+use Rattle.rj_explain.specs.Shown.{is_text}
+
+-- what another kind of file is, by its first bytes, and what makes a table of it
+unfoldable pub kind_words : List ℕ → List ℕ
+kind_words file =
+    if starts_with nat_eq file (31 ∷ 139 ∷ []) then codes "is compressed: gzip -dc FILE > table.csv unpacks it"
+    else (if starts_with nat_eq file (253 ∷ 55 ∷ 122 ∷ 88 ∷ 90 ∷ []) then codes "is compressed: xz -dc FILE > table.csv unpacks it"
+    else (if starts_with nat_eq file (80 ∷ 75 ∷ 3 ∷ 4 ∷ []) then codes "is a zip archive or a spreadsheet: unzip it, or save the sheet as CSV in UTF-8"
+    else (if starts_with nat_eq file (255 ∷ 254 ∷ []) || starts_with nat_eq file (254 ∷ 255 ∷ []) then codes "is UTF-16: iconv -f UTF-16 -t UTF-8 FILE > table.csv converts it"
+    else [])))
+
+-- a cell is refused, and the file isn't UTF-8; or a name is, and one of the header isn't
+abbrev pub is_foreign : Fault → List ℕ → List (List ℕ) → Bool
+is_foreign (fault.BadText s row column) file names = not (is_text file)
+is_foreign (fault.BadName s column) file names = list_any (λ n. not (is_text n)) names
+is_foreign _ file names = false
+
+-- the sign that separates the fields of a file in place of a comma, if it is in this name
+unfoldable pub separator_in : List ℕ → List ℕ
+separator_in name =
+    if list_any (λ b. b == 59) name then codes "seems to be separated by semicolons: docs/user/recipes.md converts it to commas"
+    else (if list_any (λ b. b == 9) name then codes "seems to be separated by tabs: docs/user/recipes.md converts it to commas"
+    else (if list_any (λ b. b == 124) name then codes "seems to be separated by |: docs/user/recipes.md converts it to commas"
+    else []))
+
+-- the same of the one name of a header
+abbrev pub separator_words : List (List ℕ) → List ℕ
+separator_words (name ∷ []) = separator_in name
+separator_words _ = []
+
+-- the first of two that isn't empty
+abbrev pub first_words : List ℕ → List ℕ → List ℕ
+first_words [] more = more
+first_words (b ∷ words) more = b ∷ words
+
+-- what is said of a file with these names in its header
+abbrev pub file_words : Fault → List ℕ → List (List ℕ) → List ℕ
+file_words told file names =
+    first_words (kind_words file)
+    (if is_foreign told file names then codes "isn't UTF-8: iconv -f WINDOWS-1252 -t UTF-8 FILE > table.csv, if it is Latin-1"
+    else separator_words names)
+
+-- a line for it
+abbrev pub file_line : Side → List ℕ → List ℕ
+file_line s [] = []
+file_line s (b ∷ words) = codes "  the " ++ (side_text s ++ (codes " file " ++ ((b ∷ words) ++ 10 ∷ [])))
+
+-- the side in whose file an error is
+abbrev pub file_side : Fault → Option Side
+file_side (fault.BadName s column) = Some s
+file_side (fault.RepeatedName s column) = Some s
+file_side (fault.TypeCount s) = Some s
+file_side (fault.RaggedRow s row) = Some s
+file_side (fault.BadInteger s row column) = Some s
+file_side (fault.BadText s row column) = Some s
+file_side (fault.TooManyColumns s) = Some s
+file_side (fault.OpenQuote s row column) = Some s
+file_side (fault.AfterQuote s row column) = Some s
+file_side (fault.BareQuote s row column) = Some s
+file_side (fault.BareReturn s row column) = Some s
+file_side (fault.EmptyLine s row) = Some s
+file_side (fault.TypeName s name) = Some s
+file_side _ = None

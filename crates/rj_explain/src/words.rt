@@ -1,0 +1,87 @@
+//! Words of a command line with a text that isn't a type list.
+
+ghost use Rattle.std.specs.Prelude.{◌≡◌, ◌+◌, ◌++◌, ◌∷◌, [], IfOk, MatchOption, drop, false, length, map, nat_eq, option_map, string_bytes, true};
+ghost use Rattle.std.specs.List.{starts_with};
+ghost use Rattle.std.specs.Option.{option_copied};
+ghost use Rattle.rj_explain.specs.Listed as listed;
+ghost use Rattle.rj_explain.specs.Listed.{AreWordsTold, IsValueTold, value_of};
+
+use crate::lists::explain_list;
+use rj_fault::{Fault, Side};
+use std::alloc::{AllocError, Global};
+
+// Which rows may be asked for.
+const ROWS_RULE: &str =
+    "  --rows takes pairs or matched-left, lone-left and lone-right, once each, with single commas\n";
+
+// The value in a word that is an option, `=` and its value.
+fn value_in<'w>(word: &'w str, option: &str) -> Option<&'w str>
+    ensures { MatchOption result (starts_with nat_eq word.now (option.now ++ 61 ∷ []) ≡ false)
+        (λ value. (starts_with nat_eq word.now (option.now ++ 61 ∷ []) ≡ true) × (value.now ≡ drop (length option.now + 1) word.now)) }
+{
+    match word.strip_prefix(option) {
+        Some(behind) => behind.strip_prefix('='),
+        None => None,
+    }
+}
+
+// The value that an option has among words.
+fn value_among<'w>(words: &[&'w str], option: &str) -> Option<&'w str>
+    ensures { option_copied result ≡ value_of option.now (map (λ w. w.now) words.now) }
+{
+    let mut left = words;
+    while let [word, rest @ ..] = left {
+        if *word == option {
+            return rest.first().copied();
+        }
+        if let Some(value) = value_in(*word, option) {
+            return Some(value);
+        }
+        left = rest;
+    }
+    None
+}
+
+// The option of a side's types.
+fn types_option(side: Side) -> &'static str
+    ensures { result.now ≡ listed.types_option side }
+{
+    match side {
+        Side::Left => "--left-types",
+        Side::Right => "--right-types",
+    }
+}
+
+// The lines for a list, if there is one.
+fn lines_of_value(alloc: Global, list: Option<&str>) -> Result<Option<String>, AllocError>
+    ensures { IfOk result (λ o. IsValueTold (option_copied list.entry) (option_map string_bytes o)) }
+{
+    match list {
+        Some(list) => Ok(Some(explain_list(alloc, list)?)),
+        None => Ok(None),
+    }
+}
+
+/// The lines for an error of the command line with these words. They are those of
+/// [`explain_list`], if the error is an invalid type list and its option has a value among the
+/// words. A list of rows that is invalid is told what it may be. For all else there is no more to
+/// say.
+///
+/// # Errors
+///
+/// It fails only when memory runs out.
+pub fn explain_words(
+    alloc: Global,
+    words: &[&str],
+    fault: &Fault,
+) -> Result<Option<String>, AllocError>
+    ensures { IfOk result (λ o. AreWordsTold fault.now (map (λ w. w.now) words.now) (option_map string_bytes o)) }
+{
+    match fault {
+        Fault::BadTypeList(side) => {
+            lines_of_value(alloc, value_among(words, types_option(*side)))
+        }
+        Fault::BadRows => Ok(Some(String::from_str(alloc, ROWS_RULE)?)),
+        _ => Ok(None),
+    }
+}
