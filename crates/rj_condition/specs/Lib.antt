@@ -22,3 +22,4 @@ pub mod Nesting
 pub mod Clauses
 pub mod Refusals
 pub mod Mismatches
+pub mod Undeclared

@@ -30,6 +30,7 @@ mod token;
 mod tree;
 mod truth;
 mod typing;
+mod undeclared;
 mod word;
 
 pub use band::Band;
@@ -45,4 +46,5 @@ pub use refused::{BindRefused, ParseRefused};
 pub use splitting::split;
 pub use tree::{Clause, JoinKind, Literal, Name};
 pub use truth::Truth;
+pub use undeclared::{Columns, TableColumn, first_undeclared};
 pub use word::Word;

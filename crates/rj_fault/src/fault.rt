@@ -101,6 +101,10 @@ pub enum Fault {
     /// The clause compares a number with a text.
     #[error("radixjoin: E15 TypeMismatch")]
     TypeMismatch,
+    /// A column whose type isn't declared is compared as only one of a declared type can be: by an
+    /// order, or with a number.
+    #[error("radixjoin: E32 UndeclaredType {0} \"{1}\"")]
+    UndeclaredType(Side, Word),
     /// A column occurs twice in USING.
     #[error("radixjoin: E16 RepeatedUsing")]
     RepeatedUsing,
@@ -259,6 +263,7 @@ impl Fault {
             | Fault::UnknownColumn
             | Fault::AmbiguousColumn
             | Fault::TypeMismatch
+            | Fault::UndeclaredType(_, _)
             | Fault::RepeatedUsing
             | Fault::ClauseTooLong => 4,
             Fault::Memory => 5,

@@ -1,11 +1,12 @@
 -- The types that a type list gives the columns of a header.
-use Rattle.std.specs.Prelude.{◌&&◌, not, if◌then◌else◌, ℕ, Bool, false, Option, None, Some, List, [], ◌∷◌, ◌++◌, map}
+use Rattle.std.specs.Prelude.{◌&&◌, ◌||◌, not, if◌then◌else◌, ℕ, Bool, false, Option, None, Some, List, [], ◌∷◌, ◌++◌, map}
 use Rattle.std.specs.List.{filter_map, list_all, list_any}
 use Rattle.rj_columns.specs.declared.cell.ColumnType.{ColumnType}
+use Rattle.rj_columns.specs.declared.cell.ColumnType.TheVariants as kind
 use Rattle.rj_condition.specs.Names.{matches}
 use Rattle.rj_types.specs.Lists.{is_place, is_rest}
 use Rattle.rj_types.specs.declared.entry.Label.{Label}
-use Rattle.rj_types.specs.declared.entry.Label.TheVariants.{Name}
+use Rattle.rj_types.specs.declared.entry.Label.TheVariants.{Name, Rest}
 use Rattle.rj_types.specs.declared.entry.TypeEntry.{TypeEntry}
 
 -- whether the label names a column of this name
@@ -44,3 +45,15 @@ name_fault_behind seen (e ∷ es) header = or_else (label_fault seen header e.la
 
 abbrev pub name_fault : List TypeEntry → List (List ℕ) → Option (List ℕ)
 name_fault entries header = name_fault_behind [] entries header
+
+-- a list says nothing of some columns: it isn't by position, and has no `*`
+abbrev pub is_open : List TypeEntry → Bool
+is_open entries = not (list_any (λ e. is_place e.label || is_rest e.label) entries)
+
+-- the entry `*=text`
+abbrev pub text_of_rest : TypeEntry
+text_of_rest = record { label = Rest; kind = kind.Text }
+
+-- the same list with `*=text`, if it says nothing of some columns
+abbrev pub with_texts : List TypeEntry → List TypeEntry
+with_texts entries = if is_open entries then entries ++ text_of_rest ∷ [] else entries

@@ -1,6 +1,6 @@
 //! The types that a type list gives the columns of a header.
 
-ghost use Rattle.std.specs.Prelude.{◌≡◌, ◌&&◌, not, IfOk, IfSome, List, ℕ, map};
+ghost use Rattle.std.specs.Prelude.{◌≡◌, ◌&&◌, ◌||◌, not, IfOk, IfSome, List, ℕ, map};
 ghost use Rattle.std.specs.Option.{option_copied};
 ghost use Rattle.std.specs.List.{filter_map, list_all, list_any};
 ghost use Rattle.rj_condition.specs.Names.{matches};
@@ -104,8 +104,8 @@ pub fn types_under(
     kinds_by_name(alloc, entries, header)
 }
 
-// Whether one of the entries names a column of this name.
-fn is_named_in(entries: &[TypeEntry], called: &[u8]) -> bool
+/// Whether one of the entries names a column of this name. `*` names none.
+pub fn is_named_in(entries: &[TypeEntry], called: &[u8]) -> bool
     ensures { result ≡ list_any (λ e. names called.now e.label) entries.now }
 {
     entries.iter().any(|entry| is_named(entry, called))
@@ -143,4 +143,45 @@ pub fn name_fault<'t>(entries: &'t [TypeEntry], header: &[&[u8]]) -> Option<&'t 
         }
     }
     None
+}
+
+// Whether an entry is by position, or of the rest.
+fn is_of_all(entry: &TypeEntry) -> bool
+    ensures { result ≡ (is_place entry.now.label || is_rest entry.now.label) }
+{
+    of_place(entry) || of_rest(entry)
+}
+
+// Whether one of the entries is.
+fn speak_of_all(entries: &[TypeEntry]) -> bool
+    ensures { result ≡ list_any (λ e. is_place e.label || is_rest e.label) entries.now }
+{
+    entries.iter().any(|entry| is_of_all(entry))
+}
+
+/// Whether a list says nothing of some columns: it isn't by position, and has no `*`. A list without
+/// entries says nothing.
+pub fn is_open(entries: &[TypeEntry]) -> bool
+    ensures { result ≡ columns.is_open entries.now }
+{
+    !speak_of_all(entries)
+}
+
+/// The same list, with `*=text` behind it if it says nothing of some columns.
+///
+/// # Errors
+///
+/// It fails only when memory runs out.
+pub fn with_texts(entries: Vec<TypeEntry>) -> Result<Vec<TypeEntry>, AllocError>
+    ensures { IfOk result (λ v. v.items ≡ columns.with_texts entries.items) }
+{
+    if !is_open(entries.as_slice()) {
+        return Ok(entries);
+    }
+    let mut entries = entries;
+    entries.push(TypeEntry {
+        label: Label::Rest,
+        kind: ColumnType::Text,
+    })?;
+    Ok(entries)
 }
