@@ -63,8 +63,8 @@ pub(crate) fn open_file<R: Files>(rt: &R, name: &str) -> io::Result<OpenStream<R
     })
 }
 
-// The system's words for why a file can't be opened or read, if it says so again.
-fn why_unread<R: Files>(rt: &R, name: &str) -> Option<io::Error> {
+/// The system's words for why a file can't be opened or read, if it says so again.
+pub(crate) fn why_unread<R: Files>(rt: &R, name: &str) -> Option<io::Error> {
     match fs::open(rt, name) {
         Ok(mut file) => match file.read(&mut [0u8; 1]) {
             Ok(_) => None,
