@@ -93,38 +93,64 @@ class On:
 
 
 def asked(**given):
-    return types.SimpleNamespace(**{**dict.fromkeys(("memory", "parts", "spread", "ranges", "merges", "workers", "processes")), **given})
+    options = ("memory", "parts", "spread", "ranges", "merges", "workers", "processes", "rows")
+    return types.SimpleNamespace(**{**dict.fromkeys(options), "join": "FULL JOIN USING (k)", **given})
 
 
-# What is asked for, the bytes of both files, who does it, and the plan: whether it is one run, the parts, a shard's bytes, and the memory.
+# What is asked for, the bytes of both files, who does it, and the plan: how many runs there are, the parts, a shard's bytes, and the memory.
+LEFT_JOIN = {"join": "LEFT JOIN USING (k)"}
 PLANS = (
-    ({}, 100 * MIB, On(1, 600 * MIB), (True, 16, 100 * MIB, 300 * MIB)),
-    ({}, 100 * MIB + 1, On(1, 600 * MIB), (False, 16, 100 * MIB, 300 * MIB)),
-    ({}, 100 * MIB, On(1, 600 * MIB, is_here=False), (False, 16, 100 * MIB, 300 * MIB)),
-    ({"memory": 300 * MIB}, 100 * MIB, On(1), (True, 16, 100 * MIB, 300 * MIB)),
-    ({"memory": 240 * MIB}, 10 * GIB, On(1), (False, 256, 80 * MIB, 240 * MIB)),
-    ({"memory": 240 * MIB}, 10 * GIB, On(4), (False, 1_024, 20 * MIB, 240 * MIB)),
-    ({"memory": 240 * MIB}, 10 * GIB + 1, On(1), (False, 257, 80 * MIB, 240 * MIB)),
-    ({"memory": 240 * MIB}, 1_000 * GIB, On(1), (False, 1_024, 80 * MIB, 240 * MIB)),
-    ({"memory": 1}, 100 * MIB, On(3), (False, 200, MIB, 1)),
-    ({"memory": 1}, 0, On(3), (True, 16, MIB, 1)),
-    ({"memory": GIB, "ranges": 2}, 100, On(1), (False, 16, GIB // 3, GIB)),
-    ({"memory": GIB, "merges": 2}, 100, On(1), (False, 16, GIB // 3, GIB)),
-    ({"memory": GIB, "spread": 50}, 100, On(1), (False, 16, 50, GIB)),
-    ({"memory": 3 * MIB, "spread": 50}, 100 * MIB, On(1), (False, 200, 50, 3 * MIB)),
-    ({"memory": GIB, "parts": 3}, 100, On(1), (False, 3, None, None)),
-    ({"parts": 3, "spread": 50}, 100, On(1), (False, 3, 50, None)),
+    ({}, 100 * MIB, On(1, 600 * MIB), (1, 16, 100 * MIB, 300 * MIB)),
+    ({}, 100 * MIB + 1, On(1, 600 * MIB), (0, 16, 100 * MIB, 300 * MIB)),
+    ({}, 100 * MIB, On(1, 600 * MIB, is_here=False), (0, 16, 100 * MIB, 300 * MIB)),
+    ({"memory": 300 * MIB}, 100 * MIB, On(1), (1, 16, 100 * MIB, 300 * MIB)),
+    ({"memory": 240 * MIB}, 10 * GIB, On(1), (0, 256, 80 * MIB, 240 * MIB)),
+    ({"memory": 240 * MIB}, 10 * GIB, On(4), (0, 1_024, 20 * MIB, 240 * MIB)),
+    ({"memory": 240 * MIB}, 10 * GIB + 1, On(1), (0, 257, 80 * MIB, 240 * MIB)),
+    ({"memory": 240 * MIB}, 1_000 * GIB, On(1), (0, 1_024, 80 * MIB, 240 * MIB)),
+    ({"memory": 1}, 100 * MIB, On(3), (0, 200, MIB, 1)),
+    ({"memory": 1}, 0, On(3), (1, 16, MIB, 1)),
+    ({"memory": GIB, "ranges": 2}, 100, On(1), (0, 16, GIB // 3, GIB)),
+    ({"memory": GIB, "merges": 2}, 100, On(1), (0, 16, GIB // 3, GIB)),
+    ({"memory": GIB, "spread": 50}, 100, On(1), (0, 16, 50, GIB)),
+    ({"memory": 3 * MIB, "spread": 50}, 100 * MIB, On(1), (0, 200, 50, 3 * MIB)),
+    ({"memory": GIB, "parts": 3}, 100, On(1), (0, 3, None, None)),
+    ({"parts": 3, "spread": 50}, 100, On(1), (0, 3, 50, None)),
+    # by a right file that fits, with a left one that doesn't
+    ({**LEFT_JOIN, "memory": 300 * MIB}, (100 * MIB + 1, 40 * MIB), On(1), (2, 16, 100 * MIB, 300 * MIB)),
+    ({**LEFT_JOIN, "memory": 300 * MIB}, (121 * MIB, 40 * MIB), On(4), (3, 16, 25 * MIB, 300 * MIB)),
+    ({**LEFT_JOIN, "memory": 300 * MIB}, (60 * MIB, 40 * MIB), On(1), (1, 16, 100 * MIB, 300 * MIB)),
+    ({**LEFT_JOIN, "memory": 300 * MIB}, (990 * GIB, 100 * MIB - 9), On(1), (0, 1_024, 100 * MIB, 300 * MIB)),
+    ({**LEFT_JOIN, "memory": 300 * MIB}, (990 * MIB, 66 * MIB), On(1), (30, 22, 100 * MIB, 300 * MIB)),
+    ({**LEFT_JOIN, "memory": 300 * MIB}, (990 * MIB, 67 * MIB), On(1), (0, 22, 100 * MIB, 300 * MIB)),
+    ({**LEFT_JOIN, "memory": 300 * MIB}, (50 * MIB, 100 * MIB), On(1), (0, 16, 100 * MIB, 300 * MIB)),
+    ({**LEFT_JOIN, "memory": 3 * MIB}, (50 * MIB, 0), On(1), (50, 100, MIB, 3 * MIB)),
+    ({**LEFT_JOIN, "memory": 3 * MIB}, (50 * MIB, 1), On(1), (0, 101, MIB, 3 * MIB)),
+    ({**LEFT_JOIN, "memory": 3 * MIB}, (100_000 * MIB, 0), On(1), (100_000, 1_024, MIB, 3 * MIB)),
+    ({**LEFT_JOIN, "memory": 3 * MIB}, (100_001 * MIB, 0), On(1), (0, 1_024, MIB, 3 * MIB)),
+    ({**LEFT_JOIN, "memory": 300 * MIB}, (121 * MIB, 40 * MIB), On(4, is_here=False), (0, 16, 25 * MIB, 300 * MIB)),
+    ({**LEFT_JOIN, "memory": 300 * MIB, "ranges": 1}, (121 * MIB, 40 * MIB), On(1), (0, 16, 100 * MIB, 300 * MIB)),
+    ({**LEFT_JOIN, "memory": 300 * MIB, "parts": 16}, (121 * MIB, 40 * MIB), On(1), (0, 16, None, None)),
+    ({"memory": 300 * MIB}, (121 * MIB, 40 * MIB), On(1), (0, 16, 100 * MIB, 300 * MIB)),
+    ({"memory": 300 * MIB, "rows": "lone-left,pairs"}, (121 * MIB, 40 * MIB), On(1), (3, 16, 100 * MIB, 300 * MIB)),
+    ({"join": "RIGHT JOIN USING (k)", "memory": 300 * MIB}, (121 * MIB, 40 * MIB), On(1), (0, 16, 100 * MIB, 300 * MIB)),
+    ({"join": "JOIN USING (k)", "memory": 300 * MIB}, (121 * MIB, 40 * MIB), On(1), (3, 16, 100 * MIB, 300 * MIB)),
 )
+
+
+def both(size):
+    """The bytes of a left and a right file."""
+    return size if isinstance(size, tuple) else (size - size // 2, size // 2)
 
 
 def run_plans(tally):
     for given, size, on, wanted in PLANS:
-        plan = plans.plan_of(asked(**given), size, on)
-        got = (plan.is_one_run, plan.parts, plan.spread, plan.memory)
+        plan = plans.plan_of(asked(**given), both(size), on)
+        got = (plan.runs, plan.parts, plan.spread, plan.memory)
         tally.check(f"cluster_memory: {given} of {size} bytes", [] if got == wanted else [f"{got}, and not {wanted}"])
     for given, processors, wanted in (({}, 4, 4), ({}, 99, 64), ({"processes": 2}, 4, 2), ({"processes": 99}, 4, 64), ({"workers": "3", "processes": 2}, 4, 3)):
         with mock.patch.object(plans.os, "sched_getaffinity", lambda _, count=processors: range(count)):
-            got = plans.plan_of(asked(memory=GIB, **given), 100, On(1)).workers
+            got = plans.plan_of(asked(memory=GIB, **given), both(100), On(1)).workers
         tally.check(f"cluster_memory: workers by {given} of {processors} processors", [] if got == wanted else [f"{got}, and not {wanted}"])
     limits = {"a": 3 * GIB, "b": 2 * GIB, "c": 0}
     for title, given, wanted in (("limits of processes", limits, 2 * GIB), ("processes without limits", {"a": 0, "b": None}, 5 * GIB), ("no process", {}, 10 * GIB)):

@@ -84,7 +84,8 @@ def faults_of_tables(tables, limit):
 def cuts_of(job, side, count):
     """So many ranges of a small file, in place of those of `shards --cuts`, which leaves it whole."""
     whole = pathlib.Path(job.files[side]).read_bytes()
-    ends, at = [], text.end_of_record(whole)
+    # (from behind the header on, before which empty lines may stand)
+    ends, at = [], text.end_of_record(whole, len(whole) - len(whole.lstrip(b"\r\n")))
     while at < len(whole):
         ends.append(at)
         at = text.end_of_record(whole, at)

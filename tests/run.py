@@ -38,6 +38,7 @@ PARTS = (
     "cluster_merges",
     "cluster_pieces",
     "cluster_random",
+    "cluster_runs",
     "cluster_sent",
     "cluster_skew",
     "cluster_slow",

@@ -50,12 +50,24 @@ def clause_of(clause: Optional[str], using: Union[str, Sequence[str], None], on:
     return f"{_HOW[how]}JOIN USING ({', '.join(map(quoted, names))})"
 
 
+def _kept(found: "re.Match[str]") -> List[str]:
+    """The kinds of rows that a clause keeps, by what says it there."""
+    return [*_OF_PAIRS, *(kind for kind, words in _LONE.items() if (found[1] or "").upper() in words)]
+
+
+def kinds_of(clause: str, rows: Optional[str]) -> List[str]:
+    """The kinds of rows that are written of a clause that the grammar derives: all that it keeps, or those of them that `--rows` names."""
+    found = _KIND.match(clause)
+    kept = _kept(found) if found else [*_OF_PAIRS, *_LONE]
+    return [kind for kind in kept if rows is None or kind in rows.split(",")]
+
+
 def refuse_rows(rows: object, clause: str) -> None:
     """Refuses to write rows of some kinds alone of which a clause keeps none. What is no kind, or no clause, is the program's to tell."""
     found = _KIND.match(clause)
     if not isinstance(rows, str) or not found:
         return
-    kept = [*_OF_PAIRS, *(kind for kind, words in _LONE.items() if (found[1] or "").upper() in words)]
+    kept = _kept(found)
     if all(kind in _LONE and kind not in kept for kind in rows.split(",")):
         kinds = ", ".join(map(repr, kept))
         raise ValueError(f"rows={rows!r} asks for rows that {found[0].strip()!r} doesn't keep: it has {kinds}; how='left' or 'outer' keeps lone left rows, and how='right' or 'outer' lone right ones")

@@ -1,9 +1,10 @@
 """Joins two CSV files that may be larger than one machine's memory, on this machine or in the processes of a Dask cluster.
 
-Where memory has room for the whole, one run of `radixjoin` does it. Else both files are divided by the hash of their rows' keys (the
-program `shards`, one task for each range of a file), the two parts of each shard are joined (`radixjoin`, one task a shard, or several
-where it is too large), and what these joins give is merged (`merges`, one task for each range of the joined table). The bytes written
-are those that `radixjoin` would write. docs/user/cluster.md says what of this is proved, and how to run it.
+Where memory has room for the whole, one run of `radixjoin` does it, and where it has for the right file and a part of the left one,
+several that have such a part each. Else both files are divided by the hash of their rows' keys (the program `shards`, one task for each
+range of a file), the two parts of each shard are joined (`radixjoin`, one task a shard, or several where it is too large), and what
+these joins give is merged (`merges`, one task for each range of the joined table). The bytes written are those that `radixjoin` would
+write. docs/user/cluster.md says what of this is proved, and how to run it.
 
 Every task writes under a new name and renames at its end, so that a task may run twice. The parts of a range stand in one file. What
 a step made is removed when the next one is done, and all that is half made at the end, whether it is a good one or not. With
@@ -32,7 +33,7 @@ from pathlib import Path
 from typing import TYPE_CHECKING, Any, BinaryIO, Dict, Iterator, List, Mapping, Optional, Sequence, Tuple, Union
 
 from .arguments import refuse_values
-from .clauses import clause_of, given, refuse_rows
+from .clauses import clause_of, given, kinds_of, refuse_rows
 from .columns import Types
 from .explained import of_cell, of_row, of_unread
 from .faults import Fault, fault_of
@@ -44,14 +45,15 @@ from .making import append, beginning, folder_beside, made, remove
 from .memory import size_in
 from .nulls import Texts, texts_of
 from .outputs import refuse_input
-from .packed import Run, give_back, pack, rows_of_part, rows_of_run, sizes_of, told_of
+from .packed import Run, give_back, header_of_table, pack, part_in, rows_of_part, rows_of_run, sizes_of, told_of
 from .pipes import open_streams
 from .placed import LEFT, RIGHT, SAMPLES, Index, Place, Shard, cut_places, sampled
 from .plans import Plan, plan_of
 from .programs import ProgramNotFound, encoded, find_all
+from .runs import IS_SHORT, GivenUp, Joined, join_run
 from .spread import TABLE, Join, are_many, joins_of, length_of, limit_of, most_tables, next_length, runs_of
 from .tables import PathTable
-from .tasks import FULL, Told, answer, first_fault, tell, unwritten
+from .tasks import FULL, OUT_OF_MEMORY, Told, answer, first_fault, tell, unwritten
 from .text import header_in
 
 if TYPE_CHECKING:
@@ -66,8 +68,6 @@ PLACES = {"left": LEFT, "right": RIGHT}
 # isn't worth a task.
 LEAST_MERGED = 16 << 20
 PROGRAMS = ("radixjoin", "shards", "merges")
-# The status of a program for which memory was short.
-OUT_OF_MEMORY = 5
 AMBIGUOUS = re.compile(r"radixjoin: E28 AmbiguousNull row (\d+) column (\d+)")
 
 
@@ -103,6 +103,10 @@ class Job:
         """Runs a program, on these inputs beside the files that its words name, and gives what it printed. What it refuses is told; that
         it was killed is an error, so that the task runs again. What can't be written is told as what the program writes, or as the folder
         for what is half made."""
+        return self.printed(name, words, output, writes, inputs)[0]
+
+    def printed(self, name: str, words: Sequence[str], output: Any, writes: Optional[str], inputs: Sequence[Input]) -> Tuple[bytes, bytes]:
+        """The same with what it told on standard error."""
         how = {"cwd": self.scratch, "stdin": subprocess.DEVNULL, "stdout": output, "preexec_fn": beginning(self.space)}
         ran = run_program([self.programs[name], *words], inputs, **how)
         if ran.returncode < 0:
@@ -113,7 +117,11 @@ class Job:
                 raise unwritten(writes or self.folder())
             side = re.fullmatch(r"radixjoin: E19 ReadDevice (left|right)", line) if self.explain and name == "shards" else None
             raise Told(line, ran.returncode, of_unread(self.files[side[1]]) if side else more)
-        return ran.stdout
+        return ran.stdout, ran.stderr
+
+    def unread(self, side: str) -> Told:
+        """The fault of a side's file that can't be read."""
+        return Told(f"radixjoin: E19 ReadDevice {side}", 6, of_unread(self.files[side]) if self.explain else "")
 
     def folder(self) -> str:
         """The folder that was given for what is half made."""
@@ -328,11 +336,15 @@ def result_of(job: Job) -> Iterator[BinaryIO]:
         raise unwritten(job.out) if error.errno in FULL else unwritten(job.out, error.strerror) from None
 
 
+def joining_files(job: Job, workers: int) -> List[str]:
+    """The words for `radixjoin` that join the two files themselves, but for those that name the left one."""
+    words = [f"--right={job.files['right']}", *job.joining(job.types), *job.strict, *job.explain]
+    return words if any(word.startswith("--workers=") for word in words) else [*words, f"--workers={workers}"]
+
+
 def join_whole(job: Job, workers: int) -> bool:
     """Joins the two files by one run of `radixjoin`. It gives whether there was memory for it: there wasn't, too, where it was killed."""
-    words = [*(f"--{side}={job.files[side]}" for side in SIDES), *job.joining(job.types), *job.strict, *job.explain]
-    if not any(word.startswith("--workers=") for word in words):
-        words.append(f"--workers={workers}")
+    words = [f"--left={job.files['left']}", *joining_files(job, workers)]
     try:
         with result_of(job) as output:
             job.run("radixjoin", words, output, job.out)
@@ -418,7 +430,16 @@ def refuse_files(job: Job) -> None:
                 raise Told(f"radixjoin-cluster: the {side} file is a pipe, which can't be divided: give a file", 2)
             names_in(job.files[side])
         except OSError:
-            raise Told(f"radixjoin: E19 ReadDevice {side}", 6, of_unread(job.files[side]) if job.explain else "") from None
+            raise job.unread(side) from None
+
+
+def header_of(job: Job, side: str) -> bytes:
+    """The header of a side's file, as a program writes it. It is that of a part, without the name of the places behind its own ones, and
+    no byte of the file is divided for it."""
+    job.run("shards", [*job.division(side, 1), "--from=1", "--to=1", "--out=."])
+    names = Path(part_in(job.scratch, 0)).read_bytes().removesuffix(f",{PLACES[side]}\n".encode())
+    job.clear("*.csv")
+    return header_of_table(names + b"\n")
 
 
 def refuse(job: Job) -> None:
@@ -429,7 +450,7 @@ def refuse(job: Job) -> None:
     first_fault([bad_null])
     try:
         for side in SIDES:
-            job.run("shards", [*job.division(side, 1), "--from=1", "--to=1", "--out=."])
+            header_of(job, side)
     except Told as told:
         repeated = re.fullmatch(r"radixjoin: E3 RepeatedName (left|right) column (\d+)", told.line)
         if repeated and int(repeated[2]) > len(names_in(job.files[repeated[1]])):
@@ -439,7 +460,6 @@ def refuse(job: Job) -> None:
             told.more = told.more or of_row(told.line, [], 0, None)
         raise
     refuse_taken_names(job)
-    job.clear("*.csv")
 
 
 def divided(job: Job, cluster: Any, count: int) -> Tuple[Dict[str, int], Dict[str, List[int]]]:
@@ -567,25 +587,52 @@ def cluster_by(client: Client, progress: bool) -> Cluster:
     return Cluster(client, progress)
 
 
-def is_joined_whole(job: Job, cluster: Any, plan: Plan) -> bool:
-    """Joins the two files by one run of `radixjoin`, if there is memory for it. It gives whether there was."""
-    alone = copy.copy(job)
-    alone.space = min(plan.space(), job.space or plan.space())
-    found: List[Any] = cluster.answers([(join_whole, alone, plan.workers)])
+def limited(job: Job, plan: Plan) -> Job:
+    """The same where programs may take no more than the planned memory."""
+    it = copy.copy(job)
+    it.space = min(plan.space(), job.space or plan.space())
+    return it
+
+
+def join_in_runs(asked: argparse.Namespace, job: Job, cluster: Any, plan: Plan) -> None:
+    """Joins runs of left rows with the whole right file, one after another.
+
+    Raises:
+        GivenUp: one of them is refused or killed, or there is no memory for it.
+    """
+    found = cluster.answers([(cuts_of, job, "left", plan.runs)])
     first_fault(found)
-    return bool(found[0])
+    words, header = joining_files(job, plan.workers), header_of(job, "left")
+    is_divided = job.order == "pairs" and {"pairs", "lone-left"} <= {*kinds_of(job.clause, asked.rows)}
+    with result_of(job) as output, Joined(output, job.place("lone") if is_divided else None) as joined:
+        first_fault(cluster.in_turn([(join_run, limited(job, plan), joined, words, header, *it) for it in found[0]]))
+        joined.finish()
+
+
+def why_not_by(asked: argparse.Namespace, job: Job, cluster: Any, plan: Plan) -> str:
+    """Joins by the runs of `radixjoin` that are planned. It gives why that can't be done, or nothing."""
+    if plan.runs == 1:
+        found: List[Any] = cluster.answers([(join_whole, limited(job, plan), plan.workers)])
+        first_fault(found)
+        return "" if found[0] else IS_SHORT
+    try:
+        join_in_runs(asked, job, cluster, plan)
+    except GivenUp as given_up:
+        return str(given_up)
+    return ""
 
 
 def run_as_planned(asked: argparse.Namespace, job: Job, cluster: Any) -> None:
-    """Joins by one run of `radixjoin` where that fits into memory, and else in shards. The plan is shown where that is asked for."""
-    size, why = sum(os.path.getsize(file) for file in job.files.values()), ""
-    plan = plan_of(asked, size, cluster)
-    if plan.is_one_run:
-        tell(asked.progress, plan.told(size, cluster))
-        if is_joined_whole(job, cluster, plan):
+    """Joins by runs of `radixjoin` where these fit into memory, and else in shards. The plan is shown where that is asked for."""
+    left, right = (os.path.getsize(job.files[side]) for side in SIDES)
+    plan, why = plan_of(asked, (left, right), cluster), ""
+    if plan.runs:
+        tell(asked.progress, plan.told((left, right), cluster))
+        why = why_not_by(asked, job, cluster, plan)
+        if not why:
             return
-        plan, why = plan._replace(is_one_run=False), "memory was short, so "
-    tell(asked.progress, why + plan.told(size, cluster))
+        plan = plan._replace(runs=0)
+    tell(asked.progress, why + plan.told((left, right), cluster))
     job.parts, job.spread = plan.parts, plan.spread
     run(job, cluster, asked.ranges or cluster.tasks_at_once(), asked.merges)
 
@@ -633,7 +680,8 @@ def join(
 
     `memory`, a number of bytes or a text as "8G", decides how (half of what is free, where it isn't given): on this machine by one run of
     `radixjoin` where about three times the bytes of both files fit into it, by `processes` threads or, where that isn't given, as many as there are
-    processors; else in shards, as many as it takes for those that are joined at the same time to fit, on a cluster in each process. With `parts`, `spread`,
+    processors; by several one after another where three times the right file does with a part of the left one, and no unmatched right rows are written;
+    else in shards, as many as it takes for those that are joined at the same time to fit, on a cluster in each process. With `parts`, `spread`,
     `ranges` or `merges` it is done in shards.
 
     The arguments are the options of the command line `radixjoin-cluster` (docs/user/cluster.md): `left_null` and `right_null`, a text or

@@ -24,7 +24,8 @@ DASHES = "\0"
 ABOUT = """Joins two CSV files that may be larger than one machine's memory, on this machine or in the processes of a Dask cluster. The
 bytes written are those that `radixjoin` would write.
 
-Where --memory has room for both tables and the result, one run of `radixjoin` joins them. Otherwise they are joined in shards: both
+Where --memory has room for both tables and the result, one run of `radixjoin` joins them. Where it has for the right table and a part of
+the left one, and no unmatched right rows are written, so many runs join such a part each. Otherwise they are joined in shards: both
 files are divided by the hash of their rows' keys (the program `shards`, one task for each range of a file), the two parts of each shard
 are joined (`radixjoin`, one task a shard, or several where it is too large), and what these joins give is merged (`merges`, one task
 for each range of the joined table). On a cluster it is always done in shards, and so it is with --parts, --spread, --ranges or --merges.
@@ -76,7 +77,7 @@ def parser() -> Parser:
     line.add_argument("--address-space", type=size, metavar="SIZE", help="bytes of address space that each program may take, as 500M or 8G [default: no limit]")
     where = line.add_mutually_exclusive_group()
     where.add_argument("--scheduler", metavar="ADDRESS", help="scheduler of a Dask cluster, as tcp://node1:8786")
-    where.add_argument("--processes", type=int, metavar="N", help="programs that run side by side on this machine, or threads of one run [default: 1, and for one run as many as there are processors]")
+    where.add_argument("--processes", type=int, metavar="N", help="programs that run side by side on this machine, or threads of each run where tables fit [default: 1, and for such a run as many as there are processors]")
     line.add_argument("--progress", action="store_true", help="show on a terminal how the join is planned, which step is done, and how many of its tasks")
     line.add_argument("--explain", action="store_true", help="print after the line of an error where it is, and what is there")
     for option in OF_ONE_JOIN:

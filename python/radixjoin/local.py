@@ -24,8 +24,15 @@ class Machine:
     def answers(self, tasks: Sequence[Tuple[Any, ...]]) -> List[Any]:
         """What tasks give, in their order. Each is a function, the job and further words. Where this is told to end, the tasks and their
         programs are ended first."""
+        return self._answers(tasks, self.count)
+
+    def in_turn(self, tasks: Sequence[Tuple[Any, ...]]) -> List[Any]:
+        """The same of tasks that are done one after another."""
+        return self._answers(tasks, 1)
+
+    def _answers(self, tasks: Sequence[Tuple[Any, ...]], count: int) -> List[Any]:
         is_over = threading.Event()
-        with ThreadPoolExecutor(self.count, initializer=end_with, initargs=(is_over,)) as pool:
+        with ThreadPoolExecutor(count, initializer=end_with, initargs=(is_over,)) as pool:
             try:
                 futures = [pool.submit(_tried, task) for task in tasks]
                 if self.shows_progress:

@@ -63,11 +63,12 @@ def folder_beside(path: str) -> Iterator[str]:
         remove(folder)
 
 
-def append(path: str, whole: BinaryIO) -> None:
-    """Puts the bytes of a file behind those of another one: within the system where it can do that, so that a file system over a
-    network needn't send them, and what is left by this process, which meets the same fault where there is one."""
+def append(path: str, whole: BinaryIO, begin: int = 0) -> None:
+    """Puts the bytes of a file, from one on, where another one is written: within the system where it can do that, so that a file system
+    over a network needn't send them, and what is left by this process, which meets the same fault where there is one."""
     whole.flush()
     with open(path, "rb", buffering=0) as file:
+        file.seek(begin)
         with contextlib.suppress(OSError, AttributeError):
             while os.copy_file_range(file.fileno(), whole.fileno(), _MOST):
                 go_on()

@@ -1,9 +1,12 @@
-"""How two files are joined: by one run of `radixjoin` where that fits into memory, and else in so many shards."""
+"""How two files are joined: by one run of `radixjoin` where that fits into memory, by several of them that have the whole right file
+each where that does with a part of the left one, and else in so many shards."""
 from __future__ import annotations
 
 import argparse
 import os
-from typing import Any, NamedTuple, Optional
+from typing import Any, NamedTuple, Optional, Tuple
+
+from .clauses import kinds_of
 
 # A run of `radixjoin` takes about so many times the bytes of its two tables (docs/user/speed.md).
 MEASURE = 3
@@ -11,6 +14,9 @@ MEASURE = 3
 LEAST_PARTS, MOST_PARTS = 16, 1024
 # The least bytes of both tables above which a shard is cut so that its joins take less memory: a program takes more by itself.
 LEAST_SPREAD = 1 << 20
+# The least bytes of a run of left rows, which are also no fewer than this part of the right file, since each run reads that anew; and how
+# many runs there may be, as `shards --cuts` has it.
+LEAST_RUN, PART_OF_RIGHT, MOST_RUNS = 1 << 20, 2, 100_000
 # Who gives one of these wants shards.
 OF_SHARDS = ("parts", "spread", "ranges", "merges")
 MOST_WORKERS = 64
@@ -21,8 +27,9 @@ _OF_PROGRAM, _OF_WORKER = 32 << 20, 20 << 20
 class Plan(NamedTuple):
     """How files are joined."""
 
-    # Whether one run of `radixjoin` is tried first, and by how many workers.
-    is_one_run: bool
+    # How many runs of `radixjoin` are tried first, each with a part of the left file and with the whole right one, and by how many workers
+    # each. There is none where it is done in shards at once.
+    runs: int
     workers: int
     # What shards are made of them: as many parts, and the bytes of both tables above which a shard is cut, where they are known.
     parts: int
@@ -31,30 +38,51 @@ class Plan(NamedTuple):
     memory: Optional[int]
 
     def space(self) -> int:
-        """The address space that the one run may take: one that takes more memory is given up."""
+        """The address space that a run may take: one that takes more memory is given up."""
         return (self.memory or 0) + _OF_PROGRAM + self.workers * _OF_WORKER
 
-    def told(self, size: int, on: Any) -> str:
-        """What is told of it for files of so many bytes, by those who do tasks."""
+    def told(self, sizes: Tuple[int, int], on: Any) -> str:
+        """What is told of it for a left and a right file of so many bytes, by those who do tasks."""
         if self.memory is None:
             return f"the plan is {self.parts} shards, {on.tasks_at_once()} at a time"
-        if self.is_one_run:
-            return f"the plan is one run by {self.workers} workers, in about {_mebibytes(MEASURE * size)} of {_mebibytes(self.memory)} MiB of memory"
+        if self.runs:
+            runs = "one run" if self.runs == 1 else f"{self.runs} left runs"
+            return f"the plan is {runs} by {self.workers} workers, in about {_mebibytes(self._measure(*sizes))} of {_mebibytes(self.memory)} MiB of memory"
         whose = "" if on.is_here else " of each process"
         return f"the plan is {self.parts} shards, {on.tasks_at_once()} at a time, in {_mebibytes(self.memory)} MiB of memory{whose}"
+
+    def _measure(self, left: int, right: int) -> int:
+        """About how many bytes a run takes."""
+        return MEASURE * (-(-left // self.runs) + right)
 
 
 def _mebibytes(size: int) -> int:
     return -(-size >> 20)
 
 
-def plan_of(asked: argparse.Namespace, size: int, on: Any) -> Plan:
-    """How files of so many bytes are joined as asked, by those who do tasks. Where the parts are given, memory isn't looked at."""
+def _runs(left: int, right: int, room: int, is_cut: bool) -> int:
+    """By how many runs of `radixjoin` files of so many bytes are joined, if the two tables of each have room for so many: by one, or by
+    several if the left file may be cut. There is none where these would have too few left rows."""
+    if left + right <= room:
+        return 1
+    length = room - right
+    if not is_cut or length < max(LEAST_RUN, right // PART_OF_RIGHT):
+        return 0
+    count = -(-left // length)
+    return count if count <= MOST_RUNS else 0
+
+
+def plan_of(asked: argparse.Namespace, sizes: Tuple[int, int], on: Any) -> Plan:
+    """How a left and a right file of so many bytes are joined as asked, by those who do tasks. Where the parts are given, memory isn't
+    looked at."""
     workers = min(MOST_WORKERS, int(asked.workers or asked.processes or len(os.sched_getaffinity(0))))
     if asked.parts is not None:
-        return Plan(False, workers, asked.parts, asked.spread, None)
+        return Plan(0, workers, asked.parts, asked.spread, None)
     memory = asked.memory or on.free() // 2
     spread = max(LEAST_SPREAD, memory // on.tasks_in_process() // MEASURE)
-    parts = min(MOST_PARTS, max(LEAST_PARTS, -(-2 * size // spread)))
-    fits = on.is_here and MEASURE * size <= memory and all(getattr(asked, name) is None for name in OF_SHARDS)
-    return Plan(fits, workers, parts, asked.spread or spread, memory)
+    parts = min(MOST_PARTS, max(LEAST_PARTS, -(-2 * sum(sizes) // spread)))
+    is_whole = on.is_here and all(getattr(asked, name) is None for name in OF_SHARDS)
+    # (whether a right row is unmatched no run alone can tell)
+    is_cut = "lone-right" not in kinds_of(asked.join, asked.rows)
+    runs = _runs(*sizes, memory // MEASURE, is_cut) if is_whole else 0
+    return Plan(runs, workers, parts, asked.spread or spread, memory)

@@ -9,11 +9,14 @@ from typing import Any, Callable, Iterable, Iterator, Sequence, Tuple
 
 # What the system tells where there is no room, which no second try changes.
 FULL = (errno.ENOSPC, errno.EDQUOT, errno.EROFS)
+# The statuses of a program for which memory was short, and of one that a device failed.
+OUT_OF_MEMORY, DEVICE = 5, 6
 # How often a task runs again whose program was killed.
 AGAIN = 2
 # What is shown of a step, by the name of its tasks' function.
 STEPS = {
     "join_whole": "joining",
+    "join_run": "joining",
     "cuts_of": "looking for cuts",
     "divide": "dividing",
     "cut_side": "cutting large shards",

@@ -6,8 +6,11 @@ from __future__ import annotations
 
 import csv
 import io
+import os
 import re
 from typing import Iterable, Iterator, List, Protocol, Sequence, Tuple
+
+from .ending import go_on
 
 # Stands for a null in a text that is to be written, until the null text is known: a lone surrogate, which no text has in UTF-8.
 NULL = "\udfff"
@@ -18,6 +21,8 @@ _SURROGATE = re.compile("[\ud800-\udfff]")
 _QUOTED = re.compile('"([^"]*(?:""[^"]*)*)"')
 _BLOCK = 1 << 22
 _HEADER = 1 << 20
+# How many bytes are looked at at once from the end of a file on.
+_LAST = 1 << 16
 # The bytes that are neither quotes nor line feeds.
 _NO_ENDS = bytes(set(range(256)) - set(b'"\n'))
 
@@ -138,6 +143,41 @@ def records_in(piece: bytes) -> int:
         left = piece.translate(None, _NO_ENDS).replace(b'""', b"")
         ends = b"".join(left.split(b'"')[::2]).count(b"\n")
     return ends + (not piece.endswith(b"\n") and piece != b"")
+
+
+def _ends_in(block: bytes, is_inside: bool) -> Tuple[int, bool]:
+    """How many line feeds of a block end records, by whether an odd number of quotes stands behind the block; and whether one does behind
+    the byte before it."""
+    if b'"' not in block:
+        return (0 if is_inside else block.count(b"\n")), is_inside
+    # (two quotes with no line feed between them change nothing for the others)
+    parts = block.translate(None, _NO_ENDS).replace(b'""', b"").split(b'"')[::-1]
+    return b"".join(parts[is_inside::2]).count(b"\n"), is_inside == (len(parts) % 2 == 1)
+
+
+def _behind_end(block: bytes, is_inside: bool, count: int) -> int:
+    """Behind the line feed of a block that ends a record, of which so many are counted from the last one on; the block has it."""
+    upto = len(block)
+    while count:
+        at = block.rfind(b"\n", 0, upto)
+        is_inside ^= block.count(b'"', at, upto) % 2 == 1
+        upto, count = at, count - (not is_inside)
+    return upto + 1
+
+
+def begin_of_last(number: int, begin: int, end: int, count: int) -> int:
+    """The byte of an open file at which the last records begin, so many, of those that stand from one byte up to another one, each with its
+    line feed. (A line feed ends a record where the number of quotes behind it is even.)"""
+    is_inside = False
+    while begin < end:
+        go_on()
+        at = max(begin, end - _LAST)
+        block = os.pread(number, end - at, at)
+        ends, was_inside = _ends_in(block, is_inside)
+        if ends > count:
+            return at + _behind_end(block, is_inside, count + 1)
+        count, is_inside, end = count - ends, was_inside, at
+    return begin
 
 
 def _fields_in(record: str) -> List[str]:

@@ -1,0 +1,451 @@
+"""Joins by left runs, each with the whole right file, beside `radixjoin` alone: which joins are done so, and which are left to shards; random
+tables, with keys that many rows have, and what has to be quoted; headers of all kinds; faults in the rows, of which the first one is told;
+runs that are killed, refused, or short of memory; the script is told to end, and the disks are full; what is shown; and where the last
+records of a text begin.
+
+usage: cluster_runs.py [RUNS [FIRST]]
+
+RUNS random joins from the seed FIRST on (60 from 0, where they aren't given). The last line is 'N passed, M failed'."""
+import contextlib
+import itertools
+import os
+import pathlib
+import random
+import re
+import signal
+import sys
+import tempfile
+import threading
+import time
+import types
+from unittest import mock
+
+import cluster
+import cluster_ends
+import cluster_manners
+import cluster_memory
+import cluster_pieces
+import harness
+import progress
+import shards
+
+from radixjoin import clauses, local, plans, text
+
+SCRIPT = shards.SCRIPT
+RUNS = 60
+# A text that the words of a run have, and no others of `radixjoin`: the name of the right file.
+STEP = "right.csv"
+
+
+@contextlib.contextmanager
+def patched():
+    """While this goes on small files are cut into runs, and the last records of a file are looked for in small pieces. It isn't begun in a
+    thread."""
+    least = mock.patch.multiple(plans, LEAST_RUN=1, PART_OF_RIGHT=1 << 30, LEAST_PARTS=2, LEAST_SPREAD=1)
+    with least, mock.patch.object(SCRIPT, "cuts_of", cluster_pieces.cuts_of), mock.patch.object(text, "_LAST", 37):
+        yield
+
+
+class Machine(local.Machine):
+    """Notes which tasks are done, and whether a cell is to be told. Of shards' tasks it does some at a time."""
+
+    def __init__(self, count):
+        super().__init__(count, False)
+        self.names = []
+
+    def answers(self, words):
+        self.names += [task.__name__ for task, *_ in words]
+        return super().answers(words)
+
+    def in_turn(self, words):
+        self.names += [task.__name__ for task, *_ in words]
+        return super().in_turn(words)
+
+    def runs(self):
+        """How many left runs there were, and whether it was done in shards."""
+        return self.names.count("join_run"), any(name in self.names for name in ("divide", "merge_shards", "merge_range"))
+
+
+def memory_for(folder, runs):
+    """The memory by which files are joined in so many runs: they don't fit into it together."""
+    left, right = ((folder / f"{side}.csv").stat().st_size for side in SCRIPT.SIDES)
+    return plans.MEASURE * (right + -(-left // runs))
+
+
+def joined(words, folder, runs, *more):
+    """A join with memory for so many runs: how it ended, how many left runs there were, and whether it was done in shards."""
+    on = Machine(2)
+    ran = shards.joined([*words, f"--memory={memory_for(folder, runs)}", *more], folder, 1, cluster=lambda _: on)
+    return ran, *on.runs()
+
+
+def write(folder, left, right):
+    """Writes two tables of a number and a text, and gives the words that name them."""
+    (folder / "left.csv").write_bytes(left.encode("utf-8", "surrogateescape"))
+    (folder / "right.csv").write_bytes(right.encode("utf-8", "surrogateescape"))
+    return [word for side in SCRIPT.SIDES for word in (f"--{side}={folder}/{side}.csv", f"--{side}-types=int,text")]
+
+
+# A clause, the kinds of rows that are asked for, and those that are written.
+KINDS = (
+    ("JOIN USING (k)", None, "pairs"),
+    ("INNER JOIN ON L.k = R.k", "lone-left,pairs", "pairs"),
+    ("cross\tjoin", None, "pairs"),
+    ("NATURAL JOIN", "lone-left,lone-right", ""),
+    ("left join using (k)", None, "pairs lone-left"),
+    (" natural\nLeft  Outer Join", None, "pairs lone-left"),
+    ("LEFT JOIN USING (k)", "lone-right,lone-left", "lone-left"),
+    ("RIGHT OUTER JOIN USING (k)", None, "pairs lone-right"),
+    ("RIGHT JOIN USING (k)", "pairs,lone-left", "pairs"),
+    ("FULL JOIN USING (k)", None, "pairs lone-left lone-right"),
+    ("FULL JOIN USING (k)", "lone-left", "lone-left"),
+    ("no clause", None, "pairs lone-left lone-right"),
+)
+
+
+def run_kinds(tally):
+    for clause, rows, wanted in KINDS:
+        got = [kind for kind in clauses.kinds_of(clause, rows) if kind != "matched-left"]
+        tally.check(f"cluster_runs: kinds of {clause!r} {rows}", [] if got == wanted.split() else [f"{got}, and not {wanted}"])
+
+
+def random_words(pick, folder):
+    """Two random tables and the words that join them, with marks, ends of lines and a grammar that are looked at in all ways."""
+    if pick.random() < 0.3:
+        words = cluster_pieces.words_of(pick, folder)
+    else:
+        end, mark = pick.choice(shards.ENDS), pick.choice(("\ufeff", "", ""))
+        sides = (f"{mark}k,n,a{end}", pick.randrange(60)), (f"{pick.choice(('', mark))}k,n,b{end}", pick.randrange(30))
+        words = write(folder, *(header + shards.random_rows(pick, rows, end) for header, rows in sides))
+        words = [word.replace("-types=int,text", "-types=int,int,text") for word in words]
+        rows = [] if pick.random() < 0.6 else [f"--rows={','.join(pick.sample(cluster_pieces.ROWS, pick.randrange(1, 4)))}"]
+        kind, how = pick.choice(("JOIN", *["LEFT JOIN"] * 3, "RIGHT JOIN", "FULL JOIN")), pick.choice(cluster_pieces.CONDITIONS)
+        words += [f"--join={kind} {how}", *rows, *pick.choice(([], ["--order=left"])), *pick.choice(([], [], ["--strict"]))]
+    if pick.random() < 0.3:
+        with open(folder / "left.csv", "rb+") as left:
+            # (the last line may lack its end)
+            left.truncate(max(0, os.path.getsize(folder / "left.csv") - 1))
+    return [*words, *pick.choice(([], ["--workers=2", "--bits1=1"], ["--strict=full"] if "--strict" not in words else []))]
+
+
+def is_by_runs(words):
+    """Whether a join is done by left runs: no unmatched right row is written."""
+    clause, rows = ([word.partition("=")[2] for word in words if word.startswith(f"--{name}=")] for name in ("join", "rows"))
+    return not re.search("RIGHT|FULL", clause[0]) or bool(rows) and "lone-right" not in rows[0]
+
+
+def run_one(seed, tally):
+    """One random join. It gives how many left runs there were, how it ended, and whether the result was divided."""
+    pick = random.Random(f"radixjoin: left runs {seed}")
+    with harness.folder() as name:
+        folder = pathlib.Path(name)
+        words = random_words(pick, folder)
+        wanted = harness.run([harness.program("radixjoin"), *words], folder)
+        count = pick.choice((2, 3, 7))
+        ran, runs, are_shards = joined(words, folder, count)
+        faults = harness.differences(ran, wanted.stdout, wanted.stderr, wanted.status)
+        is_whole = plans.MEASURE * sum((folder / f"{side}.csv").stat().st_size for side in SCRIPT.SIDES) <= memory_for(folder, count)
+        are_runs = is_by_runs(words) and not is_whole
+        if wanted.status == 0:
+            faults += [] if (runs > 0, are_shards) == (are_runs, not are_runs and not is_whole) else [f"{runs} left runs, and shards: {are_shards}"]
+        tally.check(f"cluster_runs: {seed}: {words} by {count} runs", faults)
+        return runs, wanted.status, are_shards
+
+
+def run_random(seeds, tally):
+    """Such joins. Where they are many most are done by some runs, and some are refused."""
+    with patched():
+        ran = harness.side_by_side(tally, [lambda own, seed=seed: run_one(seed, own) for seed in seeds])
+    if len(ran) >= RUNS:
+        many = sum(runs > 1 and not are_shards for runs, _, are_shards in ran)
+        tally.check("cluster_runs: joins by runs", [] if many > len(ran) / 4 and {0, 3} <= {status for _, status, _ in ran} else [f"{many} of {len(ran)}: {ran}"])
+
+
+# The header and the rows of a left file, and those of a right one; where the text has to be as it stands.
+ROWS = "1,x\n2,y\n1,z\n3,x\n,w\n"
+TABLES = (
+    ("no rows", "k,a\n", "k,b\n1,x\n"),
+    ("no rows on the right", f"k,a\n{ROWS}", "k,b\n"),
+    ("no rows at all", "k,a\n", "k,b\n"),
+    ("a header without its end", "k,a", "k,b\n1,y\n"),
+    ("a mark", f"\ufeffk,a\n{ROWS}", "\ufeffk,b\n1,y\n"),
+    ("a mark, and a name that begins with one", f"\ufeff\ufeffk,a\n{ROWS}", "k,b\n1,y\n"),
+    ("names that have to be quoted", f'"k, ""1""","a\nb"\n{ROWS}', 'k,"b\n"\n1,y\n'),
+    ("a quote in a name that isn't quoted", f'k"1,a"\n{ROWS}', "k,b\n1,y\n"),
+    ("empty lines first", f"\n\r\n\nk,a\n{ROWS}\n\n", "\nk,b\n1,y\n"),
+    ("ends of lines", 'k,a\r\n1,"x\r\n"\r\n2,y\r\n1,"\n"\r\n', "k,b\r\n1,y\r\n"),
+    ("a last line without its end", 'k,a\n1,"x\n"\n2,y\n1,"\n"', "k,b\n1,y"),
+    ("quotes alone", 'k,a\n1,""""\n2,"""\n"""\n,""""""\n1,"\n"""\n', 'k,b\n1,"""\n"\n'),
+    ("keys that all rows have", "k,a\n" + "".join(f'1,"{number}\n"\n' for number in range(30)), "k,b\n" + '1,"\n"\n' * 9),
+    ("no row in a match", "k,a\n" + "".join(f'{number},"{number}\n"\n' for number in range(30)), "k,b\n-1,x\n"),
+)
+WAYS = (["LEFT JOIN"], ["JOIN"], ["LEFT JOIN", "--order=left"], ["LEFT JOIN", "--rows=lone-left"], ["LEFT JOIN", "--rows=pairs"], ["FULL JOIN", "--rows=lone-left,pairs"], ["RIGHT JOIN", "--rows=pairs", "--strict"])
+
+
+def clause_by(kind, *headers):
+    """The clause that joins by the first columns of tables with these headers."""
+    names = [clauses.quoted(text.header_in(header.lstrip("\r\n").encode())[0]) for header in headers]
+    return f"{kind} ON L.{names[0]} = R.{names[1]}"
+
+
+def run_table(name, left, right, more, count, tally):
+    with harness.folder() as place:
+        folder = pathlib.Path(place)
+        kind, *options = more
+        words = [*write(folder, left, right), f"--join={clause_by(kind, left, right)}", *options]
+        wanted = harness.run([harness.program("radixjoin"), *words], folder)
+        ran, runs, are_shards = joined(words, folder, count)
+        faults = harness.differences(ran, wanted.stdout, wanted.stderr, wanted.status)
+        faults += [f"{runs} left runs, and shards: {are_shards}"] if (are_shards or not runs) and wanted.status == 0 else []
+        tally.check(f"cluster_runs: {name}, {words} by {count} runs", faults)
+
+
+def run_tables(tally):
+    """Each of the tables in two ways, and as a LEFT join in the order of pairs."""
+    with patched():
+        cases = [(*table, WAYS[way % len(WAYS)], 2 + way % 3) for number, table in enumerate(TABLES) for way in (0, 3 * number + 1, 3 * number + 2)]
+        harness.side_by_side(tally, [lambda own, it=it: run_table(*it, own) for it in cases])
+
+
+def run_one_column(tally):
+    """A left table of one column, in which an empty line is a row where it is read strictly."""
+    for header, rows, more in (("a\n", 'x\n""\ny\nx\n""\n', []), ("a\n", "x\n\ny\n\n\nx\n", ["--strict"]), ('"a"\n', "x\n\ny\n\n", ["--strict", "--null=NA"])):
+        with harness.folder() as place, patched():
+            folder = pathlib.Path(place)
+            words = [word.replace("int,text", "text") for word in write(folder, header + rows, f"{header}x\ny\n")]
+            words += [f"--join={clause_by('LEFT JOIN', header, header)}", *more]
+            wanted = harness.run([harness.program("radixjoin"), *words], folder)
+            ran, runs, are_shards = joined(words, folder, 3)
+            faults = harness.differences(ran, wanted.stdout, wanted.stderr, wanted.status)
+            tally.check(f"cluster_runs: one column {header!r} {more}", faults + ([] if runs > 1 and not are_shards else [f"{runs} left runs, and shards: {are_shards}"]))
+
+
+# What stands in the middle and at the end of the left file, and of the right one, and options: what is told is the first of several faults.
+FAULTY = (
+    ("x,a\n", "", "", "", []),
+    ("", "x,a\n", "", "", []),
+    ("x,a\n", "y,a\n", "", "", []),
+    ("", "2\n", "x,b\n", "", []),
+    ("", "", "", "x,b\n", []),
+    ("", "", "1,b\n2\n", "x,b\n", ["--order=left"]),
+    ('1,"a"b\n', "", "x,b\n", "", ["--strict"]),
+    ("", '1,"a\n', "1,b\n\n", "", ["--strict"]),
+    ("", "1,a", "", "1,b", ["--strict=full"]),
+    ("", "1,a", "", "", ["--strict=full"]),
+    ("1,~\n", "", "", "", ["--strict", "--out-null=~"]),
+    ("", "-1,~\n", "", "", ["--strict", "--out-null=~"]),
+    ("", "-1,~\n", "1,~\n", "", ["--strict", "--out-null=~"]),
+    ("1,~\n", "x,a\n", "", "", ["--strict", "--out-null=~", "--rows=pairs"]),
+    ("", "1,\udcff\n", "", "", []),
+    ("9999999999999999999,a\n", "", "", "\udcff,b\n", []),
+)
+
+
+def run_faulty(left, last, right, behind, more, tally):
+    """A fault in the rows is told as `radixjoin` tells it; and explained as it is of shards."""
+    with harness.folder() as place:
+        folder = pathlib.Path(place)
+        rows = "".join(f'{number % 7},"a\n{number}"\n' for number in range(20))
+        words = write(folder, f"k,a\n{rows}{left}{rows}{last}", f"k,b\n1,x\n{right}2,y\n{behind}")
+        words += ["--join=LEFT JOIN USING (k)", *more]
+        wanted = harness.run([harness.program("radixjoin"), *words], folder)
+        for count in (2, 5):
+            ran, runs, are_shards = joined(words, folder, count)
+            faults = harness.differences(ran, wanted.stdout, wanted.stderr, wanted.status) + ([] if runs > 1 and are_shards and wanted.status == 3 else [f"{runs} left runs, and shards: {are_shards}"])
+            tally.check(f"cluster_runs: {left!r}, {last!r}, {right!r}, {behind!r} {more} by {count} runs", faults)
+        ran, _, _ = joined(words, folder, 2, "--explain")
+        other = shards.joined([*words, "--parts=2", "--explain"], folder, 1, cluster=lambda _: Machine(2))
+        tally.check(f"cluster_runs: {left!r}, {last!r}, {right!r}, {behind!r} {more} explained", harness.differences(ran, other.stdout, other.stderr, other.status))
+
+
+def run_faults(tally):
+    with patched():
+        harness.side_by_side(tally, [lambda own, it=it: run_faulty(*it, own) for it in FAULTY])
+
+
+# What a program does in the place of runs, whether that is once or each time, and whether shards follow.
+ENDS = (
+    ("nothing", ":", False, False),
+    ("is killed twice", cluster_ends.IS_KILLED_TWICE, False, False),
+    ("is killed", cluster_ends.IS_KILLED, True, False),
+    ("is killed each time", cluster_ends.IS_KILLED, False, True),
+    ("is short of memory", "echo 'radixjoin: E18 Memory' >&2; exit 5", True, True),
+    ("refuses", "echo 'radixjoin: E6 BadInteger left row 1 column 1' >&2; exit 3", True, True),
+    ("fails", "echo over >&2; exit 101", True, True),
+    ("writes half of it and is killed", f"echo k,a,b; echo 1,x,y; {cluster_ends.IS_KILLED}", True, False),
+    ("writes another header", "echo k,a,c; echo 'pairs 0 lone-left 0 lone-right 0' >&2; exit", False, True),
+    ("tells no numbers", "echo k,a,b; exit", False, True),
+)
+
+
+def program_that(folder, does, is_once, is_later):
+    """A folder of the programs, of which `radixjoin` does something in the place of the first run of left rows, or of the one behind that,
+    or of all from there on."""
+    once = f'mkdir "$0.done" 2>/dev/null && {{ {does}; }}; true' if is_once else does
+    first = f'mkdir "$0.first" 2>/dev/null && exec "{harness.program("radixjoin")}" "$@"; ' if is_later else ""
+    return cluster_ends.programs_in(folder, "radixjoin", first + once, is_once=False, step=STEP)
+
+
+def run_end(title, does, is_once, are_wanted, tally):
+    """Something is done in the place of all runs, or of the second and later ones alone, once or each time."""
+    for is_later, (kind, *more) in itertools.product((False, True), (["LEFT JOIN"], ["JOIN", "--order=left"])):
+        if title == "tells no numbers" and kind == "JOIN" or title == "writes another header" and not is_later:
+            continue
+        with harness.folder() as place:
+            folder = pathlib.Path(place)
+            left, right = "".join(f'{number % 40},"{number}\n"\n' for number in range(90)), "".join(f"{number},b\n" for number in range(30))
+            words = [*write(folder, f"k,a\n{left}", f"k,b\n{right}"), f"--join={kind} USING (k)", *more]
+            wanted = harness.run([harness.program("radixjoin"), *words], folder)
+            programs = program_that(folder / "programs", does, is_once, is_later)
+            ran, runs, are_shards = joined(words, folder, 3, f"--programs={programs}")
+            faults = harness.differences(ran, wanted.stdout, wanted.stderr, wanted.status) + ([] if (runs, are_shards) == (3, are_wanted) else [f"{runs} left runs, and shards: {are_shards}"])
+            tally.check(f"cluster_runs: a program {title} in {'a later' if is_later else 'the first'} run, {kind} {more}", faults)
+
+
+def run_ends(tally):
+    with patched():
+        harness.side_by_side(tally, [lambda own, it=it: run_end(*it, own) for it in ENDS])
+
+
+def write_large(folder):
+    """Writes a left file that is cut into two runs in 6 MiB of memory, and a small right one, and gives the words that join them. The left
+    header has one quote, within a name."""
+    left = 'k,a"\n' + "".join(f"{number * 7919 % 3000},{'x' * (number % 40)}\n" for number in range(130_000))
+    return [*write(folder, left, "k,b\n" + "".join(f"{number},y\n" for number in range(2_000))), "--join=LEFT JOIN USING (k)"]
+
+
+LARGE = ["--memory", "6M"]
+
+
+def run_script(tally):
+    """The script joins by runs, as `shards` cuts the file: it shows the plan and each run on a terminal."""
+    with harness.folder() as place:
+        folder = pathlib.Path(place)
+        words = write_large(folder)
+        wanted = harness.run([harness.program("radixjoin"), *words], folder)
+        programs = cluster_memory.programs_of_one_run(folder / "programs", ":")
+        known = {it.name for it in folder.iterdir()} | {"stdout"}
+        for more in ([], ["--processes", "2"]):
+            line = [sys.executable, cluster.SCRIPT, *words, "--programs", programs, "--out", "out.csv", "--progress", *LARGE, *more]
+            shown = cluster_manners.on_terminal(line, folder)
+            plan, rest = cluster_manners.plan_in(shown.stderr)
+            lines, last = progress.lines_of(rest)
+            workers = 2 if more else min(64, len(os.sched_getaffinity(0)))
+            faults = [] if plan == f"2 left runs by {workers} workers, in about 5 of 6 MiB of memory" else [f"the plan is {plan}"]
+            faults += cluster_manners.faults_of_lines(lines) + ([harness.shorten(last)] if last else [])
+            faults += [] if b"radixjoin-cluster: joining, 1 of 2 tasks" in lines else [f"{lines}"]
+            faults += ["it is done in shards"] if (programs / "merges.ran").exists() else []
+            ran = types.SimpleNamespace(returncode=shown.status, stderr=b"")
+            tally.check(f"cluster_runs: the script {more}", faults + cluster.faults_of_run(ran, folder, known, wanted))
+            (folder / "out.csv").unlink(missing_ok=True)
+
+
+def run_told_to_end(number, tally):
+    """The script is told to end while a run goes on: that ends, what stood at the result's place stays, and nothing is left."""
+    with harness.folder() as place:
+        folder = pathlib.Path(place)
+        words = write_large(folder)
+        programs = cluster_ends.programs_in(folder / "programs", "radixjoin", cluster_ends.WAITS.format("$$"), step=STEP)
+        (folder / "out.csv").write_text("before")
+        known = {it.name for it in folder.iterdir()}
+        running = cluster_ends.begun(sys.executable, words, folder, "--programs", programs, *LARGE)
+        program = cluster_ends.number_in(programs, "radixjoin")
+        running.send_signal(number)
+        time.sleep(0.05)
+        running.send_signal(signal.SIGTERM)
+        ran = cluster.ended(running)
+        faults = harness.differences(harness.Ran(ran.returncode, b"", ran.stderr), b"", b"", 128 + number)
+        faults += [] if program and cluster_ends.is_ended(program) else [f"{program} goes on, or didn't run"]
+        faults += [] if (folder / "out.csv").read_text() == "before" else ["out.csv is another one"]
+        tally.check(f"cluster_runs: told to end by {number.name}", faults + [f"{it} was left behind" for it in cluster.left_behind(folder, known)])
+
+
+def run_short(tally):
+    """A result that is much longer than the memory: a run gives up before that is taken, and shards follow."""
+    with harness.folder() as place, patched():
+        folder = pathlib.Path(place)
+        words = write(folder, *(f"k,{side}\n" + "".join(f"1,{side * 20}{number}\n" for number in range(1_000)) for side in SCRIPT.SIDES))
+        words += ["--join=LEFT JOIN USING (k)", "--workers=1"]
+        wanted = harness.run([harness.program("radixjoin"), *words], folder)
+        ran, runs, are_shards = joined(words, folder, 2)
+        faults = harness.differences(ran, wanted.stdout, wanted.stderr, wanted.status) + ([] if (runs, are_shards) == (2, True) else [f"{runs} left runs, and shards: {are_shards}"])
+        tally.check(f"cluster_runs: {len(wanted.stdout) >> 20} MiB in {memory_for(folder, 2) >> 10} KiB of memory", faults)
+
+
+def run_full(tally):
+    """The result, or the file of unmatched rows, on disks that are full, and not."""
+    with harness.folder() as name:
+        folder, place = pathlib.Path(name), pathlib.Path(name, "disk")
+        rows = [f"{number},{'x' * 30}\n" for number in range(20_000)]
+        words = [*write(folder, "k,a\n" + "".join(rows), "k,b\n" + "".join(rows[::3])), "--join=LEFT JOIN USING (k)"]
+        wanted = harness.run([harness.program("radixjoin"), *words], folder)
+        for size, option, is_full in ((64, "result", True), (900, "result", True), (4_096, "result", False), (128, "scratch", True), (1_500, "scratch", False)):
+            with harness.disk(place, size) as is_mounted, patched(), mock.patch.object(text, "_LAST", 1 << 16):
+                if not is_mounted:
+                    print("cluster_runs: full disks are left out, since no small file system can be mounted")
+                    return
+                out, scratch = (place / "out.csv", folder) if option == "result" else (folder / "out.csv", place)
+                unwritten = out.resolve() if option == "result" else place.resolve()
+                told = harness.Ran(6, b"", f'radixjoin-cluster: E20 WriteDevice "{unwritten}": {cluster_ends.NO_ROOM}\n'.encode()) if is_full else wanted
+                on = Machine(1)
+                ran = shards.joined([*words, f"--memory={memory_for(folder, 4)}", "--scratch", scratch], folder, 1, out, cluster=lambda _, on=on: on)
+                faults = harness.differences(ran, told.stdout, told.stderr, told.status) + (["it is done in shards"] if on.runs()[1] else [])
+                tally.check(f"cluster_runs: {option} on a disk of {size} KiB", faults + [f"{it} was left behind" for it in place.iterdir() if it.name != "out.csv"])
+                out.unlink(missing_ok=True)
+
+
+def run_last(tally):
+    """Where the last records of a text begin, by all numbers of them, in pieces of several sizes."""
+    pick = random.Random(11)
+    for size in (1, 2, 5, 64):
+        records = [",".join(pick.choice(("x", "", '"\n"', '""""', '"""\n"""', '"a""b"', '"\n\n"', '""')) for _ in range(pick.randrange(1, 4))) + "\n" for _ in range(60)]
+        whole = "".join(records).encode()
+        with tempfile.TemporaryFile() as file, mock.patch.object(text, "_LAST", size):
+            file.write(b'"' + whole + b'"')
+            file.flush()
+            begins = [1 + len("".join(records[: len(records) - count]).encode()) for count in range(len(records) + 1)]
+            got = [text.begin_of_last(file.fileno(), 1, 1 + len(whole), count) for count in range(len(records) + 1)]
+            again = [text.begin_of_last(file.fileno(), begins[40], 1 + len(whole), count) for count in range(41)]
+        tally.check(f"cluster_runs: the last records in pieces of {size} bytes", [] if (got, again) == (begins, begins[:41]) else [f"{got}, and not {begins}"])
+
+
+def run_in_turn(tally):
+    """Tasks in turn are done one by one, in their order, and give in it."""
+    found, threads = [], set()
+
+    def join_run(job, number):
+        found.append(number)
+        threads.add(threading.get_ident())
+        time.sleep(0.01 * (number % 2))
+        return job + number
+
+    got = local.Machine(3, False).in_turn([(join_run, 100, number) for number in range(7)])
+    tally.check("cluster_runs: tasks in turn", [] if (got, found, len(threads)) == ([*range(100, 107)], [*range(7)], 1) else [f"{got}, {found}, {threads}"])
+
+
+def run_all(tally):
+    run_kinds(tally)
+    run_last(tally)
+    run_in_turn(tally)
+    run_random(range(RUNS), tally)
+    run_tables(tally)
+    run_one_column(tally)
+    run_faults(tally)
+    run_ends(tally)
+    run_script(tally)
+    for number in (signal.SIGTERM, signal.SIGINT):
+        run_told_to_end(number, tally)
+    run_short(tally)
+    run_full(tally)
+
+
+def main(words):
+    tally = harness.Tally()
+    runs, first = [*map(int, words), *(RUNS, 0)[len(words) :]]
+    run_random(range(first, first + runs), tally)
+    print(f"{tally.passed} passed, {tally.failed} failed")
+    return 1 if tally.failed else 0
+
+
+if __name__ == "__main__":
+    sys.exit(main(sys.argv[1:]))
