@@ -1,5 +1,6 @@
 -- Which fault is the first.
-use Rattle.std.proofs.Common.{◌≡◌, ◌≢◌, ◌∙◌, List, ℕ, Err, ap, sym, subst}
+use Rattle.std.proofs.Common.{◌≡◌, ◌≢◌, ◌∙◌, List, None, Option, Result, Some, ℕ, Err, ap, ap₂, sym, subst}
+use Rattle.std.specs.Prelude.{IfErr, IfOk, Ok}
 use Rattle.rj_columns.specs.Tables.{TableValue}
 use Rattle.rj_condition.specs.Bound.{bound}
 use Rattle.rj_condition.specs.declared.tree.Clause.{Clause}
@@ -9,7 +10,11 @@ use Rattle.rj_fault.specs.declared.fault.Fault.{Fault}
 use Rattle.rj_fault.specs.declared.fault.Fault.TheVariants as fault
 use Rattle.rj_fault.specs.declared.fault.Side.TheVariants as side
 use Rattle.rj_line.specs.declared.request.Request.{Request}
-use Rattle.rj_command.specs.Operands.{IsFirstFault, IsJoinFault, bind_fault, in_clause, in_left, in_right, parse_fault, unbound, unread}
+use Rattle.rj_command.specs.Operands.{IsClauseFault, IsFirstFault, IsJoinAsked, IsJoinFault, in_clause, in_left, in_right, of_clause, of_text, unbound, unread}
+use Rattle.rj_command.specs.Refused.{bind_fault, parse_fault}
+use Rattle.rj_command.specs.Undeclared.{bound_for, bound_or, undeclared_fault}
+use Rattle.rj_command.specs.Undeclared as specs
+use Rattle.rj_condition.specs.declared.bound.BoundJoin.{BoundJoin}
 use Rattle.rj_command.specs.Sides.{IsTable, IsTableFault}
 use Rattle.rj_condition.specs.Clauses.{HasClause, IsFault}
 use Rattle.rj_condition.specs.declared.refused.ParseRefused.{ParseRefused}
@@ -26,6 +31,37 @@ unbound_fault text l r c e f has told is not =
     let other : e ≢ bind.Memory = λ memory. not (is ∙ ap bind_fault memory) in
     subst (IsJoinFault text l r) (sym is) (unbound c e has (told other))
 
+pub text_fault : (q : Request) (l r : TableValue) (e : ParseRefused) (f : Fault) → IsFault q.clause.now e → f ≡ parse_fault e → f ≢ fault.Memory → IsClauseFault q l r f
+text_fault q l r e f told is not =
+    let other : e ≢ parse.Memory = λ memory. not (is ∙ ap parse_fault memory) in
+    subst (IsClauseFault q l r) (sym is) (of_text e other told)
+
+-- what an answer of binding says where the fault of an undeclared column is known
+pub bound_by : (q : Request) (l r : TableValue) (c : Clause) (u : Option Fault) (answer : Result BoundJoin BindRefused) → u ≡ undeclared_fault q l r c
+    → bound c l r ≡ answer → bound_for q l r c ≡ bound_or answer u
+bound_by q l r c u answer known is = ap₂ bound_or is (sym known)
+
+pub binding_fault : (q : Request) (l r : TableValue) (c : Clause) (u : Option Fault) (e : BindRefused) (f : Fault) → HasClause q.clause.now c → u ≡ undeclared_fault q l r c
+    → (e ≢ bind.Memory → bound c l r ≡ Err e) → f ≡ specs.unbound_fault e u → f ≢ fault.Memory → IsClauseFault q l r f
+binding_fault q l r c u e f has known told is not =
+    let other : e ≢ bind.Memory = λ memory. not (is ∙ ap (λ x. specs.unbound_fault x u) memory) in
+    of_clause c f has (bound_by q l r c u (Err e) known (told other) ∙ ap Err (sym is))
+
+module _ (q : Request) (l r : TableValue) (c : Clause) (join : BoundJoin) (has : HasClause q.clause.now c) (is : bound c l r ≡ Ok join) where
+  -- the join of a clause that binds, where the fault of an undeclared column is known
+  pub asked_join : (u : Option Fault) (result : Result BoundJoin Fault) → u ≡ undeclared_fault q l r c → result ≡ bound_or (Ok join) u → IfOk result (IsJoinAsked q l r)
+  asked_join None result known same =
+      subst (λ (x : Result BoundJoin Fault). IfOk x (IsJoinAsked q l r)) (sym same) (c, has, bound_by q l r c None (Ok join) known is)
+  asked_join (Some f) result known same = subst (λ (x : Result BoundJoin Fault). IfOk x (IsJoinAsked q l r)) (sym same) tt
+
+  -- and its fault
+  pub asked_fault : (u : Option Fault) (result : Result BoundJoin Fault) → u ≡ undeclared_fault q l r c → result ≡ bound_or (Ok join) u
+      → IfErr result (λ f. f ≢ fault.Memory → IsClauseFault q l r f)
+  asked_fault None result known same = subst (λ (x : Result BoundJoin Fault). IfErr x (λ f. f ≢ fault.Memory → IsClauseFault q l r f)) (sym same) tt
+  asked_fault (Some g) result known same =
+      subst (λ (x : Result BoundJoin Fault). IfErr x (λ f. f ≢ fault.Memory → IsClauseFault q l r f)) (sym same)
+      (λ not. of_clause c g has (bound_by q l r c (Some g) (Ok join) known is))
+
 pub left_fault : (left right : List ℕ) (q : Request) (f : Fault) → (f ≢ fault.Memory → IsTableFault q side.Left left f) → f ≢ fault.Memory → IsFirstFault left right q f
 left_fault left right q f told not = in_left f (told not)
 
@@ -34,5 +70,5 @@ pub right_fault : (left right : List ℕ) (q : Request) (l : TableValue) (f : Fa
 right_fault left right q l f is told not = in_right l f is (told not)
 
 pub clause_fault : (left right : List ℕ) (q : Request) (l r : TableValue) (f : Fault) → IsTable q side.Left left l
-    → IsTable q side.Right right r → (f ≢ fault.Memory → IsJoinFault q.clause.now l r f) → f ≢ fault.Memory → IsFirstFault left right q f
+    → IsTable q side.Right right r → (f ≢ fault.Memory → IsClauseFault q l r f) → f ≢ fault.Memory → IsFirstFault left right q f
 clause_fault left right q l r f is ris told not = in_clause l r f is ris (told not)

@@ -15,7 +15,14 @@ use Rattle.rj_condition.specs.declared.refused.BindRefused.{BindRefused}
 use Rattle.rj_condition.specs.declared.refused.BindRefused.TheVariants as bind
 use Rattle.rj_csv_io.specs.declared.refused.ReadRefused.{ReadRefused}
 use Rattle.rj_csv_io.specs.declared.refused.ReadRefused.TheVariants as read
-use Rattle.rj_command.specs.Operands.{AreOperands, IsFirstFault, IsJoinFault, bind_fault, in_clause, in_left, in_right, parse_fault, unbound, unread}
+use Rattle.rj_command.specs.Operands.{AreOperands, IsClauseFault, IsFirstFault, in_clause, in_left, in_right}
+use Rattle.rj_command.specs.Operands as operands
+use Rattle.rj_command.specs.Refused.{bind_fault, parse_fault}
+use Rattle.rj_command.specs.Undeclared.{bound_or, column_fault, undeclared_column, unbound_fault}
+use Rattle.rj_condition.specs.Bound.{bound}
+use Rattle.rj_condition.specs.declared.bound.BoundJoin.{BoundJoin}
+use Rattle.rj_condition.specs.declared.undeclared.TableColumn.{TableColumn}
+use Rattle.rj_condition.specs.declared.undeclared.TableColumn.TheVariants as column
 use Rattle.rj_command.specs.Sides.{IsStrictFault, IsTableFaultBy, fault_below, has_lawful_nulls, header_records, is_no_header, nulls_of, of_records, of_text, records_in_lines, side_records, stands, strict_fault, told, told_first, types_of}
 use Rattle.rj_fault.specs.Faults.{read_fault}
 use Rattle.rj_command.specs.Runs.{CanBeWritten, HasJoined, IsJoined, IsReady, IsRunFault, IsUnwritten, WritesJoined, WritesTables, chosen_text}
@@ -159,14 +166,29 @@ bind_apart bind.TypeMismatch = refl
 bind_apart bind.RepeatedUsing = refl
 bind_apart bind.Memory = refl
 
-join_apart : (text : List ℕ) (l r : TableValue) (f : Fault) → IsJoinFault text l r f → is_device f ≡ false
-join_apart text l r _ (unread e other told) = parse_apart e
-join_apart text l r _ (unbound c e has told) = bind_apart e
+column_apart : (l r : TableValue) (x : TableColumn) → is_device (column_fault l r x) ≡ false
+column_apart l r (column.Left i) = refl
+column_apart l r (column.Right j) = refl
+
+unbound_apart : (l r : TableValue) (e : BindRefused) (o : Option TableColumn) → is_device (unbound_fault e (option_map (column_fault l r) o)) ≡ false
+unbound_apart l r bind.TypeMismatch None = refl
+unbound_apart l r bind.TypeMismatch (Some x) = column_apart l r x
+unbound_apart l r e o = bind_apart e
+
+bound_apart : (l r : TableValue) (a : Result BoundJoin BindRefused) (o : Option TableColumn) (f : Fault) → bound_or a (option_map (column_fault l r) o) ≡ Err f → is_device f ≡ false
+bound_apart l r (Ok join) None f e = cc
+bound_apart l r (Ok join) (Some x) f e = let same : f ≡ column_fault l r x = cc in ap is_device same ∙ column_apart l r x
+bound_apart l r (Err g) o f e =
+    let same : f ≡ unbound_fault g (option_map (column_fault l r) o) = cc in ap is_device same ∙ unbound_apart l r g o
+
+clause_apart : (q : Request) (l r : TableValue) (f : Fault) → IsClauseFault q l r f → is_device f ≡ false
+clause_apart q l r _ (operands.of_text e other told) = parse_apart e
+clause_apart q l r _ (operands.of_clause c f has told) = bound_apart l r (bound c l r) (undeclared_column q l r c) f told
 
 first_apart : (left right : List ℕ) (q : Request) (f : Fault) → IsFirstFault left right q f → is_device f ≡ false
 first_apart left right q _ (in_left f told) = table_apart q.strict q side.Left left f told
 first_apart left right q _ (in_right l f is told) = table_apart q.strict q side.Right right f told
-first_apart left right q _ (in_clause l r f is also told) = join_apart q.clause.now l r f told
+first_apart left right q _ (in_clause l r f is also told) = clause_apart q l r f told
 
 -- the first fault of the operands is none of the device that is written to
 pub not_of_device : (left right : List ℕ) (q : Request) (f : Fault) → (f ≢ fault.Memory → IsFirstFault left right q f) → f ≢ fault.WriteDevice

@@ -4,6 +4,8 @@ pub use Rattle.rj_line.specs.Line
 pub use Rattle.rj_line.specs.Named
 pub use Rattle.rj_line.specs.Options
 pub mod Operands
+pub mod Refused
+pub mod Undeclared
 pub mod Runs
 pub mod Texts
 pub mod Prepared

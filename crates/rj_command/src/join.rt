@@ -13,6 +13,7 @@ mod stats;
 mod strict;
 mod texts;
 mod types;
+mod undeclared;
 mod violations;
 mod watching;
 

@@ -41,6 +41,18 @@ chain_next options k d start command new a lt chain rule added =
     ∙ (map-append rule_of_option (take k options) (slice_index_or options k d ∷ []) ∙ ap (λ r. map rule_of_option (take k options) ++ r ∷ []) (sym rule))) in
     (chain.0 ++ a ∷ [], turn_more start command new chain.0 a chain.1 added, map-append rule_of chain.0 (a ∷ []) ∙ (ap (λ r. r ++ rule_of a ∷ []) chain.2 ∙ sym more))
 
+turns_on : (start middle command : Command) (xs ys : List Arg) → AddsInTurn AddsArg start xs middle → AddsInTurn AddsArg middle ys command → AddsInTurn AddsArg start (xs ++ ys) command
+turns_on start middle command [] ys same more = subst (λ (c : Command). AddsInTurn AddsArg c ys command) (sym same) more
+turns_on start middle command (x ∷ xs) ys chain more = (chain.0, chain.1, turns_on chain.0 middle command xs ys chain.2 more)
+
+-- a chain behind a chain
+pub chain_on : (start middle command : Command) (rules others : List Rule) → IsChain start rules middle → IsChain middle others command → IsChain start (rules ++ others) command
+chain_on start middle command rules others first second = (
+  first.0 ++ second.0,
+  turns_on start middle command first.0 second.0 first.1 second.1,
+  map-append rule_of first.0 second.0 ∙ ap₂ (λ a b. a ++ b) first.2 second.2,
+)
+
 -- a plain option, named as none that `clap` adds
 abbrev pub fits_option : Rule → Bool
 fits_option r = r.is_simple && (r.is_free && (not (is_empty r.id) && (not (bytes_eq r.id (codes "help")) && not (bytes_eq r.id (codes "version")))))

@@ -1,4 +1,5 @@
 mod ChainFacts
 mod LineFacts
 mod NumberFacts
+mod ValueFacts
 pub mod LimitFacts

@@ -9,9 +9,10 @@ use Rattle.rj_fault.specs.declared.fault.Fault.{Fault}
 use Rattle.rj_fault.specs.declared.fault.Fault.TheVariants as fault
 use Rattle.rj_fault.specs.declared.fault.Side.TheVariants as side
 use Rattle.rj_line.specs.Choices.{IsChoiceFault}
-use Rattle.rj_line.specs.Line.{AreTablesGiven, GiveTypes, IsLineFault, IsParseError, IsRequestFault, nulls_or, word_of, words_of}
+use Rattle.rj_line.specs.Line.{AreTablesGiven, GiveTypes, IsFaultIn, IsParseError, IsRequestFault, nulls_or, word_of, words_of}
 use Rattle.rj_line.specs.Options.{OptionWords, line_app}
-use Rattle.rj_types.specs.Lists.{IsTypeList}
+use Rattle.rj_line.specs.Types.{GivesNoTypes, GivesTypes}
+use Rattle.rj_line.specs.declared.form.Form.{Form}
 use Rattle.rj_types.specs.declared.entry.TypeEntry.{TypeEntry}
 
 abbrev is_memory : Fault → Bool
@@ -23,34 +24,32 @@ pub or_memory : (P : Fault → Type 0) (f : Fault) → P fault.Memory → (f ≢
 or_memory P fault.Memory memory other = memory
 or_memory P f memory other = other (λ is. true≢false (sym (ap is_memory is)))
 
-module _ (word : Text → Option Text) (texts : Text → List Text) where
-  pub left_list_fault : (text : Text) (f : Fault) → word (codes "left-types") ≡ Some text
-      → (f ≢ fault.Memory → (f ≡ fault.BadTypeList side.Left) × ((types : List TypeEntry) → IsTypeList text types → ⊥)) → IsRequestFault word texts f
-  left_list_fault text f left told = or_memory (IsRequestFault word texts) f tt (λ not.
+module _ (form : Form) (word : Text → Option Text) (texts : Text → List Text) where
+  pub left_list_fault : (f : Fault) → (f ≢ fault.Memory → (f ≡ fault.BadTypeList side.Left) × GivesNoTypes (word (codes "left-types"))) → IsRequestFault form word texts f
+  left_list_fault f told = or_memory (IsRequestFault form word texts) f tt (λ not.
       let t = told not in
-      subst (IsRequestFault word texts) (sym t.0) (text, left, t.1))
+      subst (IsRequestFault form word texts) (sym t.0) t.1)
 
-  pub right_list_fault : (left text : Text) (types : List TypeEntry) (f : Fault) → word (codes "left-types") ≡ Some left → IsTypeList left types
-      → word (codes "right-types") ≡ Some text
-      → (f ≢ fault.Memory → (f ≡ fault.BadTypeList side.Right) × ((types : List TypeEntry) → IsTypeList text types → ⊥)) → IsRequestFault word texts f
-  right_list_fault left text types f has list right told = or_memory (IsRequestFault word texts) f tt (λ not.
+  pub right_list_fault : (types : List TypeEntry) (f : Fault) → GivesTypes form (word (codes "left-types")) types
+      → (f ≢ fault.Memory → (f ≡ fault.BadTypeList side.Right) × GivesNoTypes (word (codes "right-types"))) → IsRequestFault form word texts f
+  right_list_fault types f has told = or_memory (IsRequestFault form word texts) f tt (λ not.
       let t = told not in
-      subst (IsRequestFault word texts) (sym t.0) ((types, (left, has, list)), (text, right, t.1)))
+      subst (IsRequestFault form word texts) (sym t.0) ((types, has), t.1))
 
-  pub left_nulls_fault : (f : Fault) → GiveTypes word
-      → (f ≢ fault.Memory → (f ≡ fault.TooManyNulls side.Left) × (4 < length (texts (codes "left-null")))) → IsRequestFault word texts f
-  left_nulls_fault f types told = or_memory (IsRequestFault word texts) f tt (λ not.
+  pub left_nulls_fault : (f : Fault) → GiveTypes form word
+      → (f ≢ fault.Memory → (f ≡ fault.TooManyNulls side.Left) × (4 < length (texts (codes "left-null")))) → IsRequestFault form word texts f
+  left_nulls_fault f types told = or_memory (IsRequestFault form word texts) f tt (λ not.
       let t = told not in
-      subst (IsRequestFault word texts) (sym t.0) (types, t.1))
+      subst (IsRequestFault form word texts) (sym t.0) (types, t.1))
 
-  pub right_nulls_fault : (f : Fault) → GiveTypes word → length (texts (codes "left-null")) ≤ 4
-      → (f ≢ fault.Memory → (f ≡ fault.TooManyNulls side.Right) × (4 < length (texts (codes "right-null")))) → IsRequestFault word texts f
-  right_nulls_fault f types few told = or_memory (IsRequestFault word texts) f tt (λ not.
+  pub right_nulls_fault : (f : Fault) → GiveTypes form word → length (texts (codes "left-null")) ≤ 4
+      → (f ≢ fault.Memory → (f ≡ fault.TooManyNulls side.Right) × (4 < length (texts (codes "right-null")))) → IsRequestFault form word texts f
+  right_nulls_fault f types few told = or_memory (IsRequestFault form word texts) f tt (λ not.
       let t = told not in
-      subst (IsRequestFault word texts) (sym t.0) (types, few, t.1))
+      subst (IsRequestFault form word texts) (sym t.0) (types, few, t.1))
 
   -- a fault of what is chosen is told where nothing is wrong with the tables
-  pub choice_fault : (f : Fault) → AreTablesGiven word texts → IsChoiceFault word f → IsRequestFault word texts f
+  pub choice_fault : (f : Fault) → AreTablesGiven form word texts → IsChoiceFault form word f → IsRequestFault form word texts f
   choice_fault fault.Memory given told = tt
   choice_fault (fault.BadTypeList side) given told = absurd told
   choice_fault (fault.TooManyNulls side) given told = absurd told
@@ -62,25 +61,25 @@ few_given [] null count is few = omega arith
 few_given (t ∷ texts) null count is few = subst (λ n. n ≤ 4) is few
 
 -- where `clap` has no fault to tell, a fault of the values is one of the line
-pub line_fault : (words : List Text) (h : OptionWords) (f : Fault) → fault_of (line_app h) words ≡ []
-    → IsRequestFault (word_of h words) (words_of h words) f → IsLineFault words f
-line_fault words h (fault.CommandLine e) accepted told = absurd told.1
-line_fault words h fault.Memory accepted told = tt
-line_fault words h f accepted told = (h, accepted, told)
+pub line_fault : (form : Form) (words : List Text) (h : OptionWords) (f : Fault) → fault_of (line_app form h) words ≡ []
+    → IsRequestFault form (word_of form h words) (words_of form h words) f → IsFaultIn form words f
+line_fault form words h (fault.CommandLine e) accepted told = absurd told.1
+line_fault form words h fault.Memory accepted told = tt
+line_fault form words h f accepted told = (h, accepted, told)
 
 abbrev is_want_of_memory : ErrorKind → Bool
 is_want_of_memory kind.OutOfMemory = true
 is_want_of_memory _ = false
 
-fault_of_kind : (words : List Text) (e : Error) (k : ErrorKind) → kind_of e ≡ k
-    → (k ≡ kind.OutOfMemory) ⊎ ((h : OptionWords) × IsAmong k (fault_of (line_app h) words)) → IsLineFault words (fault_by k e)
-fault_of_kind words e kind.OutOfMemory is told = tt
-fault_of_kind words e k is (inl memory) = absurd (true≢false (sym (ap is_want_of_memory memory)))
-fault_of_kind words e k is (inr told) = (
+fault_of_kind : (form : Form) (words : List Text) (e : Error) (k : ErrorKind) → kind_of e ≡ k
+    → (k ≡ kind.OutOfMemory) ⊎ ((h : OptionWords) × IsAmong k (fault_of (line_app form h) words)) → IsFaultIn form words (fault_by k e)
+fault_of_kind form words e kind.OutOfMemory is told = tt
+fault_of_kind form words e k is (inl memory) = absurd (true≢false (sym (ap is_want_of_memory memory)))
+fault_of_kind form words e k is (inr told) = (
   λ memory. true≢false (sym (ap is_want_of_memory memory) ∙ ap is_want_of_memory is),
-  (told.0, subst (λ j. IsAmong j (fault_of (line_app told.0) words)) (sym is) told.1),
+  (told.0, subst (λ j. IsAmong j (fault_of (line_app form told.0) words)) (sym is) told.1),
 )
 
 -- the fault that an error of `clap`'s is told as is one of the line
-pub clap_line_fault : (words : List Text) (e : Error) → IsParseError words e → IsLineFault words (clap_fault e)
-clap_line_fault words e told = fault_of_kind words e (kind_of e) refl told
+pub clap_line_fault : (form : Form) (words : List Text) (e : Error) → IsParseError form words e → IsFaultIn form words (clap_fault e)
+clap_line_fault form words e told = fault_of_kind form words e (kind_of e) refl told

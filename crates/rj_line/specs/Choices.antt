@@ -13,7 +13,9 @@ use Rattle.rj_settings.specs.declared.choice.Repeated.TheVariants as repeated
 use Rattle.rj_settings.specs.declared.choice.RowKinds.{RowKinds}
 use Rattle.rj_settings.specs.declared.choice.RowOrder.{RowOrder}
 use Rattle.rj_settings.specs.declared.choice.RowOrder.TheVariants as order
+use Rattle.rj_line.specs.Forms.{default_repeated}
 use Rattle.rj_line.specs.Named.{IsNamedOr}
+use Rattle.rj_line.specs.declared.form.Form.{Form}
 
 -- the name of an order
 abbrev pub order_name : RowOrder → Text
@@ -63,22 +65,22 @@ abbrev pub AreColumnsOf : Option Text → ColumnChoice → Type 0
 AreColumnsOf word c = IsNamedOr columns_name column.All word c
 
 -- what an option's value says of names that occur twice: the words `keep` and `qualify`, and any
--- other text of 1 to 16 bytes, which is added; they are kept if it has none
-abbrev pub IsRepeatedOf : Option Text → Repeated → Type 0
-IsRepeatedOf None r = r ≡ repeated.Kept
-IsRepeatedOf (Some text) repeated.Kept = text ≡ codes "keep"
-IsRepeatedOf (Some text) repeated.Qualified = text ≡ codes "qualify"
-IsRepeatedOf (Some text) (repeated.Suffixed suffix) =
+-- other text of 1 to 16 bytes, which is added; the form of the line says it if the option has none
+abbrev pub IsRepeatedOf : Form → Option Text → Repeated → Type 0
+IsRepeatedOf f None r = r ≡ default_repeated f
+IsRepeatedOf f (Some text) repeated.Kept = text ≡ codes "keep"
+IsRepeatedOf f (Some text) repeated.Qualified = text ≡ codes "qualify"
+IsRepeatedOf f (Some text) (repeated.Suffixed suffix) =
     (suffix.now ≡ text) × (text ≢ codes "keep") × (text ≢ codes "qualify") × (1 ≤ length text) × (length text ≤ 16)
 
 -- what the values of the options choose; matched left rows are chosen only with the columns of the
 -- left table alone
-pub record IsChoiceOf (word : Text → Option Text) (c : Choice) : Type 0 where
+pub record IsChoiceOf (f : Form) (word : Text → Option Text) (c : Choice) : Type 0 where
   pub rows : AreRowsOf (word (codes "rows")) c.rows
   pub order : IsNamedOr order_name order.PairsFirst (word (codes "order")) c.order
   pub columns : AreColumnsOf (word (codes "columns")) c.columns
   pub of_left : c.rows.matched_left ≡ true → c.columns ≡ column.Left
-  pub repeated : IsRepeatedOf (word (codes "repeated")) c.repeated
+  pub repeated : IsRepeatedOf f (word (codes "repeated")) c.repeated
 
 -- matched left rows are asked for, but not only the columns of the left table
 abbrev pub AreColumnsMissing : (Text → Option Text) → Type 0
@@ -92,9 +94,9 @@ AreRowsChosen word =
 
 -- why the values of the options choose nothing that can be written: no kinds of rows, then columns
 -- that don't go with them, then a text that can't be added to a name; or memory ran out
-abbrev pub IsChoiceFault : (Text → Option Text) → Fault → Type 0
-IsChoiceFault word fault.BadRows = GivesNoRows (word (codes "rows"))
-IsChoiceFault word fault.MatchedLeftColumns = AreColumnsMissing word
-IsChoiceFault word fault.BadSuffix = AreRowsChosen word × ((r : Repeated) → IsRepeatedOf (word (codes "repeated")) r → ⊥)
-IsChoiceFault word fault.Memory = Unit {0}
-IsChoiceFault word _ = ⊥
+abbrev pub IsChoiceFault : Form → (Text → Option Text) → Fault → Type 0
+IsChoiceFault form word fault.BadRows = GivesNoRows (word (codes "rows"))
+IsChoiceFault form word fault.MatchedLeftColumns = AreColumnsMissing word
+IsChoiceFault form word fault.BadSuffix = AreRowsChosen word × ((r : Repeated) → IsRepeatedOf form (word (codes "repeated")) r → ⊥)
+IsChoiceFault form word fault.Memory = Unit {0}
+IsChoiceFault form word _ = ⊥

@@ -1,3 +1,5 @@
+pub mod Types
+pub mod Forms
 pub use Rattle.rj_settings.specs.Limits
 pub mod Line
 pub mod Options

@@ -1,5 +1,5 @@
 -- What the words of the command line say.
-use Rattle.std.specs.Prelude.{◌≡◌, ◌≢◌, ◌≤◌, ◌<◌, ◌⊎◌, Bool, true, false, ℕ, List, [], ◌∷◌, length, Option, Some, None, option_map, codes, is_some, unwrap_or, pos}
+use Rattle.std.specs.Prelude.{◌≡◌, ◌≢◌, ◌≤◌, ◌<◌, ◌⊎◌, ◌||◌, Bool, true, false, ℕ, List, [], ◌∷◌, length, Option, Some, None, option_map, codes, is_some, unwrap_or, pos}
 use Rattle.std.specs.Str.{bytes_eq}
 use Rattle.std.specs.Str.Parse.{IsNumeral, signed_digits_value, without_leading_sign}
 use Rattle.clap.specs.Words.{IsAmong, IsSignedIn, Text, all_of, fault_of, first_of, first_value, found_of, kind_of, matched_of, matches_of, raw_values}
@@ -22,18 +22,20 @@ use Rattle.rj_line.specs.declared.request.Request.{Request}
 use Rattle.rj_line.specs.declared.request.Strictness.{Strictness}
 use Rattle.rj_line.specs.declared.request.Strictness.TheVariants as strictness
 use Rattle.rj_line.specs.Choices.{IsChoiceFault, IsChoiceOf, columns_name, order_name}
+use Rattle.rj_line.specs.Forms.{default_explain, default_strictness, default_workers, form_of, is_short}
 use Rattle.rj_line.specs.Named.{IsNameOf, IsNamedOr}
 use Rattle.rj_line.specs.Options.{OptionWords, line_app}
-use Rattle.rj_types.specs.Lists.{IsTypeList}
+use Rattle.rj_line.specs.Types.{AreTypesOf, GivesNoTypes, GivesTypes}
+use Rattle.rj_line.specs.declared.form.Form.{Form}
 use Rattle.rj_types.specs.declared.entry.TypeEntry.{TypeEntry}
 
--- the value that the words give an option
-abbrev pub word_of : OptionWords → List Text → Text → Option Text
-word_of h words name = first_of name (matches_of (line_app h) words)
+-- the value that the words of a line of this form give an option, or a word that is no option
+abbrev pub word_of : Form → OptionWords → List Text → Text → Option Text
+word_of f h words name = first_of name (matches_of (line_app f h) words)
 
--- the values that the words give an option, use by use
-abbrev pub words_of : OptionWords → List Text → Text → List Text
-words_of h words name = unwrap_or (all_of name (matches_of (line_app h) words)) []
+-- the values that they give an option, use by use
+abbrev pub words_of : Form → OptionWords → List Text → Text → List Text
+words_of f h words name = unwrap_or (all_of name (matches_of (line_app f h) words)) []
 
 -- those that a parse found
 abbrev pub texts_found : Found → Text → List Text
@@ -62,11 +64,11 @@ abbrev pub IsNumberIn : ℕ → ℕ → Option Text → Type 0
 IsNumberIn least most None = Unit {0}
 IsNumberIn least most (Some text) = IsSignedIn (pos least) (pos most) text
 
--- each setting is its option's number or its default: one worker, 16 partitions that are not
--- divided further, blocks of 1,024 rows, one lane of 64 parcels, one retry, and pieces of 65,536
--- rows
-pub record AreSettings (word : Text → Option Text) (s : Settings) : Type 0 where
-  pub workers : IsNumberOr 1 (word (codes "workers")) s.workers
+-- each setting is its option's number or its default: this many workers, 16
+-- partitions that are not divided further, blocks of 1,024 rows, one lane of 64 parcels, one retry,
+-- and pieces of 65,536 rows
+pub record AreSettings (other : ℕ) (word : Text → Option Text) (s : Settings) : Type 0 where
+  pub workers : IsNumberOr other (word (codes "workers")) s.workers
   pub bits1 : IsNumberOr 4 (word (codes "bits1")) s.bits1
   pub bits2 : IsNumberOr 0 (word (codes "bits2")) s.bits2
   pub block : IsNumberOr 1024 (word (codes "block")) s.block
@@ -97,12 +99,12 @@ pub record IsExpectationOf (word : Text → Option Text) (e : Expectation) : Typ
   pub matching : option_map matching_name e.matching ≡ word (codes "expect")
   pub most_rows : SpellsSome (word (codes "max-rows")) e.most_rows
 
--- how strictly files are read by an option's value, `Off` if it has none
-abbrev pub IsStrictness : Option Text → Strictness → Type 0
-IsStrictness None s = s ≡ strictness.Off
-IsStrictness (Some text) strictness.Off = ⊥
-IsStrictness (Some text) strictness.On = text ≡ codes "on"
-IsStrictness (Some text) strictness.Full = text ≡ codes "full"
+-- how strictly files are read by an option's value, or as here if it has none
+abbrev pub IsStrictness : Strictness → Option Text → Strictness → Type 0
+IsStrictness other None s = s ≡ other
+IsStrictness other (Some text) strictness.Off = ⊥
+IsStrictness other (Some text) strictness.On = text ≡ codes "on"
+IsStrictness other (Some text) strictness.Full = text ≡ codes "full"
 
 -- an option's value, if it has one, is the name of such a reading
 abbrev pub IsStrictName : Option Text → Type 0
@@ -114,78 +116,80 @@ abbrev pub is_true : Option Text → Bool
 is_true None = false
 is_true (Some text) = bytes_eq text (codes "true")
 
--- an option's value is a list of these types
-abbrev pub GivesTypes : Option Text → List TypeEntry → Type 0
-GivesTypes word types = (text : Text) × (word ≡ Some text) × IsTypeList text types
-
--- an option's value isn't a type list
-abbrev pub GivesNoTypes : Option Text → Type 0
-GivesNoTypes word = (text : Text) × (word ≡ Some text) × ((types : List TypeEntry) → IsTypeList text types → ⊥)
-
--- what the values of the options ask of two tables: each is the one given or the default
-pub record IsRequestOf (word : Text → Option Text) (texts : Text → List Text) (r : Request) : Type 0 where
-  pub left_types : GivesTypes (word (codes "left-types")) r.left_types.items
-  pub right_types : GivesTypes (word (codes "right-types")) r.right_types.items
+-- what the values of the options of a line of this form ask of two tables: each is the one given or
+-- the default, by which there may be a worker for each of these processors
+pub record IsRequestOf (f : Form) (processors : ℕ) (word : Text → Option Text) (texts : Text → List Text) (r : Request) : Type 0 where
+  pub left_types : AreTypesOf f (word (codes "left-types")) r.left_types.items r.left_undeclared
+  pub right_types : AreTypesOf f (word (codes "right-types")) r.right_types.items r.right_undeclared
   pub join : word (codes "join") ≡ Some r.clause.now
   pub left_nulls : null_texts r.left_nulls.items ≡ nulls_or (texts (codes "left-null")) (null_word word)
   pub right_nulls : null_texts r.right_nulls.items ≡ nulls_or (texts (codes "right-null")) (null_word word)
   pub few_nulls : (length r.left_nulls.items ≤ 4) × (length r.right_nulls.items ≤ 4)
   pub out_null : r.out_null.now ≡ unwrap_or (word (codes "out-null")) (null_word word)
-  pub strict : IsStrictness (word (codes "strict")) r.strict
-  pub settings : AreSettings word r.settings
+  pub strict : IsStrictness (default_strictness f (is_true (word (codes "lenient")))) (word (codes "strict")) r.strict
+  pub settings : AreSettings (default_workers f processors) word r.settings
   pub hash : IsNamedOr hash_name hash.Plain (word (codes "hash")) r.hash
   pub tells_pieces : r.tells_pieces ≡ is_some (word (codes "piece"))
-  pub choice : IsChoiceOf word r.choice
+  pub choice : IsChoiceOf f word r.choice
   pub expectation : IsExpectationOf word r.expectation
   pub report : r.report ≡ is_true (word (codes "report"))
 
--- `clap` has no error to report, each option that is required is given, and each value is the one
--- given or the default
-pub record IsLineOf (words : List Text) (l : Line) : Type 0 where
+-- read in this form, `clap` has no error to report, what is required is given, and each value is the
+-- one given or the default
+pub record IsLineIn (f : Form) (processors : ℕ) (words : List Text) (l : Line) : Type 0 where
   pub option_words : OptionWords
-  pub accepted : fault_of (line_app option_words) words ≡ []
-  pub left : word_of option_words words (codes "left") ≡ Some l.left.now
-  pub right : word_of option_words words (codes "right") ≡ Some l.right.now
-  pub request : IsRequestOf (word_of option_words words) (words_of option_words words) l.request
-  pub stats : l.stats ≡ is_true (word_of option_words words (codes "stats"))
-  pub explain : l.explain ≡ is_true (word_of option_words words (codes "explain"))
-  pub output : option_map (λ s. s.now) l.output ≡ word_of option_words words (codes "output")
-  pub count : l.count ≡ is_true (word_of option_words words (codes "count"))
-  pub progress : l.progress ≡ is_true (word_of option_words words (codes "progress"))
+  pub accepted : fault_of (line_app f option_words) words ≡ []
+  pub left : word_of f option_words words (codes "left") ≡ Some l.left.now
+  pub right : word_of f option_words words (codes "right") ≡ Some l.right.now
+  pub request : IsRequestOf f processors (word_of f option_words words) (words_of f option_words words) l.request
+  pub stats : l.stats ≡ is_true (word_of f option_words words (codes "stats"))
+  pub explain : l.explain
+      ≡ (is_true (word_of f option_words words (codes "explain")) || default_explain f (is_true (word_of f option_words words (codes "terse"))))
+  pub output : option_map (λ s. s.now) l.output ≡ word_of f option_words words (codes "output")
+  pub count : l.count ≡ is_true (word_of f option_words words (codes "count"))
+  pub progress : l.progress ≡ is_true (word_of f option_words words (codes "progress"))
+
+-- the words are read in the form that they have
+abbrev pub IsLineOf : ℕ → List Text → Line → Type 0
+IsLineOf processors words l = IsLineIn (form_of words) processors words l
 
 -- both type lists are such lists
-abbrev pub GiveTypes : (Text → Option Text) → Type 0
-GiveTypes word =
-    ((types : List TypeEntry) × GivesTypes (word (codes "left-types")) types)
-    × ((types : List TypeEntry) × GivesTypes (word (codes "right-types")) types)
+abbrev pub GiveTypes : Form → (Text → Option Text) → Type 0
+GiveTypes f word =
+    ((types : List TypeEntry) × GivesTypes f (word (codes "left-types")) types)
+    × ((types : List TypeEntry) × GivesTypes f (word (codes "right-types")) types)
 
 -- and at most four NULL texts are given for either table
-abbrev pub AreTablesGiven : (Text → Option Text) → (Text → List Text) → Type 0
-AreTablesGiven word texts = GiveTypes word × (length (texts (codes "left-null")) ≤ 4) × (length (texts (codes "right-null")) ≤ 4)
+abbrev pub AreTablesGiven : Form → (Text → Option Text) → (Text → List Text) → Type 0
+AreTablesGiven f word texts = GiveTypes f word × (length (texts (codes "left-null")) ≤ 4) × (length (texts (codes "right-null")) ≤ 4)
 
 -- why the values of the options ask for nothing that can be done: a bad type list on the left, then
 -- one on the right, then too many NULL texts on the left, then on the right, then what is chosen of
 -- the joined table; or memory ran out
-abbrev pub IsRequestFault : (Text → Option Text) → (Text → List Text) → Fault → Type 0
-IsRequestFault word texts (fault.BadTypeList side.Left) = GivesNoTypes (word (codes "left-types"))
-IsRequestFault word texts (fault.BadTypeList side.Right) =
-    ((types : List TypeEntry) × GivesTypes (word (codes "left-types")) types) × GivesNoTypes (word (codes "right-types"))
-IsRequestFault word texts (fault.TooManyNulls side.Left) = GiveTypes word × (4 < length (texts (codes "left-null")))
-IsRequestFault word texts (fault.TooManyNulls side.Right) =
-    GiveTypes word × (length (texts (codes "left-null")) ≤ 4) × (4 < length (texts (codes "right-null")))
-IsRequestFault word texts fault.Memory = Unit {0}
-IsRequestFault word texts f = AreTablesGiven word texts × IsChoiceFault word f
+abbrev pub IsRequestFault : Form → (Text → Option Text) → (Text → List Text) → Fault → Type 0
+IsRequestFault f word texts (fault.BadTypeList side.Left) = GivesNoTypes (word (codes "left-types"))
+IsRequestFault f word texts (fault.BadTypeList side.Right) =
+    ((types : List TypeEntry) × GivesTypes f (word (codes "left-types")) types) × GivesNoTypes (word (codes "right-types"))
+IsRequestFault f word texts (fault.TooManyNulls side.Left) = GiveTypes f word × (4 < length (texts (codes "left-null")))
+IsRequestFault f word texts (fault.TooManyNulls side.Right) =
+    GiveTypes f word × (length (texts (codes "left-null")) ≤ 4) × (4 < length (texts (codes "right-null")))
+IsRequestFault f word texts fault.Memory = Unit {0}
+IsRequestFault f word texts e = AreTablesGiven f word texts × IsChoiceFault f word e
 
 -- an error of `clap`: out of memory, or one of a kind that it may report of the words
-abbrev pub IsParseError : List Text → Error → Type 0
-IsParseError words e = (kind_of e ≡ OutOfMemory) ⊎ ((h : OptionWords) × IsAmong (kind_of e) (fault_of (line_app h) words))
+abbrev pub IsParseError : Form → List Text → Error → Type 0
+IsParseError f words e = (kind_of e ≡ OutOfMemory) ⊎ ((h : OptionWords) × IsAmong (kind_of e) (fault_of (line_app f h) words))
 
--- an error of `clap` of a kind that it may report of the words, other than out of memory; or if it
--- has none to report, an error of the values; or memory ran out
+-- read in this form: an error of `clap` of a kind that it may report of the words, other than out of
+-- memory; or if it has none to report, an error of the values; or memory ran out
+abbrev pub IsFaultIn : Form → List Text → Fault → Type 0
+IsFaultIn f words (fault.CommandLine e) = (kind_of e ≢ OutOfMemory) × ((h : OptionWords) × IsAmong (kind_of e) (fault_of (line_app f h) words))
+IsFaultIn f words fault.Memory = Unit {0}
+IsFaultIn f words e =
+    (h : OptionWords) × (fault_of (line_app f h) words ≡ []) × IsRequestFault f (word_of f h words) (words_of f h words) e
+
 abbrev pub IsLineFault : List Text → Fault → Type 0
-IsLineFault words (fault.CommandLine e) = (kind_of e ≢ OutOfMemory) × ((h : OptionWords) × IsAmong (kind_of e) (fault_of (line_app h) words))
-IsLineFault words fault.Memory = Unit {0}
-IsLineFault words f = (h : OptionWords) × (fault_of (line_app h) words ≡ []) × IsRequestFault (word_of h words) (words_of h words) f
+IsLineFault words e = IsFaultIn (form_of words) words e
 
 -- the numbers that are given are within their limits
 pub record AreNumbersIn (word : Text → Option Text) : Type 0 where
@@ -200,9 +204,9 @@ pub record AreNumbersIn (word : Text → Option Text) : Type 0 where
 
 -- the values from which a request is read: those that are required are given, each number is within
 -- its limits, and each word is one of its option's
-pub record HasValues (word : Text → Option Text) : Type 0 where
-  pub left_types : is_some (word (codes "left-types")) ≡ true
-  pub right_types : is_some (word (codes "right-types")) ≡ true
+pub record HasValues (f : Form) (word : Text → Option Text) : Type 0 where
+  pub left_types : is_short f ≡ false → is_some (word (codes "left-types")) ≡ true
+  pub right_types : is_short f ≡ false → is_some (word (codes "right-types")) ≡ true
   pub join : is_some (word (codes "join")) ≡ true
   pub numbers : AreNumbersIn word
   pub hash : IsNameOf hash_name (word (codes "hash"))
@@ -213,11 +217,11 @@ pub record HasValues (word : Text → Option Text) : Type 0 where
   pub most_rows : IsNumberIn 0 4294967295 (word (codes "max-rows"))
 
 -- the parsed words, with the names of both files, and the values from which a request is read
-pub record IsParseOf (words : List Text) (m : ArgMatches) : Type 0 where
+pub record IsParseOf (f : Form) (words : List Text) (m : ArgMatches) : Type 0 where
   pub option_words : OptionWords
-  pub accepted : fault_of (line_app option_words) words ≡ []
-  pub values : (name : Text) → first_value (found_of m) name ≡ word_of option_words words name
-  pub texts : (name : Text) → texts_found (found_of m) name ≡ words_of option_words words name
+  pub accepted : fault_of (line_app f option_words) words ≡ []
+  pub values : (name : Text) → first_value (found_of m) name ≡ word_of f option_words words name
+  pub texts : (name : Text) → texts_found (found_of m) name ≡ words_of f option_words words name
   pub left : is_some (first_value (found_of m) (codes "left")) ≡ true
   pub right : is_some (first_value (found_of m) (codes "right")) ≡ true
-  pub asked : HasValues (first_value (found_of m))
+  pub asked : HasValues f (first_value (found_of m))

@@ -10,6 +10,7 @@ ghost use Rattle.rj_line.specs.Choices as choices;
 ghost use Rattle.rj_line.specs.Choices.{AreColumnsOf, AreKinds, AreRowsOf, GivesNoRows, IsChoiceFault, IsChoiceOf, IsRepeatedOf, StandsWhere, columns_name, order_name};
 ghost use Rattle.rj_line.specs.Named.{IsNameOf, IsNamedOr};
 
+use crate::form::{Form, default_repeated};
 use clap::ArgMatches;
 use rj_fault::Fault;
 use rj_settings::{Choice, ColumnChoice, Repeated, RowKinds, RowOrder};
@@ -123,13 +124,14 @@ fn columns_of(matches: &ArgMatches<'_>) -> ColumnChoice
 // The most bytes that are added to a name at once.
 const LONGEST_SUFFIX: usize = 16;
 
-// What becomes of names that occur twice.
-fn repeated_of<'a>(matches: &ArgMatches<'a>) -> Result<Repeated<'a>, Fault>
-    ensures repeated { IfOk result (IsRepeatedOf (first_value (found_of matches.now) (codes "repeated"))) }
-    ensures fault { IfErr result (λ f. (f ≡ Fault.BadSuffix) × ((r : Repeated) → IsRepeatedOf (first_value (found_of matches.now) (codes "repeated")) r → ⊥)) }
+// What becomes of names that occur twice, in a line of this form.
+fn repeated_of<'a>(matches: &ArgMatches<'a>, form: Form) -> Result<Repeated<'a>, Fault>
+    ensures repeated { IfOk result (IsRepeatedOf form (first_value (found_of matches.now) (codes "repeated"))) }
+    ensures fault { IfErr result (λ f. (f ≡ Fault.BadSuffix) × ((r : Repeated) → IsRepeatedOf form (first_value (found_of matches.now) (codes "repeated")) r → ⊥)) }
 {
     match matches.get_str("repeated") {
-        None | Some("keep") => Ok(Repeated::Kept),
+        None => Ok(default_repeated(form)),
+        Some("keep") => Ok(Repeated::Kept),
         Some("qualify") => Ok(Repeated::Qualified),
         Some(suffix) => {
             if suffix.is_empty() || suffix.len() > LONGEST_SUFFIX {
@@ -158,11 +160,15 @@ fn is_left(columns: ColumnChoice) -> bool
 /// `BadRows` if `--rows` isn't a list of kinds of rows; then `MatchedLeftColumns` if it names
 /// matched left rows and `--columns` isn't `left`; then `BadSuffix` if a text to be added to names
 /// has no byte or more than 16. `Memory` comes only when memory ran out.
-pub(crate) fn choice_of<'a>(alloc: Global, matches: &ArgMatches<'a>) -> Result<Choice<'a>, Fault>
+pub(crate) fn choice_of<'a>(
+    alloc: Global,
+    matches: &ArgMatches<'a>,
+    form: Form,
+) -> Result<Choice<'a>, Fault>
     requires order { IsNameOf order_name (first_value (found_of matches.now) (codes "order")) }
     requires columns { IsNameOf columns_name (first_value (found_of matches.now) (codes "columns")) }
-    ensures choice { IfOk result (IsChoiceOf (first_value (found_of matches.now))) }
-    ensures fault { IfErr result (IsChoiceFault (first_value (found_of matches.now))) }
+    ensures choice { IfOk result (IsChoiceOf form (first_value (found_of matches.now))) }
+    ensures fault { IfErr result (IsChoiceFault form (first_value (found_of matches.now))) }
 {
     let rows = rows_of(alloc, matches)?;
     let columns = columns_of(matches);
@@ -173,6 +179,6 @@ pub(crate) fn choice_of<'a>(alloc: Global, matches: &ArgMatches<'a>) -> Result<C
         rows,
         order: order_of(matches),
         columns,
-        repeated: repeated_of(matches)?,
+        repeated: repeated_of(matches, form)?,
     })
 }

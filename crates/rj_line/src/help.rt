@@ -5,9 +5,14 @@
 pub(crate) const HELP: &str = "\
 Joins two CSV files as SQL-92 says, and writes the joined table as CSV
 
-Usage: radixjoin --left <FILE> --left-types <TYPES> --right <FILE> --right-types <TYPES>
+Usage: radixjoin <LEFT FILE> <RIGHT FILE> <CLAUSE> [OPTIONS]
+       radixjoin --left <FILE> --left-types <TYPES> --right <FILE> --right-types <TYPES>
                  --join <CLAUSE> [OPTIONS]
        radixjoin --suggest-types <FILE> [--null <TEXT>]
+
+The short form, without --left, --right and --join, is for people: by default it reads strictly,
+explains errors, qualifies repeated names and has a worker for each processor. A column of which no
+type is given is text. A clause that orders it, or compares it with a number, is refused (E32).
 
 Tables:
   --left <FILE>          CSV file of the left table, L in the clause; - is standard input
@@ -18,12 +23,13 @@ Tables:
   --left-null <TEXT>     Text for NULL in the left file, up to four times [default: as --null]
   --right-null <TEXT>    Text for NULL in the right file, up to four times [default: as --null]
   --strict [<LEVEL>]     Refuse CSV that breaks RFC 4180 (on), and a last line without end (full)
+  --lenient              Don't read strictly in the short form
 
 Join:
   --join <CLAUSE>        As 'LEFT JOIN USING (id)' or 'JOIN ON L.id = R.id AND L.age > 30'
 
 Output (a pair is a match, a lone row is an unmatched row):
-  --output <FILE>        File for the result, written atomically [default: standard output]
+  -o, --output <FILE>    File for the result, written atomically [default: standard output]
   --order <ORDER>        pairs: matches first; left: each left row at its place [default: pairs]
   --rows <KINDS>         Rows to write, also matched-left [default: pairs,lone-left,lone-right]
   --columns <SIDE>       Columns to write: all, left or right [default: all]
@@ -37,10 +43,11 @@ Checks (--report and --stats print on standard error):
   --report               Count matches, NULL keys, repeated keys; the largest group of equal keys
   --stats                Count rows by partition and by kind, and with --piece the pieces
   --explain              Say where an error is, what is there, and what was perhaps meant
+  --terse                Don't explain errors in the short form
   --progress             Show the progress on a terminal at once, not only after two seconds
 
 How it runs (none of these changes the result):
-  --workers <N>          N threads each read, scan, join and write, 1 to 64 [default: 1]
+  -w, --workers <N>      N threads each read, scan, join and write, 1 to 64 [default: 1]
   --bits1 <N>            2^N partitions, by bits of the hash of the key, 0 to 10 [default: 4]
   --bits2 <N>            Divide each partition again, by N more bits, 0 to 10 [default: 0]
   --hash <NAME>          Hash of the key: plain, or mixed for keys close together [default: plain]

@@ -3,6 +3,7 @@
 
 mod choice;
 mod expecting;
+mod form;
 mod help;
 mod line;
 mod nulls;
@@ -10,6 +11,7 @@ mod options;
 mod request;
 mod types;
 
+pub use form::{Form, form_of};
 pub use line::{Line, read_line};
 pub use nulls::read_nulls;
 pub use request::{Hash, Request, Strictness};

@@ -1,16 +1,18 @@
 //! Reading the words of the command line.
 
-ghost use Rattle.std.specs.Prelude.{◌≡◌, ◌-◌, ◌^◌, IfOk, IfErr, Some, codes, is_some, map, true};
+ghost use Rattle.std.specs.Prelude.{◌≡◌, ◌-◌, ◌^◌, ◌≤◌, ◌||◌, IfOk, IfErr, Some, codes, is_some, map, true};
 ghost use Rattle.clap.specs.Words.{first_value, found_of};
+ghost use Rattle.rj_line.specs.Forms.{default_explain, default_strictness};
 ghost use Rattle.rj_line.specs.Named.{IsNameOf, IsNamedOr};
-ghost use Rattle.rj_line.specs.Line.{AreNumbersIn, AreSettings, HasValues, IsLineFault, IsLineOf, IsNumberIn, IsNumberOr, IsParseError, IsParseOf, IsRequestFault, IsRequestOf, IsStrictName, IsStrictness, hash_name, is_true, texts_found};
+ghost use Rattle.rj_line.specs.Line.{AreNumbersIn, AreSettings, HasValues, IsFaultIn, IsLineFault, IsLineIn, IsLineOf, IsNumberIn, IsNumberOr, IsParseError, IsParseOf, IsRequestFault, IsRequestOf, IsStrictName, IsStrictness, hash_name, is_true, texts_found};
 
 use crate::choice::choice_of;
 use crate::expecting::{expectation_of, number_of};
+use crate::form::{Form, default_explain, default_strictness, default_workers, form_of};
 use crate::nulls::read_nulls;
 use crate::options::line_command;
 use crate::request::{Hash, Request, Strictness};
-use crate::types::read_types;
+use crate::types::types_of;
 use clap::{ArgMatches, Error};
 use rj_fault::{Fault, Side};
 use rj_settings::Settings;
@@ -37,12 +39,12 @@ pub struct Line<'a> {
     pub progress: bool,
 }
 
-// The parsed words, as `clap` matches them.
-fn parse_words<'a>(alloc: Global, words: &'a [&'a str]) -> Result<ArgMatches<'a>, Error>
-    ensures ok { IfOk result (IsParseOf (map (λ w. w.now) words.entry.now)) }
-    ensures error { IfErr result (IsParseError (map (λ w. w.now) words.entry.now)) }
+// The parsed words of a line of this form, as `clap` matches them.
+fn parse_words<'a>(alloc: Global, words: &'a [&'a str], form: Form) -> Result<ArgMatches<'a>, Error>
+    ensures ok { IfOk result (IsParseOf form (map (λ w. w.now) words.entry.now)) }
+    ensures error { IfErr result (IsParseError form (map (λ w. w.now) words.entry.now)) }
 {
-    let command = line_command(alloc)?;
+    let command = line_command(alloc, form)?;
     match command.try_get_matches_from(words) {
         Ok(matches) => Ok(matches),
         Err(error) => Err(error),
@@ -65,14 +67,16 @@ fn number_or(matches: &ArgMatches<'_>, name: &str, other: u32) -> u32
     number_of(matches, name).unwrap_or(other)
 }
 
-// The settings of a join. The defaults are one worker, 16 partitions that are not divided further,
-// blocks of 1,024 rows, one lane of 64 parcels, one retry, and pieces of 65,536 rows.
-fn settings_of(matches: &ArgMatches<'_>) -> Settings
-    requires { AreNumbersIn (first_value (found_of matches.now)) }
-    ensures { AreSettings (first_value (found_of matches.now)) result }
+// The settings of a join. The defaults are this many workers, 16 partitions that are not divided
+// further, blocks of 1,024 rows, one lane of 64 parcels, one retry, and pieces of 65,536 rows.
+fn settings_of(matches: &ArgMatches<'_>, workers: u32) -> Settings
+    requires numbers { AreNumbersIn (first_value (found_of matches.now)) }
+    requires some { 1 ≤ workers }
+    requires few { workers ≤ 64 }
+    ensures { AreSettings workers (first_value (found_of matches.now)) result }
 {
     Settings {
-        workers: number_or(matches, "workers", 1),
+        workers: number_or(matches, "workers", workers),
         bits1: number_or(matches, "bits1", 4),
         bits2: number_or(matches, "bits2", 0),
         block: number_or(matches, "block", 1024),
@@ -94,15 +98,15 @@ fn hash_of(matches: &ArgMatches<'_>) -> Hash
     }
 }
 
-// How strictly the files are read.
-fn strictness_of(matches: &ArgMatches<'_>) -> Strictness
+// How strictly the files are read, or the other answer if the option isn't given.
+fn strictness_or(matches: &ArgMatches<'_>, other: Strictness) -> Strictness
     requires { IsStrictName (first_value (found_of matches.now) (codes "strict")) }
-    ensures { IsStrictness (first_value (found_of matches.now) (codes "strict")) result }
+    ensures { IsStrictness other (first_value (found_of matches.now) (codes "strict")) result }
 {
     match matches.get_str("strict") {
         Some("full") => Strictness::Full,
         Some(_) => Strictness::On,
-        None => Strictness::Off,
+        None => other,
     }
 }
 
@@ -113,14 +117,39 @@ fn is_given(matches: &ArgMatches<'_>, name: &str) -> bool
     matches.get_str(name) == Some("true")
 }
 
-// What the values of the options ask of two tables.
-fn request_of<'a>(alloc: Global, matches: &ArgMatches<'a>) -> Result<Request<'a>, Fault>
-    requires { HasValues (first_value (found_of matches.now)) }
-    ensures request { IfOk result (IsRequestOf (first_value (found_of matches.now)) (texts_found (found_of matches.now))) }
-    ensures fault { IfErr result (IsRequestFault (first_value (found_of matches.now)) (texts_found (found_of matches.now))) }
+// How strictly the files are read in a line of this form.
+fn strictness_of(matches: &ArgMatches<'_>, form: Form) -> Strictness
+    requires { IsStrictName (first_value (found_of matches.now) (codes "strict")) }
+    ensures { IsStrictness (default_strictness form (is_true (first_value (found_of matches.now) (codes "lenient"))))
+        (first_value (found_of matches.now) (codes "strict")) result }
 {
-    let left_types = read_types(alloc, given(matches, "left-types"), Side::Left)?;
-    let right_types = read_types(alloc, given(matches, "right-types"), Side::Right)?;
+    strictness_or(
+        matches,
+        default_strictness(form, is_given(matches, "lenient")),
+    )
+}
+
+// Whether an error is explained in a line of this form.
+fn is_explained(matches: &ArgMatches<'_>, form: Form) -> bool
+    ensures { result ≡ (is_true (first_value (found_of matches.now) (codes "explain"))
+        || default_explain form (is_true (first_value (found_of matches.now) (codes "terse")))) }
+{
+    is_given(matches, "explain") || default_explain(form, is_given(matches, "terse"))
+}
+
+// What the values of the options of a line of this form ask of two tables.
+fn request_of<'a>(
+    alloc: Global,
+    matches: &ArgMatches<'a>,
+    form: Form,
+    processors: usize,
+) -> Result<Request<'a>, Fault>
+    requires { HasValues form (first_value (found_of matches.now)) }
+    ensures request { IfOk result (IsRequestOf form processors (first_value (found_of matches.now)) (texts_found (found_of matches.now))) }
+    ensures fault { IfErr result (IsRequestFault form (first_value (found_of matches.now)) (texts_found (found_of matches.now))) }
+{
+    let left = types_of(alloc, matches, "left-types", Side::Left, form)?;
+    let right = types_of(alloc, matches, "right-types", Side::Right, form)?;
     let null = matches.get_str("null").unwrap_or("");
     let left_nulls = match read_nulls(alloc, matches, "left-null", null, Side::Left) {
         Ok(nulls) => nulls,
@@ -130,19 +159,21 @@ fn request_of<'a>(alloc: Global, matches: &ArgMatches<'a>) -> Result<Request<'a>
         Ok(nulls) => nulls,
         Err(fault) => return Err(fault),
     };
-    let choice = match choice_of(alloc, matches) {
+    let choice = match choice_of(alloc, matches, form) {
         Ok(choice) => choice,
         Err(fault) => return Err(fault),
     };
     Ok(Request {
-        left_types,
-        right_types,
+        left_types: left.entries,
+        right_types: right.entries,
+        left_undeclared: left.undeclared,
+        right_undeclared: right.undeclared,
         left_nulls,
         right_nulls,
         out_null: matches.get_str("out-null").unwrap_or(null),
-        strict: strictness_of(matches),
+        strict: strictness_of(matches, form),
         clause: given(matches, "join"),
-        settings: settings_of(matches),
+        settings: settings_of(matches, default_workers(form, processors)),
         hash: hash_of(matches),
         tells_pieces: matches.get_str("piece").is_some(),
         choice,
@@ -151,20 +182,18 @@ fn request_of<'a>(alloc: Global, matches: &ArgMatches<'a>) -> Result<Request<'a>
     })
 }
 
-/// Reads the words after the program's name.
-///
-/// # Errors
-///
-/// `CommandLine` for a line that `clap` refuses, or that asks for help or the version. Then come,
-/// in this order: a bad type list, the left one before the right one; more than four NULL texts on
-/// the left, and on the right; a bad list of kinds of rows; `MatchedLeftColumns`; and a bad suffix.
-/// `Memory` comes only when memory ran out.
-pub fn read_line<'a>(alloc: Global, words: &'a [&'a str]) -> Result<Line<'a>, Fault>
-    ensures line { IfOk result (IsLineOf (map (λ w. w.now) words.entry.now)) }
-    ensures fault { IfErr result (IsLineFault (map (λ w. w.now) words.entry.now)) }
+// Reads the words after the program's name in this form.
+fn read_in_form<'a>(
+    alloc: Global,
+    words: &'a [&'a str],
+    form: Form,
+    processors: usize,
+) -> Result<Line<'a>, Fault>
+    ensures line { IfOk result (IsLineIn form processors (map (λ w. w.now) words.entry.now)) }
+    ensures fault { IfErr result (IsFaultIn form (map (λ w. w.now) words.entry.now)) }
 {
-    let matches = parse_words(alloc, words)?;
-    let request = match request_of(alloc, &matches) {
+    let matches = parse_words(alloc, words, form)?;
+    let request = match request_of(alloc, &matches, form, processors) {
         Ok(request) => request,
         Err(fault) => return Err(fault),
     };
@@ -173,9 +202,29 @@ pub fn read_line<'a>(alloc: Global, words: &'a [&'a str]) -> Result<Line<'a>, Fa
         right: given(&matches, "right"),
         request,
         stats: is_given(&matches, "stats"),
-        explain: is_given(&matches, "explain"),
+        explain: is_explained(&matches, form),
         output: matches.get_str("output"),
         count: is_given(&matches, "count"),
         progress: is_given(&matches, "progress"),
     })
+}
+
+/// Reads the words after the program's name, in the form that they have. In the short form there is
+/// a worker for each of these processors where the words don't say, from 1 to 64.
+///
+/// # Errors
+///
+/// `CommandLine` for a line that `clap` refuses, or that asks for help or the version. Then come,
+/// in this order: a bad type list, the left one before the right one; more than four NULL texts on
+/// the left, and on the right; a bad list of kinds of rows; `MatchedLeftColumns`; and a bad suffix.
+/// `Memory` comes only when memory ran out.
+pub fn read_line<'a>(
+    alloc: Global,
+    words: &'a [&'a str],
+    processors: usize,
+) -> Result<Line<'a>, Fault>
+    ensures line { IfOk result (IsLineOf processors (map (λ w. w.now) words.entry.now)) }
+    ensures fault { IfErr result (IsLineFault (map (λ w. w.now) words.entry.now)) }
+{
+    read_in_form(alloc, words, form_of(words), processors)
 }

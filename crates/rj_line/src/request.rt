@@ -31,6 +31,10 @@ pub struct Request<'a> {
     pub left_types: Vec<TypeEntry>,
     /// The types of the right table's columns.
     pub right_types: Vec<TypeEntry>,
+    /// Whether the types of those left columns that no entry names aren't declared.
+    pub left_undeclared: bool,
+    /// The same of the right columns.
+    pub right_undeclared: bool,
     /// The texts that stand for NULL in the left table.
     pub left_nulls: Vec<&'a str>,
     /// The texts that stand for NULL in the right table.

@@ -1,10 +1,16 @@
 //! Type lists.
 
-ghost use Rattle.std.specs.Prelude.{◌≡◌, ◌≢◌, IfOk, IfErr, List};
+ghost use Rattle.std.specs.Prelude.{◌≡◌, ◌≢◌, ◌&&◌, IfOk, IfErr, List, false, is_some, true};
+ghost use Rattle.clap.specs.Words.{first_value, found_of};
+ghost use Rattle.rj_line.specs.Forms.{is_short};
+ghost use Rattle.rj_line.specs.Types.{AreTypesOf, GivesNoTypes, GivesTypes, completed};
+ghost use Rattle.rj_types.specs.Columns.{is_open};
 ghost use Rattle.rj_types.specs.Lists.{IsTypeList};
 
+use crate::form::{Form, is_short};
+use clap::ArgMatches;
 use rj_fault::{Fault, Side};
-use rj_types::{TypeEntry, read_list};
+use rj_types::{TypeEntry, is_open, read_list, with_texts};
 use std::alloc::Global;
 
 /// The entries of this side's type list, such as `int,num(4,1)` or `id=int,*=text`.
@@ -22,4 +28,75 @@ pub fn read_types(alloc: Global, text: &str, side: Side) -> Result<Vec<TypeEntry
         Ok(None) => Err(Fault::BadTypeList(side)),
         Err(_) => Err(Fault::Memory),
     }
+}
+
+/// The types of a side's columns.
+#[derive(Drop)]
+pub(crate) struct SideTypes {
+    /// The entries of its list.
+    pub(crate) entries: Vec<TypeEntry>,
+    /// Whether the types of those columns that no entry names aren't declared.
+    pub(crate) undeclared: bool,
+}
+
+// The entries of the list that an option gives. Where columns needn't be declared, it may give none.
+fn listed(
+    alloc: Global,
+    matches: &ArgMatches<'_>,
+    name: &str,
+    side: Side,
+    form: Form,
+) -> Result<Vec<TypeEntry>, Fault>
+    requires { is_short form ≡ false → is_some (first_value (found_of matches.now) name.now) ≡ true }
+    ensures types { IfOk result (λ v. GivesTypes form (first_value (found_of matches.now) name.now) v.items) }
+    ensures fault { IfErr result (λ f. f ≢ Fault.Memory → (f ≡ Fault.BadTypeList side) × GivesNoTypes (first_value (found_of matches.now) name.now)) }
+{
+    let _form = form;
+    match matches.get_str(name) {
+        Some(text) => read_types(alloc, text, side),
+        None => Ok(Vec::new(alloc)),
+    }
+}
+
+// The types that these entries give a side's columns.
+fn completed(listed: Vec<TypeEntry>, form: Form) -> Result<SideTypes, Fault>
+    ensures types { IfOk result (λ t. t.entries.items ≡ completed form listed.items) }
+    ensures undeclared { IfOk result (λ t. t.undeclared ≡ (is_short form && is_open listed.items)) }
+    ensures fault { IfErr result (λ f. f ≡ Fault.Memory) }
+{
+    if !is_short(form) {
+        return Ok(SideTypes {
+            entries: listed,
+            undeclared: false,
+        });
+    }
+    let undeclared = is_open(listed.as_slice());
+    match with_texts(listed) {
+        Ok(entries) => Ok(SideTypes {
+            entries,
+            undeclared,
+        }),
+        Err(_) => Err(Fault::Memory),
+    }
+}
+
+/// The types of a side's columns: those that the list of an option gives. In the short form, columns
+/// of which it says nothing are of texts, and undeclared.
+///
+/// # Errors
+///
+/// `BadTypeList` if the option's value isn't a list. `Memory` comes only when memory ran out.
+pub(crate) fn types_of(
+    alloc: Global,
+    matches: &ArgMatches<'_>,
+    name: &str,
+    side: Side,
+    form: Form,
+) -> Result<SideTypes, Fault>
+    requires { is_short form ≡ false → is_some (first_value (found_of matches.now) name.now) ≡ true }
+    ensures types { IfOk result (λ t. AreTypesOf form (first_value (found_of matches.now) name.now) t.entries.items t.undeclared) }
+    ensures fault { IfErr result (λ f. f ≢ Fault.Memory → (f ≡ Fault.BadTypeList side) × GivesNoTypes (first_value (found_of matches.now) name.now)) }
+{
+    let listed = listed(alloc, matches, name, side, form)?;
+    completed(listed, form)
 }

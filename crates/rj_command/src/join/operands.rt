@@ -1,13 +1,16 @@
 //! The two tables of a run and the join bound to them.
 
-ghost use Rattle.std.specs.Prelude.{◌≡◌, ◌≢◌, IfOk, IfErr, OnOk, IsTrue, length, true};
+ghost use Rattle.std.specs.Prelude.{◌≡◌, ◌≢◌, IfOk, IfErr, OnOk, Ok, IsTrue, length, true};
 ghost use Rattle.rj_csv_io.specs.Tables.{is_null_text};
 ghost use Rattle.rj_condition.specs.Fits.{fits};
-ghost use Rattle.rj_command.specs.Operands.{AreOperands, IsFirstFault, IsJoinFault, IsJoinOf, bind_fault, parse_fault};
+ghost use Rattle.rj_command.specs.Operands.{AreOperands, IsClauseFault, IsFirstFault, IsJoinAsked, IsJoinFault, IsJoinOf};
+ghost use Rattle.rj_command.specs.Refused.{bind_fault, parse_fault};
 ghost use Rattle.rj_command.specs.Runs.{AreReadApart};
 ghost use Rattle.rj_command.specs.Sides.{IsTable, IsTableFault};
+ghost use Rattle.rj_command.specs.Undeclared.{bound_or, unbound_fault};
 
 use crate::join::strict::{read_strictly, read_text};
+use crate::join::undeclared::undeclared_fault;
 use crate::join::watching::{Step, Watch};
 use rj_columns::Table;
 use rj_condition::{BindRefused, BoundJoin, ParseRefused, bind, parse};
@@ -109,13 +112,68 @@ pub fn bind_clause(
     }
 }
 
-// Both tables with the clause bound to them.
-fn bind_tables(alloc: Global, text: &str, left: Table, right: Table) -> Result<Operands, Fault>
-    ensures tables { IfOk result (λ o. (o.left ≡ left) × (o.right ≡ right) × IsJoinOf text.now left right o.join) }
-    ensures fault { IfErr result (λ f. f ≢ Fault.Memory → IsJoinFault text.now left right f) }
+// The error of a clause that doesn't bind. That of a column of an undeclared type takes the place of
+// a mismatch of types.
+fn fault_of_unbound(refused: BindRefused, undeclared: Option<Fault>) -> Fault
+    ensures { result ≡ unbound_fault refused undeclared }
+{
+    match refused {
+        BindRefused::TypeMismatch => match undeclared {
+            Some(fault) => fault,
+            None => Fault::TypeMismatch,
+        },
+        other => fault_of_bind(other),
+    }
+}
+
+// A join, unless a column of an undeclared type needs a declared one.
+fn declared(join: BoundJoin, undeclared: Option<Fault>) -> Result<BoundJoin, Fault>
+    ensures { result ≡ bound_or (Ok join) undeclared }
+{
+    match undeclared {
+        Some(fault) => Err(fault),
+        None => Ok(join),
+    }
+}
+
+// The clause of a request bound to two tables.
+#[tactic(auto, using(crate::proofs::OperandFacts::text_fault))]
+fn bind_request(
+    alloc: Global,
+    request: &Request<'_>,
+    left: &Table,
+    right: &Table,
+) -> Result<BoundJoin, Fault>
+    ensures join { IfOk result (IsJoinAsked request.now left.now right.now) }
+    ensures fault { IfErr result (λ f. f ≢ Fault.Memory → IsClauseFault request.now left.now right.now f) }
+    ensures bound { IfOk result (λ join. fits join left.now.types right.now.types ≡ true) }
+{
+    let clause = match parse(alloc, request.clause) {
+        Ok(clause) => clause,
+        Err(refused) => return Err(fault_of_parse(refused)),
+    };
+    let undeclared = match undeclared_fault(alloc, &clause, request, left, right) {
+        Ok(undeclared) => undeclared,
+        Err(_) => return Err(Fault::Memory),
+    };
+    match bind(alloc, &clause, left, right) {
+        Ok(join) => declared(join, undeclared),
+        Err(refused) => Err(fault_of_unbound(refused, undeclared)),
+    }
+}
+
+// Both tables with the clause of a request bound to them.
+fn bind_tables(
+    alloc: Global,
+    request: &Request<'_>,
+    left: Table,
+    right: Table,
+) -> Result<Operands, Fault>
+    ensures tables { IfOk result (λ o. (o.left ≡ left) × (o.right ≡ right) × IsJoinAsked request.now left right o.join) }
+    ensures fault { IfErr result (λ f. f ≢ Fault.Memory → IsClauseFault request.now left right f) }
     ensures bound { IfOk result (λ o. fits o.join o.left.types o.right.types ≡ true) }
 {
-    let join = bind_clause(alloc, text, &left, &right)?;
+    let join = bind_request(alloc, request, &left, &right)?;
     Ok(Operands { left, right, join })
 }
 
@@ -141,5 +199,5 @@ pub(crate) fn read_operands<R: Threads + Sync, B: AsSlice<u8> + Drop, G: Watch>(
     let left = read_side(rt, alloc, left, request, Side::Left)?;
     gate.begin(Step::Read(Side::Right));
     let right = read_side(rt, alloc, right, request, Side::Right)?;
-    bind_tables(alloc, request.clause, left, right)
+    bind_tables(alloc, request, left, right)
 }

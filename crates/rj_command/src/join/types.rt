@@ -81,7 +81,8 @@ pub fn types_of_header(
     }
 }
 
-fn types_of<'a>(request: &'a Request<'_>, side: Side) -> &'a [TypeEntry]
+/// The entries of a side's list.
+pub(crate) fn types_of<'a>(request: &'a Request<'_>, side: Side) -> &'a [TypeEntry]
     ensures { result.now ≡ types_of request.now side }
 {
     match side {

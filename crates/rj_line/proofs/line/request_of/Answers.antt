@@ -1,7 +1,7 @@
-use Rattle.std.proofs.Common.{◌≡◌, ◌∙◌, ap, length, refl, sym, [], Option, Some, None, unwrap_or, codes, is_some, option_map, rules, Bor}
+use Rattle.std.proofs.Common.{◌≡◌, ◌∙◌, ap, length, refl, subst, sym, [], Option, Some, None, unwrap_or, codes, is_some, option_map, rules, Bor}
 use Rattle.std.proofs.lemmas.List.{length-map}
 use Rattle.clap.specs.Words.{Text, first_value, found_of}
-use Rattle.rj_line.specs.Line.{nulls_or, texts_found}
+use Rattle.rj_line.specs.Line.{AreSettings, nulls_or, texts_found}
 use Rattle.rj_line.proofs.LineFacts.{choice_fault, few_given, left_list_fault, left_nulls_fault, right_list_fault, right_nulls_fault}
 use Rattle.rj_line.proofs.line.request_of.Goals as goal
 
@@ -22,15 +22,15 @@ pub returns-clause-request : goal.returns-clause-request
 returns-clause-request c =
     let null = value-or _ c.get_str.result c.unwrap_or-null.result _ [] c.get_str.ensures c.unwrap_or-null.ensures refl in
     record {
-      left_types = (c.given.result.now, c.given.ensures, c.in_ok-left_types.ensures.types);
-      right_types = (c.given-2.result.now, c.given-2.ensures, c.in_ok-right_types.ensures.types);
-      join = c.given-3.ensures;
+      left_types = c.in_ok-left.ensures.types;
+      right_types = c.in_ok-right.ensures.types;
+      join = c.given.ensures;
       left_nulls = c.in-Ok.ensures.texts ∙ ap (nulls_or _) null;
       right_nulls = c.in-Ok-read_nulls.ensures.texts ∙ ap (nulls_or _) null;
       few_nulls = (c.in-Ok.ensures.few, c.in-Ok-read_nulls.ensures.few);
       out_null = value-or _ c.get_str-2.result c.unwrap_or.result c.unwrap_or-null.result _ c.get_str-2.ensures c.unwrap_or.ensures null;
       strict = c.strictness_of.ensures;
-      settings = c.settings_of.ensures;
+      settings = subst (λ n. AreSettings n (first_value (found_of c.args.matches.now)) c.settings_of.result) c.default_workers.ensures.workers c.settings_of.ensures;
       hash = c.hash_of.ensures;
       choice = c.in-Ok-choice_of.ensures.choice;
       expectation = c.expectation_of.ensures;
@@ -40,9 +40,9 @@ returns-clause-request c =
 
 pub returns-in-Err-clause-fault : goal.returns-in-Err-clause-fault
 returns-in-Err-clause-fault c =
-    left_nulls_fault (first_value (found_of c.args.matches.now)) (texts_found (found_of c.args.matches.now)) c.in-Err.fault (
-      (c.in_ok-left_types.left_types.items, (c.given.result.now, c.given.ensures, c.in_ok-left_types.ensures.types)),
-      (c.in_ok-right_types.right_types.items, (c.given-2.result.now, c.given-2.ensures, c.in_ok-right_types.ensures.types)),
+    left_nulls_fault c.args.form (first_value (found_of c.args.matches.now)) (texts_found (found_of c.args.matches.now)) c.in-Err.fault (
+      (c.in_ok-left.ensures.types.listed, c.in_ok-left.ensures.types.given),
+      (c.in_ok-right.ensures.types.listed, c.in_ok-right.ensures.types.given),
     ) c.in-Err.ensures.fault
 
 pub returns-in-Err-read_nulls-clause-fault : goal.returns-in-Err-read_nulls-clause-fault
@@ -50,9 +50,9 @@ returns-in-Err-read_nulls-clause-fault c =
     let own = texts_found (found_of c.args.matches.now) (codes "left-null") in
     let count : length c.in-Ok.nulls.items ≡ length (nulls_or own c.unwrap_or-null.result.now) =
     sym (length-map c.in-Ok.nulls.items (λ (n : Bor Text). n.now)) ∙ ap length c.in-Ok.ensures.texts in
-    right_nulls_fault (first_value (found_of c.args.matches.now)) (texts_found (found_of c.args.matches.now)) c.in-Err-read_nulls.fault (
-      (c.in_ok-left_types.left_types.items, (c.given.result.now, c.given.ensures, c.in_ok-left_types.ensures.types)),
-      (c.in_ok-right_types.right_types.items, (c.given-2.result.now, c.given-2.ensures, c.in_ok-right_types.ensures.types)),
+    right_nulls_fault c.args.form (first_value (found_of c.args.matches.now)) (texts_found (found_of c.args.matches.now)) c.in-Err-read_nulls.fault (
+      (c.in_ok-left.ensures.types.listed, c.in_ok-left.ensures.types.given),
+      (c.in_ok-right.ensures.types.listed, c.in_ok-right.ensures.types.given),
     ) (few_given own c.unwrap_or-null.result.now _ count c.in-Ok.ensures.few) c.in-Err-read_nulls.ensures.fault
 
 pub returns-in-Err-choice_of-clause-fault : goal.returns-in-Err-choice_of-clause-fault
@@ -63,23 +63,23 @@ returns-in-Err-choice_of-clause-fault c =
     sym (length-map c.in-Ok.nulls.items (λ (n : Bor Text). n.now)) ∙ ap length c.in-Ok.ensures.texts in
     let rights : length c.in-Ok-read_nulls.nulls.items ≡ length (nulls_or (texts_found found (codes "right-null")) null) =
     sym (length-map c.in-Ok-read_nulls.nulls.items (λ (n : Bor Text). n.now)) ∙ ap length c.in-Ok-read_nulls.ensures.texts in
-    choice_fault (first_value found) (texts_found found) c.in-Err-choice_of.fault (
+    choice_fault c.args.form (first_value found) (texts_found found) c.in-Err-choice_of.fault (
       (
-        (c.in_ok-left_types.left_types.items, (c.given.result.now, c.given.ensures, c.in_ok-left_types.ensures.types)),
-        (c.in_ok-right_types.right_types.items, (c.given-2.result.now, c.given-2.ensures, c.in_ok-right_types.ensures.types)),
+        (c.in_ok-left.ensures.types.listed, c.in_ok-left.ensures.types.given),
+        (c.in_ok-right.ensures.types.listed, c.in_ok-right.ensures.types.given),
       ),
       few_given _ null _ lefts c.in-Ok.ensures.few,
       few_given _ null _ rights c.in-Ok-read_nulls.ensures.few,
     ) c.in-Err-choice_of.ensures.fault
 
-pub returns-in_err-left_types-clause-fault : goal.returns-in_err-left_types-clause-fault
-returns-in_err-left_types-clause-fault c =
-    let told = left_list_fault (first_value (found_of c.args.matches.now)) (texts_found (found_of c.args.matches.now)) c.given.result.now
-    c.in_err-left_types.field-0.0 c.given.ensures c.in_err-left_types.ensures.fault in
+pub returns-in_err-left-clause-fault : goal.returns-in_err-left-clause-fault
+returns-in_err-left-clause-fault c =
+    let told = left_list_fault c.args.form (first_value (found_of c.args.matches.now)) (texts_found (found_of c.args.matches.now))
+    c.in_err-left.field-0.0 c.in_err-left.ensures.fault in
     search (rules, told)
 
-pub returns-in_err-right_types-clause-fault : goal.returns-in_err-right_types-clause-fault
-returns-in_err-right_types-clause-fault c =
-    let told = right_list_fault (first_value (found_of c.args.matches.now)) (texts_found (found_of c.args.matches.now)) c.given.result.now c.given-2.result.now
-    c.in_ok-left_types.left_types.items c.in_err-right_types.field-0.0 c.given.ensures c.in_ok-left_types.ensures.types c.given-2.ensures c.in_err-right_types.ensures.fault in
+pub returns-in_err-right-clause-fault : goal.returns-in_err-right-clause-fault
+returns-in_err-right-clause-fault c =
+    let told = right_list_fault c.args.form (first_value (found_of c.args.matches.now)) (texts_found (found_of c.args.matches.now))
+    c.in_ok-left.ensures.types.listed c.in_err-right.field-0.0 c.in_ok-left.ensures.types.given c.in_err-right.ensures.fault in
     search (rules, told)

@@ -3,6 +3,8 @@ use Rattle.std.proofs.lemmas.Result.{IfErr-weaker, IfOk-weaker}
 use Rattle.rj_columns.specs.Tables.{TableValue}
 use Rattle.rj_csv_io.specs.Ambiguous.{AreApart}
 use Rattle.rj_fault.specs.declared.fault.Side.TheVariants as side
+use Rattle.rj_command.specs.Operands.{IsJoinAsked}
+use Rattle.rj_command.specs.Sides.{IsTable}
 use Rattle.rj_command.proofs.ApartFacts.{table-apart}
 use Rattle.rj_command.proofs.OperandFacts.{clause_fault, right_fault}
 use Rattle.rj_command.proofs.join.operands.read_operands.Goals as goal
@@ -13,6 +15,19 @@ returns-in_err-right-clause-fault g c =
     let right = c.in_err-right in
     let told = right_fault (g.B.AsSlice.items c.args.left) (g.B.AsSlice.items c.args.right) c.args.request.now left.left right.field-0.0 left.ensures.table right.ensures.fault in
     search (rules, told)
+
+pub returns-clause-operands : goal.returns-clause-operands
+returns-clause-operands g c =
+    let left = c.in_ok-left in
+    let right = c.in_ok-right in
+    let lefts = g.B.AsSlice.items c.args.left in
+    let rights = g.B.AsSlice.items c.args.right in
+    IfOk-weaker c.bind_tables.result _ _ (λ o are. record {
+      left_read = subst (IsTable c.args.request.now side.Left lefts) (sym are.0) left.ensures.table;
+      right_read = subst (IsTable c.args.request.now side.Right rights) (sym are.1) right.ensures.table;
+      join_bound = subst (λ (t : TableValue). IsJoinAsked c.args.request.now o.left t o.join) (sym are.1)
+          (subst (λ (t : TableValue). IsJoinAsked c.args.request.now t right.right o.join) (sym are.0) are.2);
+    }) c.bind_tables.ensures.tables
 
 pub returns-clause-fault : goal.returns-clause-fault
 returns-clause-fault g c =

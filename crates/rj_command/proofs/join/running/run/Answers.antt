@@ -1,4 +1,5 @@
-use Rattle.rj_command.proofs.RunFacts.{has_joined, joined_of_operands, no_other}
+use Rattle.std.proofs.Common.{rules}
+use Rattle.rj_command.proofs.RunFacts.{has_joined, joined_of_operands, no_other, of_operands}
 use Rattle.rj_command.proofs.join.running.run.Goals as goal
 
 pub returns-clause-joined : goal.returns-clause-joined
@@ -10,3 +11,6 @@ returns-clause-fault g c = no_other c.args.left.now c.args.right.now c.args.requ
 pub returns-clause-failed : goal.returns-clause-failed
 returns-clause-failed g c = λ failed.
     has_joined c.args.left.now c.args.right.now c.args.request.now c.in_ok-operands.operands c.in_ok-operands.ensures.operands (c.write_joined.ensures.failed failed)
+
+pub returns-in_err-operands-clause-fault : goal.returns-in_err-operands-clause-fault
+returns-in_err-operands-clause-fault g c = of_operands c.args.left.now c.args.right.now c.args.request.now c.from_residual.result c.in_err-operands.field-0.0 (search rules) c.in_err-operands.ensures.fault

@@ -1,0 +1,92 @@
+-- The values that a parse of each form has.
+use Rattle.std.proofs.Common.{◌≡◌, refl, true, lit<, true≢false, is_some, codes, List, [], ◌∷◌}
+use Rattle.std.specs.List.{list_all}
+use Rattle.clap.specs.Words.{IsParsedFrom, first_value, found_of}
+use Rattle.clap.specs.declared.builder.command.Command.{Command}
+use Rattle.clap.specs.declared.parser.matches.ArgMatches.{ArgMatches}
+use Rattle.rj_line.specs.Choices.{columns_name, order_name}
+use Rattle.rj_line.specs.Line.{HasValues, hash_name, matching_name}
+use Rattle.rj_line.specs.Options.{IsBare, IsChain, OptionWords, option_rules}
+use Rattle.rj_line.specs.declared.form.Form.{Form}
+use Rattle.rj_line.specs.declared.form.Form.TheVariants as form
+use Rattle.rj_line.specs.declared.request.Hash.TheVariants as hash
+use Rattle.rj_line.proofs.ChainFacts.{are_distinct, fits_option, wanted_given}
+use Rattle.rj_line.proofs.NumberFacts.{name_given, number_given, strict_given}
+use Rattle.rj_settings.specs.declared.expectation.Matching.TheVariants as matching
+use Rattle.rj_settings.specs.declared.choice.ColumnChoice.TheVariants as columns
+use Rattle.rj_settings.specs.declared.choice.RowOrder.TheVariants as order
+
+pub all_plain : (f : Form) (h : OptionWords) → list_all fits_option (option_rules f h) ≡ true
+all_plain form.Long h = refl
+all_plain form.Short h = refl
+
+pub all_apart : (f : Form) (h : OptionWords) → are_distinct (option_rules f h) ≡ true
+all_apart form.Long h = refl
+all_apart form.Short h = refl
+
+module _ (start command : Command) (h : OptionWords) (m : ArgMatches) (bare : IsBare start) (parsed : IsParsedFrom command m) where
+  pub left_given : (f : Form) → IsChain start (option_rules f h) command → is_some (first_value (found_of m) (codes "left")) ≡ true
+  left_given form.Long chain = wanted_given start command (option_rules form.Long h) m bare chain refl refl 0 (lit< tt) refl parsed
+  left_given form.Short chain = wanted_given start command (option_rules form.Short h) m bare chain refl refl 0 (lit< tt) refl parsed
+
+  pub right_given : (f : Form) → IsChain start (option_rules f h) command → is_some (first_value (found_of m) (codes "right")) ≡ true
+  right_given form.Long chain = wanted_given start command (option_rules form.Long h) m bare chain refl refl 1 (lit< tt) refl parsed
+  right_given form.Short chain = wanted_given start command (option_rules form.Short h) m bare chain refl refl 1 (lit< tt) refl parsed
+
+  long_values : IsChain start (option_rules form.Long h) command → HasValues form.Long (first_value (found_of m))
+  long_values chain =
+      let rules = option_rules form.Long h in
+      let given = wanted_given start command rules m bare chain refl refl in
+      let number = number_given start command rules m bare chain refl refl in
+      record {
+        left_types = λ _. given 2 (lit< tt) refl parsed;
+        right_types = λ _. given 3 (lit< tt) refl parsed;
+        join = given 4 (lit< tt) refl parsed;
+        numbers = record {
+          bits1 = number 10 0 10 (lit< tt) refl parsed;
+          bits2 = number 11 0 10 (lit< tt) refl parsed;
+          workers = number 13 1 64 (lit< tt) refl parsed;
+          block = number 14 1 65536 (lit< tt) refl parsed;
+          capacity = number 15 1 4096 (lit< tt) refl parsed;
+          lanes = number 16 1 4 (lit< tt) refl parsed;
+          retries = number 17 0 3 (lit< tt) refl parsed;
+          piece = number 18 1 1048576 (lit< tt) refl parsed;
+        };
+        expect = name_given start command rules m bare chain refl refl matching_name (matching.OneToOne ∷ matching.ManyToOne ∷ matching.OneToMany ∷ []) h.matchings h.are_matchings 26 (lit< tt) refl refl parsed;
+        most_rows = number 27 0 4294967295 (lit< tt) refl parsed;
+        hash = name_given start command rules m bare chain refl refl hash_name (hash.Plain ∷ hash.Mixed ∷ []) h.hashes h.are_hashes 12 (lit< tt) refl refl parsed;
+        order = name_given start command rules m bare chain refl refl order_name (order.PairsFirst ∷ order.LeftFirst ∷ []) h.orders h.are_orders 22 (lit< tt) refl refl parsed;
+        columns = name_given start command rules m bare chain refl refl columns_name (columns.All ∷ columns.Left ∷ columns.Right ∷ []) h.sides h.are_sides 24 (lit< tt) refl refl parsed;
+        strict = strict_given start command rules m bare chain refl refl 9 (lit< tt) h refl refl parsed;
+      }
+
+  short_values : IsChain start (option_rules form.Short h) command → HasValues form.Short (first_value (found_of m))
+  short_values chain =
+      let rules = option_rules form.Short h in
+      let given = wanted_given start command rules m bare chain refl refl in
+      let number = number_given start command rules m bare chain refl refl in
+      record {
+        left_types = λ e. absurd (true≢false e);
+        right_types = λ e. absurd (true≢false e);
+        join = given 2 (lit< tt) refl parsed;
+        numbers = record {
+          bits1 = number 12 0 10 (lit< tt) refl parsed;
+          bits2 = number 13 0 10 (lit< tt) refl parsed;
+          workers = number 15 1 64 (lit< tt) refl parsed;
+          block = number 16 1 65536 (lit< tt) refl parsed;
+          capacity = number 17 1 4096 (lit< tt) refl parsed;
+          lanes = number 18 1 4 (lit< tt) refl parsed;
+          retries = number 19 0 3 (lit< tt) refl parsed;
+          piece = number 20 1 1048576 (lit< tt) refl parsed;
+        };
+        expect = name_given start command rules m bare chain refl refl matching_name (matching.OneToOne ∷ matching.ManyToOne ∷ matching.OneToMany ∷ []) h.matchings h.are_matchings 28 (lit< tt) refl refl parsed;
+        most_rows = number 29 0 4294967295 (lit< tt) refl parsed;
+        hash = name_given start command rules m bare chain refl refl hash_name (hash.Plain ∷ hash.Mixed ∷ []) h.hashes h.are_hashes 14 (lit< tt) refl refl parsed;
+        order = name_given start command rules m bare chain refl refl order_name (order.PairsFirst ∷ order.LeftFirst ∷ []) h.orders h.are_orders 24 (lit< tt) refl refl parsed;
+        columns = name_given start command rules m bare chain refl refl columns_name (columns.All ∷ columns.Left ∷ columns.Right ∷ []) h.sides h.are_sides 26 (lit< tt) refl refl parsed;
+        strict = strict_given start command rules m bare chain refl refl 11 (lit< tt) h refl refl parsed;
+      }
+
+  pub values_given : (f : Form) → IsChain start (option_rules f h) command → HasValues f (first_value (found_of m))
+  values_given form.Long chain = long_values chain
+  values_given form.Short chain = short_values chain

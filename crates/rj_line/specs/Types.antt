@@ -1,0 +1,32 @@
+-- The types of a side's columns, by the value of an option.
+use Rattle.std.specs.Prelude.{◌≡◌, ◌&&◌, Bool, true, List, [], Option, Some, None}
+use Rattle.clap.specs.Words.{Text}
+use Rattle.rj_line.specs.Forms.{is_short}
+use Rattle.rj_line.specs.declared.form.Form.{Form}
+use Rattle.rj_line.specs.declared.form.Form.TheVariants as form
+use Rattle.rj_types.specs.Columns.{is_open, with_texts}
+use Rattle.rj_types.specs.Lists.{IsTypeList}
+use Rattle.rj_types.specs.declared.entry.TypeEntry.{TypeEntry}
+
+-- an option's value is a list of these types; only in the short form it may be missing, and then
+-- lists none
+abbrev pub GivesTypes : Form → Option Text → List TypeEntry → Type 0
+GivesTypes f None types = (is_short f ≡ true) × (types ≡ [])
+GivesTypes f (Some text) types = IsTypeList text types
+
+-- an option's value isn't a type list
+abbrev pub GivesNoTypes : Option Text → Type 0
+GivesNoTypes word = (text : Text) × (word ≡ Some text) × ((types : List TypeEntry) → IsTypeList text types → ⊥)
+
+-- in the short form, columns of which a list says nothing are of texts
+abbrev pub completed : Form → List TypeEntry → List TypeEntry
+completed form.Long listed = listed
+completed form.Short listed = with_texts listed
+
+-- the types of a side's columns by an option's value, and whether the types of those that no entry
+-- names aren't declared
+pub record AreTypesOf (f : Form) (word : Option Text) (types : List TypeEntry) (undeclared : Bool) : Type 0 where
+  pub listed : List TypeEntry
+  pub given : GivesTypes f word listed
+  pub entries : types ≡ completed f listed
+  pub marked : undeclared ≡ (is_short f && is_open listed)
