@@ -9,11 +9,25 @@ use crate::outputs::output_of;
 use rj_command::{Line, OpenGate, Violation, first_violation, read_line};
 use rj_explain::{Inputs, explain, explain_row, explain_words};
 use rj_fault::{Fault, Side};
+use rj_line::{Form, form_of};
+use rj_suggest::suggest_types;
 use std::alloc::{AllocError, Global};
 use std::io::{self, ErrorKind};
+use std::str;
 use std::sync::Wait;
 use std::thread::Threads;
 use std::time::Clock;
+
+// Whether the words ask for explanations: in the short form, unless one is `--terse`.
+fn ask_for_lines(words: &[&str]) -> bool {
+    if words.iter().any(|word| *word == "--explain") {
+        return true;
+    }
+    match form_of(words) {
+        Form::Long => false,
+        Form::Short => !words.iter().any(|word| *word == "--terse"),
+    }
+}
 
 // The lines that explain an error of the command line, if it can be explained and the words ask for
 // it.
@@ -22,23 +36,23 @@ fn explain_line(
     words: &[&str],
     fault: &Fault,
 ) -> Result<Option<String>, AllocError> {
-    if !words.iter().any(|word| *word == "--explain") {
+    if !ask_for_lines(words) {
         return Ok(None);
     }
     explain_words(alloc, words, fault)
 }
 
-/// What the words of the command line say.
+/// What the words of the command line say, on a machine with this many processors.
 ///
 /// # Errors
 ///
-/// Those of `read_line`. A list of types that is invalid is explained if `--explain` is one of the
-/// words.
+/// Those of `read_line`. A list of types that is invalid is explained if the words ask for that.
 pub fn read_words_of_line<'a>(
     alloc: Global,
     words: &'a [&'a str],
+    processors: usize,
 ) -> Result<Line<'a>, ExplainedFault> {
-    match read_line(alloc, words) {
+    match read_line(alloc, words, processors) {
         Ok(line) => Ok(line),
         Err(fault) => match explain_line(alloc, words, &fault) {
             Ok(Some(lines)) => Err(ExplainedFault::new(fault, Ok(lines))),
@@ -84,6 +98,41 @@ fn memory_lines(alloc: Global, left: usize, right: usize) -> Result<String, Allo
     )
 }
 
+// The entry of a list of suggested types, one a line, for a column of this name.
+fn entry_for<'t>(list: &'t str, name: &str) -> Option<&'t str> {
+    for entry in list.split('\n') {
+        if let Some(behind) = entry.strip_prefix(name) {
+            if behind.starts_with('=') {
+                return Some(entry);
+            }
+        }
+    }
+    None
+}
+
+// The line for a column whose type isn't declared: how it is, with the type that its cells suggest.
+fn undeclared_lines(
+    alloc: Global,
+    side: Side,
+    name: &str,
+    inputs: &Inputs<'_, '_>,
+) -> Result<String, AllocError> {
+    let (file, nulls) = match side {
+        Side::Left => (inputs.left, inputs.request.left_nulls.as_slice()),
+        Side::Right => (inputs.right, inputs.request.right_nulls.as_slice()),
+    };
+    let Ok(list) = suggest_types(alloc, file, nulls) else {
+        return Ok(String::new(alloc));
+    };
+    let list = str::from_utf8(list.as_slice()).unwrap_or("");
+    match entry_for(list, name) {
+        Some(entry) => {
+            format!(in alloc; "  declare its type; its cells suggest --{side}-types '{entry}'\n")
+        }
+        None => format!(in alloc; "  declare its type by --{side}-types\n"),
+    }
+}
+
 // The lines that explain an error of a join of two tables.
 fn lines_of<R: AllocGlobal + Threads + Wait + Clock + Sync>(
     rt: &R,
@@ -96,6 +145,9 @@ fn lines_of<R: AllocGlobal + Threads + Wait + Clock + Sync>(
     match fault {
         Fault::Memory => memory_lines(rt.alloc(), inputs.left.len(), inputs.right.len()),
         Fault::NotAsExpected => violation_lines(rt, inputs),
+        Fault::UndeclaredType(side, name) => {
+            undeclared_lines(rt.alloc(), *side, name.as_str(), inputs)
+        }
         _ => explain(rt.alloc(), fault, inputs),
     }
 }
