@@ -1,6 +1,6 @@
 # Completion of radixjoin for bash: options that were not given yet, files, and the words of options.
 _radixjoin() {
-    local options="--left --right --left-types --right-types --join --null --left-null --right-null --out-null --strict --stats --order --rows --columns --repeated --expect --max-rows --count --report --progress --output --explain --workers
+    local options="--left --right --left-types --right-types --join --null --left-null --right-null --out-null --strict --stats --order --rows --columns --repeated --expect --max-rows --count --report --progress --output --explain --lenient --terse --workers
         --bits1 --bits2 --hash --piece --block --capacity --lanes --retries --help --version"
     local word=${COMP_WORDS[COMP_CWORD]} before=${COMP_WORDS[COMP_CWORD - 1]}
     # `--left=a` is three words here: --left, = and a.
@@ -19,7 +19,7 @@ _radixjoin() {
     fi
     COMPREPLY=()
     case $before in
-        --left | --right | --output | --suggest-types)
+        --left | --right | --output | -o | --suggest-types)
             compopt -o filenames 2>/dev/null
             mapfile -t COMPREPLY < <(compgen -f -- "$word")
             ;;
@@ -50,14 +50,20 @@ _radixjoin() {
                 mapfile -t COMPREPLY < <(compgen -P @ -f -- "${word#@}")
             fi
             ;;
-        --join | --null | --left-null | --right-null | --out-null | --workers | --bits1 | --bits2 | --piece | --block | --capacity | --lanes | --retries | --max-rows) ;;
+        --join | --null | --left-null | --right-null | --out-null | --workers | -w | --bits1 | --bits2 | --piece | --block | --capacity | --lanes | --retries | --max-rows) ;;
         *)
             local option left=
             for option in $options; do
                 # The null texts of a side may be given again.
                 [[ $option != --left-null && $option != --right-null && " ${COMP_WORDS[*]:1:COMP_CWORD-1} " == *" $option "* ]] || left+=" $option"
             done
-            mapfile -t COMPREPLY < <(compgen -W "$left" -- "$word")
+            # In the short form files are words by themselves.
+            if [[ $word != -* ]]; then
+                compopt -o filenames 2>/dev/null
+                mapfile -t COMPREPLY < <(compgen -f -- "$word")
+            else
+                mapfile -t COMPREPLY < <(compgen -W "$left" -- "$word")
+            fi
             ;;
     esac
 }

@@ -25,12 +25,15 @@ def words_of(case, files, folder):
         (folder / name).write_bytes(spelled(text).encode())
     if "words" in case:
         return [spelled(word) for word in case["words"]]
-    words = []
+    words, places = [], []
     for side in ("left", "right"):
         if side in case:
             file = files[case[side]]
             (folder / f"{side}.csv").write_bytes(bytes_of(file))
-            words += [f"--{side}", f"{side}.csv", f"--{side}-types", spelled(file["types"])]
+            places.append(f"{side}.csv")
+            words += [f"--{side}", f"{side}.csv", f"--{side}-types", spelled(file.get("types", ""))]
+    if case.get("short"):
+        return [*places, spelled(case["join"]), *case.get("options", [])]
     return [*words, "--join", spelled(case["join"]), *case.get("options", [])]
 
 

@@ -58,7 +58,7 @@ WORDS = [of for of in CELLS if of != "num(18,18)"]
 SCRIPT_PIECES = [b" ", b"  ", b"\n", b"\r\n", b"\r", b"0", b"1", b"-1", b"+1", b"x", b"close", b"rows", b" rows 1", b"\xff", b"4294967295", b"4294967296", b"18446744073709551615", b"18446744073709551616", b"000000000000000000000000001"]
 # Lists of kinds of rows; left rows that are in a pair are refused with other columns than the left ones.
 ROWS = [b"pairs", b"lone-left", b"lone-right", b"lone-right,pairs", b"lone-left,lone-right", b"matched-left", b"matched-left,lone-left", b"lone-right,matched-left"]
-LINE_PIECES = [b"-", b"--", b"=", b"--left", b"--help", b"-h", b"--stats", b"--gaps", b"--null=", b"--bits1", b"--workers=64", b"--block", b"--lanes=4", b"--capacity", b"--retries=3", b"--bits2", b"--hash", b"mixed", b"plain", b"--piece=1", b"1048577", b"--version", b"-V", b"11", b"10", b"", b"\xff", b"int", b",", b"text", b" ", b"a", b"--join", b"0", b"--partition=1024", b"-1"]
+LINE_PIECES = [b"-", b"--", b"=", b"--left", b"--help", b"-h", b"--stats", b"--gaps", b"--null=", b"--bits1", b"--workers=64", b"--block", b"--lanes=4", b"--capacity", b"--retries=3", b"--bits2", b"--hash", b"mixed", b"plain", b"--piece=1", b"1048577", b"--version", b"-V", b"11", b"10", b"", b"\xff", b"int", b",", b"text", b" ", b"a", b"--join", b"0", b"--partition=1024", b"-1", b"-w2", b"-w", b"--terse", b"--lenient"]
 
 
 class Cases:
@@ -173,9 +173,13 @@ class Cases:
         """The words of a lawful line, mutated."""
         source = self.source
         program = source.choice(["radixjoin", "radixjoin", "arrivals"])
+        is_short = source.random() < 0.4
         files = {b"left": b"a\n1\n", b"right": b"a\n1\n"}
         if program == "arrivals":
             words = [b"--partition", b"0", b"--senders", b"1", b"--block", b"1"]
+        elif is_short:
+            words = [b"left", b"right", source.choice([b"CROSS JOIN", b"JOIN USING (a)", b"JOIN ON L.a < R.a", b"JOIN ON L.a = 1"]), b"--terse"]
+            words += source.choice([[], [b"--left-types=int"], [b"--right-types", b"int", b"--left-types=int"], [b"--lenient"], [b"--repeated=keep"]])
         else:
             words = [b"--left", b"left", b"--right", b"right", b"--left-types", b"int", b"--right-types=int", b"--join", b"CROSS JOIN"]
         words += source.choice([[], [b"--stats"], [b"--bits1", b"3"], [b"--bits2=2"], [b"--hash", b"mixed"], [b"--piece", b"3"], [b"--version"], [b"--workers=2"], [b"--lanes", b"2"], [b"--block=65536", b"--capacity=1"], [b"--null=x"], [b"--gaps"], [b"--help"], [b"--count"], [b"--report"], [b"--expect=many-to-one"], [b"--expect=one-to-one"], [b"--max-rows=2"]])

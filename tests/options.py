@@ -179,6 +179,8 @@ def bash_details(folder):
     yield "right after --left=", ["left.csv"], completed_by_bash("radixjoin", ["--left", "="], folder)
     yield "an option that was given", ["--left-types", "--left-null"], completed_by_bash("radixjoin", ["--left", "left.csv", "--lef"], folder)
     yield "one that may be given again", ["--left-null"], completed_by_bash("radixjoin", ["--left-null", "a", "--left-n"], folder)
+    yield "a file that is a word by itself", ["left.csv"], completed_by_bash("radixjoin", ["--count", "le"], folder)
+    yield "a file for -o", ["left.csv"], completed_by_bash("radixjoin", ["-o", "le"], folder)
     yield "a clause", [""], completed_by_bash("radixjoin", ["--join", ""], folder)
     yield "a list of types", [""], completed_by_bash("radixjoin", ["--left-types", ""], folder)
     yield "a file with a list of types", ["@left.csv"], completed_by_bash("radixjoin", ["--left-types", "@le"], folder)

@@ -79,14 +79,14 @@ def is_text(operand, tables):
 
 
 def compared_operands(condition):
-    """The pairs of operands that a condition compares."""
+    """The pairs of operands that a condition compares, each behind its sign."""
     kind, *parts = condition
     if kind == "compare":
-        return [(parts[1], parts[2])]
+        return [tuple(parts)]
     if kind == "between":
-        return [(parts[0], parts[1]), (parts[0], parts[2])]
+        return [(">=", parts[0], parts[1]), ("<=", parts[0], parts[2])]
     if kind == "in":
-        return [(parts[0], member) for member in parts[1]]
+        return [("=", parts[0], member) for member in parts[1]]
     if kind == "null":
         return []
     if kind in ("is", "not"):
@@ -94,7 +94,47 @@ def compared_operands(condition):
     return [pair for part in parts[0] for pair in compared_operands(part)]
 
 
+def check_declared(comparisons, tables):
+    """E32 of the first operand that needs a declared type and has none: one that is ordered, or compared with a number."""
+    for sign, *operands in comparisons:
+        for operand, other in (operands, operands[::-1]):
+            is_column = operand[0] == "column"
+            if is_column and tables[operand[1]].types[operand[2]].is_text and tables[operand[1]].types[operand[2]].is_undeclared:
+                if sign not in ("=", "<>") or not is_text(other, tables):
+                    side, name = ("left", "right")[operand[1]], tables[operand[1]].names[operand[2]].decode()
+                    raise Fault(32, "UndeclaredType", side, f'"{name}"')
+
+
+def equated(names, tables):
+    """The comparisons of the columns with these names, where both tables have them."""
+    found = [[column_called(name, table) for table in tables] for name in names]
+    return [("=", ("column", 0, left), ("column", 1, right)) for left, right in found if None not in (left, right)]
+
+
 def bind(clause, tables):
+    """The bound join of a clause's tree, or E13 to E16, or E32."""
+    try:
+        join = bound(clause, tables)
+    except Fault as fault:
+        if not str(fault).startswith("E15 "):
+            raise
+        check_declared(comparisons_of(clause, tables), tables)
+        raise
+    check_declared(comparisons_of(clause, tables), tables)
+    return join
+
+
+def comparisons_of(clause, tables):
+    """The comparisons of a clause whose names can be found."""
+    _, condition, names, is_natural = clause
+    if is_natural:
+        return equated([(False, name) for name in tables[0].names], tables)
+    if names is not None:
+        return equated(names, tables)
+    return compared_operands(resolve(condition, tables)) if condition is not None else []
+
+
+def bound(clause, tables):
     """The bound join of a clause's tree, or E13 to E16."""
     kind, condition, names, is_natural = clause
     if is_natural:
@@ -104,7 +144,7 @@ def bind(clause, tables):
     if condition is None:
         return Join(kind, None, None)
     condition = resolve(condition, tables)
-    for one, other in compared_operands(condition):
+    for _, one, other in compared_operands(condition):
         if is_text(one, tables) != is_text(other, tables):
             raise Fault(15, "TypeMismatch")
     return Join(kind, condition, None)

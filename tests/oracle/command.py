@@ -1,7 +1,7 @@
 """The words of both command lines: "The order" and "Errors and statuses" of docs/user/specification.md.
 
 Options are long ones, used at most once but for those of a side's null texts; `--name value` and `--name=value` mean the same, and a value that begins
-with `-` is given by `=` (but `-` alone is a value)."""
+with `-` is given by `=` (but `-` alone is a value). `-o` and `-w` are letters of two of them. In the short form three words are no options."""
 import math
 import re
 
@@ -42,6 +42,12 @@ class WordOrNone(Word):
     """One of a few words, or nothing, for which the first of them stands."""
 
 
+# What has no option in the short form, in the order of the words.
+PLACES = ("left", "right", "join")
+
+# The options of which one letter is enough.
+LETTERS = {"o": "output", "w": "workers"}
+
 OPTIONS_OF = {
     "radixjoin": {
         "left": NEEDED_TEXT,
@@ -78,6 +84,22 @@ OPTIONS_OF = {
     },
     "arrivals": {"partition": Number(0, 1023), "senders": Number(1, 128), "block": Number(1, 65536), "gaps": FLAG},
 }
+
+
+# The options of the short form, without its three words.
+SHORT = {name: TEXT if takes == NEEDED_TEXT else takes for name, takes in OPTIONS_OF["radixjoin"].items() if name not in PLACES}
+SHORT.update({"lenient": FLAG, "terse": FLAG})
+
+
+def is_short(words):
+    """Whether a line of radixjoin is of the short form."""
+    return not any(re.match(r"--(left|right|join)(=|$)", word) for word in words)
+
+
+def explains(words):
+    """Whether a line of radixjoin asks for explanations by being of the short form."""
+    words = [word.decode(errors="replace") for word in words]
+    return is_short(words) and "--terse" not in words
 
 
 def number(value, of):
@@ -127,33 +149,61 @@ def take_option(found, options, word, waiting):
     return None
 
 
+def take_letter(found, options, word, waiting):
+    """Reads a word `-o` or `-oVALUE`; the option that now waits for its value, or None."""
+    if waiting is not None:
+        end_waiting(found, options, waiting)
+    name, value = LETTERS[word[1]], word[2:]
+    if not value:
+        return name
+    put(found, options, name, value[1:] if value.startswith("=") else value)
+    return None
+
+
+def put_place(found, places, word):
+    """Takes a word that is no option."""
+    if not places:
+        raise BadLine
+    found[places.pop(0)] = word
+
+
 def read_words(program, words):
-    """The value of each option that was given, by its name."""
-    options, found, waiting = OPTIONS_OF[program], {}, None
+    """The value of each option that was given, by its name, and of each word that is none."""
+    options, found, waiting, places = OPTIONS_OF[program], {}, None, []
     try:
         words = [word.decode() for word in words]
     except UnicodeDecodeError:
         raise BadLine(f"{program}: an argument is not text") from None
+    if program == "radixjoin" and is_short(words):
+        options, places = SHORT, [*PLACES]
     for at, word in enumerate(words):
         if word == "--":
-            # Nothing may come after it, since no program takes words of their own.
-            if words[at + 1 :]:
-                raise BadLine
-        elif word.startswith("--"):
+            # No word after it is an option.
+            for behind in words[at + 1 :]:
+                if waiting is not None:
+                    end_waiting(found, options, waiting)
+                    waiting = None
+                put_place(found, places, behind)
+            break
+        if word.startswith("--"):
             waiting = take_option(found, options, word, waiting)
+        elif program == "radixjoin" and word[:1] == "-" and word[1:2] in {*LETTERS}:
+            waiting = take_letter(found, options, word, waiting)
         elif word.startswith(("-h", "-V")) and waiting is None:
             raise Help
-        elif waiting is None or (word.startswith("-") and word != "-"):
+        elif word.startswith("-") and word != "-":
             raise BadLine
+        elif waiting is None:
+            put_place(found, places, word)
         else:
             put(found, options, waiting, word)
             waiting = None
     needed = {name for name, takes in options.items() if takes == NEEDED_TEXT or (isinstance(takes, Number) and takes.default is None)}
     if waiting is not None:
         end_waiting(found, options, waiting)
-    if not needed <= set(found):
+    if places or not needed <= set(found):
         raise BadLine
-    return found
+    return {**found, "is short": options is SHORT}
 
 
 class Request:
@@ -162,15 +212,16 @@ class Request:
     def __init__(self, found):
         options = OPTIONS_OF["radixjoin"]
         bad = lambda text: BadLine(f"radixjoin: {text}")
-        self.left_types = reading.type_list(found["left-types"], "left", bad)
-        self.right_types = reading.type_list(found["right-types"], "right", bad)
+        # (a list that isn't given, of the short form, leaves each column undeclared)
+        self.left_types = reading.type_list(found["left-types"], "left", bad) if "left-types" in found else None
+        self.right_types = reading.type_list(found["right-types"], "right", bad) if "right-types" in found else None
         self.left = found["left"]
         self.right = found["right"]
         self.clause = found["join"].encode()
         null = found.get("null", "")
         self.nulls = {side: self.nulls_of(found, side, null, bad) for side in ("left", "right")}
         self.out_null = found.get("out-null", null).encode()
-        self.strict = found.get("strict")
+        self.strict = found.get("strict", "on" if found["is short"] and "lenient" not in found else None)
         self.bits1 = found.get("bits1", options["bits1"].default)
         self.hash = found.get("hash", options["hash"].default)
         self.piece = found.get("piece", options["piece"].default)
@@ -185,7 +236,7 @@ class Request:
         self.most_rows = found.get("max-rows", options["max-rows"].default)
         self.counts = "count" in found
         self.report = "report" in found
-        self.repeated = found.get("repeated", "keep")
+        self.repeated = found.get("repeated", "qualify" if found["is short"] else "keep")
         if self.repeated not in ("keep", "qualify") and not 1 <= len(self.repeated.encode()) <= LONGEST_SUFFIX:
             raise bad("bad suffix of repeated names")
 

@@ -35,6 +35,7 @@ class Text:
 
     word = "text"
     is_text = True
+    is_undeclared = False
 
     def read(self, cell):
         cell.decode()
@@ -42,6 +43,12 @@ class Text:
 
     def fault(self, side, row, column):
         return Fault(7, "BadText", side, "row", row, "column", column)
+
+
+class Undeclared(Text):
+    """The type `text` of a column of which no type was given."""
+
+    is_undeclared = True
 
 
 class Num:
@@ -155,6 +162,12 @@ def check_header(header, types, side):
         seen.add(lowered(name))
     if len(types) != len(header):
         raise Fault(4, "TypeCount", side)
+
+
+def undeclared(content):
+    """The types of a file's columns of which none was given."""
+    found = records(content[3:] if content.startswith(b"\xef\xbb\xbf") else content)
+    return [Undeclared()] * len(found[0]) if found else []
 
 
 def read(content, types, nulls, side):

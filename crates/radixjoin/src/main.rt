@@ -17,7 +17,7 @@ use std::fs::Files;
 use std::io::IsTerminal;
 use std::process::ExitCode;
 use std::sync::Wait;
-use std::thread::Threads;
+use std::thread::{self, Threads};
 use std::time::Clock;
 
 // Does what the words of a line ask for, and shows its progress meanwhile.
@@ -36,6 +36,14 @@ fn write_watched<R: Files + Input + AllocGlobal + Print + Eprint + Threads + Wai
     written
 }
 
+// How many processors there are, or one if that can't be known.
+fn processors(rt: &impl Threads) -> usize {
+    match thread::available_parallelism(rt) {
+        Ok(count) => count.get(),
+        Err(_) => 1,
+    }
+}
+
 // Reads the words of a join, and writes what they ask for.
 fn join<R: Files + Input + AllocGlobal + Print + Eprint + Threads + Wait + Clock + Sync>(
     rt: &R,
@@ -45,7 +53,7 @@ fn join<R: Files + Input + AllocGlobal + Print + Eprint + Threads + Wait + Clock
     let alloc = rt.alloc();
     let words = read_lists(rt, words)?;
     let texts = texts_of(alloc, words.as_slice())?;
-    let line = read_words_of_line(alloc, texts.as_slice())?;
+    let line = read_words_of_line(alloc, texts.as_slice(), processors(rt))?;
     refuse_inputs(rt, &line)?;
     let Some(stats) = write_watched(rt, &line, terminals)? else {
         return Ok(());

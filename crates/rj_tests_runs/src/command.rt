@@ -147,7 +147,7 @@ fn joined<R: Threads + Wait + Clock + Sync>(
     seen: &Seen,
 ) -> Result<(Vec<u8>, Stats), Fault> {
     let words = words_of(asked.0, asked.1);
-    let line = read_line(alloc, words.as_slice())?;
+    let line = read_line(alloc, words.as_slice(), 1)?;
     let mut writer = CountedWriter::new(Vec::new(alloc));
     let stats = run_by(rt, alloc, &line.request, asked.2, seen, &mut writer)?;
     Ok((writer.into_inner(), stats))
@@ -289,7 +289,7 @@ fn violation<R: Threads + Wait + Clock + Sync>(
     alloc: Global,
 ) -> Result<Option<Violation>, Fault> {
     let words = words_of("CROSS JOIN", "--expect=many-to-one");
-    let line = read_line(alloc, words.as_slice())?;
+    let line = read_line(alloc, words.as_slice(), 1)?;
     first_violation(rt, alloc, PEOPLE, CITIES, &line.request, &OpenGate)
 }
 
@@ -301,7 +301,7 @@ fn violations_are_found(rt: HostRuntime) {
 
 // Whether the error of these words is one of `clap`, whose text is its line.
 fn has_line_of_clap(alloc: Global, words: &[&str]) -> bool {
-    let Err(fault) = read_line(alloc, words) else {
+    let Err(fault) = read_line(alloc, words, 1) else {
         return false;
     };
     let Fault::CommandLine(error) = &fault else {

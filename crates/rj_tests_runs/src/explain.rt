@@ -11,7 +11,7 @@ const NOTES: &[u8] = b"id,note\n1,\"two\nlines\"\n\n2,x\n";
 // Whether these lines explain an error of a join of the notes with themselves.
 fn is_explained(alloc: Global, fault: &Fault, wanted: &str) -> bool {
     let words = words_of("JOIN USING (id)", "--hash=plain");
-    let Ok(line) = read_line(alloc, words.as_slice()) else {
+    let Ok(line) = read_line(alloc, words.as_slice(), 1) else {
         return false;
     };
     let inputs = Inputs {

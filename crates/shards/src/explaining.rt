@@ -98,7 +98,7 @@ fn header_lines<R: Files + AllocGlobal>(
 ) -> Result<String, AllocError> {
     let alloc = rt.alloc();
     let words = words_of_join(alloc, words)?;
-    let Ok(line) = read_line(alloc, words.as_slice()) else {
+    let Ok(line) = read_line(alloc, words.as_slice(), 1) else {
         return Ok(String::new(alloc));
     };
     let (Ok(left), Ok(right)) = (
