@@ -44,6 +44,26 @@ fn processors(rt: &impl Threads) -> usize {
     }
 }
 
+// Whether there are rows with a key in both tables, and none of them match.
+fn is_unmatched(stats: &Stats) -> bool {
+    let (mut left, mut right) = (false, false);
+    for partition in &stats.partitions {
+        left |= partition.left > 0;
+        right |= partition.right > 0;
+    }
+    left && right && stats.pairs == 0
+}
+
+// Tells that no rows match, if that may be so because nobody declared the types of columns.
+fn tell_unmatched<R: Eprint>(rt: &R, line: &Line<'_>, stats: &Stats) {
+    let is_open = line.request.left_undeclared || line.request.right_undeclared;
+    if line.explain && is_open && is_unmatched(stats) {
+        let _ = eprintln!(rt;
+            "radixjoin: no rows match; columns without a type are texts, so 7 isn't 07"
+        );
+    }
+}
+
 // Reads the words of a join, and writes what they ask for.
 fn join<R: Files + Input + AllocGlobal + Print + Eprint + Threads + Wait + Clock + Sync>(
     rt: &R,
@@ -64,6 +84,7 @@ fn join<R: Files + Input + AllocGlobal + Print + Eprint + Threads + Wait + Clock
     if let Some(report) = &stats.report {
         let _ = eprintln!(rt; "{report}");
     }
+    tell_unmatched(rt, &line, &stats);
     Ok(())
 }
 
