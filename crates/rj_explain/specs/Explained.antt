@@ -38,6 +38,7 @@ use Rattle.rj_explain.specs.Hints.{file_line, file_side, file_words}
 use Rattle.rj_explain.specs.Lines.{cell_of_row, clause_line, columns_line, count_line, grammar_line, mismatch_line, name_line, names_line, null_line, null_rule, ragged_line, repeated_told, row_line}
 use Rattle.rj_explain.specs.Places.{HasNoRow, IsRow, at_column}
 use Rattle.rj_explain.specs.Strict.{IsFaultLine}
+use Rattle.rj_explain.specs.Typed.{typed_text}
 
 -- a side's file, and what is known of the types of its columns
 abbrev pub file_of : Side → Inputs → List ℕ
@@ -169,13 +170,13 @@ abbrev pub IsNameTold : Inputs → List ℕ → Type 0
 IsNameTold inputs lines = IsToldOfColumns inputs (IsRefusalTold inputs.request.now.clause.now lines) lines
 
 -- the lines for the first comparison that can't be made
-abbrev pub IsToldOfPair : Mismatch → List ℕ → Type 0
-IsToldOfPair pair lines = (first second : List ℕ) × (lines ≡ mismatch_line first second pair.at)
+abbrev pub pair_line : Mismatch → TableValue → TableValue → List ℕ
+pair_line pair left right = mismatch_line (typed_text pair.first left right) (typed_text pair.second left right) pair.at
 
 abbrev pub IsApartTold : List ℕ → List ℕ → TableValue → TableValue → Type 0
 IsApartTold clause lines left right =
     (((65536 < length clause) ⊎ HasNoMismatch clause left right) × (lines ≡ []))
-    ⊎ ((pair : Mismatch) × IsMismatch clause left right pair × IsToldOfPair pair lines)
+    ⊎ ((pair : Mismatch) × IsMismatch clause left right pair × (lines ≡ pair_line pair left right))
 
 abbrev pub IsMismatchTold : Inputs → List ℕ → Type 0
 IsMismatchTold inputs lines = IsToldOfColumns inputs (IsApartTold inputs.request.now.clause.now lines) lines

@@ -7,3 +7,4 @@ pub mod Names
 pub mod Places
 pub mod Shown
 pub mod Strict
+pub mod Typed

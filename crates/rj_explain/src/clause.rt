@@ -9,6 +9,7 @@ ghost use Rattle.rj_explain.specs.Explained.{AreColumns, IsNameTold, IsRefusalTo
 ghost use Rattle.rj_explain.specs.Lines.{clause_line};
 ghost use Rattle.rj_explain.specs.Shown.{meant_text, names_text};
 
+use crate::hints::{file_line, separator_in};
 use crate::inputs::Inputs;
 use crate::names::{Meant, NamesOf, nearest};
 use crate::shown::Shown;
@@ -292,6 +293,14 @@ fn words_of_bare(
     words_of_both(alloc, columns, meant)
 }
 
+// The line that tells of another separator in the one name of a side's table, if it has one name.
+fn separator_line(alloc: Global, side: Side, table: &Table) -> Result<String, AllocError> {
+    if table.columns() != 1 {
+        return Ok(String::new(alloc));
+    }
+    file_line(alloc, side, separator_in(table.name(0).as_bytes()))
+}
+
 // The words for a name that can't be resolved.
 fn words_of_unknown(
     alloc: Global,
@@ -299,10 +308,13 @@ fn words_of_unknown(
     found: &RefusedColumn,
     columns: &BothColumns,
 ) -> Result<String, AllocError> {
-    match &found.qualifier {
-        Some(qualifier) => words_of_qualified(alloc, clause, found, qualifier.as_str(), columns),
-        None => words_of_bare(alloc, clause, found, columns),
-    }
+    let mut words = match &found.qualifier {
+        Some(qualifier) => words_of_qualified(alloc, clause, found, qualifier.as_str(), columns)?,
+        None => words_of_bare(alloc, clause, found, columns)?,
+    };
+    words.push_str(separator_line(alloc, Side::Left, &columns.left)?.as_str())?;
+    words.push_str(separator_line(alloc, Side::Right, &columns.right)?.as_str())?;
+    Ok(words)
 }
 
 // The words for a name that is refused.

@@ -74,9 +74,9 @@ fn is_foreign(fault: &Fault, file: &[u8], names: &[&[u8]]) -> bool
     }
 }
 
-// The sign that separates the fields of a file in place of a comma, if it is in this name.
+/// The sign that separates the fields of a file in place of a comma, if it is in this name.
 #[tactic(auto, unfolding(crate::specs::Hints::separator_in))]
-fn separator_in(name: &[u8]) -> &'static str
+pub(crate) fn separator_in(name: &[u8]) -> &'static str
     ensures { result.now ≡ hints.separator_in name.now }
 {
     if name.contains(&b';') {
@@ -115,8 +115,12 @@ fn file_words(fault: &Fault, file: &[u8], names: &[&[u8]]) -> &'static str
     separator_words(names)
 }
 
-// A line for it.
-fn file_line(alloc: Global, side: Side, words: &str) -> Result<String, AllocError>
+/// A line for what is said of a side's file, if anything is.
+///
+/// # Errors
+///
+/// It fails only when memory runs out.
+pub(crate) fn file_line(alloc: Global, side: Side, words: &str) -> Result<String, AllocError>
     ensures { IfOk result (λ s. string_bytes s ≡ hints.file_line side words.now) }
 {
     if words.is_empty() {

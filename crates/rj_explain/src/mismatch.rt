@@ -1,16 +1,19 @@
 //! Operands of a clause that can't be compared.
 
-ghost use Rattle.std.specs.Prelude.{IfOk, string_bytes};
-ghost use Rattle.rj_explain.specs.Explained.{IsApartTold, IsMismatchTold, IsToldOfPair};
+ghost use Rattle.std.specs.Prelude.{◌≡◌, ◌++◌, IfOk, Some, codes, slice_get, string_bytes};
+ghost use Rattle.std.specs.Fmt.{WritesOnOk};
+ghost use Rattle.rj_explain.specs.Explained.{IsApartTold, IsMismatchTold, pair_line};
+ghost use Rattle.rj_explain.specs.Shown as shown;
+ghost use Rattle.rj_explain.specs.Typed.{column_text, digits, is_plain, literal_text, name_word, typed_text};
 
 use crate::clause::{BothColumns, columns_of_both};
 use crate::inputs::Inputs;
-use crate::shown::{Shown, ShownText, TypeWord};
+use crate::shown::{Shown, ShownText, TypeWord, write_loose_bytes};
 use rj_columns::Table;
 use rj_condition::{BoundOperand, DecimalLiteral, Literal, Mismatch, first_mismatch};
 use rj_decimal::DecimalBuffer;
 use std::alloc::{AllocError, Global};
-use std::{fmt, str};
+use std::fmt;
 
 // The most bytes of a clause.
 const LONGEST: usize = 65_536;
@@ -23,10 +26,25 @@ struct Typed<'t> {
     right: &'t Table,
 }
 
-fn is_plain_name(name: &str) -> bool {
+fn is_plain_name(name: &str) -> bool
+    ensures { result ≡ is_plain name.now }
+{
     name.as_bytes()
         .iter()
         .all(|b| b.is_ascii_alphanumeric() || *b == b'_')
+}
+
+// Writes a name, between double quotes if it has other signs than letters, digits and underscores.
+fn show_name<W: fmt::Write>(f: &mut fmt::Formatter<W>, name: &str) -> fmt::Result
+    ensures { WritesOnOk W.write_str_gives f.old result (name_word name.now) f.new }
+{
+    if is_plain_name(name) {
+        return f.write_str(name);
+    }
+    let name = Shown {
+        bytes: name.as_bytes(),
+    };
+    write!(f, "{name}")
 }
 
 // A column of the table with this letter, and its type.
@@ -35,51 +53,59 @@ fn show_column<W: fmt::Write>(
     letter: &str,
     table: &Table,
     column: usize,
-) -> fmt::Result {
+) -> fmt::Result
+    ensures { WritesOnOk W.write_str_gives f.old result (column_text letter.now (slice_get table.now.types column) (slice_get table.now.names column)) f.new }
+{
     if column >= table.columns() {
-        return Ok(());
+        return f.write_str("");
     }
-    let (name, kind) = (
-        table.name(column),
-        TypeWord {
-            kind: table.column_type(column),
-        },
-    );
-    if is_plain_name(name) {
-        return write!(f, "{letter}.{name} is {kind}");
-    }
-    let name = Shown {
-        bytes: name.as_bytes(),
+    let kind = TypeWord {
+        kind: table.column_type(column),
     };
-    write!(f, "{letter}.{name} is {kind}")
+    f.write_str(letter)?;
+    f.write_str(".")?;
+    show_name(f, table.name(column))?;
+    write!(f, " is {kind}")
 }
 
-fn show_decimal<W: fmt::Write>(f: &mut fmt::Formatter<W>, decimal: DecimalLiteral) -> fmt::Result {
+#[tactic(auto, unfolding(crate::specs::Typed::digits))]
+fn show_digits<W: fmt::Write>(f: &mut fmt::Formatter<W>, decimal: DecimalLiteral) -> fmt::Result
+    ensures { WritesOnOk W.write_str_gives f.old result (digits decimal.scale decimal.units) f.new }
+{
     let mut buffer = DecimalBuffer::new();
-    let bytes = buffer.format(i128::from(decimal.units), decimal.scale);
-    match str::from_utf8(bytes) {
-        Ok(text) => write!(f, "{text} is a number"),
-        Err(_) => f.write_str("a number"),
-    }
+    write_loose_bytes(f, buffer.format(i128::from(decimal.units), decimal.scale))
 }
 
-fn show_literal<W: fmt::Write>(f: &mut fmt::Formatter<W>, literal: &Literal) -> fmt::Result {
+fn show_decimal<W: fmt::Write>(f: &mut fmt::Formatter<W>, decimal: DecimalLiteral) -> fmt::Result
+    ensures { WritesOnOk W.write_str_gives f.old result (digits decimal.scale decimal.units ++ codes " is a number") f.new }
+{
+    show_digits(f, decimal)?;
+    f.write_str(" is a number")
+}
+
+fn show_text<W: fmt::Write>(f: &mut fmt::Formatter<W>, text: &str) -> fmt::Result
+    ensures { WritesOnOk W.write_str_gives f.old result (shown.literal text.now ++ codes " is text") f.new }
+{
+    let text = ShownText { text };
+    write!(f, "{text} is text")
+}
+
+fn show_literal<W: fmt::Write>(f: &mut fmt::Formatter<W>, literal: &Literal) -> fmt::Result
+    ensures { WritesOnOk W.write_str_gives f.old result (literal_text literal.now) f.new }
+{
     match literal {
         Literal::Integer(number) => {
             let number = *number;
             write!(f, "{number} is a number")
         }
         Literal::Decimal(decimal) => show_decimal(f, *decimal),
-        Literal::Text(text) => {
-            let text = ShownText {
-                text: text.as_str(),
-            };
-            write!(f, "{text} is text")
-        }
+        Literal::Text(text) => show_text(f, text.as_str()),
     }
 }
 
 impl fmt::Display for Typed<'_> {
+    ghost output = { λ t. Some (typed_text t.operand.now t.left.now t.right.now) };
+
     fn fmt<W: fmt::Write>(&self, f: &mut fmt::Formatter<W>) -> fmt::Result {
         match self.operand {
             BoundOperand::Left(column) => show_column(f, "L", self.left, *column),
@@ -94,7 +120,9 @@ fn typed_text(
     alloc: Global,
     operand: &BoundOperand,
     columns: &BothColumns,
-) -> Result<String, AllocError> {
+) -> Result<String, AllocError>
+    ensures { IfOk result (λ s. string_bytes s ≡ typed_text operand.now columns.now.left columns.now.right) }
+{
     let typed = Typed {
         operand,
         left: &columns.left,
@@ -109,7 +137,7 @@ fn mismatch_line(
     found: &Mismatch,
     columns: &BothColumns,
 ) -> Result<String, AllocError>
-    ensures { IfOk result (λ s. IsToldOfPair found.now (string_bytes s)) }
+    ensures { IfOk result (λ s. string_bytes s ≡ pair_line found.now columns.now.left columns.now.right) }
 {
     let at = found.at;
     let first = typed_text(alloc, &found.first, columns)?;

@@ -84,8 +84,11 @@ fn write_loose_byte<W: fmt::Write>(f: &mut fmt::Formatter<W>, byte: u8) -> fmt::
     write!(f, "{character}")
 }
 
-// Writes bytes that aren't a text.
-fn write_loose_bytes<W: fmt::Write>(f: &mut fmt::Formatter<W>, bytes: &[u8]) -> fmt::Result
+/// Writes bytes that aren't a text.
+pub(crate) fn write_loose_bytes<W: fmt::Write>(
+    f: &mut fmt::Formatter<W>,
+    bytes: &[u8],
+) -> fmt::Result
     ensures { WritesOnOk W.write_str_gives f.old result (flat_map shown_byte bytes.now) f.new }
 {
     for byte in bytes {
