@@ -364,7 +364,7 @@ def run_short(tally):
     """A result that is much longer than the memory: a run gives up before that is taken, and shards follow."""
     with harness.folder() as place, patched():
         folder = pathlib.Path(place)
-        words = write(folder, *(f"k,{side}\n" + "".join(f"1,{side * 20}{number}\n" for number in range(1_000)) for side in SCRIPT.SIDES))
+        words = write(folder, *(f"k,{side}\n" + "".join(f"1,{side * 500}{number}\n" for number in range(200)) for side in SCRIPT.SIDES))
         words += ["--join=LEFT JOIN USING (k)", "--workers=1"]
         wanted = harness.run([harness.program("radixjoin"), *words], folder)
         ran, runs, are_shards = joined(words, folder, 2)
