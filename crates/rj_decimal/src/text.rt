@@ -5,6 +5,8 @@ ghost use Rattle.std.specs.Fmt.{decimal};
 ghost use Rattle.rj_decimal.specs.Read.{numeric_of};
 ghost use Rattle.rj_decimal.specs.Written.{fraction_text, last_digits, text_of};
 
+use itoa::write_digits;
+
 // A sign, a digit, a point and the 255 digits of the largest scale: no text is longer.
 const LONGEST: usize = 258;
 
@@ -43,27 +45,7 @@ fn put_digits(bytes: &mut [u8], end: usize, count: usize, number: u128) -> u128
 }
 
 // Writes the digits of a number before a place, and returns where they begin.
-fn put_number(bytes: &mut [u8], end: usize, number: u64) -> usize
-    requires some { 2 ≤ end }
-    requires end { end ≤ length bytes.old }
-    requires room { number < 10 ^ (end - 1) }
-    ensures inside { result ≤ end }
-    ensures some { 0 < result }
-    ensures text { drop result bytes.new ≡ decimal number ++ drop end bytes.old }
-{
-    let mut at = end - 1;
-    bytes[at] = b'0' + (number % 10) as u8;
-    let mut rest = number / 10;
-    while rest > 0 {
-        at -= 1;
-        bytes[at] = b'0' + (rest % 10) as u8;
-        rest /= 10;
-    }
-    at
-}
-
-// The same for a number of 128 bits.
-fn put_wide(bytes: &mut [u8], end: usize, number: u128) -> usize
+fn put_number(bytes: &mut [u8], end: usize, number: u128) -> usize
     requires some { 2 ≤ end }
     requires end { end ≤ length bytes.old }
     requires room { number < 10 ^ (end - 1) }
@@ -78,7 +60,7 @@ fn put_wide(bytes: &mut [u8], end: usize, number: u128) -> usize
         bytes[at] = b'0' + (rest % 10) as u8;
         rest /= 10;
     }
-    put_number(bytes, at, rest as u64)
+    write_digits(rest as u64, bytes, at)
 }
 
 // Writes the point and the digits after it to the end of the bytes, and returns where they begin
@@ -105,7 +87,7 @@ fn put_text(bytes: &mut [u8; LONGEST], units: i128, scale: u8) -> usize
     ensures text { drop result bytes.new ≡ text_of scale units }
 {
     let (point, whole) = put_fraction(bytes, scale, units.unsigned_abs());
-    let start = put_wide(bytes, point, whole);
+    let start = put_number(bytes, point, whole);
     if units >= 0 {
         return start;
     }

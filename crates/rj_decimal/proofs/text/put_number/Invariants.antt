@@ -1,12 +1,11 @@
 use Rattle.std.proofs.Common.{◌≡◌, ◌++◌, ◌-◌, ◌<◌, ◌≤◌, ◌^◌, drop}
 use Rattle.std.specs.Fmt.{decimal}
-use Rattle.rj_decimal.proofs.Texts.{digits_left}
 use Rattle.rj_decimal.proofs.text.put_number.Given as goal
 
 abbrev pub invariant-loop-rest : goal.invariant-loop-rest
 invariant-loop-rest l = record {
-  text : decimal l.fn.number ++ drop l.end l.fn.bytes ≡ digits_left l.rest ++ drop l.at l.bytes;
-  some : 0 < l.at;
+  text : decimal l.fn.number ++ drop l.end l.fn.bytes ≡ decimal l.rest ++ drop l.at l.bytes;
+  some : 2 ≤ l.at;
   inside : l.at ≤ l.end;
   room : l.rest < 10 ^ (l.at - 1);
 }
