@@ -1,8 +1,8 @@
 //! How a table is built, row by row.
 
-ghost use Rattle.std.specs.Prelude.{◌≡◌, ◌<◌, ◌-◌, ◌^◌, ◌++◌, ◌∷◌, [], map, length, OnOk, OnErr, IfOk, IfErr, Ok, Err, ◌≢◌};
+ghost use Rattle.std.specs.Prelude.{◌≡◌, ◌<◌, ◌-◌, ◌^◌, ◌++◌, ◌∷◌, [], map, length, IsUtf8, OnOk, OnErr, IfOk, IfErr, Ok, Err, ◌≢◌};
 ghost use Rattle.rj_columns.specs.Names.{empty_table};
-ghost use Rattle.rj_columns.specs.Contents.{content_of};
+ghost use Rattle.rj_columns.specs.Contents.{content_of, word};
 ghost use Rattle.rj_columns.specs.Tables.{FitsAt, FitsTypes, with_row};
 
 use crate::cell::{Cell, ColumnType};
@@ -102,6 +102,23 @@ impl TableBuilder {
     {
         self.make_room()?;
         self.current.push_cell(cell)
+    }
+
+    /// Adds a text to the row at hand, from its bytes, which are UTF-8. There must be a column for
+    /// it, and it is of texts.
+    ///
+    /// # Errors
+    ///
+    /// It fails only when memory runs out. The builder then stays as it was.
+    #[inline]
+    pub fn push_text(&mut self, text: &[u8]) -> Result<(), AllocError>
+        requires utf8 { IsUtf8 text.now }
+        requires fits { FitsAt self.old.table.types (length self.old.row) (word text.now) }
+        ensures ok { OnOk result (self.new ≡ record self.old { row = self.old.row ++ word text.now ∷ [] }) }
+        ensures err { OnErr result (self.new ≡ self.old) }
+    {
+        self.make_room()?;
+        self.current.push_text(text)
     }
 
     // Begins another segment. The row at hand has no cell. If memory runs out, nothing is changed.

@@ -1,7 +1,7 @@
 //! How a segment is built, row by row.
 
-ghost use Rattle.std.specs.Prelude.{◌≡◌, ◌<◌, ◌≤◌, ◌+◌, ◌-◌, ◌^◌, ◌++◌, ◌∷◌, [], true, map, length, All, OnOk, OnErr, IfOk};
-ghost use Rattle.rj_columns.specs.Contents.{content_of};
+ghost use Rattle.std.specs.Prelude.{◌≡◌, ◌<◌, ◌≤◌, ◌+◌, ◌-◌, ◌^◌, ◌++◌, ◌∷◌, [], true, map, length, All, IsUtf8, OnOk, OnErr, IfOk};
+ghost use Rattle.rj_columns.specs.Contents.{content_of, word};
 ghost use Rattle.rj_columns.specs.Columns.{AreFull, cut, changed, without_last, without, grown_by};
 ghost use Rattle.rj_columns.specs.Tables.{FitsAt, FitsTypes, with_row};
 
@@ -173,6 +173,20 @@ impl SegmentBuilder {
     {
         let at = self.filled;
         self.columns[at].push(cell)?;
+        self.filled = at + 1;
+        Ok(())
+    }
+
+    // Adds a text to the row at hand, from its bytes. If memory runs out, nothing is changed.
+    #[inline]
+    pub(crate) fn push_text(&mut self, text: &[u8]) -> Result<(), AllocError>
+        requires utf8 { IsUtf8 text.now }
+        requires fits { FitsAt self.old.table.types (length self.old.row) (word text.now) }
+        ensures ok { OnOk result (self.new ≡ record self.old { row = self.old.row ++ word text.now ∷ [] }) }
+        ensures err { OnErr result (self.new ≡ self.old) }
+    {
+        let at = self.filled;
+        self.columns[at].push_text(text)?;
         self.filled = at + 1;
         Ok(())
     }
