@@ -11,6 +11,7 @@ use crate::block::{BLOCK_ROWS, RowBlock, next_block, no_rows};
 use crate::text::{close_text, end_record, open_text, write_cell, write_field};
 use csv::Writer;
 use rj_columns::RowSource;
+use rj_decimal::DecimalBuffer;
 use std::alloc::{AllocError, Global};
 
 /// The most bytes of room that a text reserves before it has grown to them.
@@ -52,6 +53,7 @@ fn write_row<S: RowSource>(
     source: &S,
     row: u64,
     null: &str,
+    decimal: &mut DecimalBuffer,
 ) -> Result<(), AllocError>
     requires holds { Holds (S.contents source.now) (S.width source.now) block.now }
     requires from { block.now.from ≤ row }
@@ -63,7 +65,7 @@ fn write_row<S: RowSource>(
     let at = (row - block.from) as usize;
     let mut base = 0usize;
     for _col in 0..source.columns() {
-        write_cell(writer, block.cells[base + at], null)?;
+        write_cell(writer, block.cells[base + at], null, decimal)?;
         base += step;
     }
     end_record(writer)?;
@@ -76,13 +78,14 @@ fn write_block<S: RowSource>(
     block: &RowBlock<'_>,
     source: &S,
     null: &str,
+    decimal: &mut DecimalBuffer,
 ) -> Result<(), AllocError>
     requires { Holds (S.contents source.now) (S.width source.now) block.now }
     ensures { (text : List ℕ) → HasWritten writer.old text []
         → OnOk result (HasWritten writer.new (text ++ range_text null.now (S.contents source.now) block.now.from block.now.to) []) }
 {
     for row in block.from..block.to {
-        write_row(writer, block, source, row, null)?;
+        write_row(writer, block, source, row, null, decimal)?;
     }
     Ok(())
 }
@@ -102,10 +105,11 @@ fn add_blocks<S: RowSource>(
 {
     let mut writer = open_text(text);
     let mut block = no_rows(alloc);
+    let mut decimal = DecimalBuffer::new();
     let mut row = from;
     while row < to {
         next_block(&mut block, source, row, to)?;
-        write_block(&mut writer, &block, source, null)?;
+        write_block(&mut writer, &block, source, null, &mut decimal)?;
         row = block.to;
     }
     close_text(writer)
