@@ -138,7 +138,7 @@ impl TableBuilder {
     }
 
     // Begins another segment if the current one is full. If memory runs out, nothing is changed.
-    #[inline]
+    #[inline(always)]
     fn make_room(&mut self) -> Result<(), AllocError>
         ensures { self.new ≡ self.old }
     {

@@ -4,7 +4,6 @@ use Rattle.std.proofs.lemmas.Bool.{MatchBool-at_true}
 use Rattle.std.proofs.lemmas.List.{length-append}
 use Rattle.csv.specs.Records.{fields_of}
 use Rattle.csv.proofs.RecordFacts.{field-get, field-there}
-use Rattle.rj_columns.specs.Contents.{content_of}
 use Rattle.rj_csv_io.proofs.RowsFacts.{cell-fits, FitsAt-from, grows-same}
 use Rattle.rj_csv_io.proofs.TypedFacts.{cells-step, cells-fault, cells-end, field-ascii}
 use Rattle.rj_csv_io.specs.Typed.{null_texts}
