@@ -96,8 +96,11 @@ def faults_of(words, folder, parts, ranges, wanted):
 
 def is_example(case):
     """Whether an example is a join whose output is looked at, by options that the script takes and gives to `radixjoin` as they are
-    (`-1` isn't: Python takes it for a value), and leaves room for a column of places."""
+    (`-1` isn't: Python takes it for a value; nor are options of one letter and the short form, which are the program's alone), and leaves
+    room for a column of places."""
     options = case.get("options", [])
+    if case.get("short") or any(word.startswith(("-o", "-w")) for word in options):
+        return False
     if case["name"] == "hostile_inputs, 256 columns" or case["name"].endswith(" twice") or "-1" in options:
         return "null texts" in case["name"]
     names = [*SCRIPT.OF_ONE_JOIN, "null", "left-null", "right-null", "out-null", "strict"]
