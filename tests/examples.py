@@ -96,7 +96,7 @@ WAYS = [
 def sweep_ways(case, files, tally):
     """Runs a case that says nothing of workers with each of several ways: what it prints is the same."""
     options = case.get("options", [])
-    named = tuple(f"--{name}" for name in (*WAYS[0], "retries", "piece", "help"))
+    named = ("-w", *(f"--{name}" for name in (*WAYS[0], "retries", "piece", "help")))
     if "words" in case or any(word.startswith(named) for word in options):
         return
     for way in WAYS:
