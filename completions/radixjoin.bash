@@ -1,6 +1,6 @@
 # Completion of radixjoin for bash: options that were not given yet, files, and the words of options.
 _radixjoin() {
-    local options="--left --right --left-types --right-types --join --null --left-null --right-null --out-null --strict --stats --order --rows --columns --repeated --expect --max-rows --count --report --progress --output --explain --lenient --terse --workers
+    local options="--left --right --left-types --right-types --types --join --null --left-null --right-null --out-null --strict --stats --order --rows --columns --anti --semi --repeated --expect --max-rows --count --report --progress --output --explain --lenient --terse --workers
         --bits1 --bits2 --hash --piece --block --capacity --lanes --retries --help --version"
     local word=${COMP_WORDS[COMP_CWORD]} before=${COMP_WORDS[COMP_CWORD - 1]}
     # `--left=a` is three words here: --left, = and a.
@@ -44,7 +44,7 @@ _radixjoin() {
         --strict)
             mapfile -t COMPREPLY < <(compgen -W "on full" -- "$word")
             ;;
-        --left-types | --right-types)
+        --left-types | --right-types | --types)
             if [[ $word == @* ]]; then
                 compopt -o filenames 2>/dev/null
                 mapfile -t COMPREPLY < <(compgen -P @ -f -- "${word#@}")

@@ -104,7 +104,7 @@ def modes(folder):
 
 
 def owners(folder):
-    """The owner and the group of the file that stood there stay, if whoever runs the program may give files away."""
+    """The owner and the group of the file that stood there stay, as far as whoever runs the program may set them; rights of its group go to no other one."""
     if os.getuid() != 0:
         print("output_file: owners are left out, since only root gives files away")
         return
@@ -114,14 +114,20 @@ def owners(folder):
     copy.write_bytes(harness.program("radixjoin").read_bytes())
     copy.chmod(0o755)
     someone = NOBODY - 1
-    for user, kept in ((0, someone), (NOBODY, NOBODY)):
+    for label, user, groups, before, wanted in (
+        ("root", 0, [], 0o640, (someone, someone, 0o640)),
+        ("one of the group", NOBODY, [someone], 0o640, (NOBODY, someone, 0o640)),
+        ("a stranger", NOBODY, [], 0o640, (NOBODY, NOBODY, 0o600)),
+        ("a stranger, of a file that all read", NOBODY, [], 0o664, (NOBODY, NOBODY, 0o644)),
+        ("a stranger, of a file that all write", NOBODY, [], 0o666, (NOBODY, NOBODY, 0o666)),
+    ):
         written = Written(folder)
         os.chown(written.file, someone, someone)
-        written.file.chmod(0o640)
-        ran = ends.run_command([copy, *words, "--output", NAME], folder, user=user, group=user, extra_groups=[])
+        written.file.chmod(before)
+        ran = ends.run_command([copy, *words, "--output", NAME], folder, user=user, group=user, extra_groups=groups)
         found = written.file.stat()
         held = (found.st_uid, found.st_gid, stat.S_IMODE(found.st_mode))
-        yield f"written by user {user}", written.faults(ran) + ([] if held == (kept, kept, 0o640) else [f"owner, group and mode {held}"])
+        yield f"written by {label}", written.faults(ran) + ([] if held == wanted else [f"owner, group and mode {held}"])
 
 
 def links(folder):
@@ -282,6 +288,9 @@ def folders_without_permission(folder):
     words = two_files(folder)
     ran = run("radixjoin", ["--left", "missing", *words[2:], "--output", "missing/out.csv"], folder)
     yield "no such folder", harness.differences(ran, b"", UNWRITTEN, 6)
+    for output, told in (("missing/out.csv", b"  the folder missing: No such file or directory\n"), ("x" * 256, b"  " + b"x" * 256 + b": File name too long\n")):
+        ran = run("radixjoin", [*words, "--explain", "--output", output], folder)
+        yield f"{output[:20]}, explained", harness.differences(ran, b"", UNWRITTEN + told, 6)
     folder.chmod(0o755)
     (folder / "closed").mkdir()
     written = Written(folder / "closed")
@@ -292,8 +301,8 @@ def folders_without_permission(folder):
     copy = folder / "program"
     copy.write_bytes(harness.program("radixjoin").read_bytes())
     copy.chmod(0o755)
-    ran = ends.run_command([copy, *words, "--output", f"closed/{NAME}"], folder, user=NOBODY, group=NOBODY, extra_groups=[])
-    yield "no permission", written.faults(ran, stderr=UNWRITTEN, status=6)
+    ran = ends.run_command([copy, *words, "--output", f"closed/{NAME}", "--explain"], folder, user=NOBODY, group=NOBODY, extra_groups=[])
+    yield "no permission", written.faults(ran, stderr=UNWRITTEN + b"  the folder closed: Permission denied\n", status=6)
 
 
 def large(folder):

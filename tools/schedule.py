@@ -54,9 +54,9 @@ def behind(below, costs):
     return found
 
 
-def next_of(left, below, proved, chains):
-    """The crate to begin now: of those that wait for no other the one with the longest chain behind it, or none."""
-    return max((it for it in left if below[it] <= proved), key=chains.get, default=None)
+def ready(left, below, proved, chains):
+    """The crates that can be begun now, those that most others wait for first."""
+    return sorted((it for it in left if below[it] <= proved), key=chains.get, reverse=True)
 
 
 def jobs_now(name, left, jobs, chains, idle):
@@ -70,7 +70,7 @@ def ends_of(below, costs, chains, jobs, lanes):
     now, left, running, ends = 0.0, set(below), [], {}
     while left or running:
         idle = lanes - sum(count for _, _, count in running)
-        name = next_of(left, below, ends.keys(), chains) if idle > 0 else None
+        name = next(iter(ready(left, below, ends.keys(), chains)), None) if idle > 0 else None
         if name:
             count = jobs_now(name, left, jobs, chains, idle)
             left.remove(name)
@@ -103,7 +103,7 @@ class Planned:
         self.lanes, self.memory, self.say = repository.processors(), 0.85 * free, say
         self.needs = {name: TAKEN * needs[name] for name in needs}
         self.below = {name: {it for it in repository.below(lines, name) if it in names} for name in names}
-        costs = {name: recorded.get(name, Cost(60)) for name in names}
+        self.costs = costs = {name: recorded.get(name, Cost(60)) for name in names}
         self.chains = behind(self.below, costs)
         self.jobs = jobs_of(self.below, costs, self.chains, self.lanes, plans, most)
         self.ends = ends_of(self.below, costs, self.chains, self.jobs, self.lanes)
@@ -118,13 +118,24 @@ class Planned:
             rest = f", about {minutes(left)} left" if len(self.ended) < len(self.ends) else ""
             self.say(f"{len(self.ended)} of {len(self.ends)}, {name} ({minutes(taken)} so far{rest})")
 
+    def can_wait(self, name, running):
+        """Whether a crate may take about twice its time, as in a spare lane, and others still take longer with what waits for them."""
+        longest = max(self.chains[it] for it in (*self.left, *(it for it, _ in running)))
+        return self.chains[name] + self.costs[name].seconds < longest
+
     def lane_for(self, name, running):
         """Which lane a crate is begun in now, where one is free: one of the processors', which the crate that most others wait for takes in any case, or a
         spare one. running: the lane of each crate that is at work."""
         idle = self.lanes - sum(lane.jobs for _, lane in running if not lane.is_spare)
         if idle > 0 or all(self.chains[name] > self.chains[it] for it, _ in running):
             return Lane(jobs_now(name, self.left, self.jobs, self.chains, idle), False)
-        return Lane(1, True) if sum(lane.is_spare for _, lane in running) < SPARE else None
+        is_free = sum(lane.is_spare for _, lane in running) < SPARE
+        return Lane(1, True) if is_free and self.can_wait(name, running) else None
+
+    def next_with_lane(self, proved, running):
+        """The crate that is begun now, and its lane, or none."""
+        found = ((name, self.lane_for(name, running)) for name in ready(self.left, self.below, proved, self.chains))
+        return next(((name, lane) for name, lane in found if lane), (None, None))
 
     def has_memory(self, name, running):
         """Whether a crate can be begun beside those that are at work, with no more than the memory that is free. One alone can."""
@@ -136,8 +147,7 @@ class Planned:
         running, proved = {}, set()
         with ThreadPoolExecutor(2 * self.lanes) as pool, ThreadPoolExecutor(SPARE, initializer=os.nice, initargs=(LOWER,)) as spare:
             while self.left or running:
-                name = next_of(self.left, self.below, proved, self.chains)
-                lane = name and self.lane_for(name, running.values())
+                name, lane = self.next_with_lane(proved, running.values())
                 if lane and self.has_memory(name, running.values()):
                     self.left.remove(name)
                     running[(spare if lane.is_spare else pool).submit(work, name, lane.jobs)] = name, lane

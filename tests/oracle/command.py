@@ -14,6 +14,9 @@ TEXT, NEEDED_TEXT, TEXTS, FLAG = "text", "needed text", "texts", "flag"
 # The kinds of rows that can be written.
 KINDS = ("pairs", "lone-left", "lone-right", "matched-left")
 
+# What stands for a kind of rows with the left columns.
+LOOKED_FOR = {"anti": "lone-left", "semi": "matched-left"}
+
 # The most bytes that are added to a repeated name at once.
 LONGEST_SUFFIX = 16
 
@@ -81,6 +84,8 @@ OPTIONS_OF = {
         "report": FLAG,
         "progress": FLAG,
         "columns": Word(("all", "left", "right"), "all"),
+        "anti": FLAG,
+        "semi": FLAG,
     },
     "arrivals": {"partition": Number(0, 1023), "senders": Number(1, 128), "block": Number(1, 65536), "gaps": FLAG},
 }
@@ -88,7 +93,7 @@ OPTIONS_OF = {
 
 # The options of the short form, without its three words.
 SHORT = {name: TEXT if takes == NEEDED_TEXT else takes for name, takes in OPTIONS_OF["radixjoin"].items() if name not in PLACES}
-SHORT.update({"lenient": FLAG, "terse": FLAG})
+SHORT.update({"types": TEXT, "lenient": FLAG, "terse": FLAG})
 
 
 def is_short(words):
@@ -212,6 +217,9 @@ class Request:
     def __init__(self, found):
         options = OPTIONS_OF["radixjoin"]
         bad = lambda text: BadLine(f"radixjoin: {text}")
+        # (lists by name aren't known here, and one for both tables can be no other)
+        if "types" in found:
+            raise bad("bad type list of both")
         # (a list that isn't given, of the short form, leaves each column undeclared)
         self.left_types = reading.type_list(found["left-types"], "left", bad) if "left-types" in found else None
         self.right_types = reading.type_list(found["right-types"], "right", bad) if "right-types" in found else None
@@ -221,6 +229,7 @@ class Request:
         null = found.get("null", "")
         self.nulls = {side: self.nulls_of(found, side, null, bad) for side in ("left", "right")}
         self.out_null = found.get("out-null", null).encode()
+        self.is_short = found["is short"]
         self.strict = found.get("strict", "on" if found["is short"] and "lenient" not in found else None)
         self.bits1 = found.get("bits1", options["bits1"].default)
         self.hash = found.get("hash", options["hash"].default)
@@ -228,6 +237,7 @@ class Request:
         self.tells_pieces = "piece" in found
         self.stats = "stats" in found
         self.order = found.get("order", options["order"].default)
+        found = self.looked_for(found, bad)
         self.columns = found.get("columns", options["columns"].default)
         self.rows = self.rows_of(found, bad)
         if "matched-left" in self.rows and self.columns != "left":
@@ -239,6 +249,14 @@ class Request:
         self.repeated = found.get("repeated", "qualify" if found["is short"] else "keep")
         if self.repeated not in ("keep", "qualify") and not 1 <= len(self.repeated.encode()) <= LONGEST_SUFFIX:
             raise bad("bad suffix of repeated names")
+
+    @staticmethod
+    def looked_for(found, bad):
+        """The values of the options, with those for which `--anti` or `--semi` stands."""
+        words = [word for word in LOOKED_FOR if word in found]
+        if len(words) == 2 or (words and {"rows", "columns"} & set(found)):
+            raise bad("--anti and --semi exclude each other, --rows and --columns")
+        return {**found, "rows": LOOKED_FOR[words[0]], "columns": "left"} if words else found
 
     @staticmethod
     def rows_of(found, bad):

@@ -170,6 +170,15 @@ def undeclared(content):
     return [Undeclared()] * len(found[0]) if found else []
 
 
+def read_header(content, types, side):
+    """The table of a file's header, without rows; or its first fault."""
+    found = records(content[3:] if content.startswith(b"\xef\xbb\xbf") else content)
+    if not found:
+        raise Fault(1, "NoHeader", side)
+    check_header(found[0], types, side)
+    return Table(found[0], types, [])
+
+
 def read(content, types, nulls, side):
     """The table of a file's bytes, by its column types and its null texts; or its first fault."""
     found = records(content[3:] if content.startswith(b"\xef\xbb\xbf") else content)

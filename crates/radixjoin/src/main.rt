@@ -57,10 +57,24 @@ fn is_unmatched(stats: &Stats) -> bool {
 // Tells that no rows match, if that may be so because nobody declared the types of columns.
 fn tell_unmatched<R: Eprint>(rt: &R, line: &Line<'_>, stats: &Stats) {
     let is_open = line.request.left_undeclared || line.request.right_undeclared;
-    if line.explain && is_open && is_unmatched(stats) {
+    if is_open && is_unmatched(stats) {
         let _ = eprintln!(rt;
             "radixjoin: no rows match; columns without a type are texts, so 7 isn't 07"
         );
+    }
+}
+
+// Tells what may be so because nobody declared the types of columns: which keys hold numbers that
+// were compared as texts, or else that no rows match.
+fn tell_texts<R: Eprint>(rt: &R, line: &Line<'_>, stats: &Stats) {
+    if !line.explain {
+        return;
+    }
+    for key in &stats.text_keys {
+        let _ = eprintln!(rt; "radixjoin: {key}");
+    }
+    if stats.text_keys.is_empty() {
+        tell_unmatched(rt, line, stats);
     }
 }
 
@@ -84,7 +98,7 @@ fn join<R: Files + Input + AllocGlobal + Print + Eprint + Threads + Wait + Clock
     if let Some(report) = &stats.report {
         let _ = eprintln!(rt; "{report}");
     }
-    tell_unmatched(rt, &line, &stats);
+    tell_texts(rt, &line, &stats);
     Ok(())
 }
 

@@ -1,4 +1,6 @@
+mod HeaderFacts
 mod OperandFacts
+mod AlikeFacts
 mod RunFacts
 mod PreparedFacts
 mod ExpectedFacts

@@ -1,6 +1,6 @@
 -- Which fault is the first.
-use Rattle.std.proofs.Common.{◌≡◌, ◌≢◌, ◌∙◌, List, None, Option, Result, Some, ℕ, Err, ap, ap₂, sym, subst}
-use Rattle.std.specs.Prelude.{IfErr, IfOk, Ok}
+use Rattle.std.proofs.Common.{◌≡◌, ◌≢◌, ◌∙◌, Bool, true, false, true≢false, List, None, Option, Result, Some, ℕ, Err, ap, ap₂, sym, subst}
+use Rattle.std.specs.Prelude.{IfErr, IfOk, IsErr, Ok}
 use Rattle.rj_columns.specs.Tables.{TableValue}
 use Rattle.rj_condition.specs.Bound.{bound}
 use Rattle.rj_condition.specs.declared.tree.Clause.{Clause}
@@ -10,12 +10,12 @@ use Rattle.rj_fault.specs.declared.fault.Fault.{Fault}
 use Rattle.rj_fault.specs.declared.fault.Fault.TheVariants as fault
 use Rattle.rj_fault.specs.declared.fault.Side.TheVariants as side
 use Rattle.rj_line.specs.declared.request.Request.{Request}
-use Rattle.rj_command.specs.Operands.{IsClauseFault, IsFirstFault, IsJoinAsked, IsJoinFault, in_clause, in_left, in_right, of_clause, of_text, unbound, unread}
+use Rattle.rj_command.specs.Operands.{AreHeaders, HasNoHeaderFault, IsClauseFault, IsFirstFault, IsHeaderFault, IsJoinAsked, IsJoinFault, header_table, in_clause, in_headers, in_left, in_right, of_clause, of_text, of_types, shared_fault, unbound, unread}
 use Rattle.rj_command.specs.Refused.{bind_fault, parse_fault}
 use Rattle.rj_command.specs.Undeclared.{bound_for, bound_or, undeclared_fault}
 use Rattle.rj_command.specs.Undeclared as specs
 use Rattle.rj_condition.specs.declared.bound.BoundJoin.{BoundJoin}
-use Rattle.rj_command.specs.Sides.{IsTable, IsTableFault}
+use Rattle.rj_command.specs.Sides.{IsTable, IsTableFault, has_lawful_nulls}
 use Rattle.rj_condition.specs.Clauses.{HasClause, IsFault}
 use Rattle.rj_condition.specs.declared.refused.ParseRefused.{ParseRefused}
 use Rattle.rj_condition.specs.declared.refused.ParseRefused.TheVariants as parse
@@ -31,27 +31,31 @@ unbound_fault text l r c e f has told is not =
     let other : e ≢ bind.Memory = λ memory. not (is ∙ ap bind_fault memory) in
     subst (IsJoinFault text l r) (sym is) (unbound c e has (told other))
 
-pub text_fault : (q : Request) (l r : TableValue) (e : ParseRefused) (f : Fault) → IsFault q.clause.now e → f ≡ parse_fault e → f ≢ fault.Memory → IsClauseFault q l r f
-text_fault q l r e f told is not =
+pub types_fault : (q : Request) (l r : TableValue) (f : Fault) → (f ≢ fault.Memory → shared_fault q l r ≡ Some f) → f ≢ fault.Memory → IsClauseFault q l r f
+types_fault q l r f told not = of_types f (told not)
+
+pub text_fault : (q : Request) (l r : TableValue) (e : ParseRefused) (f : Fault) → IsFault q.clause.now e → shared_fault q l r ≡ None → f ≡ parse_fault e → f ≢ fault.Memory
+    → IsClauseFault q l r f
+text_fault q l r e f told named is not =
     let other : e ≢ parse.Memory = λ memory. not (is ∙ ap parse_fault memory) in
-    subst (IsClauseFault q l r) (sym is) (of_text e other told)
+    subst (IsClauseFault q l r) (sym is) (of_text e other told named)
 
 -- what an answer of binding says where the fault of an undeclared column is known
 pub bound_by : (q : Request) (l r : TableValue) (c : Clause) (u : Option Fault) (answer : Result BoundJoin BindRefused) → u ≡ undeclared_fault q l r c
     → bound c l r ≡ answer → bound_for q l r c ≡ bound_or answer u
 bound_by q l r c u answer known is = ap₂ bound_or is (sym known)
 
-pub binding_fault : (q : Request) (l r : TableValue) (c : Clause) (u : Option Fault) (e : BindRefused) (f : Fault) → HasClause q.clause.now c → u ≡ undeclared_fault q l r c
+pub binding_fault : (q : Request) (l r : TableValue) (c : Clause) (u : Option Fault) (e : BindRefused) (f : Fault) → HasClause q.clause.now c → shared_fault q l r ≡ None → u ≡ undeclared_fault q l r c
     → (e ≢ bind.Memory → bound c l r ≡ Err e) → f ≡ specs.unbound_fault e u → f ≢ fault.Memory → IsClauseFault q l r f
-binding_fault q l r c u e f has known told is not =
+binding_fault q l r c u e f has named known told is not =
     let other : e ≢ bind.Memory = λ memory. not (is ∙ ap (λ x. specs.unbound_fault x u) memory) in
-    of_clause c f has (bound_by q l r c u (Err e) known (told other) ∙ ap Err (sym is))
+    of_clause c f has (bound_by q l r c u (Err e) known (told other) ∙ ap Err (sym is)) named
 
-module _ (q : Request) (l r : TableValue) (c : Clause) (join : BoundJoin) (has : HasClause q.clause.now c) (is : bound c l r ≡ Ok join) where
+module _ (q : Request) (l r : TableValue) (c : Clause) (join : BoundJoin) (has : HasClause q.clause.now c) (named : shared_fault q l r ≡ None) (is : bound c l r ≡ Ok join) where
   -- the join of a clause that binds, where the fault of an undeclared column is known
   pub asked_join : (u : Option Fault) (result : Result BoundJoin Fault) → u ≡ undeclared_fault q l r c → result ≡ bound_or (Ok join) u → IfOk result (IsJoinAsked q l r)
   asked_join None result known same =
-      subst (λ (x : Result BoundJoin Fault). IfOk x (IsJoinAsked q l r)) (sym same) (c, has, bound_by q l r c None (Ok join) known is)
+      subst (λ (x : Result BoundJoin Fault). IfOk x (IsJoinAsked q l r)) (sym same) (c, has, bound_by q l r c None (Ok join) known is, named)
   asked_join (Some f) result known same = subst (λ (x : Result BoundJoin Fault). IfOk x (IsJoinAsked q l r)) (sym same) tt
 
   -- and its fault
@@ -60,15 +64,53 @@ module _ (q : Request) (l r : TableValue) (c : Clause) (join : BoundJoin) (has :
   asked_fault None result known same = subst (λ (x : Result BoundJoin Fault). IfErr x (λ f. f ≢ fault.Memory → IsClauseFault q l r f)) (sym same) tt
   asked_fault (Some g) result known same =
       subst (λ (x : Result BoundJoin Fault). IfErr x (λ f. f ≢ fault.Memory → IsClauseFault q l r f)) (sym same)
-      (λ not. of_clause c g has (bound_by q l r c (Some g) (Ok join) known is))
+      (λ not. of_clause c g has (bound_by q l r c (Some g) (Ok join) known is) named)
 
-pub left_fault : (left right : List ℕ) (q : Request) (f : Fault) → (f ≢ fault.Memory → IsTableFault q side.Left left f) → f ≢ fault.Memory → IsFirstFault left right q f
-left_fault left right q f told not = in_left f (told not)
+module _ (left right : List ℕ) (q : Request) where
+  -- no clause has a fault over headers in the long form
+  pub none_in_long_form : q.short ≡ false → HasNoHeaderFault left right q
+  none_in_long_form long = record { binds = λ short. absurd (true≢false (sym short ∙ long)) }
 
-pub right_fault : (left right : List ℕ) (q : Request) (l : TableValue) (f : Fault) → IsTable q side.Left left l
-    → (f ≢ fault.Memory → IsTableFault q side.Right right f) → f ≢ fault.Memory → IsFirstFault left right q f
-right_fault left right q l f is told not = in_right l f is (told not)
+  -- nor where a text for null isn't valid
+  pub none_by_nulls : has_lawful_nulls q ≡ false → HasNoHeaderFault left right q
+  none_by_nulls unlawful = record {
+    binds = λ short l r are. let no : ◌≡◌ {A = Result TableValue Fault} (Err fault.BadNull) (Ok l) = rw unlawful at are.left_header in absurd (cc);
+  }
 
-pub clause_fault : (left right : List ℕ) (q : Request) (l r : TableValue) (f : Fault) → IsTable q side.Left left l
-    → IsTable q side.Right right r → (f ≢ fault.Memory → IsClauseFault q l r f) → f ≢ fault.Memory → IsFirstFault left right q f
-clause_fault left right q l r f is ris told not = in_clause l r f is ris (told not)
+  -- nor where a header makes no table
+  pub none_by_left : IsErr (header_table q side.Left left) → HasNoHeaderFault left right q
+  none_by_left refused = record { binds = λ short l r are. let no = rw are.left_header at refused in absurd (true≢false (sym no)) }
+
+  pub none_by_right : IsErr (header_table q side.Right right) → HasNoHeaderFault left right q
+  none_by_right refused = record { binds = λ short l r are. let no = rw are.right_header at refused in absurd (true≢false (sym no)) }
+
+  module _ (l r : TableValue) (are : AreHeaders left right q l r) where
+    -- nor where it is bound to both
+    pub none_where_bound : (join : BoundJoin) → IsJoinAsked q l r join → HasNoHeaderFault left right q
+    none_where_bound join asked = record {
+      binds = λ short t u also.
+          let lefts : ◌≡◌ {A = Result TableValue Fault} (Ok l) (Ok t) = sym are.left_header ∙ also.left_header in
+          let rights : ◌≡◌ {A = Result TableValue Fault} (Ok r) (Ok u) = sym are.right_header ∙ also.right_header in
+          let left_same : l ≡ t = cc in
+          let right_same : r ≡ u = cc in
+          (join, subst (λ (x : TableValue). IsJoinAsked q x u join) left_same (subst (λ (x : TableValue). IsJoinAsked q l x join) right_same asked));
+    }
+
+    -- and else it has that of binding it
+    pub fault_of_headers : (f : Fault) → q.short ≡ true → (f ≢ fault.Memory → IsClauseFault q l r f) → f ≢ fault.Memory → IsHeaderFault left right q f
+    fault_of_headers f short told not = record { short = short; l = l; r = r; headers = are; told = told not }
+
+  pub header_fault : (f : Fault) → (f ≢ fault.Memory → IsHeaderFault left right q f) → f ≢ fault.Memory → IsFirstFault left right q f
+  header_fault f told not = in_headers f (told not)
+
+  module _ (none : HasNoHeaderFault left right q) where
+    pub left_fault : (f : Fault) → (f ≢ fault.Memory → IsTableFault q side.Left left f) → f ≢ fault.Memory → IsFirstFault left right q f
+    left_fault f told not = in_left f none (told not)
+
+    pub right_fault : (l : TableValue) (f : Fault) → IsTable q side.Left left l → (f ≢ fault.Memory → IsTableFault q side.Right right f)
+        → f ≢ fault.Memory → IsFirstFault left right q f
+    right_fault l f is told not = in_right l f none is (told not)
+
+    pub clause_fault : (l r : TableValue) (f : Fault) → IsTable q side.Left left l → IsTable q side.Right right r
+        → (f ≢ fault.Memory → IsClauseFault q l r f) → f ≢ fault.Memory → IsFirstFault left right q f
+    clause_fault l r f is ris told not = in_clause l r f none is ris (told not)

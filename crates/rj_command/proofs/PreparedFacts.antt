@@ -1,5 +1,5 @@
 -- What is made of two tables before what is chosen of their joined table is written.
-use Rattle.std.proofs.Common.{◌≡◌, ◌∙◌, [], Err, ap, false, inl, inr, map, subst, sym, true≢false, List, ℕ}
+use Rattle.std.proofs.Common.{◌≡◌, ◌∙◌, [], Err, ap, false, inl, inr, map, refl, subst, sym, true≢false, List, ℕ}
 use Rattle.std.specs.Prelude.{◌⊎◌, IfOk, Ok, Result, string_bytes}
 use Rattle.std.specs.declared.alloc.AllocError.{AllocError}
 use Rattle.rj_columns.specs.Contents.{Content}
@@ -9,6 +9,9 @@ use Rattle.rj_engine.specs.Join.{Outcome}
 use Rattle.rj_engine.specs.Partitioned.{sizes_of}
 use Rattle.rj_engine.specs.Pools.{pieces_of_sizes}
 use Rattle.rj_engine.specs.Results.{joined_of}
+use Rattle.rj_csv_io.specs.declared.write.WriteRefused.{WriteRefused}
+use Rattle.rj_csv_io.specs.declared.write.WriteRefused.TheVariants as write
+use Rattle.rj_fault.specs.Faults.{write_fault}
 use Rattle.rj_fault.specs.declared.fault.Fault.{Fault}
 use Rattle.rj_fault.specs.declared.fault.Fault.TheVariants as fault
 use Rattle.rj_line.specs.declared.request.Hash.{Hash}
@@ -97,6 +100,11 @@ unwritten_of q o f told = elim told [
   | inl memory ↦ inl memory
   | inr other ↦ inr (inr other)
 ]
+
+-- and of the writing
+pub unwritten_by : (q : Request) (o : Operands) (w : WriteRefused) → IsUnwritten q o (write_fault w)
+unwritten_by q o write.Memory = inl refl
+unwritten_by q o write.WriteDevice = inr (inl refl)
 
 -- it is never that the writer failed
 pub never_failed : {T A : Type 0} (q : Request) (o : Operands) (f : Fault) (result : Result T Fault) → result ≡ Err f → IsUnprepared q o f

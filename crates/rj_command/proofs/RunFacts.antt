@@ -1,5 +1,5 @@
 -- What writing says of a whole run.
-use Rattle.std.proofs.Common.{◌≡◌, ◌∙◌, ◌∷◌, [], Bool, true, false, cond, inl, inr, ap, refl, subst, sym, true≢false, List, Option, Some, None, ℕ}
+use Rattle.std.proofs.Common.{◌≡◌, ◌∙◌, ◌++◌, ◌∷◌, [], Bool, true, false, cond, inl, inr, ap, refl, subst, sym, true≢false, List, Option, Some, None, ℕ}
 use Rattle.std.specs.Prelude.{◌≢◌, if◌then◌else◌, option_map, Result, Ok, Err, IfOk, IfErr}
 use Rattle.std.proofs.lemmas.Bool.{cases_Bool}
 use Rattle.csv.specs.Reading.{default_config, records, strip_bom}
@@ -15,7 +15,7 @@ use Rattle.rj_condition.specs.declared.refused.BindRefused.{BindRefused}
 use Rattle.rj_condition.specs.declared.refused.BindRefused.TheVariants as bind
 use Rattle.rj_csv_io.specs.declared.refused.ReadRefused.{ReadRefused}
 use Rattle.rj_csv_io.specs.declared.refused.ReadRefused.TheVariants as read
-use Rattle.rj_command.specs.Operands.{AreOperands, IsClauseFault, IsFirstFault, in_clause, in_left, in_right}
+use Rattle.rj_command.specs.Operands.{AreOperands, IsClauseFault, IsFirstFault, in_clause, in_headers, in_left, in_right}
 use Rattle.rj_command.specs.Operands as operands
 use Rattle.rj_command.specs.Refused.{bind_fault, parse_fault}
 use Rattle.rj_command.specs.Undeclared.{bound_or, column_fault, undeclared_column, unbound_fault}
@@ -181,14 +181,20 @@ bound_apart l r (Ok join) (Some x) f e = let same : f ≡ column_fault l r x = c
 bound_apart l r (Err g) o f e =
     let same : f ≡ unbound_fault g (option_map (column_fault l r) o) = cc in ap is_device same ∙ unbound_apart l r g o
 
+names_apart : (o : Option (List ℕ)) (f : Fault) → option_map fault.SharedTypeName o ≡ Some f → is_device f ≡ false
+names_apart None f e = let g : ◌≡◌ {A = Option Fault} None (Some f) = e in cc
+names_apart (Some name) f e = let g : ◌≡◌ {A = Option Fault} (Some (fault.SharedTypeName name)) (Some f) = e in let same : f ≡ fault.SharedTypeName name = cc in ap is_device same
+
 clause_apart : (q : Request) (l r : TableValue) (f : Fault) → IsClauseFault q l r f → is_device f ≡ false
-clause_apart q l r _ (operands.of_text e other told) = parse_apart e
-clause_apart q l r _ (operands.of_clause c f has told) = bound_apart l r (bound c l r) (undeclared_column q l r c) f told
+clause_apart q l r _ (operands.of_types f told) = names_apart (name_fault q.shared_types.items (l.names ++ r.names)) f told
+clause_apart q l r _ (operands.of_text e other told named) = parse_apart e
+clause_apart q l r _ (operands.of_clause c f has told named) = bound_apart l r (bound c l r) (undeclared_column q l r c) f told
 
 first_apart : (left right : List ℕ) (q : Request) (f : Fault) → IsFirstFault left right q f → is_device f ≡ false
-first_apart left right q _ (in_left f told) = table_apart q.strict q side.Left left f told
-first_apart left right q _ (in_right l f is told) = table_apart q.strict q side.Right right f told
-first_apart left right q _ (in_clause l r f is also told) = clause_apart q l r f told
+first_apart left right q _ (in_headers f told) = clause_apart q told.l told.r f told.told
+first_apart left right q _ (in_left f none told) = table_apart q.strict q side.Left left f told
+first_apart left right q _ (in_right l f none is told) = table_apart q.strict q side.Right right f told
+first_apart left right q _ (in_clause l r f none is also told) = clause_apart q l r f told
 
 -- the first fault of the operands is none of the device that is written to
 pub not_of_device : (left right : List ℕ) (q : Request) (f : Fault) → (f ≢ fault.Memory → IsFirstFault left right q f) → f ≢ fault.WriteDevice

@@ -6,6 +6,7 @@ pub use Rattle.rj_line.specs.Options
 pub mod Operands
 pub mod Refused
 pub mod Undeclared
+pub mod Alike
 pub mod Runs
 pub mod Texts
 pub mod Prepared

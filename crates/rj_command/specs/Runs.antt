@@ -19,6 +19,7 @@ use Rattle.rj_engine.specs.declared.naming.NamingRefused.TheVariants.{NoFreeName
 use Rattle.rj_engine.specs.Partitioned.{sizes_of}
 use Rattle.rj_engine.specs.Pools.{pieces_of_sizes}
 use Rattle.rj_engine.specs.Results.{joined_of}
+use Rattle.rj_command.specs.Alike.{names_of, text_key_names}
 use Rattle.rj_command.specs.Expected.{IsExpected, IsUnexpected}
 use Rattle.rj_command.specs.Operands.{AreOperands, IsFirstFault}
 use Rattle.rj_command.specs.Reported.{IsReported}
@@ -75,8 +76,8 @@ hash_value hash.Mixed key = mixed (plain key)
 
 -- how many members of each kind the joined table has, how many rows of each table were delivered to
 -- each partition of the first pass (the rows with a key whose hash ends in the partition's bits),
--- how many pieces the rows of the larger side of each partition make, and, if it is asked for, the
--- report of the join
+-- how many pieces the rows of the larger side of each partition make, if it is asked for, the report
+-- of the join, and which keys hold numbers that were compared as texts
 pub record IsCounted (value : List Content → ℕ) (q : Request) (l r : TableValue) (join : BoundJoin) (stats : Stats) : Type 0 where
   pub pairs : stats.pairs ≡ length (joined_of join l r).pairs
   pub lone_left : stats.lone_left ≡ length (joined_of join l r).lone_left
@@ -87,6 +88,7 @@ pub record IsCounted (value : List Content → ℕ) (q : Request) (l r : TableVa
   pub pieces : stats.pieces ≡ pieces_of_sizes q.settings.piece (map (λ p. p.left) stats.partitions.items) (map (λ p. p.right) stats.partitions.items)
   pub tells_pieces : stats.tells_pieces ≡ q.tells_pieces
   pub report : IsReported q join l r stats.report
+  pub text_keys : map names_of stats.text_keys.items ≡ text_key_names q l r (keys_of join)
 
 -- the operands' joined table can be written: its columns have names, it is as expected, its NULLs can be told from its cells, and these
 -- are its counts

@@ -1,8 +1,9 @@
 -- The text of the statistics of a join.
-use Rattle.std.specs.Prelude.{ℕ, if◌then◌else◌, List, [], ◌∷◌, ◌++◌, codes, decimal}
+use Rattle.std.specs.Prelude.{ℕ, if◌then◌else◌, List, [], ◌∷◌, ◌++◌, codes, decimal, string_bytes}
 use Rattle.std.specs.List.{flat_map}
 use Rattle.rj_command.specs.declared.join.stats.PartitionRows.{PartitionRows}
 use Rattle.rj_command.specs.declared.join.stats.Stats.{Stats}
+use Rattle.rj_command.specs.declared.join.stats.TextKey.{TextKey}
 
 -- the line of a partition
 abbrev pub partition_text : PartitionRows → List ℕ
@@ -22,3 +23,9 @@ abbrev pub stats_text : Stats → List ℕ
 stats_text s =
     flat_map (λ p. partition_text p ++ 10 ∷ []) s.partitions.items
     ++ (if s.tells_pieces then written_text s ++ (10 ∷ pieces_text s) else written_text s)
+
+-- the line that tells a key of numbers that were compared as texts, without the line end
+abbrev pub text_key_text : TextKey → List ℕ
+text_key_text k =
+    codes "L." ++ (string_bytes k.left ++ (codes " and R." ++ (string_bytes k.right
+    ++ codes " hold numbers and were compared as texts, so 1.50 isn't 1.5; --types makes them numbers")))

@@ -1,13 +1,17 @@
 //! A run of the program `radixjoin`, from the bytes of two tables to the bytes of their joined table.
 
+mod alike;
 mod counting;
 mod expected;
+mod headers;
 mod laws;
 mod naming;
 mod nulls;
+mod numerals;
 mod operands;
 mod reports;
 mod running;
+mod shared;
 mod shown;
 mod stats;
 mod strict;
@@ -20,8 +24,8 @@ mod watching;
 pub use self::counting::{Counts, count};
 pub use self::laws::{plain_text, results_are_apart, results_read_back};
 pub use self::operands::bind_clause;
-pub use self::running::{run, run_owned};
-pub use self::stats::{PartitionRows, Stats};
+pub use self::running::run;
+pub use self::stats::{PartitionRows, Stats, TextKey};
 pub use self::strict::{fault_of_text, read_strictly};
 pub use self::types::types_of_header;
 pub use self::violations::first_violation;

@@ -5,8 +5,8 @@
 mod join;
 
 pub use join::{
-    Counts, PartitionRows, Stats, Step, Watch, bind_clause, count, fault_of_text, first_violation,
-    plain_text, read_strictly, results_are_apart, results_read_back, run, run_owned,
+    Counts, PartitionRows, Stats, Step, TextKey, Watch, bind_clause, count, fault_of_text,
+    first_violation, plain_text, read_strictly, results_are_apart, results_read_back, run,
     types_of_header,
 };
 pub use rj_engine::{Gate, OpenGate, Place, Violation};

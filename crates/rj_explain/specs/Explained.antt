@@ -35,7 +35,7 @@ use Rattle.rj_types.specs.Columns.{types_under}
 use Rattle.rj_types.specs.declared.entry.TypeEntry.{TypeEntry}
 use Rattle.rj_explain.specs.declared.inputs.Inputs.{Inputs}
 use Rattle.rj_explain.specs.Hints.{file_line, file_side, file_words}
-use Rattle.rj_explain.specs.Lines.{cell_of_row, clause_line, columns_line, count_line, grammar_line, mismatch_line, name_line, names_line, null_line, null_rule, ragged_line, repeated_told, row_line}
+use Rattle.rj_explain.specs.Lines.{both_names_line, cell_of_row, clause_line, columns_line, count_line, grammar_line, mismatch_line, name_line, names_line, null_line, null_rule, ragged_line, repeated_told, row_line}
 use Rattle.rj_explain.specs.Places.{HasNoRow, IsRow, at_column}
 use Rattle.rj_explain.specs.Strict.{IsFaultLine}
 use Rattle.rj_explain.specs.Typed.{typed_text}
@@ -156,6 +156,10 @@ IsToldOfColumns inputs tells lines =
     ((AreColumns side.Left inputs None ⊎ AreColumns side.Right inputs None) × (lines ≡ []))
     ⊎ ((left right : TableValue) × (columns_in side.Left inputs ≡ Ok left) × (columns_in side.Right inputs ≡ Ok right) × tells left right)
 
+-- the names of both tables
+abbrev pub IsSharedNameTold : Inputs → List ℕ → Type 0
+IsSharedNameTold inputs lines = IsToldOfColumns inputs (λ left right. lines ≡ both_names_line left.names right.names) lines
+
 -- a name of the clause and its byte, and more of it
 abbrev pub IsToldOfName : RefusedColumn → List ℕ → Type 0
 IsToldOfName found lines = (more : List ℕ) × (lines ≡ clause_line found more)
@@ -228,6 +232,7 @@ IsPlaceTold fault.RepeatedUsing inputs lines = IsNameTold inputs lines
 IsPlaceTold fault.TypeMismatch inputs lines = IsMismatchTold inputs lines
 IsPlaceTold (fault.TypeCount s) inputs lines = IsTypeCountTold s inputs lines
 IsPlaceTold (fault.TypeName s name) inputs lines = IsTypeNameTold s inputs lines
+IsPlaceTold (fault.SharedTypeName name) inputs lines = IsSharedNameTold inputs lines
 IsPlaceTold (fault.Syntax byte) inputs lines = Unit {0}
 IsPlaceTold (fault.AmbiguousNull row column) inputs lines = IsNullTold row column inputs lines
 IsPlaceTold fault.BadNull inputs lines = lines ≡ null_rule

@@ -9,7 +9,7 @@ use Rattle.rj_fault.specs.declared.fault.Side.{Side}
 use Rattle.rj_types.specs.Columns.{types_under}
 use Rattle.rj_types.specs.declared.entry.TypeEntry.{TypeEntry}
 use Rattle.rj_explain.specs.Places.{at_column}
-use Rattle.rj_explain.specs.Shown.{listed, shown, wanted_rule, wanted_word}
+use Rattle.rj_explain.specs.Shown.{listed, names_text, shown, wanted_rule, wanted_word}
 
 -- a line that names a line of the file, and what comes after that
 abbrev pub file_line : ℕ → List ℕ → List ℕ
@@ -102,6 +102,14 @@ entry_line entry why = codes "  " ++ (shown entry ++ (codes ": " ++ (why ++ 10 �
 -- the line for a list whose entries are valid, each by itself
 abbrev pub mixed_line : List ℕ
 mixed_line = codes "  a name stands before each type or before none, and * before one at most" ++ 10 ∷ []
+
+-- the same for a list for both tables
+abbrev pub shared_line : List ℕ
+shared_line = codes "  a name stands before each type, as in id=int,price=num(9,2)" ++ 10 ∷ []
+
+-- the names of both tables
+abbrev pub both_names_line : List (List ℕ) → List (List ℕ) → List ℕ
+both_names_line left right = codes "  left has " ++ (names_text left ++ (codes "; right has " ++ (names_text right ++ 10 ∷ [])))
 
 -- the line for a text that can't be written for NULL
 abbrev pub null_rule : List ℕ

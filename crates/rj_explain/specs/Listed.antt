@@ -9,7 +9,7 @@ use Rattle.rj_fault.specs.declared.fault.Side.TheVariants as side
 use Rattle.rj_types.specs.Lists.{IsTypeList}
 use Rattle.rj_types.specs.declared.entry.TypeEntry.{TypeEntry}
 use Rattle.rj_explain.specs.Entries.{split_entries}
-use Rattle.rj_explain.specs.Lines.{entry_line, mixed_line, rows_rule}
+use Rattle.rj_explain.specs.Lines.{entry_line, mixed_line, rows_rule, shared_line}
 
 abbrev pub IsList : List ℕ → Type 0
 IsList text = (entries : List TypeEntry) × IsTypeList text entries
@@ -25,12 +25,12 @@ pub record IsFirstBad (list entry : List ℕ) : Type 0 where
   pub first : All IsList before
   pub bad : IsNoList entry
 
--- That entry, and what it has to be. Or, if each entry is valid by itself, that they don't go
+-- That entry, and what it has to be. Or, if each entry is valid by itself, the rule by which they go
 -- together.
-abbrev pub IsListTold : List ℕ → List ℕ → Type 0
-IsListTold list lines =
+abbrev pub IsListTold : List ℕ → List ℕ → List ℕ → Type 0
+IsListTold rule list lines =
     ((entry why : List ℕ) × IsFirstBad list entry × (lines ≡ entry_line entry why))
-    ⊎ (All IsList (split_entries list) × (lines ≡ mixed_line))
+    ⊎ (All IsList (split_entries list) × (lines ≡ rule))
 
 -- The value of an option among words: the word behind the first one that is the option, or what is
 -- behind `=` in the first one that begins with both, whichever comes first.
@@ -45,14 +45,15 @@ types_option side.Left = codes "--left-types"
 types_option side.Right = codes "--right-types"
 
 -- the lines for a list, if there is one
-abbrev pub IsValueTold : Option (List ℕ) → Option (List ℕ) → Type 0
-IsValueTold None told = told ≡ None
-IsValueTold (Some list) None = ⊥
-IsValueTold (Some list) (Some lines) = IsListTold list lines
+abbrev pub IsValueTold : List ℕ → Option (List ℕ) → Option (List ℕ) → Type 0
+IsValueTold rule None told = told ≡ None
+IsValueTold rule (Some list) None = ⊥
+IsValueTold rule (Some list) (Some lines) = IsListTold rule list lines
 
 -- the lines for an error of the command line with these words: those for an invalid type list or list
 -- of rows
 abbrev pub AreWordsTold : Fault → List (List ℕ) → Option (List ℕ) → Type 0
-AreWordsTold (fault.BadTypeList s) words told = IsValueTold (value_of (types_option s) words) told
+AreWordsTold (fault.BadTypeList s) words told = IsValueTold mixed_line (value_of (types_option s) words) told
+AreWordsTold fault.BadSharedTypeList words told = IsValueTold shared_line (value_of (codes "--types") words) told
 AreWordsTold fault.BadRows words told = told ≡ Some rows_rule
 AreWordsTold _ words told = told ≡ None

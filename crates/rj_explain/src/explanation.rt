@@ -12,6 +12,7 @@ use crate::hints::file_lines;
 use crate::inputs::Inputs;
 use crate::joined::null_text_lines;
 use crate::mismatch::mismatch_lines;
+use crate::shared::shared_name_lines;
 use crate::strict::grammar_lines;
 use crate::syntax::syntax_lines;
 use rj_fault::Fault;
@@ -74,6 +75,7 @@ fn explain_place(
         Fault::RepeatedName(side, column) => repeated_name_lines(alloc, inputs, side, column),
         Fault::TypeCount(side) => type_count_lines(alloc, inputs, side),
         Fault::TypeName(side, _) => type_name_lines(alloc, inputs, side),
+        Fault::SharedTypeName(_) => shared_name_lines(alloc, inputs),
         Fault::Syntax(byte) => syntax_lines(alloc, inputs, byte),
         Fault::UnknownColumn | Fault::AmbiguousColumn | Fault::RepeatedUsing => {
             name_lines(alloc, inputs)

@@ -21,6 +21,7 @@ mod names;
 mod places;
 mod quoting;
 mod row;
+mod shared;
 mod shown;
 mod strict;
 mod syntax;

@@ -74,18 +74,40 @@ fn entry_line(alloc: Global, entry: &str, why: &str) -> Result<String, AllocErro
     format!(in alloc; "  {entry}: {why}\n")
 }
 
+// What a list has to be whose entries are valid, each by itself.
+const MIXED: &str = "  a name stands before each type or before none, and * before one at most\n";
+
+// The same of a list for both tables.
+const SHARED: &str = "  a name stands before each type, as in id=int,price=num(9,2)\n";
+
+// The lines for a text that isn't a list, with this rule if each entry is valid by itself.
+fn explain_by(alloc: Global, list: &str, rule: &str) -> Result<String, AllocError>
+    ensures { IfOk result (λ s. IsListTold rule.now list.now (string_bytes s)) }
+{
+    match bad_entry(alloc, list)? {
+        Some(entry) => entry_line(alloc, entry, why_no_entry(alloc, entry)?.as_str()),
+        None => String::from_str(alloc, rule),
+    }
+}
+
 /// The lines for a text that isn't a type list: the first invalid entry, and what it has to be.
 ///
 /// # Errors
 ///
 /// It fails only when memory runs out.
 pub fn explain_list(alloc: Global, list: &str) -> Result<String, AllocError>
-    ensures { IfOk result (λ s. IsListTold list.now (string_bytes s)) }
+    ensures { IfOk result (λ s. IsListTold lines.mixed_line list.now (string_bytes s)) }
 {
-    match bad_entry(alloc, list)? {
-        Some(entry) => entry_line(alloc, entry, why_no_entry(alloc, entry)?.as_str()),
-        None => format!(in alloc;
-            "  a name stands before each type or before none, and * before one at most\n"
-        ),
-    }
+    explain_by(alloc, list, MIXED)
+}
+
+/// The same for a text that isn't a type list for both tables.
+///
+/// # Errors
+///
+/// It fails only when memory runs out.
+pub(crate) fn explain_shared_list(alloc: Global, list: &str) -> Result<String, AllocError>
+    ensures { IfOk result (λ s. IsListTold lines.shared_line list.now (string_bytes s)) }
+{
+    explain_by(alloc, list, SHARED)
 }

@@ -3,10 +3,11 @@
 ghost use Rattle.std.specs.Prelude.{◌≡◌, ◌+◌, ◌++◌, ◌∷◌, [], IfOk, MatchOption, drop, false, length, map, nat_eq, option_map, string_bytes, true};
 ghost use Rattle.std.specs.List.{starts_with};
 ghost use Rattle.std.specs.Option.{option_copied};
+ghost use Rattle.rj_explain.specs.Lines as lines;
 ghost use Rattle.rj_explain.specs.Listed as listed;
 ghost use Rattle.rj_explain.specs.Listed.{AreWordsTold, IsValueTold, value_of};
 
-use crate::lists::explain_list;
+use crate::lists::{explain_list, explain_shared_list};
 use rj_fault::{Fault, Side};
 use std::alloc::{AllocError, Global};
 
@@ -54,10 +55,20 @@ fn types_option(side: Side) -> &'static str
 
 // The lines for a list, if there is one.
 fn lines_of_value(alloc: Global, list: Option<&str>) -> Result<Option<String>, AllocError>
-    ensures { IfOk result (λ o. IsValueTold (option_copied list.entry) (option_map string_bytes o)) }
+    ensures { IfOk result (λ o. IsValueTold lines.mixed_line (option_copied list.entry) (option_map string_bytes o)) }
 {
     match list {
         Some(list) => Ok(Some(explain_list(alloc, list)?)),
+        None => Ok(None),
+    }
+}
+
+// The lines for a list for both tables, if there is one.
+fn lines_of_shared(alloc: Global, list: Option<&str>) -> Result<Option<String>, AllocError>
+    ensures { IfOk result (λ o. IsValueTold lines.shared_line (option_copied list.entry) (option_map string_bytes o)) }
+{
+    match list {
+        Some(list) => Ok(Some(explain_shared_list(alloc, list)?)),
         None => Ok(None),
     }
 }
@@ -81,6 +92,7 @@ pub fn explain_words(
         Fault::BadTypeList(side) => {
             lines_of_value(alloc, value_among(words, types_option(*side)))
         }
+        Fault::BadSharedTypeList => lines_of_shared(alloc, value_among(words, "--types")),
         Fault::BadRows => Ok(Some(String::from_str(alloc, ROWS_RULE)?)),
         _ => Ok(None),
     }

@@ -43,6 +43,9 @@ pub enum Fault {
     /// A type list has another form than `int,num(9,2),text` or `id=int,*=text`.
     #[error("radixjoin: bad type list {0}")]
     BadTypeList(Side),
+    /// A type list for both tables has another form than `id=int,price=num(9,2)`.
+    #[error("radixjoin: bad type list of both")]
+    BadSharedTypeList,
     /// More than four texts are to stand for NULL in a table.
     #[error("radixjoin: more than four null texts {0}")]
     TooManyNulls(Side),
@@ -50,6 +53,10 @@ pub enum Fault {
     /// or has both `pairs` and `matched-left`.
     #[error("radixjoin: bad list of rows")]
     BadRows,
+    /// `--anti` or `--semi` is given with the other one, or with `--rows` or `--columns`, for which
+    /// it stands.
+    #[error("radixjoin: --anti and --semi exclude each other, --rows and --columns")]
+    ChosenTwice,
     /// Matched left rows are to be written, but not only the columns of the left table.
     #[error("radixjoin: --rows matched-left needs --columns left")]
     MatchedLeftColumns,
@@ -117,6 +124,9 @@ pub enum Fault {
     /// A file can't be opened or read.
     #[error("radixjoin: E19 ReadDevice {0}")]
     ReadDevice(Side),
+    /// The file of a type list for both tables can't be opened or read.
+    #[error("radixjoin: E19 ReadDevice both")]
+    SharedReadDevice,
     /// The result couldn't be written: its file can't be made or renamed, or a write failed.
     #[error("radixjoin: E20 WriteDevice")]
     WriteDevice,
@@ -142,6 +152,10 @@ pub enum Fault {
     /// A name in a type list means no column of the header, or one that an earlier entry names.
     #[error("radixjoin: E27 TypeName {0} \"{1}\"")]
     TypeName(Side, Word),
+    /// A name in a type list for both tables means a column of neither header, or one that an
+    /// earlier entry names.
+    #[error("radixjoin: E27 TypeName both \"{0}\"")]
+    SharedTypeName(Word),
     /// A cell of the result isn't NULL, and its text is the one that is written for NULL. Its row
     /// and column are those of the result, counted from 1.
     #[error("radixjoin: E28 AmbiguousNull row {0} column {1}")]
@@ -234,8 +248,10 @@ impl Fault {
             Fault::CommandLine(error) => { if error.use_stderr() { 2 } else { 0 } }
             Fault::NotText
             | Fault::BadTypeList(_)
+            | Fault::BadSharedTypeList
             | Fault::TooManyNulls(_)
             | Fault::BadRows
+            | Fault::ChosenTwice
             | Fault::MatchedLeftColumns
             | Fault::BadSuffix
             | Fault::TwoStandardInputs => 2,
@@ -256,6 +272,7 @@ impl Fault {
             | Fault::EmptyLine(_, _)
             | Fault::CutShort(_, _)
             | Fault::TypeName(_, _)
+            | Fault::SharedTypeName(_)
             | Fault::AmbiguousNull(_, _)
             | Fault::NoFreeName(_) => 3,
             Fault::Syntax(_)
@@ -267,7 +284,10 @@ impl Fault {
             | Fault::RepeatedUsing
             | Fault::ClauseTooLong => 4,
             Fault::Memory => 5,
-            Fault::ReadDevice(_) | Fault::WriteDevice | Fault::OutputIsInput(_) => 6,
+            Fault::ReadDevice(_)
+            | Fault::SharedReadDevice
+            | Fault::WriteDevice
+            | Fault::OutputIsInput(_) => 6,
             Fault::NotAsExpected => 7,
         }
     }

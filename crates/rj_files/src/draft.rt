@@ -8,7 +8,7 @@ use rj_fault::Fault;
 use std::alloc::Global;
 use std::fs::{self, Files, Metadata, OpenFile, OpenOptions};
 use std::io::{self, ErrorKind};
-use std::os::unix::fs::{MetadataExt, chown};
+use std::os::unix::fs::{MetadataExt, PermissionsExt, chown};
 use std::path::Path;
 
 // How many symbolic links are followed: as many as Linux follows.
@@ -29,18 +29,25 @@ pub(crate) enum Draft {
     Stream,
 }
 
-/// Why there is no file to write to, with the system's error if there is one.
+/// Why there is no file to write to.
 #[derive(Drop)]
 pub(crate) struct Unwritten {
     pub(crate) fault: Fault,
+    /// The system's error, if there is one.
     pub(crate) error: Option<io::Error>,
+    /// The folder in which no new file can be made, if that is why.
+    pub(crate) folder: Option<String>,
 }
 
 impl From<Fault> for Unwritten {
     ghost from_gives = { λ fault refused. refused.fault ≡ fault };
 
     fn from(fault: Fault) -> Unwritten {
-        Unwritten { fault, error: None }
+        Unwritten {
+            fault,
+            error: None,
+            folder: None,
+        }
     }
 }
 
@@ -55,6 +62,43 @@ fn unwritten_by(error: io::Error) -> Unwritten
     Unwritten {
         fault,
         error: Some(error),
+        folder: None,
+    }
+}
+
+// Whether it is for its folder that a file can't be made.
+fn is_of_folder(error: &io::Error) -> bool {
+    match error.kind() {
+        ErrorKind::NotFound | ErrorKind::PermissionDenied | ErrorKind::ReadOnlyFilesystem => true,
+        _ => false,
+    }
+}
+
+// The folder of a path.
+fn folder_of(alloc: Global, path: &str) -> Option<String> {
+    let folder = Path::new(path).parent()?.as_str();
+    let folder = if folder.is_empty() { "." } else { folder };
+    String::from_str(alloc, folder).ok()
+}
+
+// Why a new file can't be made at a path, by the system's error.
+fn unmade_by(alloc: Global, path: &str, error: io::Error) -> Unwritten
+    ensures { IsOfWriting result.fault }
+{
+    let folder = if is_of_folder(&error) {
+        folder_of(alloc, path)
+    } else {
+        None
+    };
+    let Unwritten {
+        fault,
+        error,
+        folder: _,
+    } = unwritten_by(error);
+    Unwritten {
+        fault,
+        error,
+        folder,
     }
 }
 
@@ -104,16 +148,38 @@ fn is_special(found: &io::Result<Metadata>) -> bool {
     }
 }
 
+// Gives a new file the owner and the group of another, or the group alone if the user may not give
+// files away. It returns whether the group is that of the other.
+fn take_owner<R: Files>(rt: &R, name: &str, there: &Metadata) -> io::Result<bool> {
+    match chown(rt, name, Some(there.uid()), Some(there.gid())) {
+        Ok(()) => return Ok(true),
+        Err(error) if error.kind() != ErrorKind::PermissionDenied => return Err(error),
+        Err(_) => {}
+    }
+    match chown(rt, name, None, Some(there.gid())) {
+        Ok(()) => Ok(true),
+        Err(error) if error.kind() != ErrorKind::PermissionDenied => Err(error),
+        Err(_) => Ok(false),
+    }
+}
+
+// A mode in which the group may do no more than all others may.
+fn without_group(mode: u32) -> u32 {
+    mode & (0o7707 | (mode & 0o007) << 3)
+}
+
 // Gives a new file the owner, the group and the mode of the file whose place it is to take, if one
-// is there. A user who may not give files away stays the owner.
+// is there. A user who may not give files away stays the owner. If the group can't be kept either,
+// the rights of the old one aren't given to another.
 fn take_after<R: Files>(rt: &R, name: &str, target: &str) -> io::Result<()> {
     let Ok(there) = fs::metadata(rt, target) else {
         return Ok(());
     };
-    match chown(rt, name, Some(there.uid()), Some(there.gid())) {
-        Err(error) if error.kind() != ErrorKind::PermissionDenied => Err(error),
-        _ => fs::set_permissions(rt, name, there.permissions()),
+    let mut permissions = there.permissions();
+    if !take_owner(rt, name, &there)? {
+        permissions.set_mode(without_group(permissions.mode()));
     }
+    fs::set_permissions(rt, name, permissions)
 }
 
 impl Draft {
@@ -152,7 +218,7 @@ impl Draft {
             match made {
                 Ok(file) => return Draft::made(rt, name, target, file),
                 Err(error) if error.kind() == ErrorKind::AlreadyExists => {}
-                Err(error) => return Err(unwritten_by(error)),
+                Err(error) => return Err(unmade_by(rt.alloc(), name.as_str(), error)),
             }
         }
         Err(Unwritten::from(Fault::WriteDevice))
@@ -199,6 +265,7 @@ impl Draft {
                 Err(Unwritten {
                     fault: Fault::WriteDevice,
                     error: Some(error),
+                    folder: None,
                 })
             }
         }

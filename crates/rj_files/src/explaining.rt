@@ -9,7 +9,7 @@ use crate::outputs::output_of;
 use rj_command::{Line, OpenGate, Violation, first_violation, read_line};
 use rj_explain::{Inputs, explain, explain_row, explain_words};
 use rj_fault::{Fault, Side};
-use rj_line::{Form, form_of};
+use rj_line::{default_explain, form_of};
 use rj_suggest::suggest_types;
 use std::alloc::{AllocError, Global};
 use std::io::{self, ErrorKind};
@@ -18,15 +18,10 @@ use std::sync::Wait;
 use std::thread::Threads;
 use std::time::Clock;
 
-// Whether the words ask for explanations: in the short form, unless one is `--terse`.
-fn ask_for_lines(words: &[&str]) -> bool {
-    if words.iter().any(|word| *word == "--explain") {
-        return true;
-    }
-    match form_of(words) {
-        Form::Long => false,
-        Form::Short => !words.iter().any(|word| *word == "--terse"),
-    }
+/// Whether the words ask for explanations: in the short form, unless one is `--terse`.
+pub(crate) fn ask_for_lines(words: &[&str]) -> bool {
+    let terse = words.iter().any(|word| *word == "--terse");
+    words.iter().any(|word| *word == "--explain") || default_explain(form_of(words), terse)
 }
 
 // The lines that explain an error of the command line, if it can be explained and the words ask for

@@ -10,11 +10,11 @@ use crate::explaining::{explained, with_write_error};
 use crate::progress::Progress;
 use crate::recording::ErrorRecordingWriter;
 use crate::watched::WatchedWriter;
-use rj_command::{Line, Stats, count, run, run_owned};
+use rj_command::{Line, Stats, count, run};
 use rj_csv_io::{CountedWriter, Output};
 use rj_explain::Inputs;
 use rj_fault::Fault;
-use std::alloc::AllocError;
+use rj_line::Request;
 use std::io::Write;
 use std::sync::Wait;
 use std::thread::Threads;
@@ -28,48 +28,21 @@ pub(crate) struct Tables {
 }
 
 impl Tables {
-    // A copy of the bytes.
-    fn copied(&self) -> Result<Tables, AllocError>
-        ensures { IfOk result (λ tables. (tables.left.items ≡ self.now.left.items) × (tables.right.items ≡ self.now.right.items)) }
+    // The bytes, and what is asked of them.
+    fn inputs<'a, 'r>(&'a self, request: &'a Request<'r>) -> Inputs<'a, 'r>
+        ensures left { result.left.now ≡ self.now.left.items }
+        ensures right { result.right.now ≡ self.now.right.items }
+        ensures request { result.request.now ≡ request.now }
     {
-        let left = self.left.clone()?;
-        let right = self.right.clone()?;
-        Ok(Tables { left, right })
-    }
-}
-
-// Joins two tables, and writes the joined table. The bytes are kept to explain an error.
-fn join_explained<R, O>(
-    rt: &R,
-    line: &Line<'_>,
-    progress: &Progress<'_, R>,
-    tables: &Tables,
-    writer: &mut O,
-) -> Result<Stats, ExplainedFault>
-where
-    R: AllocGlobal + Eprint + Threads + Wait + Clock + Sync,
-    O: Output,
-    requires { O.count writer.old < 2 ^ 64 - 1 }
-    ensures joined { IfOk result (WritesJoined tables.now.left.items tables.now.right.items line.now.request (O.told writer.old) (O.told writer.new)) }
-    ensures fault { IfErr result (λ e. IsRunFault tables.now.left.items tables.now.right.items line.now.request e.fault) }
-    ensures unchanged { IfErr result (λ e. e.fault ≢ Fault.WriteDevice → writer.new ≡ writer.old) }
-{
-    let (alloc, request) = (rt.alloc(), &line.request);
-    let (left, right) = (tables.left.as_slice(), tables.right.as_slice());
-    match run(rt, alloc, left, right, request, progress, writer) {
-        Ok(stats) => Ok(stats),
-        Err(fault) => {
-            let inputs = Inputs {
-                left,
-                right,
-                request,
-            };
-            Err(explained(rt, fault, &inputs))
+        Inputs {
+            left: self.left.as_slice(),
+            right: self.right.as_slice(),
+            request,
         }
     }
 }
 
-// Joins two tables, and writes the joined table. An error is explained if that is asked for.
+// Joins two tables, and writes the joined table. Bytes are kept only where an error is explained.
 fn join_tables<R, O>(
     rt: &R,
     line: &Line<'_>,
@@ -85,52 +58,23 @@ where
     ensures fault { IfErr result (λ e. IsRunFault tables.left.items tables.right.items line.now.request e.fault) }
     ensures unchanged { IfErr result (λ e. e.fault ≢ Fault.WriteDevice → writer.new ≡ writer.old) }
 {
-    if line.explain {
-        return join_explained(rt, line, progress, &tables, writer);
-    }
     let (alloc, request) = (rt.alloc(), &line.request);
-    let Tables { left, right } = tables;
-    match run_owned(rt, alloc, left, right, request, progress, writer) {
+    if !line.explain {
+        let Tables { left, right } = tables;
+        return match run(rt, alloc, left, right, request, progress, writer) {
+            Ok(stats) => Ok(stats),
+            Err(fault) => Err(ExplainedFault::from(fault)),
+        };
+    }
+    let inputs = tables.inputs(request);
+    let (left, right) = (inputs.left, inputs.right);
+    match run(rt, alloc, left, right, request, progress, writer) {
         Ok(stats) => Ok(stats),
-        Err(fault) => Err(ExplainedFault::from(fault)),
+        Err(fault) => Err(explained(rt, fault, &inputs)),
     }
 }
 
-// Counts the rows of two tables' joined table. The bytes are kept to explain an error.
-fn count_explained<R, O>(
-    rt: &R,
-    line: &Line<'_>,
-    progress: &Progress<'_, R>,
-    tables: &Tables,
-    writer: &mut O,
-) -> Result<(), ExplainedFault>
-where
-    R: AllocGlobal + Eprint + Threads + Wait + Clock + Sync,
-    O: Output,
-    requires { O.count writer.old < 2 ^ 64 - 1 }
-    ensures counted { OnOk result (WritesCounts tables.now.left.items tables.now.right.items line.now.request (O.told writer.old) (O.told writer.new)) }
-    ensures fault { IfErr result (λ e. IsCountFault tables.now.left.items tables.now.right.items line.now.request e.fault) }
-    ensures unchanged { IfErr result (λ e. e.fault ≢ Fault.WriteDevice → writer.new ≡ writer.old) }
-{
-    let (alloc, request) = (rt.alloc(), &line.request);
-    let Tables { left, right } = match tables.copied() {
-        Ok(copied) => copied,
-        Err(_) => return Err(ExplainedFault::from(Fault::Memory)),
-    };
-    match count(rt, alloc, left, right, request, progress, writer) {
-        Ok(()) => Ok(()),
-        Err(fault) => {
-            let inputs = Inputs {
-                left: tables.left.as_slice(),
-                right: tables.right.as_slice(),
-                request,
-            };
-            Err(explained(rt, fault, &inputs))
-        }
-    }
-}
-
-// Counts the rows of two tables' joined table. An error is explained if that is asked for.
+// Counts the rows of two tables' joined table. Bytes are kept only where an error is explained.
 fn count_tables<R, O>(
     rt: &R,
     line: &Line<'_>,
@@ -146,14 +90,19 @@ where
     ensures fault { IfErr result (λ e. IsCountFault tables.left.items tables.right.items line.now.request e.fault) }
     ensures unchanged { IfErr result (λ e. e.fault ≢ Fault.WriteDevice → writer.new ≡ writer.old) }
 {
-    if line.explain {
-        return count_explained(rt, line, progress, &tables, writer);
-    }
     let (alloc, request) = (rt.alloc(), &line.request);
-    let Tables { left, right } = tables;
+    if !line.explain {
+        let Tables { left, right } = tables;
+        return match count(rt, alloc, left, right, request, progress, writer) {
+            Ok(()) => Ok(()),
+            Err(fault) => Err(ExplainedFault::from(fault)),
+        };
+    }
+    let inputs = tables.inputs(request);
+    let (left, right) = (inputs.left, inputs.right);
     match count(rt, alloc, left, right, request, progress, writer) {
         Ok(()) => Ok(()),
-        Err(fault) => Err(ExplainedFault::from(fault)),
+        Err(fault) => Err(explained(rt, fault, &inputs)),
     }
 }
 

@@ -7,12 +7,13 @@ ghost use Rattle.rj_files.specs.Streams.{IsFaultOf, IsWrittenOf};
 use crate::draft::{Draft, Unwritten};
 use crate::explained::ExplainedFault;
 use crate::explaining::unwritten;
-use crate::named::is_standard_stream;
+use crate::named::{is_standard_stream, told_by_system};
 use crate::progress::Progress;
 use crate::reading::Stream;
 use crate::streams::write_streams;
 use rj_command::{Line, Stats};
 use rj_fault::{Fault, Side};
+use std::alloc::{AllocError, Global};
 use std::fs::{self, Files, Metadata};
 use std::io::{self, ErrorKind};
 use std::os::unix::fs::MetadataExt;
@@ -93,6 +94,33 @@ pub fn refuse_printed<R: Files>(rt: &R, name: &str) -> Result<(), Fault> {
     refuse_input(rt, STANDARD_OUTPUT, name, Side::Left)
 }
 
+// The error of an output that can't be made or put in its place, explained if that is asked for.
+fn unplaced(alloc: Global, line: &Line<'_>, refused: Unwritten) -> ExplainedFault
+    ensures { result.fault ≡ refused.fault }
+{
+    let Unwritten {
+        fault,
+        error,
+        folder,
+    } = refused;
+    match folder {
+        Some(folder) if line.explain => {
+            ExplainedFault::new(fault, told_of_folder(alloc, folder.as_str(), &error))
+        }
+        _ => unwritten(alloc, line, fault, &error),
+    }
+}
+
+// The line that tells why no new file can be made in a folder.
+fn told_of_folder(
+    alloc: Global,
+    folder: &str,
+    error: &Option<io::Error>,
+) -> Result<String, AllocError> {
+    let name = format!(in alloc; "the folder {folder}")?;
+    told_by_system(alloc, name.as_str(), error)
+}
+
 // Reads two tables and writes what the line asks for into a file, atomically: the file has the
 // whole of it, or what it had before.
 fn write_file<R, L, S>(
@@ -112,13 +140,13 @@ where
 {
     let (draft, file) = match Draft::open(rt, name) {
         Ok(opened) => opened,
-        Err(Unwritten { fault, error }) => return Err(unwritten(rt.alloc(), line, fault, &error)),
+        Err(refused) => return Err(unplaced(rt.alloc(), line, refused)),
     };
     let (written, file) = write_streams(rt, line, progress, left, right, file);
     match written {
         Ok(stats) => match draft.finish(rt, file) {
             Ok(()) => Ok(stats),
-            Err(Unwritten { fault, error }) => Err(unwritten(rt.alloc(), line, fault, &error)),
+            Err(refused) => Err(unplaced(rt.alloc(), line, refused)),
         },
         Err(e) => {
             draft.discard(rt);

@@ -9,9 +9,9 @@ use Rattle.rj_fault.specs.declared.fault.Fault.{Fault}
 use Rattle.rj_fault.specs.declared.fault.Fault.TheVariants as fault
 use Rattle.rj_fault.specs.declared.fault.Side.TheVariants as side
 use Rattle.rj_line.specs.Choices.{IsChoiceFault}
-use Rattle.rj_line.specs.Line.{AreTablesGiven, GiveTypes, IsFaultIn, IsParseError, IsRequestFault, nulls_or, word_of, words_of}
+use Rattle.rj_line.specs.Line.{AreTablesGiven, GiveShared, GiveTypes, IsFaultIn, IsParseError, IsRequestFault, nulls_or, word_of, words_of}
 use Rattle.rj_line.specs.Options.{OptionWords, line_app}
-use Rattle.rj_line.specs.Types.{GivesNoTypes, GivesTypes}
+use Rattle.rj_line.specs.Types.{GivesNoShared, GivesNoTypes, GivesTypes}
 use Rattle.rj_line.specs.declared.form.Form.{Form}
 use Rattle.rj_types.specs.declared.entry.TypeEntry.{TypeEntry}
 
@@ -25,16 +25,22 @@ or_memory P fault.Memory memory other = memory
 or_memory P f memory other = other (λ is. true≢false (sym (ap is_memory is)))
 
 module _ (form : Form) (word : Text → Option Text) (texts : Text → List Text) where
-  pub left_list_fault : (f : Fault) → (f ≢ fault.Memory → (f ≡ fault.BadTypeList side.Left) × GivesNoTypes (word (codes "left-types"))) → IsRequestFault form word texts f
-  left_list_fault f told = or_memory (IsRequestFault form word texts) f tt (λ not.
+  pub shared_list_fault : (f : Fault) → (f ≢ fault.Memory → (f ≡ fault.BadSharedTypeList) × GivesNoShared (word (codes "types"))) → IsRequestFault form word texts f
+  shared_list_fault f told = or_memory (IsRequestFault form word texts) f tt (λ not.
       let t = told not in
       subst (IsRequestFault form word texts) (sym t.0) t.1)
 
-  pub right_list_fault : (types : List TypeEntry) (f : Fault) → GivesTypes form (word (codes "left-types")) types
-      → (f ≢ fault.Memory → (f ≡ fault.BadTypeList side.Right) × GivesNoTypes (word (codes "right-types"))) → IsRequestFault form word texts f
-  right_list_fault types f has told = or_memory (IsRequestFault form word texts) f tt (λ not.
+  pub left_list_fault : (f : Fault) → GiveShared word → (f ≢ fault.Memory → (f ≡ fault.BadTypeList side.Left) × GivesNoTypes (word (codes "left-types")))
+      → IsRequestFault form word texts f
+  left_list_fault f shared told = or_memory (IsRequestFault form word texts) f tt (λ not.
       let t = told not in
-      subst (IsRequestFault form word texts) (sym t.0) ((types, has), t.1))
+      subst (IsRequestFault form word texts) (sym t.0) (shared, t.1))
+
+  pub right_list_fault : (types : List TypeEntry) (f : Fault) → GiveShared word → GivesTypes form (word (codes "left-types")) types
+      → (f ≢ fault.Memory → (f ≡ fault.BadTypeList side.Right) × GivesNoTypes (word (codes "right-types"))) → IsRequestFault form word texts f
+  right_list_fault types f shared has told = or_memory (IsRequestFault form word texts) f tt (λ not.
+      let t = told not in
+      subst (IsRequestFault form word texts) (sym t.0) (shared, (types, has), t.1))
 
   pub left_nulls_fault : (f : Fault) → GiveTypes form word
       → (f ≢ fault.Memory → (f ≡ fault.TooManyNulls side.Left) × (4 < length (texts (codes "left-null")))) → IsRequestFault form word texts f
@@ -52,6 +58,7 @@ module _ (form : Form) (word : Text → Option Text) (texts : Text → List Text
   pub choice_fault : (f : Fault) → AreTablesGiven form word texts → IsChoiceFault form word f → IsRequestFault form word texts f
   choice_fault fault.Memory given told = tt
   choice_fault (fault.BadTypeList side) given told = absurd told
+  choice_fault fault.BadSharedTypeList given told = absurd told
   choice_fault (fault.TooManyNulls side) given told = absurd told
   choice_fault f given told = (given, told)
 

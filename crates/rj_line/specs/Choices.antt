@@ -1,5 +1,5 @@
 -- What the words of the command line choose of a joined table.
-use Rattle.std.specs.Prelude.{◌≡◌, ◌≢◌, ◌≤◌, ◌==◌, ◌||◌, ◌&&◌, length, if◌then◌else◌, Bool, true, false, List, Option, Some, None, codes}
+use Rattle.std.specs.Prelude.{◌≡◌, ◌≢◌, ◌≤◌, ◌==◌, ◌||◌, ◌&&◌, length, if◌then◌else◌, Bool, true, false, List, Option, Some, None, codes, is_some}
 use Rattle.std.specs.List.{count_by, list_all, slice_split}
 use Rattle.std.specs.Str.{bytes_eq}
 use Rattle.clap.specs.Words.{Text}
@@ -14,7 +14,7 @@ use Rattle.rj_settings.specs.declared.choice.RowKinds.{RowKinds}
 use Rattle.rj_settings.specs.declared.choice.RowOrder.{RowOrder}
 use Rattle.rj_settings.specs.declared.choice.RowOrder.TheVariants as order
 use Rattle.rj_line.specs.Forms.{default_repeated}
-use Rattle.rj_line.specs.Named.{IsNamedOr}
+use Rattle.rj_line.specs.Named.{IsNamedOr, is_true}
 use Rattle.rj_line.specs.declared.form.Form.{Form}
 
 -- the name of an order
@@ -46,6 +46,28 @@ pub record AreKinds (words : List Text) (k : RowKinds) : Type 0 where
   pub lone_right : StandsWhere (codes "lone-right") words k.lone_right
   pub apart : (k.pairs && k.matched_left) ≡ false
 
+-- rows are asked for by a word for what is looked for: left rows without a match, or those with one
+abbrev pub is_looked_for : (Text → Option Text) → Bool
+is_looked_for word = is_true (word (codes "anti")) || is_true (word (codes "semi"))
+
+-- the same is asked for by two options: by both words, or by one of them and by what it stands for
+abbrev pub is_chosen_twice : (Text → Option Text) → Bool
+is_chosen_twice word =
+    (is_true (word (codes "anti")) && is_true (word (codes "semi")))
+    || (is_looked_for word && (is_some (word (codes "rows")) || is_some (word (codes "columns"))))
+
+-- what the kinds of rows are named by: unmatched left rows by `--anti`, matched left rows by `--semi`,
+-- and others by `--rows`
+abbrev pub rows_word : (Text → Option Text) → Option Text
+rows_word word =
+    if is_true (word (codes "anti")) then Some (codes "lone-left")
+    else (if is_true (word (codes "semi")) then Some (codes "matched-left") else word (codes "rows"))
+
+-- what the columns are named by: those of the left table by `--anti` and by `--semi`, and others by
+-- `--columns`
+abbrev pub columns_word : (Text → Option Text) → Option Text
+columns_word word = if is_looked_for word then Some (codes "left") else word (codes "columns")
+
 -- the default kinds of rows: all members of the joined table
 abbrev pub members : RowKinds
 members = record { pairs = true; matched_left = false; lone_left = true; lone_right = true }
@@ -76,27 +98,31 @@ IsRepeatedOf f (Some text) (repeated.Suffixed suffix) =
 -- what the values of the options choose; matched left rows are chosen only with the columns of the
 -- left table alone
 pub record IsChoiceOf (f : Form) (word : Text → Option Text) (c : Choice) : Type 0 where
-  pub rows : AreRowsOf (word (codes "rows")) c.rows
+  pub once : is_chosen_twice word ≡ false
+  pub rows : AreRowsOf (rows_word word) c.rows
   pub order : IsNamedOr order_name order.PairsFirst (word (codes "order")) c.order
-  pub columns : AreColumnsOf (word (codes "columns")) c.columns
+  pub columns : AreColumnsOf (columns_word word) c.columns
   pub of_left : c.rows.matched_left ≡ true → c.columns ≡ column.Left
   pub repeated : IsRepeatedOf f (word (codes "repeated")) c.repeated
 
 -- matched left rows are asked for, but not only the columns of the left table
 abbrev pub AreColumnsMissing : (Text → Option Text) → Type 0
 AreColumnsMissing word =
-    ((k : RowKinds) × AreRowsOf (word (codes "rows")) k × (k.matched_left ≡ true)) × (AreColumnsOf (word (codes "columns")) column.Left → ⊥)
+    ((k : RowKinds) × AreRowsOf (rows_word word) k × (k.matched_left ≡ true)) × (AreColumnsOf (columns_word word) column.Left → ⊥)
 
 -- the kinds of rows are named, and the columns go with them
 abbrev pub AreRowsChosen : (Text → Option Text) → Type 0
 AreRowsChosen word =
-    (k : RowKinds) × AreRowsOf (word (codes "rows")) k × (k.matched_left ≡ true → AreColumnsOf (word (codes "columns")) column.Left)
+    (k : RowKinds) × AreRowsOf (rows_word word) k × (k.matched_left ≡ true → AreColumnsOf (columns_word word) column.Left)
 
--- why the values of the options choose nothing that can be written: no kinds of rows, then columns
--- that don't go with them, then a text that can't be added to a name; or memory ran out
+-- why the values of the options choose nothing that can be written: the same is asked for twice,
+-- then no kinds of rows, then columns that don't go with them, then a text that can't be added to a
+-- name; or memory ran out
 abbrev pub IsChoiceFault : Form → (Text → Option Text) → Fault → Type 0
-IsChoiceFault form word fault.BadRows = GivesNoRows (word (codes "rows"))
-IsChoiceFault form word fault.MatchedLeftColumns = AreColumnsMissing word
-IsChoiceFault form word fault.BadSuffix = AreRowsChosen word × ((r : Repeated) → IsRepeatedOf form (word (codes "repeated")) r → ⊥)
+IsChoiceFault form word fault.ChosenTwice = is_chosen_twice word ≡ true
+IsChoiceFault form word fault.BadRows = (is_chosen_twice word ≡ false) × GivesNoRows (rows_word word)
+IsChoiceFault form word fault.MatchedLeftColumns = (is_chosen_twice word ≡ false) × AreColumnsMissing word
+IsChoiceFault form word fault.BadSuffix =
+    (is_chosen_twice word ≡ false) × AreRowsChosen word × ((r : Repeated) → IsRepeatedOf form (word (codes "repeated")) r → ⊥)
 IsChoiceFault form word fault.Memory = Unit {0}
 IsChoiceFault form word _ = ⊥

@@ -1,6 +1,5 @@
 -- What the words of the command line say.
-use Rattle.std.specs.Prelude.{◌≡◌, ◌≢◌, ◌≤◌, ◌<◌, ◌⊎◌, ◌||◌, Bool, true, false, ℕ, List, [], ◌∷◌, length, Option, Some, None, option_map, codes, is_some, unwrap_or, pos}
-use Rattle.std.specs.Str.{bytes_eq}
+use Rattle.std.specs.Prelude.{◌≡◌, ◌≢◌, ◌≤◌, ◌<◌, ◌⊎◌, ◌||◌, true, false, ℕ, List, [], ◌∷◌, length, Option, Some, None, option_map, codes, is_some, unwrap_or, pos}
 use Rattle.std.specs.Str.Parse.{IsNumeral, signed_digits_value, without_leading_sign}
 use Rattle.clap.specs.Words.{IsAmong, IsSignedIn, Text, all_of, fault_of, first_of, first_value, found_of, kind_of, matched_of, matches_of, raw_values}
 use Rattle.clap.specs.declared.error.Error.{Error}
@@ -23,9 +22,9 @@ use Rattle.rj_line.specs.declared.request.Strictness.{Strictness}
 use Rattle.rj_line.specs.declared.request.Strictness.TheVariants as strictness
 use Rattle.rj_line.specs.Choices.{IsChoiceFault, IsChoiceOf, columns_name, order_name}
 use Rattle.rj_line.specs.Forms.{default_explain, default_strictness, default_workers, form_of, is_short}
-use Rattle.rj_line.specs.Named.{IsNameOf, IsNamedOr}
+use Rattle.rj_line.specs.Named.{IsNameOf, IsNamedOr, is_true}
 use Rattle.rj_line.specs.Options.{OptionWords, line_app}
-use Rattle.rj_line.specs.Types.{AreTypesOf, GivesNoTypes, GivesTypes}
+use Rattle.rj_line.specs.Types.{AreTypesOf, GivesNoShared, GivesNoTypes, GivesShared, GivesTypes}
 use Rattle.rj_line.specs.declared.form.Form.{Form}
 use Rattle.rj_types.specs.declared.entry.TypeEntry.{TypeEntry}
 
@@ -111,17 +110,14 @@ abbrev pub IsStrictName : Option Text → Type 0
 IsStrictName None = Unit {0}
 IsStrictName (Some text) = (text ≡ codes "on") ⊎ (text ≡ codes "full")
 
--- a flag's value is `true` if it is given
-abbrev pub is_true : Option Text → Bool
-is_true None = false
-is_true (Some text) = bytes_eq text (codes "true")
-
 -- what the values of the options of a line of this form ask of two tables: each is the one given or
 -- the default, by which there may be a worker for each of these processors
 pub record IsRequestOf (f : Form) (processors : ℕ) (word : Text → Option Text) (texts : Text → List Text) (r : Request) : Type 0 where
-  pub left_types : AreTypesOf f (word (codes "left-types")) r.left_types.items r.left_undeclared
-  pub right_types : AreTypesOf f (word (codes "right-types")) r.right_types.items r.right_undeclared
+  pub shared_types : GivesShared (word (codes "types")) r.shared_types.items
+  pub left_types : AreTypesOf f r.shared_types.items (word (codes "left-types")) r.left_types.items r.left_undeclared
+  pub right_types : AreTypesOf f r.shared_types.items (word (codes "right-types")) r.right_types.items r.right_undeclared
   pub join : word (codes "join") ≡ Some r.clause.now
+  pub short : r.short ≡ is_short f
   pub left_nulls : null_texts r.left_nulls.items ≡ nulls_or (texts (codes "left-null")) (null_word word)
   pub right_nulls : null_texts r.right_nulls.items ≡ nulls_or (texts (codes "right-null")) (null_word word)
   pub few_nulls : (length r.left_nulls.items ≤ 4) × (length r.right_nulls.items ≤ 4)
@@ -153,23 +149,28 @@ pub record IsLineIn (f : Form) (processors : ℕ) (words : List Text) (l : Line)
 abbrev pub IsLineOf : ℕ → List Text → Line → Type 0
 IsLineOf processors words l = IsLineIn (form_of words) processors words l
 
--- both type lists are such lists
+-- the type list for both tables is such a list
+abbrev pub GiveShared : (Text → Option Text) → Type 0
+GiveShared word = (shared : List TypeEntry) × GivesShared (word (codes "types")) shared
+
+-- and so are those of either table
 abbrev pub GiveTypes : Form → (Text → Option Text) → Type 0
 GiveTypes f word =
-    ((types : List TypeEntry) × GivesTypes f (word (codes "left-types")) types)
+    GiveShared word × ((types : List TypeEntry) × GivesTypes f (word (codes "left-types")) types)
     × ((types : List TypeEntry) × GivesTypes f (word (codes "right-types")) types)
 
 -- and at most four NULL texts are given for either table
 abbrev pub AreTablesGiven : Form → (Text → Option Text) → (Text → List Text) → Type 0
 AreTablesGiven f word texts = GiveTypes f word × (length (texts (codes "left-null")) ≤ 4) × (length (texts (codes "right-null")) ≤ 4)
 
--- why the values of the options ask for nothing that can be done: a bad type list on the left, then
--- one on the right, then too many NULL texts on the left, then on the right, then what is chosen of
+-- why the values of the options ask for nothing that can be done: a bad type list for both tables,
+-- then one on the left, then one on the right, then too many NULL texts on the left, then on the right, then what is chosen of
 -- the joined table; or memory ran out
 abbrev pub IsRequestFault : Form → (Text → Option Text) → (Text → List Text) → Fault → Type 0
-IsRequestFault f word texts (fault.BadTypeList side.Left) = GivesNoTypes (word (codes "left-types"))
+IsRequestFault f word texts fault.BadSharedTypeList = GivesNoShared (word (codes "types"))
+IsRequestFault f word texts (fault.BadTypeList side.Left) = GiveShared word × GivesNoTypes (word (codes "left-types"))
 IsRequestFault f word texts (fault.BadTypeList side.Right) =
-    ((types : List TypeEntry) × GivesTypes f (word (codes "left-types")) types) × GivesNoTypes (word (codes "right-types"))
+    GiveShared word × ((types : List TypeEntry) × GivesTypes f (word (codes "left-types")) types) × GivesNoTypes (word (codes "right-types"))
 IsRequestFault f word texts (fault.TooManyNulls side.Left) = GiveTypes f word × (4 < length (texts (codes "left-null")))
 IsRequestFault f word texts (fault.TooManyNulls side.Right) =
     GiveTypes f word × (length (texts (codes "left-null")) ≤ 4) × (4 < length (texts (codes "right-null")))

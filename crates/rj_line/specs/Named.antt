@@ -1,5 +1,6 @@
--- Words that name things.
-use Rattle.std.specs.Prelude.{◌≡◌, Option, Some, None}
+-- Words that name things, and flags.
+use Rattle.std.specs.Prelude.{◌≡◌, Bool, false, Option, Some, None, codes}
+use Rattle.std.specs.Str.{bytes_eq}
 use Rattle.clap.specs.Words.{Text}
 
 -- what an option's value names, or another one if it has none
@@ -11,3 +12,8 @@ IsNamedOr name other (Some text) x = text ≡ name x
 abbrev pub IsNameOf : {X : Type 0} → (X → Text) → Option Text → Type 0
 IsNameOf name None = Unit {0}
 IsNameOf {X} name (Some text) = (x : X) × (text ≡ name x)
+
+-- a flag's value is `true` if it is given
+abbrev pub is_true : Option Text → Bool
+is_true None = false
+is_true (Some text) = bytes_eq text (codes "true")

@@ -74,6 +74,7 @@ own_rules form.Short =
     ∷ rule_for (codes "join") None takes.Place
     ∷ rule_for (codes "left-types") None takes.Text
     ∷ rule_for (codes "right-types") None takes.Text
+    ∷ rule_for (codes "types") None takes.Text
     ∷ rule_for (codes "lenient") None takes.Nothing
     ∷ rule_for (codes "terse") None takes.Nothing
     ∷ []
@@ -101,6 +102,8 @@ common_rules h =
     ∷ rule_for (codes "order") None (takes.Word h.orders)
     ∷ rule_for (codes "rows") None takes.Text
     ∷ rule_for (codes "columns") None (takes.Word h.sides)
+    ∷ rule_for (codes "anti") None takes.Nothing
+    ∷ rule_for (codes "semi") None takes.Nothing
     ∷ rule_for (codes "repeated") None takes.Text
     ∷ rule_for (codes "expect") None (takes.Word h.matchings)
     ∷ rule_for (codes "max-rows") None (takes.Number 0 4294967295)

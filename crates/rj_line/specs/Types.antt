@@ -4,8 +4,8 @@ use Rattle.clap.specs.Words.{Text}
 use Rattle.rj_line.specs.Forms.{is_short}
 use Rattle.rj_line.specs.declared.form.Form.{Form}
 use Rattle.rj_line.specs.declared.form.Form.TheVariants as form
-use Rattle.rj_types.specs.Columns.{is_open, with_texts}
-use Rattle.rj_types.specs.Lists.{IsTypeList}
+use Rattle.rj_types.specs.Columns.{is_open, with_shared, with_texts}
+use Rattle.rj_types.specs.Lists.{IsSharedList, IsTypeList}
 use Rattle.rj_types.specs.declared.entry.TypeEntry.{TypeEntry}
 
 -- an option's value is a list of these types; only in the short form it may be missing, and then
@@ -18,15 +18,25 @@ GivesTypes f (Some text) types = IsTypeList text types
 abbrev pub GivesNoTypes : Option Text → Type 0
 GivesNoTypes word = (text : Text) × (word ≡ Some text) × ((types : List TypeEntry) → IsTypeList text types → ⊥)
 
--- in the short form, columns of which a list says nothing are of texts
-abbrev pub completed : Form → List TypeEntry → List TypeEntry
-completed form.Long listed = listed
-completed form.Short listed = with_texts listed
+-- an option's value is a list of these types for both tables; it may be missing, and then lists none
+abbrev pub GivesShared : Option Text → List TypeEntry → Type 0
+GivesShared None shared = shared ≡ []
+GivesShared (Some text) shared = IsSharedList text shared
 
--- the types of a side's columns by an option's value, and whether the types of those that no entry
--- names aren't declared
-pub record AreTypesOf (f : Form) (word : Option Text) (types : List TypeEntry) (undeclared : Bool) : Type 0 where
+-- an option's value isn't a type list for both tables
+abbrev pub GivesNoShared : Option Text → Type 0
+GivesNoShared word = (text : Text) × (word ≡ Some text) × ((shared : List TypeEntry) → IsSharedList text shared → ⊥)
+
+-- in the short form, columns of which a side's list says nothing have the types of the list for both
+-- tables, and those of which neither does are of texts
+abbrev pub completed : Form → List TypeEntry → List TypeEntry → List TypeEntry
+completed form.Long shared listed = listed
+completed form.Short shared listed = with_texts (with_shared listed shared)
+
+-- the types of a side's columns by those for both tables and by an option's value, and whether the
+-- types of those that no entry names aren't declared
+pub record AreTypesOf (f : Form) (shared : List TypeEntry) (word : Option Text) (types : List TypeEntry) (undeclared : Bool) : Type 0 where
   pub listed : List TypeEntry
   pub given : GivesTypes f word listed
-  pub entries : types ≡ completed f listed
+  pub entries : types ≡ completed f shared listed
   pub marked : undeclared ≡ (is_short f && is_open listed)

@@ -1,15 +1,16 @@
 //! What the command line chooses of the joined table: which rows, in which order, and which columns under which names.
 
-ghost use Rattle.std.specs.Prelude.{◌≡◌, ◌≢◌, ◌==◌, ◌↔◌, Bool, IfOk, IfErr, IsTrue, MatchOption, codes, map};
+ghost use Rattle.std.specs.Prelude.{◌≡◌, ◌≢◌, ◌==◌, ◌↔◌, Bool, IfOk, IfErr, IsTrue, MatchOption, codes, map, option_map};
 ghost use Rattle.std.specs.List.{count_by, list_all, slice_split};
 ghost use Rattle.std.specs.Str.{bytes_eq};
 ghost use Rattle.clap.specs.Words.{first_value, found_of};
 ghost use Rattle.rj_settings.specs.declared.choice.Repeated.{Repeated};
 ghost use Rattle.rj_settings.specs.declared.choice.RowKinds.{RowKinds};
 ghost use Rattle.rj_line.specs.Choices as choices;
-ghost use Rattle.rj_line.specs.Choices.{AreColumnsOf, AreKinds, AreRowsOf, GivesNoRows, IsChoiceFault, IsChoiceOf, IsRepeatedOf, StandsWhere, columns_name, order_name};
+ghost use Rattle.rj_line.specs.Choices.{AreColumnsOf, AreKinds, AreRowsOf, GivesNoRows, IsChoiceFault, IsChoiceOf, IsRepeatedOf, StandsWhere, columns_name, columns_word, order_name, rows_word};
 ghost use Rattle.rj_line.specs.Named.{IsNameOf, IsNamedOr};
 
+use crate::flags::{has_value, is_given};
 use crate::form::{Form, default_repeated};
 use clap::ArgMatches;
 use rj_fault::Fault;
@@ -71,12 +72,40 @@ fn kinds_of(words: &[&str]) -> Option<RowKinds>
     })
 }
 
+// Whether rows are asked for by a word for what is looked for.
+fn is_looked_for(matches: &ArgMatches<'_>) -> bool
+    ensures { result ≡ choices.is_looked_for (first_value (found_of matches.now)) }
+{
+    is_given(matches, "anti") || is_given(matches, "semi")
+}
+
+// Whether the same is asked for by two options.
+fn is_chosen_twice(matches: &ArgMatches<'_>) -> bool
+    ensures { result ≡ choices.is_chosen_twice (first_value (found_of matches.now)) }
+{
+    (is_given(matches, "anti") && is_given(matches, "semi"))
+        || (is_looked_for(matches) && (has_value(matches, "rows") || has_value(matches, "columns")))
+}
+
+// What names the kinds of rows, if anything does.
+fn rows_text<'a>(matches: &ArgMatches<'a>) -> Option<&'a str>
+    ensures { option_map (λ s. s.now) result ≡ rows_word (first_value (found_of matches.now)) }
+{
+    if is_given(matches, "anti") {
+        Some("lone-left")
+    } else if is_given(matches, "semi") {
+        Some("matched-left")
+    } else {
+        matches.get_str("rows")
+    }
+}
+
 // The kinds of rows that are asked for.
 fn rows_of(alloc: Global, matches: &ArgMatches<'_>) -> Result<RowKinds, Fault>
-    ensures rows { IfOk result (AreRowsOf (first_value (found_of matches.now) (codes "rows"))) }
-    ensures fault { IfErr result (λ f. f ≢ Fault.Memory → (f ≡ Fault.BadRows) × GivesNoRows (first_value (found_of matches.now) (codes "rows"))) }
+    ensures rows { IfOk result (AreRowsOf (rows_word (first_value (found_of matches.now)))) }
+    ensures fault { IfErr result (λ f. f ≢ Fault.Memory → (f ≡ Fault.BadRows) × GivesNoRows (rows_word (first_value (found_of matches.now)))) }
 {
-    let Some(text) = matches.get_str("rows") else {
+    let Some(text) = rows_text(matches) else {
         return Ok(RowKinds {
             pairs: true,
             matched_left: false,
@@ -112,8 +141,11 @@ fn order_of(matches: &ArgMatches<'_>) -> RowOrder
 // The columns that are named, or all if none are.
 fn columns_of(matches: &ArgMatches<'_>) -> ColumnChoice
     requires { IsNameOf columns_name (first_value (found_of matches.now) (codes "columns")) }
-    ensures { AreColumnsOf (first_value (found_of matches.now) (codes "columns")) result }
+    ensures { AreColumnsOf (columns_word (first_value (found_of matches.now))) result }
 {
+    if is_looked_for(matches) {
+        return ColumnChoice::Left;
+    }
     match matches.get_str("columns") {
         Some("left") => ColumnChoice::Left,
         Some("right") => ColumnChoice::Right,
@@ -157,6 +189,7 @@ fn is_left(columns: ColumnChoice) -> bool
 ///
 /// # Errors
 ///
+/// `ChosenTwice` if `--anti` or `--semi` is given with the other one, `--rows` or `--columns`; then
 /// `BadRows` if `--rows` isn't a list of kinds of rows; then `MatchedLeftColumns` if it names
 /// matched left rows and `--columns` isn't `left`; then `BadSuffix` if a text to be added to names
 /// has no byte or more than 16. `Memory` comes only when memory ran out.
@@ -170,6 +203,9 @@ pub(crate) fn choice_of<'a>(
     ensures choice { IfOk result (IsChoiceOf form (first_value (found_of matches.now))) }
     ensures fault { IfErr result (IsChoiceFault form (first_value (found_of matches.now))) }
 {
+    if is_chosen_twice(matches) {
+        return Err(Fault::ChosenTwice);
+    }
     let rows = rows_of(alloc, matches)?;
     let columns = columns_of(matches);
     if rows.matched_left && !is_left(columns) {

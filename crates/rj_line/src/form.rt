@@ -109,7 +109,7 @@ pub(crate) fn default_strictness(form: Form, lenient: bool) -> Strictness
 
 /// Whether an error is explained where a line doesn't have `--explain`, by whether it has
 /// `--terse`.
-pub(crate) fn default_explain(form: Form, terse: bool) -> bool
+pub fn default_explain(form: Form, terse: bool) -> bool
     ensures { result ≡ forms.default_explain form terse }
 {
     match form {
@@ -118,7 +118,7 @@ pub(crate) fn default_explain(form: Form, terse: bool) -> bool
     }
 }
 
-/// Whether the types of columns needn't be declared.
+/// Whether a form is the short one.
 pub(crate) fn is_short(form: Form) -> bool
     ensures { result ≡ forms.is_short form }
 {

@@ -19,6 +19,7 @@ Tables:
   --right <FILE>         CSV file of the right table, R in the clause; - is standard input
   --left-types <TYPES>   Left column types: 'int,num(9,2),text', by name 'id=int,*=text', or @FILE
   --right-types <TYPES>  Right column types, in the same forms
+  --types <TYPES>        Types of both, by name, in the short form: 'id=int,qty=num(9,2)', or @FILE
   --null <TEXT>          Text for NULL in both files and in the result [default: an empty field]
   --left-null <TEXT>     Text for NULL in the left file, up to four times [default: as --null]
   --right-null <TEXT>    Text for NULL in the right file, up to four times [default: as --null]
@@ -33,6 +34,8 @@ Output (a pair is a match, a lone row is an unmatched row):
   --order <ORDER>        pairs: matches first; left: each left row at its place [default: pairs]
   --rows <KINDS>         Rows to write, also matched-left [default: pairs,lone-left,lone-right]
   --columns <SIDE>       Columns to write: all, left or right [default: all]
+  --anti                 Left rows without a match, of a LEFT JOIN: --rows lone-left --columns left
+  --semi                 Left rows with a match, each once: --rows matched-left --columns left
   --repeated <MARK>      Repeated names: keep, qualify (as R.id), or a suffix [default: keep]
   --out-null <TEXT>      Text for NULL in the result [default: as --null]
 

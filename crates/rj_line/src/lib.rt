@@ -3,6 +3,7 @@
 
 mod choice;
 mod expecting;
+mod flags;
 mod form;
 mod help;
 mod line;
@@ -11,7 +12,7 @@ mod options;
 mod request;
 mod types;
 
-pub use form::{Form, form_of};
+pub use form::{Form, default_explain, form_of};
 pub use line::{Line, read_line};
 pub use nulls::read_nulls;
 pub use request::{Hash, Request, Strictness};

@@ -3,16 +3,17 @@
 ghost use Rattle.std.specs.Prelude.{◌≡◌, ◌-◌, ◌^◌, ◌≤◌, ◌||◌, IfOk, IfErr, Some, codes, is_some, map, true};
 ghost use Rattle.clap.specs.Words.{first_value, found_of};
 ghost use Rattle.rj_line.specs.Forms.{default_explain, default_strictness};
-ghost use Rattle.rj_line.specs.Named.{IsNameOf, IsNamedOr};
-ghost use Rattle.rj_line.specs.Line.{AreNumbersIn, AreSettings, HasValues, IsFaultIn, IsLineFault, IsLineIn, IsLineOf, IsNumberIn, IsNumberOr, IsParseError, IsParseOf, IsRequestFault, IsRequestOf, IsStrictName, IsStrictness, hash_name, is_true, texts_found};
+ghost use Rattle.rj_line.specs.Named.{IsNameOf, IsNamedOr, is_true};
+ghost use Rattle.rj_line.specs.Line.{AreNumbersIn, AreSettings, HasValues, IsFaultIn, IsLineFault, IsLineIn, IsLineOf, IsNumberIn, IsNumberOr, IsParseError, IsParseOf, IsRequestFault, IsRequestOf, IsStrictName, IsStrictness, hash_name, texts_found};
 
 use crate::choice::choice_of;
 use crate::expecting::{expectation_of, number_of};
-use crate::form::{Form, default_explain, default_strictness, default_workers, form_of};
+use crate::flags::is_given;
+use crate::form::{Form, default_explain, default_strictness, default_workers, form_of, is_short};
 use crate::nulls::read_nulls;
 use crate::options::line_command;
 use crate::request::{Hash, Request, Strictness};
-use crate::types::types_of;
+use crate::types::{shared_types_of, types_of};
 use clap::{ArgMatches, Error};
 use rj_fault::{Fault, Side};
 use rj_settings::Settings;
@@ -110,13 +111,6 @@ fn strictness_or(matches: &ArgMatches<'_>, other: Strictness) -> Strictness
     }
 }
 
-// Whether a flag is given.
-fn is_given(matches: &ArgMatches<'_>, name: &str) -> bool
-    ensures { result ≡ is_true (first_value (found_of matches.now) name.now) }
-{
-    matches.get_str(name) == Some("true")
-}
-
 // How strictly the files are read in a line of this form.
 fn strictness_of(matches: &ArgMatches<'_>, form: Form) -> Strictness
     requires { IsStrictName (first_value (found_of matches.now) (codes "strict")) }
@@ -148,8 +142,10 @@ fn request_of<'a>(
     ensures request { IfOk result (IsRequestOf form processors (first_value (found_of matches.now)) (texts_found (found_of matches.now))) }
     ensures fault { IfErr result (IsRequestFault form (first_value (found_of matches.now)) (texts_found (found_of matches.now))) }
 {
-    let left = types_of(alloc, matches, "left-types", Side::Left, form)?;
-    let right = types_of(alloc, matches, "right-types", Side::Right, form)?;
+    let types = shared_types_of(alloc, matches)?;
+    let shared = types.as_slice();
+    let left = types_of(alloc, matches, "left-types", Side::Left, shared, form)?;
+    let right = types_of(alloc, matches, "right-types", Side::Right, shared, form)?;
     let null = matches.get_str("null").unwrap_or("");
     let left_nulls = match read_nulls(alloc, matches, "left-null", null, Side::Left) {
         Ok(nulls) => nulls,
@@ -166,6 +162,7 @@ fn request_of<'a>(
     Ok(Request {
         left_types: left.entries,
         right_types: right.entries,
+        shared_types: types,
         left_undeclared: left.undeclared,
         right_undeclared: right.undeclared,
         left_nulls,
@@ -173,6 +170,7 @@ fn request_of<'a>(
         out_null: matches.get_str("out-null").unwrap_or(null),
         strict: strictness_of(matches, form),
         clause: given(matches, "join"),
+        short: is_short(form),
         settings: settings_of(matches, default_workers(form, processors)),
         hash: hash_of(matches),
         tells_pieces: matches.get_str("piece").is_some(),
@@ -215,8 +213,9 @@ fn read_in_form<'a>(
 /// # Errors
 ///
 /// `CommandLine` for a line that `clap` refuses, or that asks for help or the version. Then come,
-/// in this order: a bad type list, the left one before the right one; more than four NULL texts on
-/// the left, and on the right; a bad list of kinds of rows; `MatchedLeftColumns`; and a bad suffix.
+/// in this order: a bad type list, that for both tables, the left one, the right one; more than four NULL texts on
+/// the left, and on the right; `ChosenTwice`; a bad list of kinds of rows; `MatchedLeftColumns`; and
+/// a bad suffix.
 /// `Memory` comes only when memory ran out.
 pub fn read_line<'a>(
     alloc: Global,

@@ -73,7 +73,7 @@ const LONG: [LineOption; 5] = [
 ];
 
 // Those of the short form, in which three words are no options.
-const SHORT: [LineOption; 7] = [
+const SHORT: [LineOption; 8] = [
     LineOption {
         name: "left",
         letter: None,
@@ -100,6 +100,11 @@ const SHORT: [LineOption; 7] = [
         takes: Takes::Text,
     },
     LineOption {
+        name: "types",
+        letter: None,
+        takes: Takes::Text,
+    },
+    LineOption {
         name: "lenient",
         letter: None,
         takes: Takes::Nothing,
@@ -112,7 +117,7 @@ const SHORT: [LineOption; 7] = [
 ];
 
 // The options of both forms.
-const COMMON: [LineOption; 26] = [
+const COMMON: [LineOption; 28] = [
     LineOption {
         name: "null",
         letter: None,
@@ -212,6 +217,16 @@ const COMMON: [LineOption; 26] = [
         name: "columns",
         letter: None,
         takes: Takes::Word(&["all", "left", "right"]),
+    },
+    LineOption {
+        name: "anti",
+        letter: None,
+        takes: Takes::Nothing,
+    },
+    LineOption {
+        name: "semi",
+        letter: None,
+        takes: Takes::Nothing,
     },
     LineOption {
         name: "repeated",

@@ -31,6 +31,9 @@ pub struct Request<'a> {
     pub left_types: Vec<TypeEntry>,
     /// The types of the right table's columns.
     pub right_types: Vec<TypeEntry>,
+    /// The types of the columns of both tables, by name, as they are in `left_types` and in
+    /// `right_types` too.
+    pub shared_types: Vec<TypeEntry>,
     /// Whether the types of those left columns that no entry names aren't declared.
     pub left_undeclared: bool,
     /// The same of the right columns.
@@ -45,6 +48,8 @@ pub struct Request<'a> {
     pub strict: Strictness,
     /// The text of the join clause.
     pub clause: &'a str,
+    /// Whether the line is of the short form, `radixjoin LEFT RIGHT CLAUSE`.
+    pub short: bool,
     /// How the join is done. No setting changes its rows.
     pub settings: Settings,
     /// The hash that partitions the rows.

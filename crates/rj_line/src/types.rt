@@ -1,17 +1,17 @@
 //! Type lists.
 
-ghost use Rattle.std.specs.Prelude.{◌≡◌, ◌≢◌, ◌&&◌, IfOk, IfErr, List, false, is_some, true};
+ghost use Rattle.std.specs.Prelude.{◌≡◌, ◌≢◌, ◌&&◌, IfOk, IfErr, List, codes, false, is_some, true};
 ghost use Rattle.clap.specs.Words.{first_value, found_of};
 ghost use Rattle.rj_line.specs.Forms.{is_short};
-ghost use Rattle.rj_line.specs.Types.{AreTypesOf, GivesNoTypes, GivesTypes, completed};
+ghost use Rattle.rj_line.specs.Types.{AreTypesOf, GivesNoShared, GivesNoTypes, GivesShared, GivesTypes, completed};
 ghost use Rattle.rj_types.specs.Columns.{is_open};
 ghost use Rattle.rj_types.specs.Lists.{IsTypeList};
 
 use crate::form::{Form, is_short};
 use clap::ArgMatches;
 use rj_fault::{Fault, Side};
-use rj_types::{TypeEntry, is_open, read_list, with_texts};
-use std::alloc::Global;
+use rj_types::{TypeEntry, is_open, read_list, read_shared_list, with_shared, with_texts};
+use std::alloc::{AllocError, Global};
 
 /// The entries of this side's type list, such as `int,num(4,1)` or `id=int,*=text`.
 ///
@@ -58,9 +58,49 @@ fn listed(
     }
 }
 
-// The types that these entries give a side's columns.
-fn completed(listed: Vec<TypeEntry>, form: Form) -> Result<SideTypes, Fault>
-    ensures types { IfOk result (λ t. t.entries.items ≡ completed form listed.items) }
+/// The entries of the list for both tables, if the line has one.
+///
+/// # Errors
+///
+/// `BadSharedTypeList` if the option's value isn't a list of types by name. `Memory` comes only when
+/// memory ran out.
+pub(crate) fn shared_types_of(
+    alloc: Global,
+    matches: &ArgMatches<'_>,
+) -> Result<Vec<TypeEntry>, Fault>
+    ensures types { IfOk result (λ v. GivesShared (first_value (found_of matches.now) (codes "types")) v.items) }
+    ensures fault { IfErr result (λ f. f ≢ Fault.Memory →
+        (f ≡ Fault.BadSharedTypeList) × GivesNoShared (first_value (found_of matches.now) (codes "types"))) }
+{
+    let Some(text) = matches.get_str("types") else {
+        return Ok(Vec::new(alloc));
+    };
+    match read_shared_list(alloc, text) {
+        Ok(Some(entries)) => Ok(entries),
+        Ok(None) => Err(Fault::BadSharedTypeList),
+        Err(_) => Err(Fault::Memory),
+    }
+}
+
+// The entries of a side's list with those for both tables, and with that of all other columns.
+fn completed_entries(
+    alloc: Global,
+    listed: Vec<TypeEntry>,
+    shared: &[TypeEntry],
+) -> Result<Vec<TypeEntry>, AllocError>
+    ensures { IfOk result (λ v. v.items ≡ completed Form.Short shared.now listed.items) }
+{
+    with_texts(with_shared(alloc, listed, shared)?)
+}
+
+// The types that these entries and those for both tables give a side's columns.
+fn completed(
+    alloc: Global,
+    listed: Vec<TypeEntry>,
+    shared: &[TypeEntry],
+    form: Form,
+) -> Result<SideTypes, Fault>
+    ensures types { IfOk result (λ t. t.entries.items ≡ completed form shared.now listed.items) }
     ensures undeclared { IfOk result (λ t. t.undeclared ≡ (is_short form && is_open listed.items)) }
     ensures fault { IfErr result (λ f. f ≡ Fault.Memory) }
 {
@@ -71,7 +111,7 @@ fn completed(listed: Vec<TypeEntry>, form: Form) -> Result<SideTypes, Fault>
         });
     }
     let undeclared = is_open(listed.as_slice());
-    match with_texts(listed) {
+    match completed_entries(alloc, listed, shared) {
         Ok(entries) => Ok(SideTypes {
             entries,
             undeclared,
@@ -81,7 +121,8 @@ fn completed(listed: Vec<TypeEntry>, form: Form) -> Result<SideTypes, Fault>
 }
 
 /// The types of a side's columns: those that the list of an option gives. In the short form, columns
-/// of which it says nothing are of texts, and undeclared.
+/// of which it says nothing have those of the list for both tables, and columns of which neither
+/// says anything are of texts, and undeclared.
 ///
 /// # Errors
 ///
@@ -91,12 +132,13 @@ pub(crate) fn types_of(
     matches: &ArgMatches<'_>,
     name: &str,
     side: Side,
+    shared: &[TypeEntry],
     form: Form,
 ) -> Result<SideTypes, Fault>
     requires { is_short form ≡ false → is_some (first_value (found_of matches.now) name.now) ≡ true }
-    ensures types { IfOk result (λ t. AreTypesOf form (first_value (found_of matches.now) name.now) t.entries.items t.undeclared) }
+    ensures types { IfOk result (λ t. AreTypesOf form shared.now (first_value (found_of matches.now) name.now) t.entries.items t.undeclared) }
     ensures fault { IfErr result (λ f. f ≢ Fault.Memory → (f ≡ Fault.BadTypeList side) × GivesNoTypes (first_value (found_of matches.now) name.now)) }
 {
     let listed = listed(alloc, matches, name, side, form)?;
-    completed(listed, form)
+    completed(alloc, listed, shared, form)
 }

@@ -5,7 +5,6 @@ ghost use Rattle.std.specs.Prelude.{◌<◌, ◌-◌, ◌^◌};
 
 use rj_command::{
     Fault, OpenGate, Request, Side, Stats, Step, Violation, Watch, first_violation, read_line, run,
-    run_owned,
 };
 use rj_csv_io::{CountedWriter, Output};
 use rj_engine::{Gate, Place};
@@ -133,7 +132,7 @@ fn run_by<R: Threads + Wait + Clock + Sync, O: Output>(
         return run(rt, alloc, PEOPLE, CITIES, request, seen, writer);
     }
     let (left, right) = (PEOPLE.to_vec(alloc)?, CITIES.to_vec(alloc)?);
-    run_owned(rt, alloc, left, right, request, seen, writer)
+    run(rt, alloc, left, right, request, seen, writer)
 }
 
 // A clause, an option, and whether the bytes of the tables are given to the run.

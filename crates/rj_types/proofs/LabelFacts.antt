@@ -18,7 +18,7 @@ use Rattle.rj_types.specs.Labels.{IsLabelText, IsNameWord, is_regular}
 use Rattle.rj_types.specs.Scanning.{behind, delimited_at, label_by, label_in, labelled, named, or_place, regular_at}
 use Rattle.rj_types.specs.Words.{IsTypeWord, before, text_of}
 use Rattle.rj_types.specs.declared.entry.Label.{Label}
-use Rattle.rj_types.specs.declared.entry.Label.TheVariants.{Place, Name, Rest}
+use Rattle.rj_types.specs.declared.entry.Label.TheVariants.{Place, Name, Rest, Shared}
 
 is_sign : (sign : ℕ) → (sign == sign) ≡ true
 is_sign sign = grind (arith, nat_tests)
@@ -166,6 +166,7 @@ label_complete Place t text label word rest is type whole =
 label_complete (Name n) t text label word rest is type whole =
     let e : text ≡ (is.0 ++ codes "=") ++ before word rest = whole ∙ ap (λ (x : List ℕ). x ++ before word rest) is.2 in
     ap (λ (o : Option (Label × List ℕ)). or_place o text) (ap label_in e ∙ named_found n.delimited n.text is.0 (before word rest) is.1)
+label_complete (Shared n) t text label word rest is type whole = absurd is
 label_complete Rest t text label word rest is type whole =
     let e : text ≡ codes "*=" ++ before word rest = whole ∙ ap (λ (x : List ℕ). x ++ before word rest) is in
     ap (λ (o : Option (Label × List ℕ)). or_place o text) (ap label_in e)

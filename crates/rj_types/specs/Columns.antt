@@ -6,12 +6,13 @@ use Rattle.rj_columns.specs.declared.cell.ColumnType.TheVariants as kind
 use Rattle.rj_condition.specs.Names.{matches}
 use Rattle.rj_types.specs.Lists.{is_place, is_rest}
 use Rattle.rj_types.specs.declared.entry.Label.{Label}
-use Rattle.rj_types.specs.declared.entry.Label.TheVariants.{Name, Rest}
+use Rattle.rj_types.specs.declared.entry.Label.TheVariants.{Name, Rest, Shared}
 use Rattle.rj_types.specs.declared.entry.TypeEntry.{TypeEntry}
 
 -- whether the label names a column of this name
 abbrev pub names : List ℕ → Label → Bool
 names called (Name n) = matches n called
+names called (Shared n) = matches n called
 names called _ = false
 
 -- the type of the first entry whose label passes
@@ -57,3 +58,15 @@ text_of_rest = record { label = Rest; kind = kind.Text }
 -- the same list with `*=text`, if it says nothing of some columns
 abbrev pub with_texts : List TypeEntry → List TypeEntry
 with_texts entries = if is_open entries then entries ++ text_of_rest ∷ [] else entries
+
+-- the label of an entry for both tables, as it is in the list of one of them
+abbrev pub shared_label : Label → Label
+shared_label (Name n) = Shared n
+shared_label label = label
+
+abbrev pub shared_entry : TypeEntry → TypeEntry
+shared_entry e = record { label = shared_label e.label; kind = e.kind }
+
+-- a table's list with the entries for both tables behind its own; a list by position says all itself
+abbrev pub with_shared : List TypeEntry → List TypeEntry → List TypeEntry
+with_shared entries shared = if list_any (λ e. is_place e.label) entries then entries else entries ++ map shared_entry shared

@@ -4,7 +4,7 @@ use Rattle.std.specs.Char.{is_ascii_digit}
 use Rattle.std.specs.List.{list_all}
 use Rattle.rj_condition.specs.Tokens.{in_quotes, is_name_byte}
 use Rattle.rj_types.specs.declared.entry.Label.{Label}
-use Rattle.rj_types.specs.declared.entry.Label.TheVariants.{Place, Name, Rest}
+use Rattle.rj_types.specs.declared.entry.Label.TheVariants.{Place, Name, Rest, Shared}
 
 -- letters, digits and underscores, the first not a digit: an identifier of a clause, or one that
 -- begins with an underscore, since nothing else could be there
@@ -18,8 +18,9 @@ abbrev pub IsNameWord : Bool → List ℕ → List ℕ → Type 0
 IsNameWord true name word = (word ≡ in_quotes 34 name) × (name ≢ [])
 IsNameWord false name word = (word ≡ name) × (is_regular name ≡ true)
 
--- what comes before the type
+-- what comes before the type; that it is of a list for both tables isn't written
 abbrev pub IsLabelText : Label → List ℕ → Type 0
 IsLabelText Place text = text ≡ []
 IsLabelText (Name n) text = (word : List ℕ) × IsNameWord n.delimited n.text word × (text ≡ word ++ codes "=")
+IsLabelText (Shared n) text = ⊥
 IsLabelText Rest text = text ≡ codes "*="

@@ -1,8 +1,8 @@
 -- Type lists: `int,num(9,2),text` by position, `id=int,"the price"=num(9,2),*=text` by name.
 use Rattle.std.specs.Prelude.{◌≡◌, ◌==◌, ◌&&◌, ◌||◌, nat_le, length, ℕ, Bool, true, false, Option, None, Some, List, [], ◌∷◌, ◌++◌}
-use Rattle.std.specs.List.{count_by}
+use Rattle.std.specs.List.{count_by, list_all}
 use Rattle.rj_types.specs.declared.entry.Label.{Label}
-use Rattle.rj_types.specs.declared.entry.Label.TheVariants.{Place, Rest}
+use Rattle.rj_types.specs.declared.entry.Label.TheVariants.{Name, Place, Rest}
 use Rattle.rj_types.specs.declared.entry.TypeEntry.{TypeEntry}
 use Rattle.rj_types.specs.Labels.{IsLabelText}
 use Rattle.rj_types.specs.Words.{IsTypeWord, before}
@@ -30,6 +30,10 @@ abbrev pub is_rest : Label → Bool
 is_rest Rest = true
 is_rest _ = false
 
+abbrev pub is_name : Label → Bool
+is_name (Name n) = true
+is_name _ = false
+
 -- no label at all, or one at each type and at most one `*`
 abbrev pub are_alike : List TypeEntry → Bool
 are_alike entries = count_by (λ e. is_place e.label) entries == length entries
@@ -38,3 +42,7 @@ are_alike entries = count_by (λ e. is_place e.label) entries == length entries
 -- one or more entries, all by position or all by name
 abbrev pub IsTypeList : List ℕ → List TypeEntry → Type 0
 IsTypeList text entries = AreEntries entries (Some text) × (are_alike entries ≡ true)
+
+-- a list for both tables: each entry has a name
+abbrev pub IsSharedList : List ℕ → List TypeEntry → Type 0
+IsSharedList text entries = IsTypeList text entries × (list_all (λ e. is_name e.label) entries ≡ true)

@@ -20,6 +20,7 @@ fn is_named(entry: &TypeEntry, called: &[u8]) -> bool
 {
     match &entry.label {
         Label::Name(name) => name.means(called),
+        Label::Shared(name) => name.means(called),
         _ => false,
     }
 }
@@ -183,5 +184,66 @@ pub fn with_texts(entries: Vec<TypeEntry>) -> Result<Vec<TypeEntry>, AllocError>
         label: Label::Rest,
         kind: ColumnType::Text,
     })?;
+    Ok(entries)
+}
+
+// A copy of a name.
+fn copy_of(alloc: Global, name: &Name) -> Result<Name, AllocError>
+    ensures { IfOk result (λ n. n ≡ name.now) }
+{
+    Ok(Name {
+        text: Word::new(alloc, name.text.as_str())?,
+        delimited: name.delimited,
+    })
+}
+
+// The label of an entry for both tables, as it is in the list of one of them.
+fn shared_label(alloc: Global, label: &Label) -> Result<Label, AllocError>
+    ensures { IfOk result (λ l. l ≡ columns.shared_label label.now) }
+{
+    match label {
+        Label::Name(name) => Ok(Label::Shared(copy_of(alloc, name)?)),
+        Label::Shared(name) => Ok(Label::Shared(copy_of(alloc, name)?)),
+        Label::Place => Ok(Label::Place),
+        Label::Rest => Ok(Label::Rest),
+    }
+}
+
+fn shared_entry(alloc: Global, entry: &TypeEntry) -> Result<TypeEntry, AllocError>
+    ensures { IfOk result (λ e. e ≡ columns.shared_entry entry.now) }
+{
+    Ok(TypeEntry {
+        label: shared_label(alloc, &entry.label)?,
+        kind: entry.kind,
+    })
+}
+
+// Whether one of the entries is by position.
+fn has_places(entries: &[TypeEntry]) -> bool
+    ensures { result ≡ list_any (λ e. is_place e.label) entries.now }
+{
+    entries.iter().any(|entry| of_place(entry))
+}
+
+/// A table's list with copies of the entries of a list for both tables behind its own. A list by
+/// position stays as it is: it has the types of all columns.
+///
+/// # Errors
+///
+/// It fails only when memory runs out.
+pub fn with_shared(
+    alloc: Global,
+    entries: Vec<TypeEntry>,
+    shared: &[TypeEntry],
+) -> Result<Vec<TypeEntry>, AllocError>
+    ensures { IfOk result (λ v. v.items ≡ columns.with_shared entries.items shared.now) }
+{
+    if has_places(entries.as_slice()) {
+        return Ok(entries);
+    }
+    let mut entries = entries;
+    for entry in shared {
+        entries.push(shared_entry(alloc, entry)?)?;
+    }
     Ok(entries)
 }

@@ -10,6 +10,9 @@ pub enum Label {
     Place,
     /// The column that the name means, in any case, or exactly if the name is delimited.
     Name(Name),
+    /// The column that the name means, if the table has it and no name of the table's own list means
+    /// it. The name is one of a list for both tables.
+    Shared(Name),
     /// All columns that no name in the list means.
     Rest,
 }

@@ -9,6 +9,6 @@ mod list;
 mod number;
 mod word;
 
-pub use columns::{is_named_in, is_open, name_fault, types_under, with_texts};
+pub use columns::{is_named_in, is_open, name_fault, types_under, with_shared, with_texts};
 pub use entry::{Label, TypeEntry};
-pub use list::{one_list, read_list};
+pub use list::{one_list, read_list, read_shared_list};

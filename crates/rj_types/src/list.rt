@@ -2,9 +2,9 @@
 //! texts.
 
 ghost use Rattle.std.specs.Prelude.{◌≡◌, ◌&&◌, true, IfOk, List, ℕ, Option, MatchOption, Some, map};
-ghost use Rattle.std.specs.List.{count_by};
+ghost use Rattle.std.specs.List.{count_by, list_all};
 ghost use Rattle.rj_types.specs.Lists as lists;
-ghost use Rattle.rj_types.specs.Lists.{AreEntries, BeginsEntry, IsTypeList, is_place, is_rest};
+ghost use Rattle.rj_types.specs.Lists.{AreEntries, BeginsEntry, IsSharedList, IsTypeList, is_name, is_place, is_rest};
 ghost use Rattle.rj_types.specs.Words.{text_of};
 ghost use Rattle.rj_types.specs.declared.entry.TypeEntry.{TypeEntry};
 
@@ -95,6 +95,41 @@ pub fn read_list(alloc: Global, text: &str) -> Result<Option<Vec<TypeEntry>>, Al
     match read_entries(alloc, text)? {
         Some(entries) => {
             if are_alike(entries.as_slice()) {
+                Ok(Some(entries))
+            } else {
+                Ok(None)
+            }
+        }
+        None => Ok(None),
+    }
+}
+
+fn of_name(entry: &TypeEntry) -> bool
+    ensures { result ≡ is_name entry.now.label }
+{
+    match entry.label {
+        Label::Name(_) => true,
+        _ => false,
+    }
+}
+
+fn are_names(entries: &[TypeEntry]) -> bool
+    ensures { result ≡ list_all (λ e. is_name e.label) entries.now }
+{
+    entries.iter().all(|entry| of_name(entry))
+}
+
+/// The entries of a type list for both tables, each by name, or none if the text isn't such a list.
+///
+/// # Errors
+///
+/// It fails only when memory runs out.
+pub fn read_shared_list(alloc: Global, text: &str) -> Result<Option<Vec<TypeEntry>>, AllocError>
+    ensures { IfOk result (λ o. MatchOption o ((entries : List TypeEntry) → IsSharedList text.now entries → ⊥) (λ v. IsSharedList text.now v.items)) }
+{
+    match read_list(alloc, text)? {
+        Some(entries) => {
+            if are_names(entries.as_slice()) {
                 Ok(Some(entries))
             } else {
                 Ok(None)

@@ -3,12 +3,15 @@
 ghost use Rattle.std.specs.Prelude.{◌≡◌, ◌≢◌, IfOk, IfErr, OnOk, Ok, IsTrue, length, true};
 ghost use Rattle.rj_csv_io.specs.Tables.{is_null_text};
 ghost use Rattle.rj_condition.specs.Fits.{fits};
-ghost use Rattle.rj_command.specs.Operands.{AreOperands, IsClauseFault, IsFirstFault, IsJoinAsked, IsJoinFault, IsJoinOf};
+ghost use Rattle.rj_command.specs.Operands.{AreOperands, HasNoHeaderFault, IsClauseFault, IsFirstFault, IsHeaderFault, IsJoinAsked, IsJoinFault, IsJoinOf};
 ghost use Rattle.rj_command.specs.Refused.{bind_fault, parse_fault};
 ghost use Rattle.rj_command.specs.Runs.{AreReadApart};
 ghost use Rattle.rj_command.specs.Sides.{IsTable, IsTableFault};
 ghost use Rattle.rj_command.specs.Undeclared.{bound_or, unbound_fault};
 
+use crate::join::headers::header_table;
+use crate::join::nulls::has_lawful_nulls;
+use crate::join::shared::refuse_shared_names;
 use crate::join::strict::{read_strictly, read_text};
 use crate::join::undeclared::undeclared_fault;
 use crate::join::watching::{Step, Watch};
@@ -136,8 +139,8 @@ fn declared(join: BoundJoin, undeclared: Option<Fault>) -> Result<BoundJoin, Fau
     }
 }
 
-// The clause of a request bound to two tables.
-#[tactic(auto, using(crate::proofs::OperandFacts::text_fault))]
+// The clause of a request bound to two tables, if its type list for both names their columns.
+#[tactic(auto, using(crate::proofs::OperandFacts::text_fault, crate::proofs::OperandFacts::types_fault))]
 fn bind_request(
     alloc: Global,
     request: &Request<'_>,
@@ -148,6 +151,7 @@ fn bind_request(
     ensures fault { IfErr result (λ f. f ≢ Fault.Memory → IsClauseFault request.now left.now right.now f) }
     ensures bound { IfOk result (λ join. fits join left.now.types right.now.types ≡ true) }
 {
+    refuse_shared_names(alloc, request, left, right)?;
     let clause = match parse(alloc, request.clause) {
         Ok(clause) => clause,
         Err(refused) => return Err(fault_of_parse(refused)),
@@ -160,6 +164,31 @@ fn bind_request(
         Ok(join) => declared(join, undeclared),
         Err(refused) => Err(fault_of_unbound(refused, undeclared)),
     }
+}
+
+// Refuses, in the short form, a clause that has an error over the headers of the two texts. A header
+// that has an error itself is left to the reading.
+#[tactic(auto, using(crate::proofs::OperandFacts::none_in_long_form, crate::proofs::OperandFacts::none_by_nulls))]
+fn refuse_by_headers(
+    alloc: Global,
+    request: &Request<'_>,
+    left: &[u8],
+    right: &[u8],
+) -> Result<(), Fault>
+    ensures none { OnOk result (HasNoHeaderFault left.now right.now request.now) }
+    ensures fault { IfErr result (λ f. f ≢ Fault.Memory → IsHeaderFault left.now right.now request.now f) }
+{
+    if !request.short || !has_lawful_nulls(request) {
+        return Ok(());
+    }
+    let Some(left) = header_table(alloc, left, request, Side::Left)? else {
+        return Ok(());
+    };
+    let Some(right) = header_table(alloc, right, request, Side::Right)? else {
+        return Ok(());
+    };
+    bind_request(alloc, request, &left, &right)?;
+    Ok(())
 }
 
 // Both tables with the clause of a request bound to them.
@@ -177,9 +206,9 @@ fn bind_tables(
     Ok(Operands { left, right, join })
 }
 
-// Reads both tables and binds the clause to them, or reports the first error. Bytes that it owns
-// are freed as soon as their table is there.
-#[tactic(auto, using(crate::proofs::OperandFacts::left_fault))]
+// Reads both tables and binds the clause to them, or reports the first error. In the short form the
+// clause is bound to the headers first, before rows are read. Bytes that it owns are freed as soon
+// as their table is there.
 pub(crate) fn read_operands<R: Threads + Sync, B: AsSlice<u8> + Drop, G: Watch>(
     rt: &R,
     alloc: Global,
@@ -195,6 +224,7 @@ pub(crate) fn read_operands<R: Threads + Sync, B: AsSlice<u8> + Drop, G: Watch>(
     ensures bound { IfOk result (λ o. fits o.join o.left.types o.right.types ≡ true) }
 {
     null_texts_read_as_null();
+    refuse_by_headers(alloc, request, left.as_slice(), right.as_slice())?;
     gate.begin(Step::Read(Side::Left));
     let left = read_side(rt, alloc, left, request, Side::Left)?;
     gate.begin(Step::Read(Side::Right));

@@ -1,7 +1,7 @@
 //! The statistics of a join.
 
 ghost use Rattle.std.specs.Prelude.{Some};
-ghost use Rattle.rj_command.specs.Statistics.{partition_text, stats_text};
+ghost use Rattle.rj_command.specs.Statistics.{partition_text, stats_text, text_key_text};
 
 use std::fmt;
 
@@ -14,6 +14,16 @@ pub struct PartitionRows {
     pub left: u64,
     /// The right rows.
     pub right: u64,
+}
+
+/// A key whose two columns have no declared types and hold numbers, not all written in one way. They
+/// were compared as texts, so equal numbers may not match. The text says so.
+#[derive(Drop)]
+pub struct TextKey {
+    /// The left column's name, as it is shown.
+    pub left: String,
+    /// The right column's name.
+    pub right: String,
 }
 
 /// The statistics of a join. The text is what `--stats` prints, without its last line end: a line
@@ -36,6 +46,9 @@ pub struct Stats {
     /// The lines of the report, without the last line end, if one is asked for. They aren't in the
     /// text of the statistics, and are printed after it.
     pub report: Option<String>,
+    /// The keys of columns without declared types that hold numbers not all written in one way, in
+    /// the order of the keys. They aren't in the text of the statistics.
+    pub text_keys: Vec<TextKey>,
 }
 
 impl fmt::Display for PartitionRows {
@@ -44,6 +57,18 @@ impl fmt::Display for PartitionRows {
     fn fmt<W: fmt::Write>(&self, f: &mut fmt::Formatter<W>) -> fmt::Result {
         let (number, left, right) = (self.number, self.left, self.right);
         write!(f, "partition {number} left {left} right {right}")
+    }
+}
+
+impl fmt::Display for TextKey {
+    ghost output = { λ k. Some (text_key_text k) };
+
+    fn fmt<W: fmt::Write>(&self, f: &mut fmt::Formatter<W>) -> fmt::Result {
+        let (left, right) = (self.left.as_str(), self.right.as_str());
+        write!(
+            f,
+            "L.{left} and R.{right} hold numbers and were compared as texts, so 1.50 isn't 1.5; --types makes them numbers"
+        )
     }
 }
 

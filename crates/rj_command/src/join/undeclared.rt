@@ -13,8 +13,8 @@ use rj_line::Request;
 use rj_types::{TypeEntry, is_named_in};
 use std::alloc::{AllocError, Global};
 
-// Whether the types of those columns of a side that no entry names aren't declared.
-fn is_open(request: &Request<'_>, side: Side) -> bool
+/// Whether the types of those columns of a side that no entry names aren't declared.
+pub(crate) fn is_open(request: &Request<'_>, side: Side) -> bool
     ensures { result ≡ is_open request.now side }
 {
     match side {
@@ -23,8 +23,8 @@ fn is_open(request: &Request<'_>, side: Side) -> bool
     }
 }
 
-// Whether the type of a column with this name isn't declared.
-fn is_undeclared(open_list: bool, entries: &[TypeEntry], called: &str) -> bool
+/// Whether the type of a column with this name isn't declared.
+pub(crate) fn is_undeclared(open_list: bool, entries: &[TypeEntry], called: &str) -> bool
     ensures { result ≡ is_undeclared open_list entries.now called.now }
 {
     open_list && !is_named_in(entries, called.as_bytes())

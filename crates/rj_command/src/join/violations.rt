@@ -48,8 +48,9 @@ fn violation_of<R: Threads + Wait + Clock + Sync, G: Gate + Sync>(
 ///
 /// # Errors
 ///
-/// The first error in the order left table, right table, clause. `Memory` comes only when memory
-/// ran out, in place of any error that would be reported later.
+/// The first error in the order left table, right table, clause; in the short form the clause's
+/// comes first, if both headers have none. `Memory` comes only when memory ran out, in place of any
+/// error that would be reported later.
 pub fn first_violation<R: Threads + Wait + Clock + Sync, G: Gate + Sync>(
     rt: &R,
     alloc: Global,

@@ -4,7 +4,8 @@ use Rattle.clap.specs.Words.{Text, first_value, found_of}
 use Rattle.rj_fault.specs.declared.fault.Fault.{Fault}
 use Rattle.rj_line.specs.Forms.{default_explain}
 use Rattle.rj_line.specs.declared.line.Line.{Line}
-use Rattle.rj_line.specs.Line.{IsFaultIn, IsRequestFault, IsRequestOf, is_true, texts_found, word_of, words_of}
+use Rattle.rj_line.specs.Line.{IsFaultIn, IsRequestFault, IsRequestOf, texts_found, word_of, words_of}
+use Rattle.rj_line.specs.Named.{is_true}
 use Rattle.rj_line.proofs.LineFacts.{clap_line_fault, line_fault}
 use Rattle.rj_line.proofs.line.read_in_form.Goals as goal
 

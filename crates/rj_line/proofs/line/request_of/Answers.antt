@@ -1,8 +1,11 @@
-use Rattle.std.proofs.Common.{◌≡◌, ◌∙◌, ap, length, refl, subst, sym, [], Option, Some, None, unwrap_or, codes, is_some, option_map, rules, Bor}
+use Rattle.std.proofs.Common.{◌≡◌, ◌∙◌, ap, length, refl, subst, sym, [], Option, Some, None, unwrap_or, codes, is_some, option_map, rules, Bool, Bor, List}
 use Rattle.std.proofs.lemmas.List.{length-map}
 use Rattle.clap.specs.Words.{Text, first_value, found_of}
 use Rattle.rj_line.specs.Line.{AreSettings, nulls_or, texts_found}
-use Rattle.rj_line.proofs.LineFacts.{choice_fault, few_given, left_list_fault, left_nulls_fault, right_list_fault, right_nulls_fault}
+use Rattle.rj_line.specs.Types.{AreTypesOf}
+use Rattle.rj_line.specs.declared.form.Form.{Form}
+use Rattle.rj_types.specs.declared.entry.TypeEntry.{TypeEntry}
+use Rattle.rj_line.proofs.LineFacts.{choice_fault, few_given, left_list_fault, left_nulls_fault, right_list_fault, right_nulls_fault, shared_list_fault}
 use Rattle.rj_line.proofs.line.request_of.Goals as goal
 
 -- the value of an option, or its default
@@ -18,13 +21,22 @@ same-given : (v : Option Text) (o : Option (Bor Text)) → option_map (λ s. s.n
 same-given v None is = ap is_some is
 same-given v (Some x) is = ap is_some is
 
+-- the types of a side, by the same list for both tables
+same-shared : (f : Form) (a b : List TypeEntry) (word : Option Text) (types : List TypeEntry) (undeclared : Bool) → a ≡ b → AreTypesOf f a word types undeclared
+    → AreTypesOf f b word types undeclared
+same-shared f a b word types undeclared same = subst (λ (s : List TypeEntry). AreTypesOf f s word types undeclared) same
+
 pub returns-clause-request : goal.returns-clause-request
 returns-clause-request c =
     let null = value-or _ c.get_str.result c.unwrap_or-null.result _ [] c.get_str.ensures c.unwrap_or-null.ensures refl in
     record {
-      left_types = c.in_ok-left.ensures.types;
-      right_types = c.in_ok-right.ensures.types;
+      shared_types = c.in_ok-types.ensures.types;
+      left_types = same-shared c.args.form c.as_slice-shared.result.now c.in_ok-types.types.items (first_value (found_of c.args.matches.now) (codes "left-types"))
+          c.in_ok-left.left.entries.items c.in_ok-left.left.undeclared c.as_slice-shared.ensures.value c.in_ok-left.ensures.types;
+      right_types = same-shared c.args.form c.as_slice-shared.result.now c.in_ok-types.types.items (first_value (found_of c.args.matches.now) (codes "right-types"))
+          c.in_ok-right.right.entries.items c.in_ok-right.right.undeclared c.as_slice-shared.ensures.value c.in_ok-right.ensures.types;
       join = c.given.ensures;
+      short = c.is_short.ensures;
       left_nulls = c.in-Ok.ensures.texts ∙ ap (nulls_or _) null;
       right_nulls = c.in-Ok-read_nulls.ensures.texts ∙ ap (nulls_or _) null;
       few_nulls = (c.in-Ok.ensures.few, c.in-Ok-read_nulls.ensures.few);
@@ -41,6 +53,7 @@ returns-clause-request c =
 pub returns-in-Err-clause-fault : goal.returns-in-Err-clause-fault
 returns-in-Err-clause-fault c =
     left_nulls_fault c.args.form (first_value (found_of c.args.matches.now)) (texts_found (found_of c.args.matches.now)) c.in-Err.fault (
+      (c.in_ok-types.types.items, c.in_ok-types.ensures.types),
       (c.in_ok-left.ensures.types.listed, c.in_ok-left.ensures.types.given),
       (c.in_ok-right.ensures.types.listed, c.in_ok-right.ensures.types.given),
     ) c.in-Err.ensures.fault
@@ -51,6 +64,7 @@ returns-in-Err-read_nulls-clause-fault c =
     let count : length c.in-Ok.nulls.items ≡ length (nulls_or own c.unwrap_or-null.result.now) =
     sym (length-map c.in-Ok.nulls.items (λ (n : Bor Text). n.now)) ∙ ap length c.in-Ok.ensures.texts in
     right_nulls_fault c.args.form (first_value (found_of c.args.matches.now)) (texts_found (found_of c.args.matches.now)) c.in-Err-read_nulls.fault (
+      (c.in_ok-types.types.items, c.in_ok-types.ensures.types),
       (c.in_ok-left.ensures.types.listed, c.in_ok-left.ensures.types.given),
       (c.in_ok-right.ensures.types.listed, c.in_ok-right.ensures.types.given),
     ) (few_given own c.unwrap_or-null.result.now _ count c.in-Ok.ensures.few) c.in-Err-read_nulls.ensures.fault
@@ -65,6 +79,7 @@ returns-in-Err-choice_of-clause-fault c =
     sym (length-map c.in-Ok-read_nulls.nulls.items (λ (n : Bor Text). n.now)) ∙ ap length c.in-Ok-read_nulls.ensures.texts in
     choice_fault c.args.form (first_value found) (texts_found found) c.in-Err-choice_of.fault (
       (
+        (c.in_ok-types.types.items, c.in_ok-types.ensures.types),
         (c.in_ok-left.ensures.types.listed, c.in_ok-left.ensures.types.given),
         (c.in_ok-right.ensures.types.listed, c.in_ok-right.ensures.types.given),
       ),
@@ -72,14 +87,21 @@ returns-in-Err-choice_of-clause-fault c =
       few_given _ null _ rights c.in-Ok-read_nulls.ensures.few,
     ) c.in-Err-choice_of.ensures.fault
 
+pub returns-in_err-types-clause-fault : goal.returns-in_err-types-clause-fault
+returns-in_err-types-clause-fault c =
+    let told = shared_list_fault c.args.form (first_value (found_of c.args.matches.now)) (texts_found (found_of c.args.matches.now))
+    c.in_err-types.field-0.0 c.in_err-types.ensures.fault in
+    search (rules, told)
+
 pub returns-in_err-left-clause-fault : goal.returns-in_err-left-clause-fault
 returns-in_err-left-clause-fault c =
     let told = left_list_fault c.args.form (first_value (found_of c.args.matches.now)) (texts_found (found_of c.args.matches.now))
-    c.in_err-left.field-0.0 c.in_err-left.ensures.fault in
+    c.in_err-left.field-0.0 (c.in_ok-types.types.items, c.in_ok-types.ensures.types) c.in_err-left.ensures.fault in
     search (rules, told)
 
 pub returns-in_err-right-clause-fault : goal.returns-in_err-right-clause-fault
 returns-in_err-right-clause-fault c =
     let told = right_list_fault c.args.form (first_value (found_of c.args.matches.now)) (texts_found (found_of c.args.matches.now))
-    c.in_ok-left.ensures.types.listed c.in_err-right.field-0.0 c.in_ok-left.ensures.types.given c.in_err-right.ensures.fault in
+    c.in_ok-left.ensures.types.listed c.in_err-right.field-0.0 (c.in_ok-types.types.items, c.in_ok-types.ensures.types) c.in_ok-left.ensures.types.given
+    c.in_err-right.ensures.fault in
     search (rules, told)

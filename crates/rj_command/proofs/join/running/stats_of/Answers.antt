@@ -27,4 +27,5 @@ returns c =
       pieces = c.pieces.ensures ∙ (joined.pieces ∙ ap₂ (pieces_of_sizes q.settings.piece) (sym rows.lefts) (sym rows.rights));
       tells_pieces = refl;
       report = c.in_ok-report.ensures;
+      text_keys = c.in_ok-text_keys.ensures;
     }

@@ -5,7 +5,7 @@ use Rattle.rj_csv_io.specs.declared.write.WriteRefused.{WriteRefused}
 use Rattle.rj_csv_io.specs.declared.write.WriteRefused.TheVariants as refused
 use Rattle.rj_fault.specs.Faults.{write_fault}
 use Rattle.rj_command.specs.Runs.{IsUnwritten}
-use Rattle.rj_command.proofs.PreparedFacts.{never_failed, ready_of, unwritten_of}
+use Rattle.rj_command.proofs.PreparedFacts.{never_failed, ready_of, unwritten_by, unwritten_of}
 use Rattle.rj_command.proofs.RunFacts.{of_fault}
 use Rattle.rj_command.proofs.join.running.write_joined.Goals as goal
 
@@ -25,6 +25,13 @@ returns-in_err-prepared-clause-failed g c =
 pub returns-in_err-prepared-clause-device : goal.returns-in_err-prepared-clause-device
 returns-in_err-prepared-clause-device g c =
     never_failed c.args.request.now c.args.operands c.in_err-prepared.field-0.0 c.from_residual.result (search rules) c.in_err-prepared.ensures.fault
+
+pub returns-in_err-write_chosen-clause-fault : goal.returns-in_err-write_chosen-clause-fault
+returns-in_err-write_chosen-clause-fault g c =
+    let q = c.args.request.now in
+    let o = c.args.operands in
+    let told = err_from_is_err_and c.from_residual-in_err-write_chosen.result c.from_residual-in_err-write_chosen.ensures.1 in
+    of_fault (IsUnwritten q o) c.from_residual-in_err-write_chosen.result _ (told.1 ∙ ap Err told.2) (unwritten_by q o c.in_err-write_chosen.field-0.0)
 
 pub returns-in_err-write_chosen-clause-failed : goal.returns-in_err-write_chosen-clause-failed
 returns-in_err-write_chosen-clause-failed g c = λ failed.

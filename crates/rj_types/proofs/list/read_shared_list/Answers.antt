@@ -1,0 +1,12 @@
+use Rattle.std.proofs.Common.{◌≡◌, ◌∙◌, ap, sym, true, false, true≢false, List}
+use Rattle.std.specs.List.{list_all}
+use Rattle.rj_types.specs.Lists.{is_name}
+use Rattle.rj_types.specs.declared.entry.TypeEntry.{TypeEntry}
+use Rattle.rj_types.proofs.OneList.{one_list}
+use Rattle.rj_types.proofs.list.read_shared_list.Goals as goal
+
+pub returns-else-are_names : goal.returns-else-are_names
+returns-else-are_names c = λ entries is.
+    let read = rw c.in-Some.is at c.in_ok-entries.ensures in
+    let same : entries ≡ c.in-Some.entries.items = one_list c.args.text.now entries c.in-Some.entries.items is.0 read in
+    true≢false (sym is.1 ∙ (ap (λ (es : List TypeEntry). list_all (λ e. is_name e.label) es) (same ∙ sym c.as_slice.ensures.value) ∙ (sym c.are_names.ensures ∙ c.if-are_names.false)))
