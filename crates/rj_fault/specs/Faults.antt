@@ -86,6 +86,7 @@ status_of fault.UnknownColumn = 4
 status_of fault.AmbiguousColumn = 4
 status_of fault.TypeMismatch = 4
 status_of (fault.UndeclaredType side name) = 4
+status_of (fault.NoSuchRows side) = 4
 status_of fault.RepeatedUsing = 4
 status_of fault.ClauseTooLong = 4
 status_of fault.Memory = 5

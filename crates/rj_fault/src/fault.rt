@@ -112,6 +112,9 @@ pub enum Fault {
     /// order, or with a number.
     #[error("radixjoin: E32 UndeclaredType {0} \"{1}\"")]
     UndeclaredType(Side, Word),
+    /// Unmatched rows of this table are asked for, and the join's type keeps none.
+    #[error("radixjoin: E33 NoSuchRows lone-{0}")]
+    NoSuchRows(Side),
     /// A column occurs twice in USING.
     #[error("radixjoin: E16 RepeatedUsing")]
     RepeatedUsing,
@@ -281,6 +284,7 @@ impl Fault {
             | Fault::AmbiguousColumn
             | Fault::TypeMismatch
             | Fault::UndeclaredType(_, _)
+            | Fault::NoSuchRows(_)
             | Fault::RepeatedUsing
             | Fault::ClauseTooLong => 4,
             Fault::Memory => 5,
