@@ -6,7 +6,7 @@
 mod suggesting;
 
 use crate::suggesting::suggest;
-use rj_command::{Line, Stats};
+use rj_command::{Line, Stats, UnkeptRows};
 use rj_fault::{Fault, read_words, texts_of};
 use rj_files::{
     ExplainedFault, NamedStream, Progress, Terminals, read_lists, read_words_of_line,
@@ -97,6 +97,10 @@ fn join<R: Files + Input + AllocGlobal + Print + Eprint + Threads + Wait + Clock
     }
     if let Some(report) = &stats.report {
         let _ = eprintln!(rt; "{report}");
+    }
+    if let Some(side) = stats.unkept {
+        let rows = UnkeptRows { side };
+        let _ = eprintln!(rt; "radixjoin: {rows}");
     }
     tell_texts(rt, &line, &stats);
     Ok(())

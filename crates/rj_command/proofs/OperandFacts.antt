@@ -12,7 +12,8 @@ use Rattle.rj_fault.specs.declared.fault.Side.TheVariants as side
 use Rattle.rj_line.specs.declared.request.Request.{Request}
 use Rattle.rj_command.specs.Operands.{AreHeaders, HasNoHeaderFault, IsClauseFault, IsFirstFault, IsHeaderFault, IsJoinAsked, IsJoinFault, header_table, in_clause, in_headers, in_left, in_right, of_clause, of_text, of_types, shared_fault, unbound, unread}
 use Rattle.rj_command.specs.Refused.{bind_fault, parse_fault}
-use Rattle.rj_command.specs.Undeclared.{bound_for, bound_or, undeclared_fault}
+use Rattle.rj_command.specs.SuchRows.{asked_for, with_rows}
+use Rattle.rj_command.specs.Undeclared.{bound_or, undeclared_fault}
 use Rattle.rj_command.specs.Undeclared as specs
 use Rattle.rj_condition.specs.declared.bound.BoundJoin.{BoundJoin}
 use Rattle.rj_command.specs.Sides.{IsTable, IsTableFault, has_lawful_nulls}
@@ -40,31 +41,28 @@ text_fault q l r e f told named is not =
     let other : e ≢ parse.Memory = λ memory. not (is ∙ ap parse_fault memory) in
     subst (IsClauseFault q l r) (sym is) (of_text e other told named)
 
--- what an answer of binding says where the fault of an undeclared column is known
-pub bound_by : (q : Request) (l r : TableValue) (c : Clause) (u : Option Fault) (answer : Result BoundJoin BindRefused) → u ≡ undeclared_fault q l r c
-    → bound c l r ≡ answer → bound_for q l r c ≡ bound_or answer u
-bound_by q l r c u answer known is = ap₂ bound_or is (sym known)
+-- what a clause is bound as where the answer of binding and the fault of an undeclared column are known
+pub asked_by : (q : Request) (l r : TableValue) (c : Clause) (u : Option Fault) (answer : Result BoundJoin BindRefused) → u ≡ undeclared_fault q l r c
+    → bound c l r ≡ answer → asked_for q l r c ≡ with_rows q (bound_or answer u)
+asked_by q l r c u answer known is = ap (with_rows q) (ap₂ bound_or is (sym known))
 
 pub binding_fault : (q : Request) (l r : TableValue) (c : Clause) (u : Option Fault) (e : BindRefused) (f : Fault) → HasClause q.clause.now c → shared_fault q l r ≡ None → u ≡ undeclared_fault q l r c
     → (e ≢ bind.Memory → bound c l r ≡ Err e) → f ≡ specs.unbound_fault e u → f ≢ fault.Memory → IsClauseFault q l r f
 binding_fault q l r c u e f has named known told is not =
     let other : e ≢ bind.Memory = λ memory. not (is ∙ ap (λ x. specs.unbound_fault x u) memory) in
-    of_clause c f has (bound_by q l r c u (Err e) known (told other) ∙ ap Err (sym is)) named
+    of_clause c f has (asked_by q l r c u (Err e) known (told other) ∙ ap Err (sym is)) named
 
-module _ (q : Request) (l r : TableValue) (c : Clause) (join : BoundJoin) (has : HasClause q.clause.now c) (named : shared_fault q l r ≡ None) (is : bound c l r ≡ Ok join) where
+module _ (q : Request) (l r : TableValue) (c : Clause) (join : BoundJoin) (has : HasClause q.clause.now c) (named : shared_fault q l r ≡ None) (is : bound c l r ≡ Ok join)
+    (u : Option Fault) (known : u ≡ undeclared_fault q l r c) where
   -- the join of a clause that binds, where the fault of an undeclared column is known
-  pub asked_join : (u : Option Fault) (result : Result BoundJoin Fault) → u ≡ undeclared_fault q l r c → result ≡ bound_or (Ok join) u → IfOk result (IsJoinAsked q l r)
-  asked_join None result known same =
-      subst (λ (x : Result BoundJoin Fault). IfOk x (IsJoinAsked q l r)) (sym same) (c, has, bound_by q l r c None (Ok join) known is, named)
-  asked_join (Some f) result known same = subst (λ (x : Result BoundJoin Fault). IfOk x (IsJoinAsked q l r)) (sym same) tt
+  pub asked_join : (result : Result BoundJoin Fault) → result ≡ with_rows q (bound_or (Ok join) u) → IfOk result (IsJoinAsked q l r)
+  asked_join (Ok asked) same = (c, has, asked_by q l r c u (Ok join) known is ∙ sym same, named)
+  asked_join (Err f) same = tt
 
   -- and its fault
-  pub asked_fault : (u : Option Fault) (result : Result BoundJoin Fault) → u ≡ undeclared_fault q l r c → result ≡ bound_or (Ok join) u
-      → IfErr result (λ f. f ≢ fault.Memory → IsClauseFault q l r f)
-  asked_fault None result known same = subst (λ (x : Result BoundJoin Fault). IfErr x (λ f. f ≢ fault.Memory → IsClauseFault q l r f)) (sym same) tt
-  asked_fault (Some g) result known same =
-      subst (λ (x : Result BoundJoin Fault). IfErr x (λ f. f ≢ fault.Memory → IsClauseFault q l r f)) (sym same)
-      (λ not. of_clause c g has (bound_by q l r c (Some g) (Ok join) known is) named)
+  pub asked_fault : (result : Result BoundJoin Fault) → result ≡ with_rows q (bound_or (Ok join) u) → IfErr result (λ f. f ≢ fault.Memory → IsClauseFault q l r f)
+  asked_fault (Ok asked) same = tt
+  asked_fault (Err f) same = λ not. of_clause c f has (asked_by q l r c u (Ok join) known is ∙ sym same) named
 
 module _ (left right : List ℕ) (q : Request) where
   -- no clause has a fault over headers in the long form

@@ -13,7 +13,7 @@ use Rattle.rj_fault.specs.declared.fault.Side.TheVariants as side
 use Rattle.rj_line.specs.declared.request.Request.{Request}
 use Rattle.rj_command.specs.Refused.{bind_fault, parse_fault}
 use Rattle.rj_command.specs.Sides.{IsTable, IsTableFault, side_records}
-use Rattle.rj_command.specs.Undeclared.{bound_for}
+use Rattle.rj_command.specs.SuchRows.{asked_for}
 use Rattle.rj_types.specs.Columns.{name_fault}
 use Rattle.rj_condition.specs.Clauses.{HasClause, IsFault}
 use Rattle.rj_condition.specs.declared.refused.ParseRefused.{ParseRefused}
@@ -36,14 +36,14 @@ pub data IsJoinFault (text : List ℕ) (l r : TableValue) : Fault → Type 0 whe
 -- a request's text has a clause, which is bound to the tables as this join, and its type list for
 -- both tables names their columns
 abbrev pub IsJoinAsked : Request → TableValue → TableValue → BoundJoin → Type 0
-IsJoinAsked q l r join = (c : Clause) × HasClause q.clause.now c × (bound_for q l r c ≡ Ok join) × (shared_fault q l r ≡ None)
+IsJoinAsked q l r join = (c : Clause) × HasClause q.clause.now c × (asked_for q l r c ≡ Ok join) × (shared_fault q l r ≡ None)
 
 -- the error of a request's type list for both tables, or else of its text that has no clause, or of a
 -- clause that isn't bound to the tables
 pub data IsClauseFault (q : Request) (l r : TableValue) : Fault → Type 0 where
   of_types : (f : Fault) → shared_fault q l r ≡ Some f → IsClauseFault q l r f
   of_text : (e : ParseRefused) → e ≢ parse.Memory → IsFault q.clause.now e → shared_fault q l r ≡ None → IsClauseFault q l r (parse_fault e)
-  of_clause : (c : Clause) (f : Fault) → HasClause q.clause.now c → bound_for q l r c ≡ Err f → shared_fault q l r ≡ None → IsClauseFault q l r f
+  of_clause : (c : Clause) (f : Fault) → HasClause q.clause.now c → asked_for q l r c ≡ Err f → shared_fault q l r ≡ None → IsClauseFault q l r f
 
 -- the tables that the bytes denote, and the join that the clause asks of them
 pub record AreOperands (left right : List ℕ) (q : Request) (l r : TableValue) (join : BoundJoin) : Type 0 where

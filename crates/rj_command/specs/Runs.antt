@@ -8,6 +8,7 @@ use Rattle.rj_csv_io.specs.Ambiguous.{AreApart, AreClear, IsFirstAmbiguous}
 use Rattle.rj_csv_io.specs.Shown.{table_text}
 use Rattle.rj_csv_io.specs.Typed.{is_null_field}
 use Rattle.rj_condition.specs.declared.bound.BoundJoin.{BoundJoin}
+use Rattle.rj_condition.specs.Joins.{kind_of_join}
 use Rattle.rj_condition.specs.Splits.{keys_of}
 use Rattle.rj_columns.specs.Contents.{Content}
 use Rattle.rj_radix.specs.Hashes.{mixed, plain}
@@ -33,6 +34,7 @@ use Rattle.rj_line.specs.declared.request.Strictness.{Strictness}
 use Rattle.rj_line.specs.declared.request.Strictness.TheVariants as strictness
 use Rattle.rj_fault.specs.declared.fault.Side.TheVariants as side
 use Rattle.rj_command.specs.Sides.{nulls_of}
+use Rattle.rj_command.specs.SuchRows.{unkept_side}
 use Rattle.rj_command.specs.declared.join.stats.Stats.{Stats}
 
 -- these are the names that are asked for of the chosen columns: each is valid, and no two are the
@@ -77,7 +79,8 @@ hash_value hash.Mixed key = mixed (plain key)
 -- how many members of each kind the joined table has, how many rows of each table were delivered to
 -- each partition of the first pass (the rows with a key whose hash ends in the partition's bits),
 -- how many pieces the rows of the larger side of each partition make, if it is asked for, the report
--- of the join, and which keys hold numbers that were compared as texts
+-- of the join, which keys hold numbers that were compared as texts, and of which table unmatched rows
+-- are asked for though the join's type keeps none
 pub record IsCounted (value : List Content → ℕ) (q : Request) (l r : TableValue) (join : BoundJoin) (stats : Stats) : Type 0 where
   pub pairs : stats.pairs ≡ length (joined_of join l r).pairs
   pub lone_left : stats.lone_left ≡ length (joined_of join l r).lone_left
@@ -89,6 +92,7 @@ pub record IsCounted (value : List Content → ℕ) (q : Request) (l r : TableVa
   pub tells_pieces : stats.tells_pieces ≡ q.tells_pieces
   pub report : IsReported q join l r stats.report
   pub text_keys : map names_of stats.text_keys.items ≡ text_key_names q l r (keys_of join)
+  pub unkept : stats.unkept ≡ unkept_side q.choice.rows (kind_of_join join)
 
 -- the operands' joined table can be written: its columns have names, it is as expected, its NULLs can be told from its cells, and these
 -- are its counts

@@ -1,6 +1,9 @@
 -- The text of the statistics of a join.
 use Rattle.std.specs.Prelude.{ℕ, if◌then◌else◌, List, [], ◌∷◌, ◌++◌, codes, decimal, string_bytes}
 use Rattle.std.specs.List.{flat_map}
+use Rattle.rj_fault.specs.Faults.{side_text}
+use Rattle.rj_fault.specs.declared.fault.Side.{Side}
+use Rattle.rj_fault.specs.declared.fault.Side.TheVariants as side
 use Rattle.rj_command.specs.declared.join.stats.PartitionRows.{PartitionRows}
 use Rattle.rj_command.specs.declared.join.stats.Stats.{Stats}
 use Rattle.rj_command.specs.declared.join.stats.TextKey.{TextKey}
@@ -29,3 +32,13 @@ abbrev pub text_key_text : TextKey → List ℕ
 text_key_text k =
     codes "L." ++ (string_bytes k.left ++ (codes " and R." ++ (string_bytes k.right
     ++ codes " hold numbers and were compared as texts, so 1.50 isn't 1.5; --types makes them numbers")))
+
+-- the type of a join, beside FULL, that keeps the unmatched rows of a table (SQL-92, 7.5)
+abbrev pub keeping_type : Side → List ℕ
+keeping_type side.Left = codes "LEFT"
+keeping_type side.Right = codes "RIGHT"
+
+-- the line that tells that a join's type keeps none, without the line end
+abbrev pub unkept_text : Side → List ℕ
+unkept_text s =
+    codes "the join keeps no unmatched " ++ (side_text s ++ (codes " rows; a " ++ (keeping_type s ++ codes " or FULL JOIN keeps them")))

@@ -1,12 +1,12 @@
 //! `--explain`: the lines that are added after the line of an error.
 
 ghost use Rattle.std.specs.Prelude.{◌≡◌, IfOk, IfSome, length, string_bytes};
-ghost use Rattle.rj_files.specs.Texts.{memory_text};
+ghost use Rattle.rj_files.specs.Texts.{memory_text, unkept_lines};
 
 use crate::explained::ExplainedFault;
 use crate::named::told_by_system;
 use crate::outputs::output_of;
-use rj_command::{Line, OpenGate, Violation, first_violation, read_line};
+use rj_command::{Line, OpenGate, UnkeptRows, Violation, first_violation, read_line};
 use rj_explain::{Inputs, explain, explain_row, explain_words};
 use rj_fault::{Fault, Side};
 use rj_line::{default_explain, form_of};
@@ -128,6 +128,14 @@ fn undeclared_lines(
     }
 }
 
+// The line for a join that keeps no unmatched rows of a table.
+fn unkept_lines(alloc: Global, side: Side) -> Result<String, AllocError>
+    ensures { IfOk result (λ text. string_bytes text ≡ unkept_lines side) }
+{
+    let rows = UnkeptRows { side };
+    format!(in alloc; "  {rows}\n")
+}
+
 // The lines that explain an error of a join of two tables.
 fn lines_of<R: AllocGlobal + Threads + Wait + Clock + Sync>(
     rt: &R,
@@ -143,6 +151,7 @@ fn lines_of<R: AllocGlobal + Threads + Wait + Clock + Sync>(
         Fault::UndeclaredType(side, name) => {
             undeclared_lines(rt.alloc(), *side, name.as_str(), inputs)
         }
+        Fault::NoSuchRows(side) => unkept_lines(rt.alloc(), *side),
         _ => explain(rt.alloc(), fault, inputs),
     }
 }

@@ -7,12 +7,14 @@ ghost use Rattle.rj_command.specs.Operands.{AreOperands, HasNoHeaderFault, IsCla
 ghost use Rattle.rj_command.specs.Refused.{bind_fault, parse_fault};
 ghost use Rattle.rj_command.specs.Runs.{AreReadApart};
 ghost use Rattle.rj_command.specs.Sides.{IsTable, IsTableFault};
+ghost use Rattle.rj_command.specs.SuchRows.{with_rows};
 ghost use Rattle.rj_command.specs.Undeclared.{bound_or, unbound_fault};
 
 use crate::join::headers::header_table;
 use crate::join::nulls::has_lawful_nulls;
 use crate::join::shared::refuse_shared_names;
 use crate::join::strict::{read_strictly, read_text};
+use crate::join::such_rows::with_rows;
 use crate::join::undeclared::undeclared_fault;
 use crate::join::watching::{Step, Watch};
 use rj_columns::Table;
@@ -129,13 +131,18 @@ fn fault_of_unbound(refused: BindRefused, undeclared: Option<Fault>) -> Fault
     }
 }
 
-// A join, unless a column of an undeclared type needs a declared one.
-fn declared(join: BoundJoin, undeclared: Option<Fault>) -> Result<BoundJoin, Fault>
-    ensures { result ≡ bound_or (Ok join) undeclared }
+// A join, unless a column of an undeclared type needs a declared one, or rows are asked for that it
+// doesn't keep.
+fn declared(
+    join: BoundJoin,
+    undeclared: Option<Fault>,
+    request: &Request<'_>,
+) -> Result<BoundJoin, Fault>
+    ensures { result ≡ with_rows request.now (bound_or (Ok join) undeclared) }
 {
     match undeclared {
         Some(fault) => Err(fault),
-        None => Ok(join),
+        None => with_rows(join, request),
     }
 }
 
@@ -161,7 +168,7 @@ fn bind_request(
         Err(_) => return Err(Fault::Memory),
     };
     match bind(alloc, &clause, left, right) {
-        Ok(join) => declared(join, undeclared),
+        Ok(join) => declared(join, undeclared, request),
         Err(refused) => Err(fault_of_unbound(refused, undeclared)),
     }
 }

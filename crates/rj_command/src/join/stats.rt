@@ -1,8 +1,9 @@
 //! The statistics of a join.
 
-ghost use Rattle.std.specs.Prelude.{Some};
-ghost use Rattle.rj_command.specs.Statistics.{partition_text, stats_text, text_key_text};
+ghost use Rattle.std.specs.Prelude.{◌≡◌, Some};
+ghost use Rattle.rj_command.specs.Statistics.{keeping_type, partition_text, stats_text, text_key_text, unkept_text};
 
+use rj_fault::Side;
 use std::fmt;
 
 /// How many rows of each table were delivered to a partition. The text is its line, without the line end.
@@ -24,6 +25,13 @@ pub struct TextKey {
     pub left: String,
     /// The right column's name.
     pub right: String,
+}
+
+/// A table of which a join's type keeps no unmatched rows. The text says so, and which types do.
+#[derive(Clone, Copy, Debug, PartialEq, Eq)]
+pub struct UnkeptRows {
+    /// Which of the two tables.
+    pub side: Side,
 }
 
 /// The statistics of a join. The text is what `--stats` prints, without its last line end: a line
@@ -49,6 +57,9 @@ pub struct Stats {
     /// The keys of columns without declared types that hold numbers not all written in one way, in
     /// the order of the keys. They aren't in the text of the statistics.
     pub text_keys: Vec<TextKey>,
+    /// The table whose unmatched rows are asked for by themselves, though the join's type keeps none.
+    /// It isn't in the text of the statistics.
+    pub unkept: Option<Side>,
 }
 
 impl fmt::Display for PartitionRows {
@@ -68,6 +79,28 @@ impl fmt::Display for TextKey {
         write!(
             f,
             "L.{left} and R.{right} hold numbers and were compared as texts, so 1.50 isn't 1.5; --types makes them numbers"
+        )
+    }
+}
+
+// The type of a join, beside FULL, that keeps the unmatched rows of a table.
+fn keeping_type(side: Side) -> &'static str
+    ensures { result.now ≡ keeping_type side }
+{
+    match side {
+        Side::Left => "LEFT",
+        Side::Right => "RIGHT",
+    }
+}
+
+impl fmt::Display for UnkeptRows {
+    ghost output = { λ u. Some (unkept_text u.side) };
+
+    fn fmt<W: fmt::Write>(&self, f: &mut fmt::Formatter<W>) -> fmt::Result {
+        let (side, keeping) = (self.side, keeping_type(self.side));
+        write!(
+            f,
+            "the join keeps no unmatched {side} rows; a {keeping} or FULL JOIN keeps them"
         )
     }
 }

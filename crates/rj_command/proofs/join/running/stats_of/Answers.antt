@@ -6,6 +6,7 @@ use Rattle.rj_engine.specs.Join.{JoinedValue}
 use Rattle.rj_engine.specs.Partitioned.{rows_of_partition}
 use Rattle.rj_engine.specs.Pools.{pieces_of_sizes}
 use Rattle.rj_command.specs.Runs.{hash_value}
+use Rattle.rj_command.specs.SuchRows.{unkept_side}
 use Rattle.rj_command.proofs.join.running.stats_of.Goals as goal
 
 pub returns : goal.returns
@@ -28,4 +29,5 @@ returns c =
       tells_pieces = refl;
       report = c.in_ok-report.ensures;
       text_keys = c.in_ok-text_keys.ensures;
+      unkept = c.unkept_side.ensures ∙ ap (unkept_side q.choice.rows) c.kind.ensures;
     }
