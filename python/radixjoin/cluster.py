@@ -1,7 +1,7 @@
 """Joins two CSV files that may be larger than one machine's memory, on this machine or in the processes of a Dask cluster.
 
 Where memory has room for the whole, one run of `radixjoin` does it, and where it has for the right file and a part of the left one,
-several that have such a part each. Else both files are divided by the hash of their rows' keys (the program `shards`, one task for each
+several that have such a part each, on a cluster side by side. Else both files are divided by the hash of their rows' keys (the program `shards`, one task for each
 range of a file), the two parts of each shard are joined (`radixjoin`, one task a shard, or several where it is too large), and what
 these joins give is merged (`merges`, one task for each range of the joined table). The bytes written are those that `radixjoin` would
 write. docs/user/cluster.md says what of this is proved, and how to run it.
@@ -30,7 +30,7 @@ import sys
 import tempfile
 import warnings
 from pathlib import Path
-from typing import TYPE_CHECKING, Any, BinaryIO, Dict, Iterator, List, Mapping, Optional, Sequence, Tuple, Union
+from typing import TYPE_CHECKING, Any, Dict, Iterator, List, Mapping, Optional, Sequence, Tuple, Union
 
 from .arguments import refuse_values
 from .clauses import clause_of, given, kinds_of, refuse_rows
@@ -41,7 +41,7 @@ from .feeding import FILES_OF_INPUT, Input, bytes_of, run_program
 from .line import MOST_MERGES, OF_ONE_JOIN, SIDES, beyond, read_line
 from .lists import lower, with_place
 from .local import Machine
-from .making import append, beginning, folder_beside, made, remove
+from .making import append, beginning, folder_beside, made, remove, result_of
 from .memory import size_in
 from .nulls import Texts, texts_of
 from .outputs import refuse_input
@@ -50,10 +50,10 @@ from .pipes import open_streams
 from .placed import LEFT, RIGHT, SAMPLES, Index, Place, Shard, cut_places, sampled
 from .plans import Plan, plan_of
 from .programs import ProgramNotFound, encoded, find_all
-from .runs import IS_SHORT, GivenUp, Joined, join_run
+from .runs import IS_SHORT, LONE, GivenUp, Joined, join_part, join_run, join_whole, put_parts
 from .spread import TABLE, Join, are_many, joins_of, length_of, limit_of, most_tables, next_length, runs_of
 from .tables import PathTable
-from .tasks import FULL, OUT_OF_MEMORY, Told, answer, first_fault, tell, unwritten
+from .tasks import Told, answer, first_fault, tell, unwritten
 from .text import header_in
 
 if TYPE_CHECKING:
@@ -91,6 +91,8 @@ class Job:
         # (these are known when the join is planned)
         self.parts, self.spread = 1, asked.spread
         self.order = asked.order or "pairs"
+        # Whether unmatched left rows stand behind the matches of all left rows.
+        self.is_divided = self.order == "pairs" and {"pairs", "lone-left"} <= {*kinds_of(self.clause, asked.rows)}
         self.one_join = [f"--{option}={getattr(asked, option)}" for option in OF_ONE_JOIN if getattr(asked, option) is not None]
         # The address space that each program may take.
         self.space: Optional[int] = asked.address_space
@@ -132,6 +134,17 @@ class Job:
         words = [f"--{side}-types={types[side]}" for side in SIDES]
         return [*words, f"--join={self.clause}", *self.null, f"--out-null={self.out_null}", *self.one_join]
 
+    def joining_files(self, workers: int) -> List[str]:
+        """The words for `radixjoin` that join the two files themselves, but for those that name the left one."""
+        words = [f"--right={self.files['right']}", *self.joining(self.types), *self.strict, *self.explain]
+        return words if any(word.startswith("--workers=") for word in words) else [*words, f"--workers={workers}"]
+
+    def limited(self, plan: Plan) -> Job:
+        """The same where programs may take no more than the planned memory."""
+        it = copy.copy(self)
+        it.space = min(plan.space(), self.space or plan.space())
+        return it
+
     def division(self, side: str, parts: int) -> List[str]:
         """The words for `shards` that don't depend on the range, for so many parts."""
         tables = [word for it in SIDES for word in (f"--{it}={self.files[it]}", f"--{it}-types={self.types[it]}")]
@@ -159,6 +172,10 @@ class Job:
         told = json.loads(Path(self.joined(one), "told").read_text())
         entries: List[Tuple[int, int, Place]] = [(at, before, (first, second, third)) for at, before, (first, second, third) in told["entries"]]
         return Shard(self.place(one.table()), self.order), (entries, told["end"]), told["cell"]
+
+    def run_of(self, number: int) -> str:
+        """The path of the folder of what a run of left rows gave."""
+        return self.place(f"run-{number:05}")
 
     def merged(self, number: int) -> str:
         """The path of a merged range."""
@@ -322,37 +339,6 @@ def merging(job: Job, joins: Sequence[Join]) -> List[str]:
     """The words for `merges` that merge these joined tables."""
     copies = [one.copies() for one in joins]
     return [f"--null={job.out_null}", f"--order={job.order}", *([f"--copies={','.join(copies)}"] if {*copies} != {"1"} else [])]
-
-
-@contextlib.contextmanager
-def result_of(job: Job) -> Iterator[BinaryIO]:
-    """The file of the joined table, which takes its place once it is whole. What the system doesn't take of it is told."""
-    try:
-        with made(job.out, job.half) as new, open(new, "wb") as output:
-            yield output
-            output.flush()
-            os.fsync(output.fileno())
-    except OSError as error:
-        raise unwritten(job.out) if error.errno in FULL else unwritten(job.out, error.strerror) from None
-
-
-def joining_files(job: Job, workers: int) -> List[str]:
-    """The words for `radixjoin` that join the two files themselves, but for those that name the left one."""
-    words = [f"--right={job.files['right']}", *job.joining(job.types), *job.strict, *job.explain]
-    return words if any(word.startswith("--workers=") for word in words) else [*words, f"--workers={workers}"]
-
-
-def join_whole(job: Job, workers: int) -> bool:
-    """Joins the two files by one run of `radixjoin`. It gives whether there was memory for it: there wasn't, too, where it was killed."""
-    words = [f"--left={job.files['left']}", *joining_files(job, workers)]
-    try:
-        with result_of(job) as output:
-            job.run("radixjoin", words, output, job.out)
-    except (Told, RuntimeError) as error:
-        if isinstance(error, Told) and error.status != OUT_OF_MEMORY:
-            raise
-        return False
-    return True
 
 
 def merge_shards(job: Job, joins: Sequence[Join]) -> None:
@@ -587,36 +573,49 @@ def cluster_by(client: Client, progress: bool) -> Cluster:
     return Cluster(client, progress)
 
 
-def limited(job: Job, plan: Plan) -> Job:
-    """The same where programs may take no more than the planned memory."""
-    it = copy.copy(job)
-    it.space = min(plan.space(), job.space or plan.space())
-    return it
+def done_in_runs(cluster: Any, tasks: Sequence[Tuple[Any, ...]]) -> None:
+    """Has tasks done that give why they can't be, or nothing.
+
+    Raises:
+        GivenUp: one of them can't, or ends the process of a cluster that does it, each time.
+    """
+    try:
+        found = cluster.answers(tasks)
+    except RuntimeError:
+        raise GivenUp(IS_SHORT) from None
+    first_fault(found)
+    if any(found):
+        raise GivenUp(next(filter(None, found)))
 
 
-def join_in_runs(asked: argparse.Namespace, job: Job, cluster: Any, plan: Plan) -> None:
-    """Joins runs of left rows with the whole right file, one after another.
+def join_in_runs(job: Job, cluster: Any, plan: Plan) -> None:
+    """Joins runs of left rows with the whole right file: one after another, or side by side on a cluster.
 
     Raises:
         GivenUp: one of them is refused or killed, or there is no memory for it.
     """
     found = cluster.answers([(cuts_of, job, "left", plan.runs)])
     first_fault(found)
-    words, header = joining_files(job, plan.workers), header_of(job, "left")
-    is_divided = job.order == "pairs" and {"pairs", "lone-left"} <= {*kinds_of(job.clause, asked.rows)}
-    with result_of(job) as output, Joined(output, job.place("lone") if is_divided else None) as joined:
-        first_fault(cluster.in_turn([(join_run, limited(job, plan), joined, words, header, *it) for it in found[0]]))
-        joined.finish()
-
-
-def why_not_by(asked: argparse.Namespace, job: Job, cluster: Any, plan: Plan) -> str:
-    """Joins by the runs of `radixjoin` that are planned. It gives why that can't be done, or nothing."""
-    if plan.runs == 1:
-        found: List[Any] = cluster.answers([(join_whole, limited(job, plan), plan.workers)])
-        first_fault(found)
-        return "" if found[0] else IS_SHORT
+    header = header_of(job, "left")
+    if cluster.is_here:
+        with result_of(job) as output, Joined(output, job.place(LONE) if job.is_divided else None, job.out) as joined:
+            first_fault(cluster.in_turn([(join_run, job, joined, plan, header, *it) for it in found[0]]))
+            joined.finish()
+        return
     try:
-        join_in_runs(asked, job, cluster, plan)
+        done_in_runs(cluster, [(join_part, job, plan, header, number, *it) for number, it in enumerate(found[0])])
+        done_in_runs(cluster, [(put_parts, job, len(found[0]))])
+    finally:
+        job.clear("run-*")
+
+
+def why_not_by(job: Job, cluster: Any, plan: Plan) -> str:
+    """Joins by the runs of `radixjoin` that are planned. It gives why that can't be done, or nothing."""
+    try:
+        if plan.runs == 1:
+            done_in_runs(cluster, [(join_whole, job, plan)])
+        else:
+            join_in_runs(job, cluster, plan)
     except GivenUp as given_up:
         return str(given_up)
     return ""
@@ -626,14 +625,15 @@ def run_as_planned(asked: argparse.Namespace, job: Job, cluster: Any) -> None:
     """Joins by runs of `radixjoin` where these fit into memory, and else in shards. The plan is shown where that is asked for."""
     left, right = (os.path.getsize(job.files[side]) for side in SIDES)
     plan, why = plan_of(asked, (left, right), cluster), ""
+    # (before a cluster has what all tasks have to know)
+    job.parts, job.spread = plan.parts, plan.spread
     if plan.runs:
         tell(asked.progress, plan.told((left, right), cluster))
-        why = why_not_by(asked, job, cluster, plan)
+        why = why_not_by(job, cluster, plan)
         if not why:
             return
         plan = plan._replace(runs=0)
     tell(asked.progress, why + plan.told((left, right), cluster))
-    job.parts, job.spread = plan.parts, plan.spread
     run(job, cluster, asked.ranges or cluster.tasks_at_once(), asked.merges)
 
 
@@ -680,8 +680,8 @@ def join(
 
     `memory`, a number of bytes or a text as "8G", decides how (half of what is free, where it isn't given): on this machine by one run of
     `radixjoin` where about three times the bytes of both files fit into it, by `processes` threads or, where that isn't given, as many as there are
-    processors; by several one after another where three times the right file does with a part of the left one, and no unmatched right rows are written;
-    else in shards, as many as it takes for those that are joined at the same time to fit, on a cluster in each process. With `parts`, `spread`,
+    processors; by several where three times the right file does with a part of the left one, and no unmatched right rows are written, one after
+    another, or on a cluster side by side where that fits into the memory of each process; else in shards, as many as it takes for those that are joined at the same time to fit, on a cluster in each process. With `parts`, `spread`,
     `ranges` or `merges` it is done in shards.
 
     The arguments are the options of the command line `radixjoin-cluster` (docs/user/cluster.md): `left_null` and `right_null`, a text or

@@ -9,9 +9,13 @@ import shutil
 import signal
 import time
 import uuid
-from typing import BinaryIO, Callable, Iterator, Optional
+from typing import TYPE_CHECKING, BinaryIO, Callable, Iterator, Optional
 
 from .ending import go_on
+from .tasks import FULL, unwritten
+
+if TYPE_CHECKING:
+    from .cluster import Job
 
 # How often, and after how many seconds, it is tried again to remove what is half made.
 TRIES, SECONDS = 20, 0.1
@@ -50,6 +54,18 @@ def made(path: str, begin: Optional[str] = None) -> Iterator[str]:
                 raise
     finally:
         remove(new)
+
+
+@contextlib.contextmanager
+def result_of(job: Job) -> Iterator[BinaryIO]:
+    """The file of the joined table, which takes its place once it is whole. What the system doesn't take of it is told."""
+    try:
+        with made(job.out, job.half) as new, open(new, "wb") as output:
+            yield output
+            output.flush()
+            os.fsync(output.fileno())
+    except OSError as error:
+        raise unwritten(job.out) if error.errno in FULL else unwritten(job.out, error.strerror) from None
 
 
 @contextlib.contextmanager

@@ -1,5 +1,6 @@
 """How two files are joined: by one run of `radixjoin` where that fits into memory, by several of them that have the whole right file
-each where that does with a part of the left one, and else in so many shards."""
+each where that does with a part of the left one (on a cluster side by side, and no fewer than it does at once), and else in so many
+shards."""
 from __future__ import annotations
 
 import argparse
@@ -36,53 +37,61 @@ class Plan(NamedTuple):
     spread: Optional[int]
     # The memory that may be taken, where it was looked at: by all programs on this machine, or by those of each process of a cluster.
     memory: Optional[int]
+    # How many runs share it, since they are done at the same time.
+    sharing: int = 1
 
     def space(self) -> int:
         """The address space that a run may take: one that takes more memory is given up."""
-        return (self.memory or 0) + _OF_PROGRAM + self.workers * _OF_WORKER
+        return (self.memory or 0) // self.sharing + _OF_PROGRAM + self.workers * _OF_WORKER
 
     def told(self, sizes: Tuple[int, int], on: Any) -> str:
         """What is told of it for a left and a right file of so many bytes, by those who do tasks."""
         if self.memory is None:
             return f"the plan is {self.parts} shards, {on.tasks_at_once()} at a time"
+        of = f"{_mebibytes(self.memory)} MiB of memory{'' if on.is_here else ' of each process'}"
         if self.runs:
             runs = "one run" if self.runs == 1 else f"{self.runs} left runs"
-            return f"the plan is {runs} by {self.workers} workers, in about {_mebibytes(self._measure(*sizes))} of {_mebibytes(self.memory)} MiB of memory"
-        whose = "" if on.is_here else " of each process"
-        return f"the plan is {self.parts} shards, {on.tasks_at_once()} at a time, in {_mebibytes(self.memory)} MiB of memory{whose}"
+            how = f" by {self.workers} workers" if on.is_here or self.runs == 1 else f", {min(self.runs, on.tasks_at_once())} at a time"
+            return f"the plan is {runs}{how}, in about {_mebibytes(self._measure(*sizes))} of {of}"
+        return f"the plan is {self.parts} shards, {on.tasks_at_once()} at a time, in {of}"
 
     def _measure(self, left: int, right: int) -> int:
-        """About how many bytes a run takes."""
-        return MEASURE * (-(-left // self.runs) + right)
+        """About how many bytes the runs take that share the memory."""
+        return MEASURE * (-(-left // self.runs) + right) * min(self.runs, self.sharing)
 
 
 def _mebibytes(size: int) -> int:
     return -(-size >> 20)
 
 
-def _runs(left: int, right: int, room: int, is_cut: bool) -> int:
+def _runs(left: int, right: int, room: int, is_cut: bool, on: Any) -> int:
     """By how many runs of `radixjoin` files of so many bytes are joined, if the two tables of each have room for so many: by one, or by
-    several if the left file may be cut. There is none where these would have too few left rows."""
-    if left + right <= room:
+    several if the left file may be cut. On a cluster it may in any case, and there are no fewer than are done at once, where these aren't
+    too small. There is none where these would have too few left rows."""
+    if on.is_here and left + right <= room:
         return 1
-    length = room - right
+    even: int = max(LEAST_RUN, -(-left // on.tasks_at_once()))
+    length = room - right if on.is_here else min(room - right, even)
     if not is_cut or length < max(LEAST_RUN, right // PART_OF_RIGHT):
         return 0
-    count = -(-left // length)
+    count = max(1, -(-left // length))
     return count if count <= MOST_RUNS else 0
 
 
 def plan_of(asked: argparse.Namespace, sizes: Tuple[int, int], on: Any) -> Plan:
     """How a left and a right file of so many bytes are joined as asked, by those who do tasks. Where the parts are given, memory isn't
     looked at."""
-    workers = min(MOST_WORKERS, int(asked.workers or asked.processes or len(os.sched_getaffinity(0))))
+    # (a task of a cluster has one of the threads of its process)
+    workers = min(MOST_WORKERS, int(asked.workers or (asked.processes or len(os.sched_getaffinity(0)) if on.is_here else 1)))
     if asked.parts is not None:
         return Plan(0, workers, asked.parts, asked.spread, None)
     memory = asked.memory or on.free() // 2
     spread = max(LEAST_SPREAD, memory // on.tasks_in_process() // MEASURE)
     parts = min(MOST_PARTS, max(LEAST_PARTS, -(-2 * sum(sizes) // spread)))
-    is_whole = on.is_here and all(getattr(asked, name) is None for name in OF_SHARDS)
+    sharing = 1 if on.is_here else on.tasks_in_process()
+    # (of a cluster without processes it isn't known how much memory there will be)
+    is_whole = all(getattr(asked, name) is None for name in OF_SHARDS) and (on.is_here or on.has_processes())
     # (whether a right row is unmatched no run alone can tell)
     is_cut = "lone-right" not in kinds_of(asked.join, asked.rows)
-    runs = _runs(*sizes, memory // MEASURE, is_cut) if is_whole else 0
-    return Plan(runs, workers, parts, asked.spread or spread, memory)
+    runs = _runs(*sizes, memory // sharing // MEASURE, is_cut, on) if is_whole else 0
+    return Plan(runs, workers, parts, asked.spread or spread, memory, sharing)

@@ -163,6 +163,10 @@ class Cluster:
             wait(futures)
             return list(self.client.gather(futures))
 
+    def has_processes(self) -> bool:
+        """Whether there are any yet."""
+        return bool(self.client.nthreads())
+
     def tasks_at_once(self) -> int:
         """How many tasks they do at once: a process does one in each of its threads."""
         threads: Dict[str, int] = self.client.nthreads()

@@ -17,6 +17,7 @@ AGAIN = 2
 STEPS = {
     "join_whole": "joining",
     "join_run": "joining",
+    "join_part": "joining",
     "cuts_of": "looking for cuts",
     "divide": "dividing",
     "cut_side": "cutting large shards",
@@ -27,6 +28,7 @@ STEPS = {
     "merge_shards": "merging",
     "merge_range": "merging",
     "put_together": "putting the result together",
+    "put_parts": "putting the result together",
 }
 # What is written in the place of a line that is shown.
 _CLEARED = f"\r{' ' * 72}\r"
