@@ -71,8 +71,8 @@ STEPS = (
 
 
 @contextlib.contextmanager
-def client_of(count, config=None):
-    """A client of so many processes of this machine, which are forked with Dask loaded, since to load it takes most of their time. What
+def client_of(count, config=None, threads=1):
+    """A client of so many processes of this machine, of so many threads each, which are forked with Dask loaded, since to load it takes most of their time. What
     they leave behind where they are killed is found by no other test."""
     os.environ.setdefault("DASK_DISTRIBUTED__WORKER__MULTIPROCESSING_METHOD", "forkserver")
     import dask
@@ -81,7 +81,7 @@ def client_of(count, config=None):
     for name in ("asyncio", "tornado", "distributed"):
         logging.getLogger(name).setLevel(logging.CRITICAL)
     with tempfile.TemporaryDirectory(prefix="radixjoin-test-", ignore_cleanup_errors=True) as space:
-        with dask.config.set({"temporary-directory": space, **cluster_processes.LATE, **(config or {})}), cluster_sent.processes(count) as local, Client(local) as client:
+        with dask.config.set({"temporary-directory": space, **cluster_processes.LATE, **(config or {})}), cluster_sent.processes(count, threads) as local, Client(local) as client:
             yield client
 
 

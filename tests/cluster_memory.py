@@ -79,17 +79,25 @@ def run_free(tally):
 class On:
     """Does so many tasks at once, of which one process does some, on a machine with so many bytes free."""
 
-    def __init__(self, in_process, free=None, is_here=True):
-        self.in_process, self.bytes, self.is_here = in_process, free, is_here
+    def __init__(self, in_process, free=None, is_here=True, processes=1):
+        self.in_process, self.bytes, self.is_here, self.processes = in_process, free, is_here, processes
+
+    def has_processes(self):
+        return self.processes > 0
 
     def tasks_in_process(self):
         return self.in_process
 
     def tasks_at_once(self):
-        return self.in_process
+        return self.in_process * self.processes
 
     def free(self):
         return self.bytes
+
+
+def on_cluster(in_process, processes):
+    """So many processes of a cluster, each of which does so many tasks at once."""
+    return On(in_process, None, False, processes)
 
 
 def asked(**given):
@@ -135,6 +143,18 @@ PLANS = (
     ({"memory": 300 * MIB, "rows": "lone-left,pairs"}, (121 * MIB, 40 * MIB), On(1), (3, 16, 100 * MIB, 300 * MIB)),
     ({"join": "RIGHT JOIN USING (k)", "memory": 300 * MIB}, (121 * MIB, 40 * MIB), On(1), (0, 16, 100 * MIB, 300 * MIB)),
     ({"join": "JOIN USING (k)", "memory": 300 * MIB}, (121 * MIB, 40 * MIB), On(1), (3, 16, 100 * MIB, 300 * MIB)),
+    # by the processes of a cluster: no fewer runs than these do at once, if such a run has half of the bytes of the right file
+    ({**LEFT_JOIN, "memory": 300 * MIB}, (121 * MIB, 40 * MIB), on_cluster(1, 1), (3, 16, 100 * MIB, 300 * MIB)),
+    ({**LEFT_JOIN, "memory": 300 * MIB}, (121 * MIB, 30 * MIB), on_cluster(1, 8), (8, 16, 100 * MIB, 300 * MIB)),
+    ({**LEFT_JOIN, "memory": 300 * MIB}, (121 * MIB, 31 * MIB), on_cluster(1, 8), (0, 16, 100 * MIB, 300 * MIB)),
+    ({**LEFT_JOIN, "memory": 300 * MIB}, (1210 * MIB, 40 * MIB), on_cluster(1, 8), (21, 25, 100 * MIB, 300 * MIB)),
+    ({**LEFT_JOIN, "memory": 1200 * MIB}, (1210 * MIB, 40 * MIB), on_cluster(4, 2), (21, 25, 100 * MIB, 1200 * MIB)),
+    ({**LEFT_JOIN, "memory": 300 * MIB}, (4 * MIB, 2 * MIB), on_cluster(1, 8), (4, 16, 100 * MIB, 300 * MIB)),
+    ({**LEFT_JOIN, "memory": 300 * MIB}, (7, 2 * MIB), on_cluster(1, 8), (1, 16, 100 * MIB, 300 * MIB)),
+    ({**LEFT_JOIN, "memory": 300 * MIB}, (7, 3 * MIB), on_cluster(1, 8), (0, 16, 100 * MIB, 300 * MIB)),
+    ({**LEFT_JOIN, "memory": 300 * MIB}, (121 * MIB, 30 * MIB), on_cluster(1, 0), (0, 16, 100 * MIB, 300 * MIB)),
+    ({**LEFT_JOIN, "memory": 300 * MIB, "ranges": 2}, (121 * MIB, 30 * MIB), on_cluster(1, 8), (0, 16, 100 * MIB, 300 * MIB)),
+    ({"join": "RIGHT JOIN USING (k)", "memory": 300 * MIB}, (121 * MIB, 30 * MIB), on_cluster(1, 8), (0, 16, 100 * MIB, 300 * MIB)),
 )
 
 
@@ -304,7 +324,8 @@ def run_full(tally):
 
 
 def run_by(tally):
-    """On a cluster it is always done in shards, as many as the memory of each process needs."""
+    """On a cluster a join with unmatched right rows is always done in shards, as many as the memory of each process needs; another one of
+    small tables by one run, unless memory is short for that."""
     from distributed import Client, LocalCluster
 
     with LocalCluster(n_workers=2, threads_per_worker=2, memory_limit=3 * GIB, dashboard_address=":0", silence_logs=50) as processes, Client(processes) as client:

@@ -168,11 +168,11 @@ def run_replaced(client, folder, tally):
         tally.check(f"cluster_sent: processes are killed before {kind}", faults)
 
 
-def processes(count):
-    """So many processes of this machine."""
+def processes(count, threads=1):
+    """So many processes of this machine, of so many threads each."""
     from distributed import LocalCluster
 
-    return LocalCluster(n_workers=count, threads_per_worker=1, memory_limit=0, dashboard_address=":0", silence_logs=50)
+    return LocalCluster(n_workers=count, threads_per_worker=threads, memory_limit=0, dashboard_address=":0", silence_logs=50)
 
 
 def run_by_one_of_two(client, folder, tally):

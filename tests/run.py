@@ -30,6 +30,7 @@ PARTS = (
     "sizes",
     "segments",
     "cluster",
+    "cluster_broadcast",
     "cluster_ends",
     "cluster_killed",
     "cluster_machine",
