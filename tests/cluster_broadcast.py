@@ -31,7 +31,7 @@ from radixjoin import sending, tasks, text
 SCRIPT = shards.SCRIPT
 RUNS, PROCESSES, THREADS = 30, 2, 2
 SECONDS = 600
-# The bytes of a task's own words, or more.
+# The bytes of a task's own words, or fewer.
 MOST = 400
 # The step of a program that is a left run's.
 STEP = cluster_runs.STEP
@@ -306,9 +306,9 @@ def run_sent(client, tally):
         wanted = harness.run([harness.program("radixjoin"), *words], folder)
         on = cluster_sent.Cluster(client)
         ran = shards.joined([*words, *LARGE], folder, 1, cluster=lambda _: on)
-        kinds = {name: max(own if beside - own <= cluster_sent.MOST else beside for beside, own in sizes) for name, sizes in on.kinds.items()}
         faults = harness.differences(ran, wanted.stdout, wanted.stderr, wanted.status)
-        faults += [] if {*kinds} == {"cuts_of", "join_part", "put_parts"} and max(kinds.values()) < MOST else [f"{kinds}"]
+        faults += [] if {*on.kinds} == {"cuts_of", "join_part", "put_parts"} else [f"{[*on.kinds]}"]
+        faults += [f"{kind} has {size} bytes, {own} of its own words" for kind, sizes in on.kinds.items() for size, own in sizes if own > MOST or size - own > cluster_sent.MOST]
         faults += [f"{kind} is shown as {names}" for kind, names in on.steps.items() if names != {tasks.STEPS[kind].replace(" ", "-")}]
         tally.check("cluster_broadcast: what is sent", faults)
 
