@@ -316,11 +316,10 @@ def run_sent(client, tally):
 def run_here(tally):
     """What needs no Dask."""
     with cluster_runs.patched():
-        for seeds, does in ((range(1_000, 1_060), lambda: Tasks(4)), (range(2_000, 2_020), lambda: Twice(3)), (range(3_000, 3_010), lambda: Tasks(1))):
+        for seeds, does in ((range(1_000, 1_030), lambda: Tasks(4)), (range(2_000, 2_010), lambda: Twice(3)), (range(3_000, 3_005), lambda: Tasks(1))):
             run_random(does, seeds, tally)
         run_tables(lambda: Twice(2), tally)
-        run_ends(lambda: Tasks(4), tally)
-        run_faults(lambda: Tasks(4), cluster_runs.FAULTY, tally)
+        run_faults(lambda: Tasks(4), cluster_runs.FAULTY[::2], tally)
         run_given_up(tally)
         run_without_processes(tally)
     with cluster_runs.patched(), mock.patch.object(text, "_LAST", 1 << 16):
@@ -331,9 +330,8 @@ def run_by(client, seeds, tally):
     """What is done by Dask."""
     with cluster_runs.patched(), mock.patch.object(sending, "sources", small):
         run_random(lambda: Cluster(client, False), seeds, tally)
-        run_tables(lambda: Cluster(client, False), tally)
         run_ends(lambda: Cluster(client, False), tally)
-        run_faults(lambda: Cluster(client, False), cluster_runs.FAULTY[::5], tally)
+        run_faults(lambda: Cluster(client, False), cluster_runs.FAULTY[1::4], tally)
         for case in DIES:
             run_dying(client, *case, tally)
         run_killed_each_time(client, tally)
