@@ -1,10 +1,10 @@
 """Joins two CSV files that may be larger than one machine's memory, on this machine or in the processes of a Dask cluster.
 
 Where memory has room for the whole, one run of `radixjoin` does it, and where it has for the right file and a part of the left one,
-several that have such a part each, on a cluster side by side. Else both files are divided by the hash of their rows' keys (the program `shards`, one task for each
-range of a file), the two parts of each shard are joined (`radixjoin`, one task a shard, or several where it is too large), and what
-these joins give is merged (`merges`, one task for each range of the joined table). The bytes written are those that `radixjoin` would
-write. docs/user/cluster.md says what of this is proved, and how to run it.
+several that have such a part each, on a cluster side by side. Else both files are divided by the hash of their rows' keys (the program
+`shards`, one task for each range of a file), the two parts of each shard are joined (`radixjoin`, one task a shard, or several where it
+is too large), and what these joins give is merged (`merges`, one task for each range of the joined table). The bytes written are those
+that `radixjoin` would write. docs/user/cluster.md says what of this is proved, and how to run it.
 
 Every task writes under a new name and renames at its end, so that a task may run twice. The parts of a range stand in one file. What
 a step made is removed when the next one is done, and all that is half made at the end, whether it is a good one or not. With
@@ -681,8 +681,8 @@ def join(
     `memory`, a number of bytes or a text as "8G", decides how (half of what is free, where it isn't given): on this machine by one run of
     `radixjoin` where about three times the bytes of both files fit into it, by `processes` threads or, where that isn't given, as many as there are
     processors; by several where three times the right file does with a part of the left one, and no unmatched right rows are written, one after
-    another, or on a cluster side by side where that fits into the memory of each process; else in shards, as many as it takes for those that are joined at the same time to fit, on a cluster in each process. With `parts`, `spread`,
-    `ranges` or `merges` it is done in shards.
+    another, or on a cluster side by side where that fits into the memory of each process; else in shards, as many as it takes for those that
+    are joined at the same time to fit, on a cluster in each process. With `parts`, `spread`, `ranges` or `merges` it is done in shards.
 
     The arguments are the options of the command line `radixjoin-cluster` (docs/user/cluster.md): `left_null` and `right_null`, a text or
     up to four, and `out_null`, in place of `null`; `strict`, True or "full", has files refused that aren't of RFC 4180's grammar; with `explain`, a `Fault` has an `explanation`;

@@ -66,8 +66,8 @@ def _mebibytes(size: int) -> int:
 
 def _runs(left: int, right: int, room: int, is_cut: bool, on: Any) -> int:
     """By how many runs of `radixjoin` files of so many bytes are joined, if the two tables of each have room for so many: by one, or by
-    several if the left file may be cut. On a cluster it may in any case, and there are no fewer than are done at once, where these aren't
-    too small. There is none where these would have too few left rows."""
+    several if the left file may be cut; on a cluster, if it may, by no fewer than it does tasks at once, unless the least runs are fewer.
+    There is none where these would have too few left rows."""
     if on.is_here and left + right <= room:
         return 1
     even: int = max(LEAST_RUN, -(-left // on.tasks_at_once()))
@@ -81,10 +81,11 @@ def _runs(left: int, right: int, room: int, is_cut: bool, on: Any) -> int:
 def plan_of(asked: argparse.Namespace, sizes: Tuple[int, int], on: Any) -> Plan:
     """How a left and a right file of so many bytes are joined as asked, by those who do tasks. Where the parts are given, memory isn't
     looked at."""
-    # (a task of a cluster has one of the threads of its process)
-    workers = min(MOST_WORKERS, int(asked.workers or (asked.processes or len(os.sched_getaffinity(0)) if on.is_here else 1)))
     if asked.parts is not None:
-        return Plan(0, workers, asked.parts, asked.spread, None)
+        return Plan(0, 0, asked.parts, asked.spread, None)
+    # (a task of a cluster has one of the threads of its process)
+    threads = asked.processes or len(os.sched_getaffinity(0)) if on.is_here else 1
+    workers = min(MOST_WORKERS, int(asked.workers or threads))
     memory = asked.memory or on.free() // 2
     spread = max(LEAST_SPREAD, memory // on.tasks_in_process() // MEASURE)
     parts = min(MOST_PARTS, max(LEAST_PARTS, -(-2 * sum(sizes) // spread)))
