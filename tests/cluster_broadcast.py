@@ -126,7 +126,7 @@ def run_random(does, seeds, tally):
     ran = harness.side_by_side(tally, [lambda own, seed=seed: run_one(does, seed, own) for seed in seeds])
     if len(ran) >= RUNS:
         many = sum(runs > 1 and not are_shards for runs, _, are_shards in ran)
-        faults = [] if many > len(ran) / 4 and {0, 3} <= {status for _, status, _ in ran} else [f"{many} of {len(ran)}: {ran}"]
+        faults = [] if many > len(ran) / 8 and {0, 3} <= {status for _, status, _ in ran} else [f"{many} of {len(ran)}: {ran}"]
         tally.check("cluster_broadcast: joins by runs", faults)
 
 
