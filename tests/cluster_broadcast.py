@@ -46,7 +46,7 @@ DIES = (
 
 
 # The memory of a process by which the large tables of tests/cluster_runs.py are cut into runs.
-LARGE = ["--memory", "12M"]
+LARGE = ["--memory", "48M"]
 
 
 class Noted:
@@ -100,7 +100,9 @@ def joined(on, words, folder, runs, *more):
     """A join with memory for so many runs, or for one by each task that is done at once: how it ended, how many left runs there were,
     and whether it was done in shards."""
     memory = cluster_runs.memory_for(folder, runs) * on.tasks_in_process()
-    ran = shards.joined([*words, f"--memory={memory}", *more], folder, 1, cluster=lambda _: on)
+    # (a run of two workers may have some more address space, which little memory leaves scarce)
+    workers = [] if any(word.startswith("--workers") for word in words) else ["--workers=2"]
+    ran = shards.joined([*words, f"--memory={memory}", *workers, *more], folder, 1, cluster=lambda _: on)
     return ran, *on.runs()
 
 
@@ -233,7 +235,7 @@ def run_full(tally):
                 told = harness.Ran(6, b"", f'radixjoin-cluster: E20 WriteDevice "{unwritten}": {cluster_ends.NO_ROOM}\n'.encode()) if is_full else wanted
                 on = Tasks(4)
                 memory = cluster_runs.memory_for(folder, 4)
-                ran = shards.joined([*words, f"--memory={memory}", "--scratch", scratch], folder, 1, out, cluster=lambda _, on=on: on)
+                ran = shards.joined([*words, f"--memory={memory}", "--workers=2", "--scratch", scratch], folder, 1, out, cluster=lambda _, on=on: on)
                 faults = harness.differences(ran, told.stdout, told.stderr, told.status) + ([] if on.runs() == (4, False) else [f"{on.runs()}"])
                 tally.check(f"cluster_broadcast: {option} on a disk of {size} KiB", faults + [f"{it} was left behind" for it in place.iterdir() if it.name != "out.csv"])
                 out.unlink(missing_ok=True)
@@ -290,7 +292,7 @@ def run_script(address, tally):
         _, told = cluster_manners.dashboard_in(shown.stderr)
         plan, rest = cluster_manners.plan_in(told)
         lines, last = progress.lines_of(rest)
-        faults = [] if plan == "4 left runs, 4 at a time, in about 5 of 12 MiB of memory of each process" else [f"the plan is {plan}"]
+        faults = [] if plan == "4 left runs, 4 at a time, in about 5 of 48 MiB of memory of each process" else [f"the plan is {plan}"]
         faults += cluster_manners.faults_of_lines(lines) + ([harness.shorten(last)] if last else [])
         faults += [f"there is no {it}" for it in (b"joining, 2 of 4", b"putting the result together, 0 of 1") if b"radixjoin-cluster: %b tasks" % it not in lines]
         faults += ["it is done in shards"] if (programs / "merges.ran").exists() else []
