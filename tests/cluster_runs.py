@@ -120,8 +120,8 @@ UNKEPT = (
 # What is told of it, by the side.
 TOLD_OF = {
     None: "",
-    "left": "radixjoin: the join keeps no unmatched left rows, so none are written; a LEFT or FULL JOIN keeps them\n",
-    "right": "radixjoin: the join keeps no unmatched right rows, so none are written; a RIGHT or FULL JOIN keeps them\n",
+    "left": "radixjoin: the join keeps no unmatched left rows; a LEFT or FULL JOIN keeps them\n",
+    "right": "radixjoin: the join keeps no unmatched right rows; a RIGHT or FULL JOIN keeps them\n",
 }
 
 

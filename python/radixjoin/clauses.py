@@ -17,7 +17,7 @@ _KIND = re.compile(r"[ \t\n\r]*(?:NATURAL[ \t\n\r]+)?(?:(INNER|LEFT|RIGHT|FULL)(
 _OF_PAIRS = ("pairs", "matched-left")
 _LONE = {"lone-left": ("LEFT", "FULL"), "lone-right": ("RIGHT", "FULL")}
 # What `radixjoin` tells of unmatched rows of a side that are asked for and that a clause doesn't keep.
-_UNKEPT = "radixjoin: the join keeps no unmatched {} rows, so none are written; a {} or FULL JOIN keeps them\n"
+_UNKEPT = "radixjoin: the join keeps no unmatched {} rows; a {} or FULL JOIN keeps them\n"
 
 
 def quoted(name: str) -> str:
