@@ -1,3 +1,4 @@
+pub mod Labels
 pub mod Outputs
 pub mod Readers
 pub mod Shares
