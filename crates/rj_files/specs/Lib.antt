@@ -1,3 +1,4 @@
+pub mod Drafts
 pub mod Labels
 pub mod Outputs
 pub mod Readers

@@ -1,11 +1,13 @@
 //! The file of `--output`, which is written atomically: it has the whole result, or what it had
 //! before.
 
-ghost use Rattle.std.specs.Prelude.{◌≡◌, IfErr};
+ghost use Rattle.std.specs.Prelude.{◌≡◌, ◌≢◌, IfOk, IfErr, option_map, string_bytes};
+ghost use Rattle.std.specs.IoError.{error_kind};
 ghost use Rattle.rj_fault.specs.Faults.{IsOfWriting};
+ghost use Rattle.rj_files.specs.Drafts.{folder_of, named_folder, without_group};
 
 use rj_fault::Fault;
-use std::alloc::Global;
+use std::alloc::{AllocError, Global};
 use std::fs::{self, Files, Metadata, OpenFile, OpenOptions};
 use std::io::{self, ErrorKind};
 use std::os::unix::fs::{MetadataExt, PermissionsExt, chown};
@@ -74,11 +76,21 @@ fn is_of_folder(error: &io::Error) -> bool {
     }
 }
 
-// The folder of a path.
-fn folder_of(alloc: Global, path: &str) -> Option<String> {
-    let folder = Path::new(path).parent()?.as_str();
-    let folder = if folder.is_empty() { "." } else { folder };
-    String::from_str(alloc, folder).ok()
+// A folder as a path names it, also the one in which the program runs.
+fn named_folder(folder: &str) -> &str
+    ensures { result.now ≡ named_folder folder.now }
+{
+    if folder.is_empty() { "." } else { folder }
+}
+
+// The folder of a path, if it has one.
+fn folder_of(alloc: Global, path: &str) -> Result<Option<String>, AllocError>
+    ensures { IfOk result (λ folder. option_map string_bytes folder ≡ folder_of path.now) }
+{
+    match Path::new(path).parent() {
+        Some(folder) => Ok(Some(String::from_str(alloc, named_folder(folder.as_str()))?)),
+        None => Ok(None),
+    }
 }
 
 // Why a new file can't be made at a path, by the system's error.
@@ -86,7 +98,7 @@ fn unmade_by(alloc: Global, path: &str, error: io::Error) -> Unwritten
     ensures { IsOfWriting result.fault }
 {
     let folder = if is_of_folder(&error) {
-        folder_of(alloc, path)
+        folder_of(alloc, path).unwrap_or(None)
     } else {
         None
     };
@@ -150,7 +162,9 @@ fn is_special(found: &io::Result<Metadata>) -> bool {
 
 // Gives a new file the owner and the group of another, or the group alone if the user may not give
 // files away. It returns whether the group is that of the other.
-fn take_owner<R: Files>(rt: &R, name: &str, there: &Metadata) -> io::Result<bool> {
+fn take_owner<R: Files>(rt: &R, name: &str, there: &Metadata) -> io::Result<bool>
+    ensures { IfErr result (λ error. error_kind error ≢ ErrorKind.PermissionDenied) }
+{
     match chown(rt, name, Some(there.uid()), Some(there.gid())) {
         Ok(()) => return Ok(true),
         Err(error) if error.kind() != ErrorKind::PermissionDenied => return Err(error),
@@ -164,7 +178,9 @@ fn take_owner<R: Files>(rt: &R, name: &str, there: &Metadata) -> io::Result<bool
 }
 
 // A mode in which the group may do no more than all others may.
-fn without_group(mode: u32) -> u32 {
+fn without_group(mode: u32) -> u32
+    ensures { result ≡ without_group mode }
+{
     mode & (0o7707 | (mode & 0o007) << 3)
 }
 
