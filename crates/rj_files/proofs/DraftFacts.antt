@@ -29,5 +29,5 @@ without_group_is m =
     ∙ ap (λ (x : ℕ). bit_and x (63 * 2 ^ 6 + (m % 8 * 2 ^ 3 + 7))) (digits m)
     ∙ and_block 6 (m / 64) 63 (m / 8 % 8 * 2 ^ 3 + m % 8) (m % 8 * 2 ^ 3 + 7) (omega (arith, others, group)) (omega (arith, others))
     ∙ ap₂ (λ (x y : ℕ). x * 2 ^ 6 + y) (and_mask (m / 64) 6)
-        (and_block 3 (m / 8 % 8) (m % 8) (m % 8) 7 others (lit< tt)
-        ∙ ap (λ (x : ℕ). bit_and (m / 8 % 8) (m % 8) * 2 ^ 3 + x) (and_mask (m % 8) 3 ∙ mod-mod m 8))
+    (and_block 3 (m / 8 % 8) (m % 8) (m % 8) 7 others (lit< tt)
+    ∙ ap (λ (x : ℕ). bit_and (m / 8 % 8) (m % 8) * 2 ^ 3 + x) (and_mask (m % 8) 3 ∙ mod-mod m 8))

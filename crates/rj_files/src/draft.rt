@@ -1,10 +1,12 @@
 //! The file of `--output`, which is written atomically: it has the whole result, or what it had
 //! before.
 
-ghost use Rattle.std.specs.Prelude.{◌≡◌, ◌≢◌, IfOk, IfErr, option_map, string_bytes};
+ghost use Rattle.std.specs.Prelude.{◌≡◌, ◌≢◌, ◌↔◌, IfOk, IfErr, IfSome, IsTrue, MatchResult, false, option_map, string_bytes};
+ghost use Rattle.std.specs.Fs.{IsFile, file_type};
 ghost use Rattle.std.specs.IoError.{error_kind};
+ghost use Rattle.std.specs.Path.{path_parent};
 ghost use Rattle.rj_fault.specs.Faults.{IsOfWriting};
-ghost use Rattle.rj_files.specs.Drafts.{folder_of, named_folder, without_group};
+ghost use Rattle.rj_files.specs.Drafts.{draft_name, folder_of, in_folder, named_folder, repeated, without_group};
 
 use rj_fault::Fault;
 use std::alloc::{AllocError, Global};
@@ -95,7 +97,8 @@ fn folder_of(alloc: Global, path: &str) -> Result<Option<String>, AllocError>
 
 // Why a new file can't be made at a path, by the system's error.
 fn unmade_by(alloc: Global, path: &str, error: io::Error) -> Unwritten
-    ensures { IsOfWriting result.fault }
+    ensures fault { IsOfWriting result.fault }
+    ensures folder { IfSome result.folder (λ folder. folder_of path.now ≡ Some (string_bytes folder)) }
 {
     let folder = if is_of_folder(&error) {
         folder_of(alloc, path).unwrap_or(None)
@@ -116,7 +119,8 @@ fn unmade_by(alloc: Global, path: &str, error: io::Error) -> Unwritten
 
 // A file name in the folder of a path. A name that begins with a slash is taken as it is.
 fn in_folder_of(alloc: Global, path: &str, name: &str) -> Result<String, Fault>
-    ensures { IfErr result IsOfWriting }
+    ensures path { IfOk result (λ s. string_bytes s ≡ in_folder (path_parent path.now) name.now) }
+    ensures fault { IfErr result IsOfWriting }
 {
     match Path::new(path).parent() {
         Some(folder) => Ok(String::from_str(alloc, folder.join(alloc, name)?.as_str())?),
@@ -140,20 +144,30 @@ fn followed<R: Files + AllocGlobal>(rt: &R, path: &str) -> Result<String, Fault>
     Err(Fault::WriteDevice)
 }
 
+// What a new file's name has of the name of a file.
+fn repeated(file: &str) -> &str
+    ensures { result.now ≡ repeated file.now }
+{
+    if file.len() > LONGEST { "" } else { file }
+}
+
 // A name for a new file in the target's folder.
 fn draft_name(alloc: Global, target: &str, number: u32) -> Result<String, Fault>
-    ensures { IfErr result IsOfWriting }
+    ensures name { IfOk result (λ s. draft_name target.now number ≡ Some (string_bytes s)) }
+    ensures fault { IfErr result IsOfWriting }
 {
     let Some(file) = Path::new(target).file_name() else {
         return Err(Fault::WriteDevice);
     };
-    let repeated = if file.len() > LONGEST { "" } else { file };
+    let repeated = repeated(file);
     let name = format!(in alloc; ".{repeated}.radixjoin-{number}")?;
     in_folder_of(alloc, target, name.as_str())
 }
 
 // Whether a path leads to something that isn't a regular file: a pipe, a device or a folder.
-fn is_special(found: &io::Result<Metadata>) -> bool {
+fn is_special(found: &io::Result<Metadata>) -> bool
+    ensures { MatchResult found.now (λ metadata. IsTrue result ↔ ¬ (IsFile (file_type metadata))) (λ _. result ≡ false) }
+{
     match found {
         Ok(metadata) => !metadata.is_file(),
         Err(_) => false,
