@@ -95,16 +95,22 @@ fn folder_of(alloc: Global, path: &str) -> Result<Option<String>, AllocError>
     }
 }
 
+// The folder of a path, if it is for the folder that no file can be made there.
+fn refused_folder(alloc: Global, path: &str, error: &io::Error) -> Option<String>
+    ensures { IfSome result (λ folder. folder_of path.now ≡ Some (string_bytes folder)) }
+{
+    match folder_of(alloc, path) {
+        Ok(Some(folder)) if is_of_folder(error) => Some(folder),
+        _ => None,
+    }
+}
+
 // Why a new file can't be made at a path, by the system's error.
 fn unmade_by(alloc: Global, path: &str, error: io::Error) -> Unwritten
     ensures fault { IsOfWriting result.fault }
     ensures folder { IfSome result.folder (λ folder. folder_of path.now ≡ Some (string_bytes folder)) }
 {
-    let folder = if is_of_folder(&error) {
-        folder_of(alloc, path).unwrap_or(None)
-    } else {
-        None
-    };
+    let folder = refused_folder(alloc, path, &error);
     let Unwritten {
         fault,
         error,
