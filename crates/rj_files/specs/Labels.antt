@@ -30,3 +30,7 @@ IsUnreadOf l f = (f ≡ fault.Memory) ⊎ (f ≡ unread_fault l)
 -- why the list of a file can't be had
 abbrev pub IsListFault : FileLabel → Fault → Type 0
 IsListFault l f = IsUnreadOf l f ⊎ (f ≡ bad_list_fault l)
+
+-- why the words of a line can't be had with the lists of files
+abbrev pub IsListsFault : Fault → Type 0
+IsListsFault f = (f ≡ fault.Memory) ⊎ ((l : FileLabel) × ((f ≡ unread_fault l) ⊎ (f ≡ bad_list_fault l)))

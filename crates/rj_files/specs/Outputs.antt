@@ -12,6 +12,10 @@ abbrev pub file_of : Option (List ℕ) → Option (List ℕ)
 file_of None = None
 file_of (Some name) = if bytes_eq name (codes "-") then None else Some name
 
+-- the side of a line whose table is standard input, by the names of the tables
+abbrev pub input_side : List ℕ → List ℕ → Option Side
+input_side left right = if bytes_eq left (codes "-") then Some side.Left else if bytes_eq right (codes "-") then Some side.Right else None
+
 -- both tables are standard input
 abbrev pub AreStandard : List ℕ → List ℕ → Type 0
 AreStandard left right = (bytes_eq left (codes "-") ≡ true) × (bytes_eq right (codes "-") ≡ true)

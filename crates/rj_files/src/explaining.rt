@@ -1,11 +1,12 @@
 //! `--explain`: the lines that are added after the line of an error.
 
-ghost use Rattle.std.specs.Prelude.{◌≡◌, ◌↔◌, ◌<◌, ◌||◌, IfOk, IfSome, IsTrue, codes, false, length, map, option_map, string_bytes};
+ghost use Rattle.std.specs.Prelude.{◌≡◌, ◌↔◌, ◌<◌, ◌||◌, IfErr, IfOk, IfSome, IsTrue, codes, false, length, map, option_map, string_bytes};
 ghost use Rattle.std.specs.IoError.{error_kind};
 ghost use Rattle.std.specs.List.{list_any};
 ghost use Rattle.std.specs.Option.{IsSomeAnd};
 ghost use Rattle.std.specs.Str.{bytes_eq};
 ghost use Rattle.rj_line.specs.Forms as forms;
+ghost use Rattle.rj_line.specs.Line.{IsLineFault, IsLineOf};
 ghost use Rattle.rj_files.specs.Entries.{entry_for, is_entry_for};
 ghost use Rattle.rj_files.specs.Texts.{memory_text};
 
@@ -71,7 +72,10 @@ pub fn read_words_of_line<'a>(
     alloc: Global,
     words: &'a [&'a str],
     processors: usize,
-) -> Result<Line<'a>, ExplainedFault> {
+) -> Result<Line<'a>, ExplainedFault>
+    ensures line { IfOk result (IsLineOf processors (map (λ w. w.now) words.entry.now)) }
+    ensures fault { IfErr result (λ e. IsLineFault (map (λ w. w.now) words.entry.now) e.fault) }
+{
     match read_line(alloc, words, processors) {
         Ok(line) => Ok(line),
         Err(fault) => match explain_line(alloc, words, &fault) {

@@ -1,7 +1,7 @@
 //! Lists of types that are in files: `@FILE` in the place of a list.
 
 ghost use Rattle.std.specs.Prelude.{◌≡◌, IfErr};
-ghost use Rattle.rj_files.specs.Labels.{IsListFault, IsUnreadOf, bad_list_fault, label_of};
+ghost use Rattle.rj_files.specs.Labels.{IsListFault, IsListsFault, IsUnreadOf, bad_list_fault, label_of};
 
 use crate::explained::ExplainedFault;
 use crate::explaining::ask_for_lines;
@@ -39,7 +39,9 @@ fn with_list<R: Files + AllocGlobal>(
     rt: &R,
     word: &str,
     explain: bool,
-) -> Result<Option<String>, ExplainedFault> {
+) -> Result<Option<String>, ExplainedFault>
+    ensures { IfErr result (λ e. IsListsFault e.fault) }
+{
     let Some((option, file)) = word.split_once("=@") else {
         return Ok(None);
     };
@@ -121,7 +123,9 @@ fn with_its_list<R: Files + AllocGlobal>(
     word: String,
     label: Option<FileLabel>,
     explain: bool,
-) -> Result<String, ExplainedFault> {
+) -> Result<String, ExplainedFault>
+    ensures { IfErr result (λ e. IsListsFault e.fault) }
+{
     if let Some(label) = label {
         return match word.as_str().strip_prefix('@') {
             Some(file) => list_of(rt, file, label, explain),
@@ -147,7 +151,9 @@ fn are_explained(alloc: Global, words: &[String]) -> Result<bool, AllocError> {
 pub fn read_lists<R: Files + AllocGlobal>(
     rt: &R,
     words: Vec<String>,
-) -> Result<Vec<String>, ExplainedFault> {
+) -> Result<Vec<String>, ExplainedFault>
+    ensures { IfErr result (λ e. IsListsFault e.fault) }
+{
     let explain = are_explained(rt.alloc(), words.as_slice())?;
     let mut read = Vec::with_capacity(rt.alloc(), words.len())?;
     let mut label = None;
