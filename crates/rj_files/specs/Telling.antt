@@ -1,0 +1,20 @@
+-- What is told beside a joined table of columns whose types nobody declared.
+use Rattle.std.specs.Prelude.{Bool, ◌&&◌, ◌||◌, ◌==◌, nat_lt, vec_len}
+use Rattle.std.specs.List.{list_any}
+use Rattle.rj_command.specs.declared.join.stats.PartitionRows.{PartitionRows}
+use Rattle.rj_command.specs.declared.join.stats.Stats.{Stats}
+use Rattle.rj_line.specs.declared.line.Line.{Line}
+
+-- both tables have rows with a key, which are those of partitions, and no two rows match
+abbrev pub is_unmatched : Stats → Bool
+is_unmatched s = (s.pairs == 0)
+    && list_any (λ (p : PartitionRows). nat_lt 0 p.left) s.partitions.items
+    && list_any (λ (p : PartitionRows). nat_lt 0 p.right) s.partitions.items
+
+-- it is told that no rows match: where errors are explained, a column's type may be undeclared, and
+-- no key is told to hold numbers
+abbrev pub tells_unmatched : Line → Stats → Bool
+tells_unmatched line s = line.explain
+    && (line.request.left_undeclared || line.request.right_undeclared)
+    && (vec_len s.text_keys == 0)
+    && is_unmatched s
