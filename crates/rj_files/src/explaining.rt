@@ -1,9 +1,5 @@
 //! `--explain`: the lines that are added after the line of an error.
 
-<<<<<<< HEAD
-ghost use Rattle.std.specs.Prelude.{◌≡◌, IfOk, IfSome, length, string_bytes};
-ghost use Rattle.rj_files.specs.Texts.{memory_text, unkept_lines};
-=======
 ghost use Rattle.std.specs.Prelude.{◌≡◌, ◌↔◌, ◌<◌, ◌||◌, IfErr, IfOk, IfSome, IsTrue, codes, false, length, map, option_map, string_bytes};
 ghost use Rattle.std.specs.IoError.{error_kind};
 ghost use Rattle.std.specs.List.{list_any};
@@ -12,8 +8,7 @@ ghost use Rattle.std.specs.Str.{bytes_eq};
 ghost use Rattle.rj_line.specs.Forms as forms;
 ghost use Rattle.rj_line.specs.Line.{IsLineFault, IsLineOf};
 ghost use Rattle.rj_files.specs.Entries.{entry_for, is_entry_for};
-ghost use Rattle.rj_files.specs.Texts.{memory_text};
->>>>>>> b4388add59cc9c1c7fc80c4cbe8c7b404f1fc39a
+ghost use Rattle.rj_files.specs.Texts.{memory_text, unkept_lines};
 
 use crate::explained::ExplainedFault;
 use crate::named::told_by_system;
