@@ -1,6 +1,7 @@
 //! The texts of the rows that are shown of a joined table, made segment by segment of its left table.
 
 ghost use Rattle.std.specs.Prelude.{◌≡◌, ◌≢◌, ◌<◌, ◌+◌, ◌-◌, ◌^◌, ℕ, Err, IsTrue, List, OnOk, All, IfOk, IfSome, Ok, Some, length, map, slice_index_or, string_bytes};
+ghost use Rattle.std.specs.Fork.{AcceptsEach, ChangesEach};
 ghost use Rattle.std.specs.Io.KnownBytes.{Appends};
 ghost use Rattle.std.specs.List.{concat};
 ghost use Rattle.std.specs.Option.{ForSome};
@@ -102,36 +103,46 @@ fn all_made(alloc: Global, shares: Vec<Share>) -> Result<Vec<Vec<Texts>>, AllocE
     Ok(made)
 }
 
-// Makes the texts of all shares, by at most this many threads, the calling one among them. Each
-// thread frees its segments one by one, as their texts are made.
-fn make_each<R: Threads + Sync>(
+// Calls a task with each item and its number, by at most this many threads, the calling one among
+// them. Answers the items as the calls leave them.
+fn call_each<R: Threads + Sync, T: Send + Drop, F: Fn(usize, &mut T) + Sync>(
     rt: &R,
-    alloc: Global,
-    mut shares: Vec<Share>,
-    written: &Written<'_>,
-    runs: &[Run],
-) -> Vec<Share>
-    requires workers { 0 < written.now.workers }
-    requires within { (k : ℕ) (d : Share) → k < length shares.items
-        → ForSome (slice_index_or shares.items k d).segment (λ t. AreWithin written.now t k runs.now) }
-    ensures many { length result.items ≡ length shares.items }
-    ensures each { (k : ℕ) (d : Share) → k < length shares.items → IfSome (slice_index_or shares.items k d).segment (λ t.
-        IfOk (slice_index_or result.items k d).texts (AreRunTexts written.now t k runs.now)) }
+    mut items: Vec<T>,
+    threads: usize,
+    task: &F,
+) -> Vec<T>
+    requires threads { 0 < threads }
+    requires accepts { AcceptsEach F.Fn task.now items.items }
+    ensures many { length result.items ≡ length items.items }
+    ensures each { ChangesEach F.Fn task.now items.items result.items }
 {
-    thread::for_each_mut(
-        rt,
-        shares.as_mut_slice(),
-        written.workers,
-        &|number, share: &mut Share|
-            requires { ForSome share.now.segment (λ t. AreWithin written.now t number runs.now) }
-            ensures { IfSome share.entry.now.segment (λ t. IfOk share.exit.now.texts (AreRunTexts written.entry.now t number runs.entry.now)) }
-        { make_texts(alloc, share, number, written, runs) },
-    );
-    shares
+    thread::for_each_mut(rt, items.as_mut_slice(), threads, task);
+    items
 }
 
 // Does the same without the calling thread. New threads reuse the memory that ended ones gave back,
 // and the calling thread has none of it.
+fn call_each_elsewhere<R: Threads + Sync, T: Send + Drop, F: Fn(usize, &mut T) + Sync>(
+    rt: &R,
+    items: Vec<T>,
+    threads: usize,
+    task: &F,
+) -> Vec<T>
+    requires threads { 0 < threads }
+    requires accepts { AcceptsEach F.Fn task.now items.items }
+    ensures many { length result.items ≡ length items.items }
+    ensures each { ChangesEach F.Fn task.now items.items result.items }
+{
+    let call = move || -> Vec<T>
+        requires { (0 < threads) × AcceptsEach F.Fn task.now items.items }
+        ensures many { length result.items ≡ length items.items }
+        ensures each { ChangesEach F.Fn task.entry.now items.items result.items }
+    { call_each(rt, items, threads, task) };
+    let (called, ()) = thread::join(rt, call, || {});
+    called
+}
+
+// Makes the texts of all shares. Each thread frees its segments one by one, as their texts are made.
 fn make_shares<R: Threads + Sync>(
     rt: &R,
     alloc: Global,
@@ -146,15 +157,16 @@ fn make_shares<R: Threads + Sync>(
     ensures each { (k : ℕ) (d : Share) → k < length shares.items → IfSome (slice_index_or shares.items k d).segment (λ t.
         IfOk (slice_index_or result.items k d).texts (AreRunTexts written.now t k runs.now)) }
 {
-    let make = move || -> Vec<Share>
-        requires { (0 < written.now.workers) × ((k : ℕ) (d : Share) → k < length shares.items
-            → ForSome (slice_index_or shares.items k d).segment (λ t. AreWithin written.now t k runs.now)) }
-        ensures many { length result.items ≡ length shares.items }
-        ensures each { (k : ℕ) (d : Share) → k < length shares.items → IfSome (slice_index_or shares.items k d).segment (λ t.
-            IfOk (slice_index_or result.items k d).texts (AreRunTexts written.entry.now t k runs.entry.now)) }
-    { make_each(rt, alloc, shares, written, runs) };
-    let (made, ()) = thread::join(rt, make, || {});
-    made
+    // (a closure that is handed to `thread::join` itself tells nothing of what `written` lends)
+    call_each_elsewhere(
+        rt,
+        shares,
+        written.workers,
+        &|number, share: &mut Share|
+            requires { ForSome share.now.segment (λ t. AreWithin written.now t number runs.now) }
+            ensures { IfSome share.entry.now.segment (λ t. IfOk share.exit.now.texts (AreRunTexts written.entry.now t number runs.entry.now)) }
+        { make_texts(alloc, share, number, written, runs) },
+    )
 }
 
 // The texts of the runs of each segment.
