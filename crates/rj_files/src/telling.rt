@@ -1,17 +1,30 @@
 //! What is told beside a joined table of columns whose types nobody declared.
 
 ghost use Rattle.std.specs.Prelude.{◌≡◌};
-ghost use Rattle.rj_files.specs.Telling.{is_unmatched, tells_unmatched};
+ghost use Rattle.rj_files.specs.Telling.{has_left_keys, has_right_keys, is_unmatched, tells_unmatched};
 
-use rj_command::{Line, Stats};
+use rj_command::{Line, PartitionRows, Stats};
+
+// Whether there are left rows with a key: these are the rows of partitions.
+fn has_left_keys(partitions: &[PartitionRows]) -> bool
+    ensures { result ≡ has_left_keys partitions.now }
+{
+    partitions.iter().any(|partition| partition.left > 0)
+}
+
+// Whether there are right rows with a key.
+fn has_right_keys(partitions: &[PartitionRows]) -> bool
+    ensures { result ≡ has_right_keys partitions.now }
+{
+    partitions.iter().any(|partition| partition.right > 0)
+}
 
 // Whether there are rows with a key in both tables, and none of them match.
 fn is_unmatched(stats: &Stats) -> bool
     ensures { result ≡ is_unmatched stats.now }
 {
-    stats.pairs == 0
-        && stats.partitions.iter().any(|partition| partition.left > 0)
-        && stats.partitions.iter().any(|partition| partition.right > 0)
+    let partitions = stats.partitions.as_slice();
+    has_left_keys(partitions) && has_right_keys(partitions) && stats.pairs == 0
 }
 
 // Whether it is told that no rows match.
