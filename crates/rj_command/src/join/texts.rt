@@ -157,7 +157,7 @@ fn make_shares<R: Threads + Sync>(
     ensures each { (k : ℕ) (d : Share) → k < length shares.items → IfSome (slice_index_or shares.items k d).segment (λ t.
         IfOk (slice_index_or result.items k d).texts (AreRunTexts written.now t k runs.now)) }
 {
-    // (a closure that is handed to `thread::join` itself tells nothing of what `written` lends)
+    // (what `thread::join` calls tells what it ensures only where it captures plain references)
     call_each_elsewhere(
         rt,
         shares,

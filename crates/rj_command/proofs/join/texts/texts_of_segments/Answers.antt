@@ -1,4 +1,3 @@
-use Rattle.std.proofs.Common.{IfOk}
 use Rattle.std.proofs.lemmas.Result.{IfOk-weaker}
 use Rattle.rj_command.proofs.TextFacts.{made-texts, shares-within}
 use Rattle.rj_command.proofs.join.texts.texts_of_segments.Goals as goal
