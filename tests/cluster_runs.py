@@ -101,12 +101,37 @@ KINDS = (
     ("FULL JOIN USING (k)", "lone-left", "lone-left"),
     ("no clause", None, "pairs lone-left lone-right"),
 )
+# A clause, the kinds of rows that are asked for, and the side of which it is told that it has no unmatched rows.
+UNKEPT = (
+    ("JOIN USING (k)", "lone-left", "left"),
+    ("inner join using (k)", "pairs,lone-right", "right"),
+    ("natural\tjoin", "lone-right,lone-left", "left"),
+    ("Cross Join", "lone-left,pairs", "left"),
+    ("LEFT JOIN USING (k)", "lone-right,lone-left", "right"),
+    ("NATURAL RIGHT OUTER JOIN", "lone-left,lone-right", "left"),
+    ("LEFT JOIN USING (k)", "pairs,lone-left", None),
+    ("RIGHT JOIN USING (k)", "lone-right", None),
+    ("FULL JOIN USING (k)", "lone-left,lone-right", None),
+    ("JOIN USING (k)", "lone-right,pairs,lone-left", None),
+    ("JOIN USING (k)", "pairs", None),
+    ("JOIN USING (k)", None, None),
+    ("no clause", "lone-left", None),
+)
+# What is told of it, by the side.
+TOLD_OF = {
+    None: "",
+    "left": "radixjoin: the join keeps no unmatched left rows; a LEFT or FULL JOIN keeps them\n",
+    "right": "radixjoin: the join keeps no unmatched right rows; a RIGHT or FULL JOIN keeps them\n",
+}
 
 
 def run_kinds(tally):
     for clause, rows, wanted in KINDS:
         got = [kind for kind in clauses.kinds_of(clause, rows) if kind != "matched-left"]
         tally.check(f"cluster_runs: kinds of {clause!r} {rows}", [] if got == wanted.split() else [f"{got}, and not {wanted}"])
+    for clause, rows, side in UNKEPT:
+        got = clauses.told_of_rows(clause, rows)
+        tally.check(f"cluster_runs: what is told of {clause!r} {rows}", [] if got == TOLD_OF[side] else [f"{got!r}, and not {TOLD_OF[side]!r}"])
 
 
 def random_words(pick, folder):

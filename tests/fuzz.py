@@ -89,7 +89,7 @@ def check(case, runs, count):
     runs.start([os.fsencode(harness.program(case.program)), *case.words], case.stdin)
     wanted = command.ended(case.program, case.words, {name.decode(): content for name, content in case.files.items()}, case.stdin)
     ran = runs.ended()
-    if case.program == "radixjoin" and command.explains(case.words) and wanted.stderr:
+    if case.program == "radixjoin" and command.explains(case.words) and wanted.stderr and wanted.status:
         # (what is added to an error's line is no matter of the oracle)
         ran.stderr = ran.stderr[: ran.stderr.find(b"\n") + 1]
     faults = faults_of(ran, wanted)

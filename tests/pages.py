@@ -219,7 +219,7 @@ def check_faults_are_told(tally):
     specification = (harness.ROOT / "docs" / "user" / "specification.md").read_text()
     sections = sections_of("docs/user/errors.md")
     for line, status in re.findall(r"^\| `radixjoin: (.*?)` \|.*\| (\d) \|$", specification, re.MULTILINE):
-        name = re.split(r" (?:SIDE|byte N|row R|column C)", line)[0]
+        name = re.split(r" (?:(?:lone-)?SIDE|byte N|row R|column C)", line)[0]
         text = "\n".join(line for section in sections if section.title == name for line in section.text)
         faults = [f"it has no section '## {name}'"] if not text else []
         # Of too many rows no example can be run.

@@ -23,7 +23,7 @@ LINE = re.compile(rb'(?:[^"\n]|"[^"]*(?:"|\Z))*\n?')
 
 sys.path.append(str(harness.ROOT / "python"))
 from radixjoin import cluster as SCRIPT  # noqa: E402
-from radixjoin import placed, tasks  # noqa: E402
+from radixjoin import clauses, placed, tasks  # noqa: E402
 
 # So small that joined shards of some rows have many pieces, and are cut into ranges.
 placed.PIECE = 200
@@ -46,8 +46,8 @@ class OneByOne:
 
 
 def joined(words, folder, ranges, out=None, cluster=OneByOne):
-    """What the script's tasks give for these words in a cluster: how they end, and the bytes of the result, if there is one. Nothing
-    else may be left in the folder."""
+    """What the script's tasks give for these words in a cluster: how they end and what the script then tells, and the bytes of the result,
+    if there is one. Nothing else may be left in the folder."""
     out = out or folder / "out.csv"
     out.unlink(missing_ok=True)
     known = {it.name for it in folder.iterdir()}
@@ -55,6 +55,7 @@ def joined(words, folder, ranges, out=None, cluster=OneByOne):
     try:
         asked = SCRIPT.read_line([*map(str, words), "--out", str(out)])
         SCRIPT.run_in(asked, contextlib.nullcontext(cluster(ranges)))
+        line = clauses.told_of_rows(asked.join, asked.rows).encode()
     except (SCRIPT.Told, SCRIPT.Fault) as told:
         status, line = told.status, str(told).encode() + b"\n"
     left = sorted(it.name for it in folder.iterdir() if it.name not in known and it != out)

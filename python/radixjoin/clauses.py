@@ -16,6 +16,8 @@ _KIND = re.compile(r"[ \t\n\r]*(?:NATURAL[ \t\n\r]+)?(?:(INNER|LEFT|RIGHT|FULL)(
 # The kinds of rows that an option may ask for: those of pairs, which every join keeps, and lone ones, with the words that keep them.
 _OF_PAIRS = ("pairs", "matched-left")
 _LONE = {"lone-left": ("LEFT", "FULL"), "lone-right": ("RIGHT", "FULL")}
+# What `radixjoin` tells of unmatched rows of a side that are asked for and that a clause doesn't keep.
+_UNKEPT = "radixjoin: the join keeps no unmatched {} rows; a {} or FULL JOIN keeps them\n"
 
 
 def quoted(name: str) -> str:
@@ -60,6 +62,17 @@ def kinds_of(clause: str, rows: Optional[str]) -> List[str]:
     found = _KIND.match(clause)
     kept = _kept(found) if found else [*_OF_PAIRS, *_LONE]
     return [kind for kind in kept if rows is None or kind in rows.split(",")]
+
+
+def told_of_rows(clause: str, rows: Optional[str]) -> str:
+    """The line that `radixjoin` tells behind the rows of a join where `--rows` asks for unmatched rows by themselves that the clause doesn't
+    keep, or nothing. The left ones come first."""
+    found, asked = _KIND.match(clause), (rows or "").split(",")
+    if found and {*asked} != {"pairs", *_LONE}:
+        for kind, words in _LONE.items():
+            if kind in asked and kind not in _kept(found):
+                return _UNKEPT.format(kind.partition("-")[2], words[0])
+    return ""
 
 
 def refuse_rows(rows: object, clause: str) -> None:

@@ -33,7 +33,7 @@ from pathlib import Path
 from typing import TYPE_CHECKING, Any, Dict, Iterator, List, Mapping, Optional, Sequence, Tuple, Union
 
 from .arguments import refuse_values
-from .clauses import clause_of, given, kinds_of, refuse_rows
+from .clauses import clause_of, given, kinds_of, refuse_rows, told_of_rows
 from .columns import Types
 from .explained import of_cell, of_row, of_unread
 from .faults import Fault, fault_of
@@ -53,7 +53,7 @@ from .programs import ProgramNotFound, encoded, find_all
 from .runs import IS_SHORT, LONE, GivenUp, Joined, join_part, join_run, join_whole, put_parts
 from .spread import TABLE, Join, are_many, joins_of, length_of, limit_of, most_tables, next_length, runs_of
 from .tables import PathTable
-from .tasks import Told, answer, first_fault, tell, unwritten
+from .tasks import Told, answer, first_fault, put, tell, unwritten
 from .text import header_in
 
 if TYPE_CHECKING:
@@ -759,6 +759,7 @@ def main() -> int:
     try:
         asked = read_line(sys.argv[1:])
         run_in(asked, cluster_of(asked))
+        put(told_of_rows(asked.join, asked.rows))
     except (Told, Fault) as fault:
         print(fault, file=sys.stderr)
         return fault.status

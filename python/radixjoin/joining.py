@@ -188,12 +188,13 @@ def _stats_in(told: str) -> Stats:
     partitions = re.findall(r"^partition \d+ left (\d+) right (\d+)$", told, re.MULTILINE)
     kinds = re.search(r"^pairs (\d+) lone-left (\d+) lone-right (\d+)$", told, re.MULTILINE)
     pieces = re.search(r"^pieces (\d+)$", told, re.MULTILINE)
-    report = re.search(r"^rows left .*", told, re.MULTILINE | re.DOTALL)
+    # (behind the report a line may tell of rows that the join doesn't keep)
+    report = re.search(r"^rows left .*?(?=\n(?:radixjoin: |\Z))", told, re.MULTILINE | re.DOTALL)
     if kinds is None:
         raise RuntimeError("radixjoin told no statistics")
     pairs, lone_left, lone_right = map(int, kinds.groups())
     of_partitions = tuple((int(left), int(right)) for left, right in partitions)
-    return Stats(of_partitions, pairs, lone_left, lone_right, int(pieces[1]) if pieces else None, report[0].rstrip("\n") if report else None)
+    return Stats(of_partitions, pairs, lone_left, lone_right, int(pieces[1]) if pieces else None, report[0] if report else None)
 
 
 def _read(asked: Asked) -> Any:

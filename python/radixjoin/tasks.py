@@ -102,7 +102,7 @@ def tell(is_asked: bool, text: str) -> None:
 
 
 def put(text: str) -> None:
-    """Writes on the terminal, if it is still there."""
+    """Writes on standard error, which may be a terminal that is gone."""
     with contextlib.suppress(OSError):
         print(text, end="", file=sys.stderr, flush=True)
 

@@ -312,5 +312,5 @@ def joined(request, files):
     for side in ("left", "right"):
         if getattr(request, side) not in files:
             raise Fault(19, "ReadDevice", side)
-    text, statistics, report = joining.run(files[request.left], files[request.right], request)
-    return Ended(0, text, (statistics if request.stats else b"") + (report if request.report else b""))
+    text, statistics, report, note = joining.run(files[request.left], files[request.right], request)
+    return Ended(0, text, (statistics if request.stats else b"") + (report if request.report else b"") + note)

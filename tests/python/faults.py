@@ -562,6 +562,8 @@ def outputs(folder):
     lines = ["rows left 1 right 1", "pairs 1 lone-left 0 lone-right 0", "null-keys left 0 right 0", "repeated-keys left 0 right 0"]
     report = "\n".join([*lines, 'largest-key left 1 right 1, "id" = "a\\x0Ab"'])
     yield from telling.differs("a report", told, radixjoin.Stats(((1, 1),), 1, 0, 0, None, report))
+    told = radixjoin.stats([{"id": "a\nb"}], [{"id": "a\nb"}], using="id", bits1=0, report=True, rows="pairs,lone-left")
+    yield from telling.differs("a report, and rows that the join doesn't keep", told.report, report)
     told = radixjoin.stats(ROWS, ROWS, using="id", bits1=0, report=False)
     yield from telling.differs("no report", told.report, None)
 

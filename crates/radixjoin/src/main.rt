@@ -9,15 +9,15 @@ use crate::suggesting::suggest;
 use rj_command::{Line, Stats, UnkeptRows};
 use rj_fault::{Fault, read_words, texts_of};
 use rj_files::{
-    ExplainedFault, NamedStream, Progress, Terminals, read_lists, read_words_of_line,
-    refuse_inputs, tell_explained, write_output,
+    ExplainedFault, NamedStream, Progress, Terminals, processors, read_lists, read_words_of_line,
+    refuse_inputs, tell_explained, tell_texts, write_output,
 };
 use std::env::Env;
 use std::fs::Files;
 use std::io::IsTerminal;
 use std::process::ExitCode;
 use std::sync::Wait;
-use std::thread::{self, Threads};
+use std::thread::Threads;
 use std::time::Clock;
 
 // Does what the words of a line ask for, and shows its progress meanwhile.
@@ -34,48 +34,6 @@ fn write_watched<R: Files + Input + AllocGlobal + Print + Eprint + Threads + Wai
     let written = write_output(rt, line, &progress, &left, &right);
     progress.clear();
     written
-}
-
-// How many processors there are, or one if that can't be known.
-fn processors(rt: &impl Threads) -> usize {
-    match thread::available_parallelism(rt) {
-        Ok(count) => count.get(),
-        Err(_) => 1,
-    }
-}
-
-// Whether there are rows with a key in both tables, and none of them match.
-fn is_unmatched(stats: &Stats) -> bool {
-    let (mut left, mut right) = (false, false);
-    for partition in &stats.partitions {
-        left |= partition.left > 0;
-        right |= partition.right > 0;
-    }
-    left && right && stats.pairs == 0
-}
-
-// Tells that no rows match, if that may be so because nobody declared the types of columns.
-fn tell_unmatched<R: Eprint>(rt: &R, line: &Line<'_>, stats: &Stats) {
-    let is_open = line.request.left_undeclared || line.request.right_undeclared;
-    if is_open && is_unmatched(stats) {
-        let _ = eprintln!(rt;
-            "radixjoin: no rows match; columns without a type are texts, so 7 isn't 07"
-        );
-    }
-}
-
-// Tells what may be so because nobody declared the types of columns: which keys hold numbers that
-// were compared as texts, or else that no rows match.
-fn tell_texts<R: Eprint>(rt: &R, line: &Line<'_>, stats: &Stats) {
-    if !line.explain {
-        return;
-    }
-    for key in &stats.text_keys {
-        let _ = eprintln!(rt; "radixjoin: {key}");
-    }
-    if stats.text_keys.is_empty() {
-        tell_unmatched(rt, line, stats);
-    }
 }
 
 // Reads the words of a join, and writes what they ask for.

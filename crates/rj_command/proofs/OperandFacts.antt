@@ -1,18 +1,21 @@
 -- Which fault is the first.
 use Rattle.std.proofs.Common.{◌≡◌, ◌≢◌, ◌∙◌, Bool, true, false, true≢false, List, None, Option, Result, Some, ℕ, Err, ap, ap₂, sym, subst}
-use Rattle.std.specs.Prelude.{IfErr, IfOk, IsErr, Ok}
+use Rattle.std.specs.Prelude.{IfErr, IfOk, IsErr, Ok, if◌then◌else◌}
 use Rattle.rj_columns.specs.Tables.{TableValue}
 use Rattle.rj_condition.specs.Bound.{bound}
+use Rattle.rj_condition.specs.Fits.{fits}
+use Rattle.rj_condition.specs.Joins.{kind_of_join}
 use Rattle.rj_condition.specs.declared.tree.Clause.{Clause}
 use Rattle.rj_condition.specs.declared.refused.BindRefused.{BindRefused}
 use Rattle.rj_condition.specs.declared.refused.BindRefused.TheVariants as bind
 use Rattle.rj_fault.specs.declared.fault.Fault.{Fault}
 use Rattle.rj_fault.specs.declared.fault.Fault.TheVariants as fault
+use Rattle.rj_fault.specs.declared.fault.Side.{Side}
 use Rattle.rj_fault.specs.declared.fault.Side.TheVariants as side
 use Rattle.rj_line.specs.declared.request.Request.{Request}
 use Rattle.rj_command.specs.Operands.{AreHeaders, HasNoHeaderFault, IsClauseFault, IsFirstFault, IsHeaderFault, IsJoinAsked, IsJoinFault, header_table, in_clause, in_headers, in_left, in_right, of_clause, of_text, of_types, shared_fault, unbound, unread}
 use Rattle.rj_command.specs.Refused.{bind_fault, parse_fault}
-use Rattle.rj_command.specs.SuchRows.{asked_for, with_rows}
+use Rattle.rj_command.specs.SuchRows.{asked_for, unkept_side, unless_unkept, with_rows}
 use Rattle.rj_command.specs.Undeclared.{bound_or, undeclared_fault}
 use Rattle.rj_command.specs.Undeclared as specs
 use Rattle.rj_condition.specs.declared.bound.BoundJoin.{BoundJoin}
@@ -63,6 +66,21 @@ module _ (q : Request) (l r : TableValue) (c : Clause) (join : BoundJoin) (has :
   pub asked_fault : (result : Result BoundJoin Fault) → result ≡ with_rows q (bound_or (Ok join) u) → IfErr result (λ f. f ≢ fault.Memory → IsClauseFault q l r f)
   asked_fault (Ok asked) same = tt
   asked_fault (Err f) same = λ not. of_clause c f has (asked_by q l r c u (Ok join) known is ∙ sym same) named
+
+-- a join that keeps the rows that are asked for is the one that was bound
+kept_same : (join asked : BoundJoin) (o : Option Side) → Ok asked ≡ unless_unkept join o → asked ≡ join
+kept_same join asked None same = let g : ◌≡◌ {A = Result BoundJoin Fault} (Ok asked) (Ok join) = same in cc
+kept_same join asked (Some s) same = let g : ◌≡◌ {A = Result BoundJoin Fault} (Ok asked) (Err (fault.NoSuchRows s)) = same in cc
+
+asked_same : (q : Request) (join asked : BoundJoin) (u : Option Fault) → Ok asked ≡ with_rows q (bound_or (Ok join) u) → asked ≡ join
+asked_same q join asked None same = kept_same join asked (if q.short then unkept_side q.choice.rows (kind_of_join join) else None) same
+asked_same q join asked (Some f) same = let g : ◌≡◌ {A = Result BoundJoin Fault} (Ok asked) (Err f) = same in cc
+
+-- and so it fits its tables
+pub asked_fits : (q : Request) (l r : TableValue) (join : BoundJoin) (u : Option Fault) (result : Result BoundJoin Fault) → result ≡ with_rows q (bound_or (Ok join) u)
+    → fits join l.types r.types ≡ true → IfOk result (λ asked. fits asked l.types r.types ≡ true)
+asked_fits q l r join u (Ok asked) same fit = subst (λ (x : BoundJoin). fits x l.types r.types ≡ true) (sym (asked_same q join asked u same)) fit
+asked_fits q l r join u (Err f) same fit = tt
 
 module _ (left right : List ℕ) (q : Request) where
   -- no clause has a fault over headers in the long form

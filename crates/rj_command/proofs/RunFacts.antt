@@ -18,8 +18,10 @@ use Rattle.rj_csv_io.specs.declared.refused.ReadRefused.TheVariants as read
 use Rattle.rj_command.specs.Operands.{AreOperands, IsClauseFault, IsFirstFault, in_clause, in_headers, in_left, in_right}
 use Rattle.rj_command.specs.Operands as operands
 use Rattle.rj_command.specs.Refused.{bind_fault, parse_fault}
-use Rattle.rj_command.specs.Undeclared.{bound_or, column_fault, undeclared_column, unbound_fault}
+use Rattle.rj_command.specs.SuchRows.{unkept_side, unless_unkept, with_rows}
+use Rattle.rj_command.specs.Undeclared.{bound_for, bound_or, column_fault, undeclared_column, unbound_fault}
 use Rattle.rj_condition.specs.Bound.{bound}
+use Rattle.rj_condition.specs.Joins.{kind_of_join}
 use Rattle.rj_condition.specs.declared.bound.BoundJoin.{BoundJoin}
 use Rattle.rj_condition.specs.declared.undeclared.TableColumn.{TableColumn}
 use Rattle.rj_condition.specs.declared.undeclared.TableColumn.TheVariants as column
@@ -181,6 +183,15 @@ bound_apart l r (Ok join) (Some x) f e = let same : f ≡ column_fault l r x = c
 bound_apart l r (Err g) o f e =
     let same : f ≡ unbound_fault g (option_map (column_fault l r) o) = cc in ap is_device same ∙ unbound_apart l r g o
 
+unkept_apart : (join : BoundJoin) (o : Option Side) (f : Fault) → unless_unkept join o ≡ Err f → is_device f ≡ false
+unkept_apart join None f e = let g : ◌≡◌ {A = Result BoundJoin Fault} (Ok join) (Err f) = e in cc
+unkept_apart join (Some s) f e =
+    let g : ◌≡◌ {A = Result BoundJoin Fault} (Err (fault.NoSuchRows s)) (Err f) = e in let same : f ≡ fault.NoSuchRows s = cc in ap is_device same
+
+rows_apart : (q : Request) (a : Result BoundJoin Fault) (f : Fault) → (a ≡ Err f → is_device f ≡ false) → with_rows q a ≡ Err f → is_device f ≡ false
+rows_apart q (Ok join) f apart e = unkept_apart join (if q.short then unkept_side q.choice.rows (kind_of_join join) else None) f e
+rows_apart q (Err g) f apart e = apart e
+
 names_apart : (o : Option (List ℕ)) (f : Fault) → option_map fault.SharedTypeName o ≡ Some f → is_device f ≡ false
 names_apart None f e = let g : ◌≡◌ {A = Option Fault} None (Some f) = e in cc
 names_apart (Some name) f e = let g : ◌≡◌ {A = Option Fault} (Some (fault.SharedTypeName name)) (Some f) = e in let same : f ≡ fault.SharedTypeName name = cc in ap is_device same
@@ -188,7 +199,8 @@ names_apart (Some name) f e = let g : ◌≡◌ {A = Option Fault} (Some (fault.
 clause_apart : (q : Request) (l r : TableValue) (f : Fault) → IsClauseFault q l r f → is_device f ≡ false
 clause_apart q l r _ (operands.of_types f told) = names_apart (name_fault q.shared_types.items (l.names ++ r.names)) f told
 clause_apart q l r _ (operands.of_text e other told named) = parse_apart e
-clause_apart q l r _ (operands.of_clause c f has told named) = bound_apart l r (bound c l r) (undeclared_column q l r c) f told
+clause_apart q l r _ (operands.of_clause c f has told named) =
+    rows_apart q (bound_for q l r c) f (bound_apart l r (bound c l r) (undeclared_column q l r c) f) told
 
 first_apart : (left right : List ℕ) (q : Request) (f : Fault) → IsFirstFault left right q f → is_device f ≡ false
 first_apart left right q _ (in_headers f told) = clause_apart q told.l told.r f told.told

@@ -18,15 +18,15 @@ use Rattle.rj_columns.specs.Tables.{TableValue, rows_of_all}
 use Rattle.csv.specs.Writing.{default_writer, row_text}
 use Rattle.rj_csv_io.specs.Shown.{range_text, rows_text, table_text}
 use Rattle.rj_csv_io.proofs.RangeFacts.{range-join, range-none}
+use Rattle.rj_engine.specs.declared.joined.JoinedRow.{JoinedRow}
 use Rattle.rj_engine.specs.declared.runs.Run.{Run}
-use Rattle.rj_engine.specs.declared.shown.Shown.{Shown}
 use Rattle.rj_engine.specs.Cells.{joined_cells}
 use Rattle.rj_engine.specs.Chosen.{shown_rows}
-use Rattle.rj_engine.specs.Join.{JoinedValue}
-use Rattle.rj_engine.specs.Shown.{Follow, IsRunOf, IsShownOf, shown_view}
+use Rattle.rj_engine.specs.Shown.{Follow, IsRunOf}
 use Rattle.rj_engine.proofs.RunFacts.{run-cells, run-within}
 use Rattle.rj_command.specs.declared.join.texts.Share.{Share}
-use Rattle.rj_command.specs.Texts.{AreCounted, AreRunTexts, AreTextsOf, AreWithin, cells_text, is_of, no_table, run_text, text_in, whole_text}
+use Rattle.rj_command.specs.declared.join.texts.Written.{Written}
+use Rattle.rj_command.specs.Texts.{AreCounted, AreRunTexts, AreShownOf, AreTextsOf, AreWithin, cells_text, is_of, no_table, run_text, shown_cells, text_in, whole_text}
 
 abbrev Texts : Type 0
 Texts = Vec (Vec ℕ Global) Global
@@ -55,14 +55,14 @@ same-texts f g k (run ∷ runs) same = elim (cases_Bool (run.segment == k)) [
 ]
 
 -- the texts of a segment's runs, by all segments
-pub texts-in : (null : List ℕ) (s : Shown) (segments : List TableValue) (r : TableValue) (v : JoinedValue) (k : ℕ) (runs : List Run)
-    → map (run_text null s (get_or segments k no_table) r v) (filter (is_of k) runs) ≡ map (text_in null s segments r v) (filter (is_of k) runs)
-texts-in null s segments r v k runs =
-    same-texts (run_text null s (get_or segments k no_table) r v) (text_in null s segments r v) k runs (λ run is. ap (λ n. run_text null s (get_or segments n no_table) r v run) (sym is))
+pub texts-in : (w : Written) (segments : List TableValue) (k : ℕ) (runs : List Run)
+    → map (run_text w (get_or segments k no_table)) (filter (is_of k) runs) ≡ map (text_in w segments) (filter (is_of k) runs)
+texts-in w segments k runs =
+    same-texts (run_text w (get_or segments k no_table)) (text_in w segments) k runs (λ run is. ap (λ n. run_text w (get_or segments n no_table) run) (sym is))
 
 -- ---- shares
 
-module _ (null : List ℕ) (s : Shown) (segments : List TableValue) (r : TableValue) (v : JoinedValue) (runs : List Run) (shares : List Share) (is : map (λ (x : Share). x.segment) shares ≡ map (λ (t : TableValue). Some t) segments) where
+module _ (w : Written) (segments : List TableValue) (runs : List Run) (shares : List Share) (is : map (λ (x : Share). x.segment) shares ≡ map (λ (t : TableValue). Some t) segments) where
   size : length shares ≡ length segments
   size = sym (length-map shares (λ (x : Share). x.segment)) ∙ (ap length is ∙ length-map segments (λ (t : TableValue). Some t))
 
@@ -74,19 +74,19 @@ module _ (null : List ℕ) (s : Shown) (segments : List TableValue) (r : TableVa
       ∙ (ap (λ os. get_or os k (Some no_table)) is ∙ get_or-map (λ (t : TableValue). Some t) segments k no_table)
 
   -- the runs of a share's segment are within it
-  pub shares-within : ((k : ℕ) → k < length segments → AreWithin (get_or segments k no_table) r v s k runs)
-      → (k : ℕ) (d : Share) → k < length shares → ForSome (get_or shares k d).segment (λ (t : TableValue). AreWithin t r v s k runs)
+  pub shares-within : ((k : ℕ) → k < length segments → AreWithin w (get_or segments k no_table) k runs)
+      → (k : ℕ) (d : Share) → k < length shares → ForSome (get_or shares k d).segment (λ (t : TableValue). AreWithin w t k runs)
   shares-within within k d low t at =
       let e : Share = record { segment = Some no_table; texts = d.texts } in
       let one = ap (λ (x : Share). x.segment) (get_or_default shares k e d low) ∙ at in
       let same : get_or segments k no_table ≡ t = ap (λ o. unwrap_or o no_table) (sym (segment-of k d.texts) ∙ one) in
-      subst (λ (u : TableValue). AreWithin u r v s k runs) same (within k (subst (λ n. k < n) size low))
+      subst (λ (u : TableValue). AreWithin w u k runs) same (within k (subst (λ n. k < n) size low))
 
   -- the texts that are made of all shares
   pub made-texts : (after : List Share) (made : List (Vec Texts Global)) → length after ≡ length shares
-      → ((k : ℕ) (d : Share) → k < length shares → IfSome (get_or shares k d).segment (λ (t : TableValue). IfOk (get_or after k d).texts (AreRunTexts null s t r v k runs)))
+      → ((k : ℕ) (d : Share) → k < length shares → IfSome (get_or shares k d).segment (λ (t : TableValue). IfOk (get_or after k d).texts (AreRunTexts w t k runs)))
       → map (λ (x : Share). x.texts) after ≡ map (λ (t : Vec Texts Global). Ok t) made
-      → (length made ≡ length segments) × AreTextsOf (text_in null s segments r v) runs made
+      → (length made ≡ length segments) × AreTextsOf (text_in w segments) runs made
   made-texts after made many each all =
       let long : length made ≡ length after = sym (length-map made (λ (t : Vec Texts Global). Ok t)) ∙ (ap length (sym all) ∙ length-map after (λ (x : Share). x.texts)) in (
         long ∙ (many ∙ size),
@@ -96,9 +96,9 @@ module _ (null : List ℕ) (s : Shown) (segments : List TableValue) (r : TableVa
             let low : k < length shares = omega (arith, long, many, lt) in
             let ok : (get_or after k e).texts ≡ Ok (get_or made k d) =
             sym (get_or-map (λ (x : Share). x.texts) after k e) ∙ (ap (λ os. get_or os k (Ok d)) all ∙ get_or-map (λ (u : Vec Texts Global). Ok u) made k d) in
-            let one = subst (λ o. IfSome o (λ (u : TableValue). IfOk (get_or after k e).texts (AreRunTexts null s u r v k runs))) (segment-of k (Ok d)) (each k e low) in
-            let texts : AreRunTexts null s t r v k runs (get_or made k d) = subst (λ x. IfOk x (AreRunTexts null s t r v k runs)) ok one in
-            texts ∙ texts-in null s segments r v k runs,
+            let one = subst (λ o. IfSome o (λ (u : TableValue). IfOk (get_or after k e).texts (AreRunTexts w u k runs))) (segment-of k (Ok d)) (each k e low) in
+            let texts : AreRunTexts w t k runs (get_or made k d) = subst (λ x. IfOk x (AreRunTexts w t k runs)) ok one in
+            texts ∙ texts-in w segments k runs,
       )
 
 -- ---- the runs in their order
@@ -174,43 +174,49 @@ whole-more text runs i run before next after low is joined so here =
 
 -- ---- all runs
 
+-- the rows that are written
+abbrev pub rows_of : Written → List JoinedRow
+rows_of w = shown_rows w.shown.now.chosen w.joined.now.members
+
 -- the text of runs that follow one another up to the last row
-texts-follow : (null : List ℕ) (segments : List TableValue) (l r : TableValue) (v : JoinedValue) (s : Shown) (from : ℕ) (runs : List Run) → l.rows ≡ rows_of_all segments
-    → All (λ (t : TableValue). t.types ≡ l.types) segments → Follow from (length (shown_rows s.chosen v)) runs → All (IsRunOf segments (shown_rows s.chosen v)) runs
-    → concat (map (text_in null s segments r v) runs) ≡ range_text null (shown_view s l r v).cells from (length (shown_rows s.chosen v))
+texts-follow : (w : Written) (segments : List TableValue) (l : TableValue) (from : ℕ) (runs : List Run) → l.rows ≡ rows_of_all segments
+    → All (λ (t : TableValue). t.types ≡ l.types) segments → Follow from (length (rows_of w)) runs → All (IsRunOf segments (rows_of w)) runs
+    → concat (map (text_in w segments) runs) ≡ range_text w.null.now (shown_cells w l) from (length (rows_of w))
 unfolding Follow
-texts-follow null segments l r v s from [] rows types h each =
-    let n = length (shown_rows s.chosen v) in
-    sym (ap (λ k. range_text null (shown_view s l r v).cells k n) h ∙ range-none null (shown_view s l r v).cells n)
-texts-follow null segments l r v s from (run ∷ runs) rows types h each =
-    let n = length (shown_rows s.chosen v) in
-    let cells = (shown_view s l r v).cells in
-    let one = All-head (IsRunOf segments (shown_rows s.chosen v)) run runs each in
-    let others = All-tail (IsRunOf segments (shown_rows s.chosen v)) run runs each in
+texts-follow w segments l from [] rows types h each =
+    let n = length (rows_of w) in
+    sym (ap (λ k. range_text w.null.now (shown_cells w l) k n) h ∙ range-none w.null.now (shown_cells w l) n)
+texts-follow w segments l from (run ∷ runs) rows types h each =
+    let n = length (rows_of w) in
+    let null = w.null.now in
+    let cells = shown_cells w l in
+    let one = All-head (IsRunOf segments (rows_of w)) run runs each in
+    let others = All-tail (IsRunOf segments (rows_of w)) run runs each in
     let t = get_or segments run.segment no_table in
     let there : t ≡ get_or segments run.segment t = get_or_default segments run.segment no_table t one.segment in
-    let here : text_in null s segments r v run ≡ range_text null cells run.from run.to = ap (cells_text null) (run-cells segments l r t v s run rows (types run.segment no_table one.segment) one there) in
-    let rest = texts-follow null segments l r v s run.to runs rows types h.1 others in
+    let here : text_in w segments run ≡ range_text null cells run.from run.to =
+    ap (cells_text null) (run-cells segments l w.right.now t w.joined.now.members w.shown.now run rows (types run.segment no_table one.segment) one there) in
+    let rest = texts-follow w segments l run.to runs rows types h.1 others in
     (λ i. here i ++ rest i) ∙ (range-join null cells run.from run.to n one.order one.to ∙ ap (λ k. range_text null cells k n) h.0)
 
 -- the text of all runs is that of all rows
-pub whole-texts : (null : List ℕ) (segments : List TableValue) (l r : TableValue) (v : JoinedValue) (s : Shown) (runs : List Run) → l.rows ≡ rows_of_all segments
-    → All (λ (t : TableValue). t.types ≡ l.types) segments → Follow 0 (length (shown_rows s.chosen v)) runs → All (IsRunOf segments (shown_rows s.chosen v)) runs
-    → concat (map (text_in null s segments r v) runs) ≡ cells_text null (shown_view s l r v).cells
-whole-texts null segments l r v s runs rows types h each =
-    let all = shown_rows s.chosen v in
-    let cells = (shown_view s l r v).cells in
-    let size : length cells ≡ length all = length-map all (joined_cells l r s.origins.items) in
-    texts-follow null segments l r v s 0 runs rows types h each ∙ ap (cells_text null) (take_all (length all - 0) cells (omega (arith, size)))
+pub whole-texts : (w : Written) (segments : List TableValue) (l : TableValue) (runs : List Run) → l.rows ≡ rows_of_all segments
+    → All (λ (t : TableValue). t.types ≡ l.types) segments → Follow 0 (length (rows_of w)) runs → All (IsRunOf segments (rows_of w)) runs
+    → concat (map (text_in w segments) runs) ≡ cells_text w.null.now (shown_cells w l)
+whole-texts w segments l runs rows types h each =
+    let all = rows_of w in
+    let cells = shown_cells w l in
+    let size : length cells ≡ length all = length-map all (joined_cells l w.right.now w.shown.now.origins.items) in
+    texts-follow w segments l 0 runs rows types h each ∙ ap (cells_text w.null.now) (take_all (length all - 0) cells (omega (arith, size)))
 
 -- the runs of a segment are within it
-pub all-within : (segments : List TableValue) (l r : TableValue) (v : JoinedValue) (s : Shown) (runs : List Run) (k : ℕ) → l.rows ≡ rows_of_all segments
-    → All (λ (t : TableValue). t.types ≡ l.types) segments → IsShownOf l r v s → All (IsRunOf segments (shown_rows s.chosen v)) runs → k < length segments
-    → AreWithin (get_or segments k no_table) r v s k runs
-all-within segments l r v s runs k rows types h each low = λ i d lt is.
+pub all-within : (w : Written) (segments : List TableValue) (l : TableValue) (runs : List Run) (k : ℕ) → l.rows ≡ rows_of_all segments
+    → All (λ (t : TableValue). t.types ≡ l.types) segments → AreShownOf w l → All (IsRunOf segments (rows_of w)) runs → k < length segments
+    → AreWithin w (get_or segments k no_table) k runs
+all-within w segments l runs k rows types h each low = λ i d lt is.
     let t = get_or segments k no_table in
     let there : t ≡ get_or segments k t = get_or_default segments k no_table t low in
-    run-within segments l r t v s (get_or runs i d) rows (types k no_table low) (each i d lt) (there ∙ ap (λ n. get_or segments n t) (sym is)) h
+    run-within segments l w.right.now t w.joined.now.members w.shown.now (get_or runs i d) rows (types k no_table low) (each i d lt) (there ∙ ap (λ n. get_or segments n t) (sym is)) h
 
 -- under a header the text of rows is that of a table
 pub table-text : (null : List ℕ) (header : List (List ℕ)) (cells : List (List Content)) (texts : Texts) → whole_text texts ≡ cells_text null cells

@@ -12,6 +12,7 @@ pub mod Texts
 pub mod Prepared
 pub mod Sides
 pub mod Statistics
+pub mod SuchRows
 pub mod Expected
 pub mod Counts
 pub mod ReadBack

@@ -6,10 +6,8 @@ use Rattle.std.specs.declared.vec.Vec.{Vec}
 use Rattle.rj_columns.specs.Contents.{Content}
 use Rattle.rj_columns.specs.Tables.{TableValue}
 use Rattle.rj_csv_io.specs.Shown.{rows_text, shown}
-use Rattle.rj_engine.specs.Join.{JoinedValue}
 use Rattle.rj_engine.specs.Shown.{IsRunWithin, IsShownOf, run_view, shown_view}
 use Rattle.rj_engine.specs.declared.runs.Run.{Run}
-use Rattle.rj_engine.specs.declared.shown.Shown.{Shown}
 use Rattle.rj_command.specs.declared.join.texts.Written.{Written}
 
 -- texts, one after another
@@ -24,25 +22,21 @@ cells_text null rows = rows_text (map (map (shown null)) rows)
 abbrev pub is_of : ℕ → Run → Bool
 is_of segment run = run.segment == segment
 
--- the text of a run, by its segment of the left table
-abbrev pub run_text : List ℕ → Shown → TableValue → TableValue → JoinedValue → Run → List ℕ
-run_text null s t r v run = cells_text null (run_view s t r v run).cells
+-- the text of a run of what is written, by its segment of the left table
+abbrev pub run_text : Written → TableValue → Run → List ℕ
+run_text w t run = cells_text w.null.now (run_view w.shown.now t w.right.now w.joined.now.members run).cells
 
 -- the texts of the runs of a segment, in their order
-abbrev pub AreRunTexts : List ℕ → Shown → TableValue → TableValue → JoinedValue → ℕ → List Run → Vec (Vec (Vec ℕ Global) Global) Global → Type 0
-AreRunTexts null s t r v segment runs texts = map whole_text texts.items ≡ map (run_text null s t r v) (filter (is_of segment) runs)
+abbrev pub AreRunTexts : Written → TableValue → ℕ → List Run → Vec (Vec (Vec ℕ Global) Global) Global → Type 0
+AreRunTexts w t segment runs texts = map whole_text texts.items ≡ map (run_text w t) (filter (is_of segment) runs)
 
 -- the runs of a segment are within it
-abbrev pub AreWithin : TableValue → TableValue → JoinedValue → Shown → ℕ → List Run → Type 0
-AreWithin t r v s segment runs = All (λ run. run.segment ≡ segment → IsRunWithin t r v s run) runs
+abbrev pub AreWithin : Written → TableValue → ℕ → List Run → Type 0
+AreWithin w t segment runs = All (λ run. run.segment ≡ segment → IsRunWithin t w.right.now w.joined.now.members w.shown.now run) runs
 
 -- a table of nothing
 abbrev pub no_table : TableValue
 no_table = record { names = []; types = []; rows = [] }
-
--- the text of a run, by all segments
-abbrev pub text_in : List ℕ → Shown → List TableValue → TableValue → JoinedValue → Run → List ℕ
-text_in null s segments r v run = run_text null s (slice_index_or segments run.segment no_table) r v run
 
 -- what is written is of the joined table of this left table
 abbrev pub AreShownOf : Written → TableValue → Type 0
@@ -52,9 +46,9 @@ AreShownOf w left = IsShownOf left w.right.now w.joined.now.members w.shown.now
 abbrev pub shown_cells : Written → TableValue → List (List Content)
 shown_cells w left = (shown_view w.shown.now left w.right.now w.joined.now.members).cells
 
--- the text of a run of what is written, by all segments
-abbrev pub texts_in : Written → List TableValue → Run → List ℕ
-texts_in w segments = text_in w.null.now w.shown.now segments w.right.now w.joined.now.members
+-- the text of a run, by all segments
+abbrev pub text_in : Written → List TableValue → Run → List ℕ
+text_in w segments run = run_text w (slice_index_or segments run.segment no_table) run
 
 -- there are these texts for each segment, one for each of its runs, in their order
 abbrev pub AreTextsOf : (Run → List ℕ) → List Run → List (Vec (Vec (Vec ℕ Global) Global) Global) → Type 0

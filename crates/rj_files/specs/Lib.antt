@@ -1,5 +1,9 @@
+pub mod Drafts
+pub mod Entries
+pub mod Labels
 pub mod Outputs
 pub mod Readers
 pub mod Shares
 pub mod Streams
+pub mod Telling
 pub mod Texts

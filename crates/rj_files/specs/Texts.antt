@@ -1,5 +1,7 @@
--- The lines for running out of memory, and for rows that a join doesn't keep.
+-- The lines that are added to an error: for running out of memory, and for rows that a join doesn't
+-- keep.
 use Rattle.std.specs.Prelude.{ℕ, List, [], ◌∷◌, ◌++◌, codes, decimal}
+use Rattle.rj_fault.specs.Faults.{side_text}
 use Rattle.rj_fault.specs.declared.fault.Side.{Side}
 use Rattle.rj_command.specs.Statistics.{unkept_text}
 
@@ -11,3 +13,7 @@ memory_text left right = codes "  while tables of " ++ (decimal left ++ (codes "
 -- the line for a join that keeps no unmatched rows of a table
 abbrev pub unkept_lines : Side → List ℕ
 unkept_lines s = codes "  " ++ (unkept_text s ++ 10 ∷ [])
+
+-- the line when a side's file was being read
+abbrev pub unread_memory_text : Side → List ℕ
+unread_memory_text side = codes "  while the " ++ (side_text side ++ (codes " file was read" ++ 10 ∷ []))

@@ -1,11 +1,15 @@
 //! The file of `--output`, which is written atomically: it has the whole result, or what it had
 //! before.
 
-ghost use Rattle.std.specs.Prelude.{◌≡◌, IfErr};
+ghost use Rattle.std.specs.Prelude.{◌≡◌, ◌≢◌, ◌↔◌, IfOk, IfErr, IfSome, IsTrue, MatchResult, false, option_map, string_bytes};
+ghost use Rattle.std.specs.Fs.{IsFile, file_type};
+ghost use Rattle.std.specs.IoError.{error_kind};
+ghost use Rattle.std.specs.Path.{path_parent};
 ghost use Rattle.rj_fault.specs.Faults.{IsOfWriting};
+ghost use Rattle.rj_files.specs.Drafts.{draft_name, folder_of, in_folder, named_folder, repeated, without_group};
 
 use rj_fault::Fault;
-use std::alloc::Global;
+use std::alloc::{AllocError, Global};
 use std::fs::{self, Files, Metadata, OpenFile, OpenOptions};
 use std::io::{self, ErrorKind};
 use std::os::unix::fs::{MetadataExt, PermissionsExt, chown};
@@ -74,22 +78,39 @@ fn is_of_folder(error: &io::Error) -> bool {
     }
 }
 
-// The folder of a path.
-fn folder_of(alloc: Global, path: &str) -> Option<String> {
-    let folder = Path::new(path).parent()?.as_str();
-    let folder = if folder.is_empty() { "." } else { folder };
-    String::from_str(alloc, folder).ok()
+// A folder as a path names it, also the one in which the program runs.
+fn named_folder(folder: &str) -> &str
+    ensures { result.now ≡ named_folder folder.now }
+{
+    if folder.is_empty() { "." } else { folder }
+}
+
+// The folder of a path, if it has one.
+fn folder_of(alloc: Global, path: &str) -> Result<Option<String>, AllocError>
+    ensures { IfOk result (λ folder. option_map string_bytes folder ≡ folder_of path.now) }
+{
+    match Path::new(path).parent() {
+        Some(folder) => Ok(Some(String::from_str(alloc, named_folder(folder.as_str()))?)),
+        None => Ok(None),
+    }
+}
+
+// The folder of a path, if it is for the folder that no file can be made there.
+fn refused_folder(alloc: Global, path: &str, error: &io::Error) -> Option<String>
+    ensures { IfSome result (λ folder. folder_of path.now ≡ Some (string_bytes folder)) }
+{
+    match folder_of(alloc, path) {
+        Ok(Some(folder)) if is_of_folder(error) => Some(folder),
+        _ => None,
+    }
 }
 
 // Why a new file can't be made at a path, by the system's error.
 fn unmade_by(alloc: Global, path: &str, error: io::Error) -> Unwritten
-    ensures { IsOfWriting result.fault }
+    ensures fault { IsOfWriting result.fault }
+    ensures folder { IfSome result.folder (λ folder. folder_of path.now ≡ Some (string_bytes folder)) }
 {
-    let folder = if is_of_folder(&error) {
-        folder_of(alloc, path)
-    } else {
-        None
-    };
+    let folder = refused_folder(alloc, path, &error);
     let Unwritten {
         fault,
         error,
@@ -104,7 +125,8 @@ fn unmade_by(alloc: Global, path: &str, error: io::Error) -> Unwritten
 
 // A file name in the folder of a path. A name that begins with a slash is taken as it is.
 fn in_folder_of(alloc: Global, path: &str, name: &str) -> Result<String, Fault>
-    ensures { IfErr result IsOfWriting }
+    ensures path { IfOk result (λ s. string_bytes s ≡ in_folder (path_parent path.now) name.now) }
+    ensures fault { IfErr result IsOfWriting }
 {
     match Path::new(path).parent() {
         Some(folder) => Ok(String::from_str(alloc, folder.join(alloc, name)?.as_str())?),
@@ -128,20 +150,30 @@ fn followed<R: Files + AllocGlobal>(rt: &R, path: &str) -> Result<String, Fault>
     Err(Fault::WriteDevice)
 }
 
+// What a new file's name has of the name of a file.
+fn repeated(file: &str) -> &str
+    ensures { result.now ≡ repeated file.now }
+{
+    if file.len() > LONGEST { "" } else { file }
+}
+
 // A name for a new file in the target's folder.
 fn draft_name(alloc: Global, target: &str, number: u32) -> Result<String, Fault>
-    ensures { IfErr result IsOfWriting }
+    ensures name { IfOk result (λ s. draft_name target.now number ≡ Some (string_bytes s)) }
+    ensures fault { IfErr result IsOfWriting }
 {
     let Some(file) = Path::new(target).file_name() else {
         return Err(Fault::WriteDevice);
     };
-    let repeated = if file.len() > LONGEST { "" } else { file };
+    let repeated = repeated(file);
     let name = format!(in alloc; ".{repeated}.radixjoin-{number}")?;
     in_folder_of(alloc, target, name.as_str())
 }
 
 // Whether a path leads to something that isn't a regular file: a pipe, a device or a folder.
-fn is_special(found: &io::Result<Metadata>) -> bool {
+fn is_special(found: &io::Result<Metadata>) -> bool
+    ensures { MatchResult found.now (λ metadata. IsTrue result ↔ ¬ (IsFile (file_type metadata))) (λ _. result ≡ false) }
+{
     match found {
         Ok(metadata) => !metadata.is_file(),
         Err(_) => false,
@@ -150,7 +182,9 @@ fn is_special(found: &io::Result<Metadata>) -> bool {
 
 // Gives a new file the owner and the group of another, or the group alone if the user may not give
 // files away. It returns whether the group is that of the other.
-fn take_owner<R: Files>(rt: &R, name: &str, there: &Metadata) -> io::Result<bool> {
+fn take_owner<R: Files>(rt: &R, name: &str, there: &Metadata) -> io::Result<bool>
+    ensures { IfErr result (λ error. error_kind error ≢ ErrorKind.PermissionDenied) }
+{
     match chown(rt, name, Some(there.uid()), Some(there.gid())) {
         Ok(()) => return Ok(true),
         Err(error) if error.kind() != ErrorKind::PermissionDenied => return Err(error),
@@ -164,7 +198,9 @@ fn take_owner<R: Files>(rt: &R, name: &str, there: &Metadata) -> io::Result<bool
 }
 
 // A mode in which the group may do no more than all others may.
-fn without_group(mode: u32) -> u32 {
+fn without_group(mode: u32) -> u32
+    ensures { result ≡ without_group mode }
+{
     mode & (0o7707 | (mode & 0o007) << 3)
 }
 

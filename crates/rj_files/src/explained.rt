@@ -1,6 +1,6 @@
 //! Why a run ended without its output, and the lines that explain it.
 
-ghost use Rattle.std.specs.Prelude.{◌≡◌, ◌⊎◌, IfOk, IfErr, None, Some};
+ghost use Rattle.std.specs.Prelude.{◌≡◌, ◌⊎◌, IfOk, IfErr, None, Some, false};
 ghost use Rattle.rj_fault.specs.Faults.{IsAskedFor, clap_error_of, status_of};
 
 use rj_fault::{Fault, tell};
@@ -60,7 +60,8 @@ impl ExplainedFault {
 
     /// An error of which nothing is printed: whoever reads the output has gone.
     pub(crate) fn unheard(fault: Fault) -> ExplainedFault
-        ensures { result.fault ≡ fault }
+        ensures fault { result.fault ≡ fault }
+        ensures told { result.is_told ≡ false }
     {
         ExplainedFault {
             fault,

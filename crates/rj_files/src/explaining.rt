@@ -1,6 +1,13 @@
 //! `--explain`: the lines that are added after the line of an error.
 
-ghost use Rattle.std.specs.Prelude.{◌≡◌, IfOk, IfSome, length, string_bytes};
+ghost use Rattle.std.specs.Prelude.{◌≡◌, ◌↔◌, ◌<◌, ◌||◌, IfErr, IfOk, IfSome, IsTrue, codes, false, length, map, option_map, string_bytes};
+ghost use Rattle.std.specs.IoError.{error_kind};
+ghost use Rattle.std.specs.List.{list_any};
+ghost use Rattle.std.specs.Option.{IsSomeAnd};
+ghost use Rattle.std.specs.Str.{bytes_eq};
+ghost use Rattle.rj_line.specs.Forms as forms;
+ghost use Rattle.rj_line.specs.Line.{IsLineFault, IsLineOf};
+ghost use Rattle.rj_files.specs.Entries.{entry_for, is_entry_for};
 ghost use Rattle.rj_files.specs.Texts.{memory_text, unkept_lines};
 
 use crate::explained::ExplainedFault;
@@ -15,13 +22,22 @@ use std::alloc::{AllocError, Global};
 use std::io::{self, ErrorKind};
 use std::str;
 use std::sync::Wait;
-use std::thread::Threads;
+use std::thread::{self, Threads};
 use std::time::Clock;
 
+// Whether one of the words is this one.
+fn has_word(words: &[&str], sought: &str) -> bool
+    ensures { result ≡ list_any (λ w. bytes_eq w.now sought.now) words.now }
+{
+    words.iter().any(|word| *word == sought)
+}
+
 /// Whether the words ask for explanations: in the short form, unless one is `--terse`.
-pub(crate) fn ask_for_lines(words: &[&str]) -> bool {
-    let terse = words.iter().any(|word| *word == "--terse");
-    words.iter().any(|word| *word == "--explain") || default_explain(form_of(words), terse)
+pub(crate) fn ask_for_lines(words: &[&str]) -> bool
+    ensures { result ≡ (list_any (λ w. bytes_eq w.now (codes "--explain")) words.now
+        || forms.default_explain (forms.form_of (map (λ w. w.now) words.now)) (list_any (λ w. bytes_eq w.now (codes "--terse")) words.now)) }
+{
+    has_word(words, "--explain") || default_explain(form_of(words), has_word(words, "--terse"))
 }
 
 // The lines that explain an error of the command line, if it can be explained and the words ask for
@@ -37,6 +53,16 @@ fn explain_line(
     explain_words(alloc, words, fault)
 }
 
+/// How many processors there are, or one if that can't be known.
+pub fn processors<R: Threads>(rt: &R) -> usize
+    ensures { 0 < result }
+{
+    match thread::available_parallelism(rt) {
+        Ok(count) => count.get(),
+        Err(_) => 1,
+    }
+}
+
 /// What the words of the command line say, on a machine with this many processors.
 ///
 /// # Errors
@@ -46,7 +72,10 @@ pub fn read_words_of_line<'a>(
     alloc: Global,
     words: &'a [&'a str],
     processors: usize,
-) -> Result<Line<'a>, ExplainedFault> {
+) -> Result<Line<'a>, ExplainedFault>
+    ensures line { IfOk result (IsLineOf processors (map (λ w. w.now) words.entry.now)) }
+    ensures fault { IfErr result (λ e. IsLineFault (map (λ w. w.now) words.entry.now) e.fault) }
+{
     match read_line(alloc, words, processors) {
         Ok(line) => Ok(line),
         Err(fault) => match explain_line(alloc, words, &fault) {
@@ -93,16 +122,19 @@ fn memory_lines(alloc: Global, left: usize, right: usize) -> Result<String, Allo
     )
 }
 
+// Whether an entry begins with a name and `=`.
+fn is_entry_for(entry: &[u8], name: &[u8]) -> bool
+    ensures { result ≡ is_entry_for name.now entry.now }
+{
+    entry.starts_with(name) && name.len() < entry.len() && entry[name.len()] == b'='
+}
+
 // The entry of a list of suggested types, one a line, for a column of this name.
-fn entry_for<'t>(list: &'t str, name: &str) -> Option<&'t str> {
-    for entry in list.split('\n') {
-        if let Some(behind) = entry.strip_prefix(name) {
-            if behind.starts_with('=') {
-                return Some(entry);
-            }
-        }
-    }
-    None
+fn entry_for<'t>(list: &'t str, name: &str) -> Option<&'t str>
+    ensures { option_map (λ entry. entry.now) result ≡ entry_for name.now list.now }
+{
+    list.split('\n')
+        .find(|entry| is_entry_for(entry.as_bytes(), name.as_bytes()))
 }
 
 // The line for a column whose type isn't declared: how it is, with the type that its cells suggest.
@@ -171,7 +203,9 @@ pub(crate) fn explained<R: AllocGlobal + Threads + Wait + Clock + Sync>(
 }
 
 // Whether the output is a pipe that nobody reads any more, as behind `| head`.
-fn has_no_reader(error: &Option<io::Error>) -> bool {
+fn has_no_reader(error: &Option<io::Error>) -> bool
+    ensures { IsTrue result ↔ IsSomeAnd error.now (λ e. error_kind e ≡ ErrorKind.BrokenPipe) }
+{
     match error {
         Some(error) => error.kind() == ErrorKind::BrokenPipe,
         None => false,
@@ -186,7 +220,8 @@ pub(crate) fn unwritten(
     fault: Fault,
     error: &Option<io::Error>,
 ) -> ExplainedFault
-    ensures { result.fault ≡ fault }
+    ensures fault { result.fault ≡ fault }
+    ensures unheard { fault ≡ Fault.WriteDevice → IsSomeAnd error.now (λ e. error_kind e ≡ ErrorKind.BrokenPipe) → result.is_told ≡ false }
 {
     if is_unwritten(&fault) && has_no_reader(error) {
         return ExplainedFault::unheard(fault);
@@ -198,7 +233,9 @@ pub(crate) fn unwritten(
     ExplainedFault::new(fault, told_by_system(alloc, name, error))
 }
 
-fn is_unwritten(fault: &Fault) -> bool {
+fn is_unwritten(fault: &Fault) -> bool
+    ensures { IsTrue result ↔ (fault.now ≡ Fault.WriteDevice) }
+{
     match fault {
         Fault::WriteDevice => true,
         _ => false,

@@ -17,10 +17,11 @@ mod reading;
 mod recording;
 mod streams;
 mod suggesting;
+mod telling;
 mod watched;
 
 pub use explained::{ExplainedFault, tell_explained};
-pub use explaining::read_words_of_line;
+pub use explaining::{processors, read_words_of_line};
 pub use lists::read_lists;
 pub use named::{NamedStream, StreamReader};
 pub use outputs::{refuse_inputs, refuse_printed, write_output};
@@ -28,3 +29,4 @@ pub use progress::{Progress, Terminals};
 pub use reading::{OpenStream, Stream};
 pub use streams::write_streams;
 pub use suggesting::write_suggested;
+pub use telling::tell_texts;

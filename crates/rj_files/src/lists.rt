@@ -1,53 +1,36 @@
 //! Lists of types that are in files: `@FILE` in the place of a list.
 
+ghost use Rattle.std.specs.Prelude.{◌≡◌, IfErr};
+ghost use Rattle.rj_files.specs.Labels.{IsListFault, IsListsFault, IsUnreadOf, bad_list_fault, label_of};
+
 use crate::explained::ExplainedFault;
 use crate::explaining::ask_for_lines;
 use crate::named::{open_file, told_by_system, why_unread};
-use crate::reading::{OpenStream, read_bytes, unopened};
+use crate::reading::{FileLabel, OpenStream, read_bytes, unopened};
 use rj_fault::{Fault, Side, texts_of};
 use rj_suggest::list_of_lines;
 use std::alloc::{AllocError, Global};
 use std::fs::Files;
 
-// The tables whose types a list has.
-#[derive(Clone, Copy)]
-enum ListedTables {
-    One(Side),
-    Both,
-}
-
-// Those of an option whose value is a list of types.
-fn tables_of(option: &str) -> Option<ListedTables> {
+// Whose types the value of an option lists, if it is an option of types.
+fn label_of(option: &str) -> Option<FileLabel>
+    ensures { result ≡ label_of option.now }
+{
     match option {
-        "--left-types" => Some(ListedTables::One(Side::Left)),
-        "--right-types" => Some(ListedTables::One(Side::Right)),
-        "--types" => Some(ListedTables::Both),
+        "--left-types" => Some(FileLabel::One(Side::Left)),
+        "--right-types" => Some(FileLabel::One(Side::Right)),
+        "--types" => Some(FileLabel::Both),
         _ => None,
     }
 }
 
-// The error of a list for both tables, by the same one of a side's list.
-fn fault_of_both(fault: Fault) -> Fault {
-    match fault {
-        Fault::ReadDevice(_) => Fault::SharedReadDevice,
-        Fault::BadTypeList(_) => Fault::BadSharedTypeList,
-        other => other,
-    }
-}
-
-// The error of a list of these tables.
-fn fault_of(fault: Fault, tables: ListedTables) -> Fault {
-    match tables {
-        ListedTables::One(_) => fault,
-        ListedTables::Both => fault_of_both(fault),
-    }
-}
-
-// The side by which a list of these tables is read.
-fn side_of(tables: ListedTables) -> Side {
-    match tables {
-        ListedTables::One(side) => side,
-        ListedTables::Both => Side::Left,
+// The error of a file of types that isn't UTF-8.
+fn bad_list(label: FileLabel) -> Fault
+    ensures { result ≡ bad_list_fault label }
+{
+    match label {
+        FileLabel::One(side) => Fault::BadTypeList(side),
+        FileLabel::Both => Fault::BadSharedTypeList,
     }
 }
 
@@ -56,34 +39,43 @@ fn with_list<R: Files + AllocGlobal>(
     rt: &R,
     word: &str,
     explain: bool,
-) -> Result<Option<String>, ExplainedFault> {
+) -> Result<Option<String>, ExplainedFault>
+    ensures { IfErr result (λ e. IsListsFault e.fault) }
+{
     let Some((option, file)) = word.split_once("=@") else {
         return Ok(None);
     };
-    let Some(tables) = tables_of(option) else {
+    let Some(label) = label_of(option) else {
         return Ok(None);
     };
-    let list = list_of(rt, file, tables, explain)?;
+    let list = list_of(rt, file, label, explain)?;
     Ok(Some(format!(in rt.alloc(); "{option}={list}")?))
 }
 
 // The bytes of a file, to its end.
-fn read_file<R: Files + AllocGlobal>(rt: &R, name: &str, side: Side) -> Result<Vec<u8>, Fault> {
+fn read_file<R: Files + AllocGlobal>(rt: &R, name: &str, label: FileLabel) -> Result<Vec<u8>, Fault>
+    ensures { IfErr result (IsUnreadOf label) }
+{
     match open_file(rt, name) {
         Ok(
             OpenStream {
                 reader,
                 likely_size,
             },
-        ) => read_bytes(rt.alloc(), reader, likely_size, side),
-        Err(error) => Err(unopened(&error, side)),
+        ) => read_bytes(rt.alloc(), reader, likely_size, label),
+        Err(error) => Err(unopened(&error, label)),
     }
 }
 
 // The list that a file has, or why it has none.
-fn read_list_of<R: Files + AllocGlobal>(rt: &R, file: &str, side: Side) -> Result<String, Fault> {
-    let bytes = read_file(rt, file, side)?;
-    list_of_lines(rt.alloc(), bytes.as_slice(), side)
+fn read_list<R: Files + AllocGlobal>(rt: &R, file: &str, label: FileLabel) -> Result<String, Fault>
+    ensures { IfErr result (IsListFault label) }
+{
+    let bytes = read_file(rt, file, label)?;
+    match list_of_lines(rt.alloc(), bytes.as_slice())? {
+        Some(list) => Ok(list),
+        None => Err(bad_list(label)),
+    }
 }
 
 // The line that tells of a file that it is one of types, and why its list can't be had.
@@ -94,11 +86,13 @@ fn unread_line<R: Files + AllocGlobal>(
 ) -> Result<String, AllocError> {
     let alloc = rt.alloc();
     match fault {
-        Fault::ReadDevice(_) => {
+        Fault::ReadDevice(_) | Fault::SharedReadDevice => {
             let name = format!(in alloc; "the file of types {file}")?;
             told_by_system(alloc, name.as_str(), &why_unread(rt, file))
         }
-        Fault::BadTypeList(_) => format!(in alloc; "  the file of types {file} isn't UTF-8\n"),
+        Fault::BadTypeList(_) | Fault::BadSharedTypeList => {
+            format!(in alloc; "  the file of types {file} isn't UTF-8\n")
+        }
         _ => Ok(String::new(alloc)),
     }
 }
@@ -107,39 +101,38 @@ fn unread_line<R: Files + AllocGlobal>(
 fn list_of<R: Files + AllocGlobal>(
     rt: &R,
     file: &str,
-    tables: ListedTables,
+    label: FileLabel,
     explain: bool,
-) -> Result<String, ExplainedFault> {
-    match read_list_of(rt, file, side_of(tables)) {
+) -> Result<String, ExplainedFault>
+    ensures { IfErr result (λ e. IsListFault label e.fault) }
+{
+    match read_list(rt, file, label) {
         Ok(list) => Ok(list),
-        Err(fault) => {
-            if !explain {
-                return Err(ExplainedFault::from(fault_of(fault, tables)));
-            }
+        Err(fault) if explain => {
             let lines = unread_line(rt, file, &fault);
-            Err(ExplainedFault::new(fault_of(fault, tables), lines))
+            Err(ExplainedFault::new(fault, lines))
         }
+        Err(fault) => Err(ExplainedFault::from(fault)),
     }
 }
 
-// A word, with the list of a file in its place if it names such a file. The tables are those of the
+// A word, with the list of a file in its place if it names such a file. The label is that of the
 // word before, if that is such an option.
 fn with_its_list<R: Files + AllocGlobal>(
     rt: &R,
     word: String,
-    tables: Option<ListedTables>,
+    label: Option<FileLabel>,
     explain: bool,
-) -> Result<String, ExplainedFault> {
-    if let Some(tables) = tables {
+) -> Result<String, ExplainedFault>
+    ensures { IfErr result (λ e. IsListsFault e.fault) }
+{
+    if let Some(label) = label {
         return match word.as_str().strip_prefix('@') {
-            Some(file) => list_of(rt, file, tables, explain),
+            Some(file) => list_of(rt, file, label, explain),
             None => Ok(word),
         };
     }
-    match with_list(rt, word.as_str(), explain)? {
-        Some(word) => Ok(word),
-        None => Ok(word),
-    }
+    Ok(with_list(rt, word.as_str(), explain)?.unwrap_or(word))
 }
 
 // Whether the words ask for explanations.
@@ -158,15 +151,17 @@ fn are_explained(alloc: Global, words: &[String]) -> Result<bool, AllocError> {
 pub fn read_lists<R: Files + AllocGlobal>(
     rt: &R,
     words: Vec<String>,
-) -> Result<Vec<String>, ExplainedFault> {
+) -> Result<Vec<String>, ExplainedFault>
+    ensures { IfErr result (λ e. IsListsFault e.fault) }
+{
     let explain = are_explained(rt.alloc(), words.as_slice())?;
     let mut read = Vec::with_capacity(rt.alloc(), words.len())?;
-    let mut tables = None;
+    let mut label = None;
     for word in words {
-        let next = tables_of(word.as_str());
-        let word = with_its_list(rt, word, tables, explain)?;
+        let next = label_of(word.as_str());
+        let word = with_its_list(rt, word, label, explain)?;
         read.push(word).map_err(AllocError::from)?;
-        tables = next;
+        label = next;
     }
     Ok(read)
 }

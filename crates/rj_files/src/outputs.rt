@@ -1,7 +1,7 @@
 //! Where the result is written: to standard output, or to a file that is none of the tables.
 
 ghost use Rattle.std.specs.Prelude.{◌≡◌, IfOk, IfErr, option_map, unwrap_or};
-ghost use Rattle.rj_files.specs.Outputs.{file_of};
+ghost use Rattle.rj_files.specs.Outputs.{AreStandard, IsInputFault, IsWrittenOver, file_of};
 ghost use Rattle.rj_files.specs.Streams.{IsFaultOf, IsWrittenOf};
 
 use crate::draft::{Draft, Unwritten};
@@ -44,7 +44,9 @@ fn shown_output<'a>(line: &Line<'a>) -> &'a str
 }
 
 // The system's metadata of a file, or none if there is none.
-fn told_of<R: Files>(rt: &R, name: &str) -> Result<Option<Metadata>, Fault> {
+fn told_of<R: Files>(rt: &R, name: &str) -> Result<Option<Metadata>, Fault>
+    ensures { IfErr result (λ f. f ≡ Fault.Memory) }
+{
     match fs::metadata(rt, name) {
         Ok(metadata) => Ok(Some(metadata)),
         Err(error) if error.kind() == ErrorKind::OutOfMemory => Err(Fault::Memory),
@@ -53,7 +55,9 @@ fn told_of<R: Files>(rt: &R, name: &str) -> Result<Option<Metadata>, Fault> {
 }
 
 // Refuses a table whose file is the one that is written, as far as the system tells.
-fn refuse_input<R: Files>(rt: &R, output: &str, name: &str, side: Side) -> Result<(), Fault> {
+fn refuse_input<R: Files>(rt: &R, output: &str, name: &str, side: Side) -> Result<(), Fault>
+    ensures { IfErr result (IsWrittenOver side) }
+{
     let input = if is_standard_stream(name) {
         STANDARD_INPUT
     } else {
@@ -76,7 +80,10 @@ fn refuse_input<R: Files>(rt: &R, output: &str, name: &str, side: Side) -> Resul
 /// `TwoStandardInputs` if both are standard input. `OutputIsInput` of the side whose file is the
 /// one that is written, by whatever name, as far as the system tells. `Memory` comes only when the
 /// system has none.
-pub fn refuse_inputs<R: Files>(rt: &R, line: &Line<'_>) -> Result<(), Fault> {
+pub fn refuse_inputs<R: Files>(rt: &R, line: &Line<'_>) -> Result<(), Fault>
+    ensures standard { AreStandard line.now.left.now line.now.right.now → result ≡ Err Fault.TwoStandardInputs }
+    ensures fault { IfErr result (IsInputFault line.now.left.now line.now.right.now) }
+{
     if is_standard_stream(line.left) && is_standard_stream(line.right) {
         return Err(Fault::TwoStandardInputs);
     }
@@ -90,7 +97,9 @@ pub fn refuse_inputs<R: Files>(rt: &R, line: &Line<'_>) -> Result<(), Fault> {
 /// # Errors
 ///
 /// `OutputIsInput` of the left side, as in [`refuse_inputs`].
-pub fn refuse_printed<R: Files>(rt: &R, name: &str) -> Result<(), Fault> {
+pub fn refuse_printed<R: Files>(rt: &R, name: &str) -> Result<(), Fault>
+    ensures { IfErr result (IsWrittenOver Side.Left) }
+{
     refuse_input(rt, STANDARD_OUTPUT, name, Side::Left)
 }
 

@@ -2,6 +2,7 @@
 //! is shown: the runs of `rj_command` meet theirs for every watch.
 
 ghost use Rattle.std.specs.Prelude.{◌≡◌};
+ghost use Rattle.rj_files.specs.Outputs.{input_side};
 ghost use Rattle.rj_files.specs.Shares.{handed, joined, parts, share};
 
 use crate::message::{CLEARED, Message};
@@ -110,7 +111,9 @@ fn joined_rows(cuts: Cuts, rows: u64, behind: u64, pieces: u64) -> u64
 }
 
 // The side of a line whose table is standard input.
-fn side_of_input(line: &Line<'_>) -> Option<Side> {
+fn side_of_input(line: &Line<'_>) -> Option<Side>
+    ensures { result ≡ input_side line.now.left.now line.now.right.now }
+{
     if is_standard_stream(line.left) {
         return Some(Side::Left);
     }

@@ -3,6 +3,7 @@
 ghost use Rattle.std.specs.Prelude.{◌≡◌, ◌≢◌, ◌⊎◌, ℕ, List, Option, None, IfOk, IfErr};
 ghost use Rattle.std.specs.Io.KnownBytes.{Keeps};
 ghost use Rattle.std.specs.IoError.{error_kind};
+ghost use Rattle.rj_files.specs.Labels.{IsUnreadOf, unread_fault};
 ghost use Rattle.rj_files.specs.Streams.{AreBytesOf, IsUnread};
 
 use crate::progress::Progress;
@@ -46,28 +47,45 @@ pub struct OpenStream<F> {
     pub likely_size: u64,
 }
 
-/// The error of a side's table that can't be opened.
-pub(crate) fn unopened(error: &io::Error, side: Side) -> Fault
+/// Whose file is read, as its errors tell: a table's, or the one that lists types of both.
+#[derive(Clone, Copy)]
+pub(crate) enum FileLabel {
+    One(Side),
+    Both,
+}
+
+// The error of such a file that the system doesn't give.
+fn device_fault(label: FileLabel) -> Fault
+    ensures { result ≡ unread_fault label }
+{
+    match label {
+        FileLabel::One(side) => Fault::ReadDevice(side),
+        FileLabel::Both => Fault::SharedReadDevice,
+    }
+}
+
+/// The error of a file that can't be opened.
+pub(crate) fn unopened(error: &io::Error, label: FileLabel) -> Fault
     ensures memory { error_kind error.now ≡ ErrorKind.OutOfMemory → result ≡ Fault.Memory }
-    ensures device { error_kind error.now ≢ ErrorKind.OutOfMemory → result ≡ Fault.ReadDevice side }
-    ensures unread { IsUnread side result }
+    ensures device { error_kind error.now ≢ ErrorKind.OutOfMemory → result ≡ unread_fault label }
+    ensures unread { IsUnreadOf label result }
 {
     if error.kind() == ErrorKind::OutOfMemory {
         Fault::Memory
     } else {
-        Fault::ReadDevice(side)
+        device_fault(label)
     }
 }
 
-// The error of a side's table that can't be read to its end.
-fn unread(refused: ReadRefused, side: Side) -> Fault
+// The error of a file that can't be read to its end.
+fn unread(refused: ReadRefused, label: FileLabel) -> Fault
     ensures memory { refused ≡ ReadRefused.Memory → result ≡ Fault.Memory }
-    ensures device { refused ≢ ReadRefused.Memory → result ≡ Fault.ReadDevice side }
-    ensures unread { IsUnread side result }
+    ensures device { refused ≢ ReadRefused.Memory → result ≡ unread_fault label }
+    ensures unread { IsUnreadOf label result }
 {
     match refused {
         ReadRefused::Memory => Fault::Memory,
-        _ => Fault::ReadDevice(side),
+        _ => device_fault(label),
     }
 }
 
@@ -76,15 +94,15 @@ pub(crate) fn read_bytes<F: Read + Drop>(
     alloc: Global,
     reader: F,
     likely_size: u64,
-    side: Side,
+    label: FileLabel,
 ) -> Result<Vec<u8>, Fault>
     ensures bytes { IfOk result (λ v. AreBytesOf (F.remaining reader) v.items) }
-    ensures fault { IfErr result (IsUnread side) }
+    ensures fault { IfErr result (IsUnreadOf label) }
 {
     let mut reader = CountedReader::with_likely_size(reader, likely_size);
     match read_all(alloc, &mut reader) {
         Ok(bytes) => Ok(bytes),
-        Err(refused) => Err(unread(refused, side)),
+        Err(refused) => Err(unread(refused, label)),
     }
 }
 
@@ -103,9 +121,9 @@ pub(crate) fn read_stream<R: Eprint + Clock, S: Stream>(
         likely_size,
     } = match stream.open() {
         Ok(opened) => opened,
-        Err(error) => return Err(unopened(&error, side)),
+        Err(error) => return Err(unopened(&error, FileLabel::One(side))),
     };
     progress.begin_file(side, likely_size);
     let reader = WatchedReader::new(progress, reader, side, likely_size);
-    read_bytes(alloc, reader, likely_size, side)
+    read_bytes(alloc, reader, likely_size, FileLabel::One(side))
 }

@@ -1,7 +1,8 @@
 //! From two streams of bytes to the bytes of their joined table.
 
-ghost use Rattle.std.specs.Prelude.{◌≡◌, ◌≢◌, ◌⊎◌, IfOk, IfErr};
+ghost use Rattle.std.specs.Prelude.{◌≡◌, ◌≢◌, ◌⊎◌, IfOk, IfErr, string_bytes};
 ghost use Rattle.rj_files.specs.Streams.{AreBytesOf, IsFaultOf, IsUnread, WritesOf};
+ghost use Rattle.rj_files.specs.Texts.{unread_memory_text};
 
 use crate::explained::ExplainedFault;
 use crate::joining::{Tables, write_tables};
@@ -21,7 +22,9 @@ fn unread_lines<S: Stream>(
     stream: &S,
     side: Side,
     fault: &Fault,
-) -> Result<String, AllocError> {
+) -> Result<String, AllocError>
+    ensures { fault.now ≡ Fault.Memory → IfOk result (λ text. string_bytes text ≡ unread_memory_text side) }
+{
     match fault {
         Fault::Memory => format!(in alloc; "  while the {side} file was read\n"),
         _ => stream.explain_unread(alloc),

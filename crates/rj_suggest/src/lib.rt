@@ -1,4 +1,5 @@
-//! The types that the cells of a file suggest, and lists of types that are in files.
+//! The types that the cells of a file suggest, lists of types that are in files, and the parts of a
+//! text that writes a number.
 #![tactic(auto)]
 
 ghost use Rattle.std.specs.Prelude.{◌≡◌, ◌≢◌, IfOk, IfErr, replicate};
@@ -9,10 +10,12 @@ ghost use Rattle.rj_suggest.specs.Suggested.{IsSuggestFault, IsSuggestedList, te
 mod columns;
 mod listed;
 mod number;
+mod numeral;
 mod writing;
 
 use crate::columns::kinds_of;
 pub use crate::listed::list_of_lines;
+pub use crate::numeral::{are_digits, is_unsigned_text, place_of_point, without_sign};
 pub use crate::writing::lines_are_read_back;
 use crate::writing::lines_of;
 use rj_columns::ColumnType;

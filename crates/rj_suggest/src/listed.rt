@@ -1,11 +1,10 @@
 //! Lists in a file, with a line for each entry.
 
-ghost use Rattle.std.specs.Prelude.{◌≡◌, ◌≢◌, ◌++◌, IfOk, IfErr, OnOk, string_bytes, false};
+ghost use Rattle.std.specs.Prelude.{◌≡◌, ◌++◌, IfOk, IfSome, IfNone, OnOk, string_bytes, false};
 ghost use Rattle.std.specs.Option.{option_to_list};
 ghost use Rattle.std.specs.Str.{is_utf8};
 ghost use Rattle.rj_suggest.specs.Listed.{in_list, list_in, quoted_behind};
 
-use rj_fault::{Fault, Side};
 use std::alloc::{AllocError, Global};
 
 // What a byte gives in the list, by whether double quotes are open before it, and by what follows
@@ -56,18 +55,19 @@ fn list_in(alloc: Global, bytes: &[u8]) -> Result<Vec<u8>, AllocError>
 }
 
 /// The list that the bytes of a file write, with a comma for each line end, LF or CR LF. The line
-/// end of the last line gives nothing, and one between double quotes stays as it is.
+/// end of the last line gives nothing, and one between double quotes stays as it is. There is none
+/// if that isn't UTF-8.
 ///
 /// # Errors
 ///
-/// `BadTypeList` of the side if the list isn't UTF-8. `Memory` comes only when memory ran out.
-pub fn list_of_lines(alloc: Global, bytes: &[u8], side: Side) -> Result<String, Fault>
-    ensures list { IfOk result (λ list. string_bytes list ≡ list_in bytes.now) }
-    ensures fault { IfErr result (λ f. f ≢ Fault.Memory → (f ≡ Fault.BadTypeList side) × (is_utf8 (list_in bytes.now) ≡ false)) }
+/// It fails only when memory runs out.
+pub fn list_of_lines(alloc: Global, bytes: &[u8]) -> Result<Option<String>, AllocError>
+    ensures list { IfOk result (λ list. IfSome list (λ text. string_bytes text ≡ list_in bytes.now)) }
+    ensures none { IfOk result (λ list. IfNone list (is_utf8 (list_in bytes.now) ≡ false)) }
 {
     let list = list_in(alloc, bytes)?;
     match String::from_utf8(list) {
-        Ok(list) => Ok(list),
-        Err(_) => Err(Fault::BadTypeList(side)),
+        Ok(list) => Ok(Some(list)),
+        Err(_) => Ok(None),
     }
 }

@@ -1,11 +1,10 @@
 //! The forms of numbers that a cell may have.
 
-ghost use Rattle.std.specs.Prelude.{◌≡◌, ◌≤◌, ◌+◌, length, take, drop, nat_lt};
-ghost use Rattle.std.specs.Str.{all_ascii_digits};
-ghost use Rattle.std.specs.Str.Parse.{without_leading_sign};
-ghost use Rattle.rj_decimal.specs.Read.{after_point, are_digits, before_point, has_point, is_unsigned_text};
+ghost use Rattle.std.specs.Prelude.{◌≡◌, length};
 ghost use Rattle.rj_csv_io.specs.Typed.{is_int_text};
 ghost use Rattle.rj_suggest.specs.Suggested.{digits_of, has_no_leading_zero, is_of};
+
+use crate::numeral::{is_unsigned_text, place_of_point, without_sign};
 
 // A form of numbers.
 #[derive(Clone, Copy)]
@@ -23,55 +22,6 @@ pub(crate) enum Part {
     Before,
     // Those after it.
     After,
-}
-
-// A text without its sign.
-fn without_sign(text: &[u8]) -> &[u8]
-    ensures { result.now ≡ without_leading_sign text.now }
-{
-    if !text.is_empty() && (text[0] == b'-' || text[0] == b'+') {
-        &text[1..]
-    } else {
-        text
-    }
-}
-
-// The place of the first point, or the text's length if there is none.
-fn point_of(text: &[u8]) -> usize
-    ensures inside { result ≤ length text.now }
-    ensures before { before_point text.now ≡ take result text.now }
-    ensures after { after_point text.now ≡ drop (result + 1) text.now }
-    ensures point { has_point text.now ≡ nat_lt result (length text.now) }
-{
-    for i in 0..text.len() {
-        if text[i] == b'.' {
-            return i;
-        }
-    }
-    text.len()
-}
-
-// Whether a text is digits alone, one or more.
-fn are_digits(text: &[u8]) -> bool
-    ensures { result ≡ are_digits text.now }
-{
-    for i in 0..text.len() {
-        if !text[i].is_ascii_digit() {
-            return false;
-        }
-    }
-    !text.is_empty()
-}
-
-// Whether a text is digits, and perhaps a point and digits.
-fn is_unsigned(text: &[u8]) -> bool
-    ensures { result ≡ is_unsigned_text text.now }
-{
-    let point = point_of(text);
-    if point == text.len() {
-        return are_digits(text);
-    }
-    are_digits(&text[..point]) && are_digits(&text[point + 1..])
 }
 
 // Whether a text is an optional sign and digits, of a number of 64 bits.
@@ -96,7 +46,7 @@ fn digits_of(part: Part, text: &[u8]) -> &[u8]
     ensures { result.now ≡ digits_of part text.now }
 {
     let text = without_sign(text);
-    let point = point_of(text);
+    let point = place_of_point(text);
     match part {
         Part::Before => &text[..point],
         Part::After => if point < text.len() {
@@ -120,7 +70,7 @@ pub(crate) fn is_of(form: Form, text: &str) -> bool
 {
     let is_number = match form {
         Form::Int => is_int(text),
-        Form::Number => is_unsigned(without_sign(text.as_bytes())),
+        Form::Number => is_unsigned_text(without_sign(text.as_bytes())),
     };
     is_number && has_no_leading_zero(digits_of(Part::Before, text.as_bytes()))
 }

@@ -1,6 +1,7 @@
 //! The texts of the rows that are shown of a joined table, made segment by segment of its left table.
 
 ghost use Rattle.std.specs.Prelude.{◌≡◌, ◌≢◌, ◌<◌, ◌+◌, ◌-◌, ◌^◌, ℕ, Err, IsTrue, List, OnOk, All, IfOk, IfSome, Ok, Some, length, map, slice_index_or, string_bytes};
+ghost use Rattle.std.specs.Fork.{AcceptsEach, ChangesEach};
 ghost use Rattle.std.specs.Io.KnownBytes.{Appends};
 ghost use Rattle.std.specs.List.{concat};
 ghost use Rattle.std.specs.Option.{ForSome};
@@ -8,7 +9,7 @@ ghost use Rattle.rj_csv_io.specs.Shown.{table_text};
 ghost use Rattle.rj_csv_io.specs.Tables.{is_null_text};
 ghost use Rattle.rj_engine.specs.declared.runs.Run.{Run};
 ghost use Rattle.rj_command.specs.declared.join.texts.Share.{Share};
-ghost use Rattle.rj_command.specs.Texts.{AreCounted, AreRunTexts, AreShownOf, AreTextsOf, AreWithin, cells_text, no_table, shown_cells, texts_in, whole_text};
+ghost use Rattle.rj_command.specs.Texts.{AreCounted, AreRunTexts, AreShownOf, AreTextsOf, AreWithin, cells_text, no_table, shown_cells, text_in, whole_text};
 
 use rj_columns::Table;
 use rj_csv_io::{Output, WriteRefused, texts_of_rows, write_rows_in_parts, write_texts};
@@ -49,43 +50,31 @@ fn texts_of_segment(
     alloc: Global,
     segment: &Table,
     number: usize,
-    right: &Table,
-    joined: &Joined,
-    shown: &Shown,
+    written: &Written<'_>,
     runs: &[Run],
-    null: &str,
 ) -> Result<Vec<Texts>, AllocError>
-    requires { AreWithin segment.now right.now joined.now.members shown.now number runs.now }
-    ensures { IfOk result (AreRunTexts null.now shown.now segment.now right.now joined.now.members number runs.now) }
+    requires { AreWithin written.now segment.now number runs.now }
+    ensures { IfOk result (AreRunTexts written.now segment.now number runs.now) }
 {
     let mut texts = Vec::new(alloc);
     for run in runs {
         if run.segment() == number {
-            let rows = RunView::open(segment, right, joined, shown, *run);
-            texts.push(texts_of_rows(alloc, &rows, null)?)?;
+            let rows = RunView::open(segment, written.right, written.joined, written.shown, *run);
+            texts.push(texts_of_rows(alloc, &rows, written.null)?)?;
         }
     }
     Ok(texts)
 }
 
 // Makes the texts of the runs that are in a segment, and frees the segment.
-fn make_texts(
-    alloc: Global,
-    share: &mut Share,
-    number: usize,
-    right: &Table,
-    joined: &Joined,
-    shown: &Shown,
-    runs: &[Run],
-    null: &str,
-)
-    requires { ForSome share.old.segment (λ t. AreWithin t right.now joined.now.members shown.now number runs.now) }
-    ensures { IfSome share.old.segment (λ t. IfOk share.new.texts (AreRunTexts null.now shown.now t right.now joined.now.members number runs.now)) }
+fn make_texts(alloc: Global, share: &mut Share, number: usize, written: &Written<'_>, runs: &[Run])
+    requires { ForSome share.old.segment (λ t. AreWithin written.now t number runs.now) }
+    ensures { IfSome share.old.segment (λ t. IfOk share.new.texts (AreRunTexts written.now t number runs.now)) }
 {
     let Some(segment) = share.segment.take() else {
         return;
     };
-    share.texts = texts_of_segment(alloc, &segment, number, right, joined, shown, runs, null);
+    share.texts = texts_of_segment(alloc, &segment, number, written, runs);
 }
 
 // A share for each segment, whose texts aren't made yet.
@@ -114,69 +103,70 @@ fn all_made(alloc: Global, shares: Vec<Share>) -> Result<Vec<Vec<Texts>>, AllocE
     Ok(made)
 }
 
-// Makes the texts of all shares, by at most this many threads, the calling one among them. Each
-// thread frees its segments one by one, as their texts are made.
-fn make_each<R: Threads + Sync>(
+// Calls a task with each item and its number, by at most this many threads, the calling one among
+// them. Answers the items as the calls leave them.
+fn call_each<R: Threads + Sync, T: Send + Drop, F: Fn(usize, &mut T) + Sync>(
     rt: &R,
-    alloc: Global,
-    mut shares: Vec<Share>,
-    right: &Table,
-    joined: &Joined,
-    shown: &Shown,
-    runs: &[Run],
-    null: &str,
-    workers: usize,
-) -> Vec<Share>
-    requires workers { 0 < workers }
-    requires within { (k : ℕ) (d : Share) → k < length shares.items
-        → ForSome (slice_index_or shares.items k d).segment (λ t. AreWithin t right.now joined.now.members shown.now k runs.now) }
-    ensures many { length result.items ≡ length shares.items }
-    ensures each { (k : ℕ) (d : Share) → k < length shares.items → IfSome (slice_index_or shares.items k d).segment (λ t.
-        IfOk (slice_index_or result.items k d).texts (AreRunTexts null.now shown.now t right.now joined.now.members k runs.now)) }
+    mut items: Vec<T>,
+    threads: usize,
+    task: &F,
+) -> Vec<T>
+    requires threads { 0 < threads }
+    requires accepts { AcceptsEach F.Fn task.now items.items }
+    ensures many { length result.items ≡ length items.items }
+    ensures each { ChangesEach F.Fn task.now items.items result.items }
 {
-    thread::for_each_mut(
-        rt,
-        shares.as_mut_slice(),
-        workers,
-        &|number, share: &mut Share|
-            requires { ForSome share.now.segment (λ t. AreWithin t right.now joined.now.members shown.now number runs.now) }
-            ensures { IfSome share.entry.now.segment (λ t. IfOk share.exit.now.texts
-                (AreRunTexts null.entry.now shown.entry.now t right.entry.now joined.entry.now.members number runs.entry.now)) }
-        { make_texts(alloc, share, number, right, joined, shown, runs, null) },
-    );
-    shares
+    thread::for_each_mut(rt, items.as_mut_slice(), threads, task);
+    items
 }
 
 // Does the same without the calling thread. New threads reuse the memory that ended ones gave back,
 // and the calling thread has none of it.
+fn call_each_elsewhere<R: Threads + Sync, T: Send + Drop, F: Fn(usize, &mut T) + Sync>(
+    rt: &R,
+    items: Vec<T>,
+    threads: usize,
+    task: &F,
+) -> Vec<T>
+    requires threads { 0 < threads }
+    requires accepts { AcceptsEach F.Fn task.now items.items }
+    ensures many { length result.items ≡ length items.items }
+    ensures each { ChangesEach F.Fn task.now items.items result.items }
+{
+    let call = move || -> Vec<T>
+        requires { (0 < threads) × AcceptsEach F.Fn task.now items.items }
+        ensures many { length result.items ≡ length items.items }
+        ensures each { ChangesEach F.Fn task.entry.now items.items result.items }
+    { call_each(rt, items, threads, task) };
+    let (called, ()) = thread::join(rt, call, || {});
+    called
+}
+
+// Makes the texts of all shares. Each thread frees its segments one by one, as their texts are made.
 fn make_shares<R: Threads + Sync>(
     rt: &R,
     alloc: Global,
     shares: Vec<Share>,
-    right: &Table,
-    joined: &Joined,
-    shown: &Shown,
+    written: &Written<'_>,
     runs: &[Run],
-    null: &str,
-    workers: usize,
 ) -> Vec<Share>
-    requires workers { 0 < workers }
+    requires workers { 0 < written.now.workers }
     requires within { (k : ℕ) (d : Share) → k < length shares.items
-        → ForSome (slice_index_or shares.items k d).segment (λ t. AreWithin t right.now joined.now.members shown.now k runs.now) }
+        → ForSome (slice_index_or shares.items k d).segment (λ t. AreWithin written.now t k runs.now) }
     ensures many { length result.items ≡ length shares.items }
     ensures each { (k : ℕ) (d : Share) → k < length shares.items → IfSome (slice_index_or shares.items k d).segment (λ t.
-        IfOk (slice_index_or result.items k d).texts (AreRunTexts null.now shown.now t right.now joined.now.members k runs.now)) }
+        IfOk (slice_index_or result.items k d).texts (AreRunTexts written.now t k runs.now)) }
 {
-    let make = move || -> Vec<Share>
-        requires { (0 < workers) × ((k : ℕ) (d : Share) → k < length shares.items
-            → ForSome (slice_index_or shares.items k d).segment (λ t. AreWithin t right.now joined.now.members shown.now k runs.now)) }
-        ensures many { length result.items ≡ length shares.items }
-        ensures each { (k : ℕ) (d : Share) → k < length shares.items → IfSome (slice_index_or shares.items k d).segment (λ t.
-            IfOk (slice_index_or result.items k d).texts
-            (AreRunTexts null.entry.now shown.entry.now t right.entry.now joined.entry.now.members k runs.entry.now)) }
-    { make_each(rt, alloc, shares, right, joined, shown, runs, null, workers) };
-    let (made, ()) = thread::join(rt, make, || {});
-    made
+    // (what `thread::join` calls tells what it ensures only where it captures plain references)
+    call_each_elsewhere(
+        rt,
+        shares,
+        written.workers,
+        &|number, share: &mut Share|
+            requires { ForSome share.now.segment (λ t. AreWithin written.now t number runs.now) }
+            ensures { IfSome share.entry.now.segment (λ t. IfOk share.exit.now.texts (AreRunTexts written.entry.now t number runs.entry.now)) }
+        { make_texts(alloc, share, number, written, runs) },
+    )
 }
 
 // The texts of the runs of each segment.
@@ -189,14 +179,12 @@ fn texts_of_segments<R: Threads + Sync>(
 ) -> Result<Vec<Vec<Texts>>, AllocError>
     requires workers { 0 < written.now.workers }
     requires within { (k : ℕ) → k < length segments.items
-        → AreWithin (slice_index_or segments.items k no_table) written.now.right.now written.now.joined.now.members written.now.shown.now k runs.now }
+        → AreWithin written.now (slice_index_or segments.items k no_table) k runs.now }
     ensures { IfOk result (λ v. (length v.items ≡ length segments.items)
-        × AreTextsOf (texts_in written.now segments.items) runs.now v.items) }
+        × AreTextsOf (text_in written.now segments.items) runs.now v.items) }
 {
     let shares = shares_of(alloc, segments)?;
-    let (right, joined, shown) = (written.right, written.joined, written.shown);
-    let (null, workers) = (written.null, written.workers);
-    let made = make_shares(rt, alloc, shares, right, joined, shown, runs, null, workers);
+    let made = make_shares(rt, alloc, shares, written, runs);
     all_made(alloc, made)
 }
 
@@ -226,8 +214,8 @@ fn texts_of_runs<R: Threads + Sync>(
     requires workers { 0 < written.now.workers }
     requires segments { All (λ run. run.segment < length segments.items) runs.now }
     requires within { (k : ℕ) → k < length segments.items
-        → AreWithin (slice_index_or segments.items k no_table) written.now.right.now written.now.joined.now.members written.now.shown.now k runs.now }
-    ensures { IfOk result (λ v. whole_text v ≡ concat (map (texts_in written.now segments.items) runs.now)) }
+        → AreWithin written.now (slice_index_or segments.items k no_table) k runs.now }
+    ensures { IfOk result (λ v. whole_text v ≡ concat (map (text_in written.now segments.items) runs.now)) }
 {
     let made = texts_of_segments(rt, alloc, segments, written, runs)?;
     in_order(alloc, made, runs)

@@ -4,4 +4,4 @@ use Rattle.rj_command.specs.Texts.{is_of, run_text, whole_text}
 use Rattle.rj_command.proofs.join.texts.texts_of_segment.Given as goal
 
 abbrev pub invariant-loop-run : goal.invariant-loop-run
-invariant-loop-run l = map whole_text l.texts.items ≡ map (run_text l.null l.shown l.segment l.right l.joined.members) (filter (is_of l.number) (take l.run-index l.runs))
+invariant-loop-run l = map whole_text l.texts.items ≡ map (run_text l.written l.segment) (filter (is_of l.number) (take l.run-index l.runs))

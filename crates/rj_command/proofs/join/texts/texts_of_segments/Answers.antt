@@ -1,14 +1,13 @@
-use Rattle.std.proofs.Common.{IfOk}
 use Rattle.std.proofs.lemmas.Result.{IfOk-weaker}
 use Rattle.rj_command.proofs.TextFacts.{made-texts, shares-within}
 use Rattle.rj_command.proofs.join.texts.texts_of_segments.Goals as goal
 
 pub make_shares-made-requires-clause-within : goal.make_shares-made-requires-clause-within
 make_shares-made-requires-clause-within g c κs within =
-    shares-within c.args.written.now.null.now c.args.written.now.shown.now c.args.segments.items c.args.written.now.right.now c.args.written.now.joined.now.members c.args.runs.now c.in_ok-shares.shares.items c.in_ok-shares.ensures c.requires.within
+    shares-within c.args.written.now c.args.segments.items c.args.runs.now c.in_ok-shares.shares.items c.in_ok-shares.ensures c.requires.within
 
 pub returns : goal.returns
 returns g c =
     IfOk-weaker c.all_made.result _ _ (λ v all.
-    made-texts c.args.written.now.null.now c.args.written.now.shown.now c.args.segments.items c.args.written.now.right.now c.args.written.now.joined.now.members c.args.runs.now c.in_ok-shares.shares.items c.in_ok-shares.ensures
+    made-texts c.args.written.now c.args.segments.items c.args.runs.now c.in_ok-shares.shares.items c.in_ok-shares.ensures
     c.make_shares-made.result.items v.items c.make_shares-made.ensures.many c.make_shares-made.ensures.each all) c.all_made.ensures

@@ -1,6 +1,6 @@
 use Rattle.std.proofs.Common.{◌≡◌, ◌++◌, take, drop, length}
 use Rattle.rj_decimal.specs.Read.{before_point, after_point, has_point}
-use Rattle.rj_suggest.proofs.number.point_of.Given as goal
+use Rattle.rj_suggest.proofs.numeral.place_of_point.Given as goal
 
 abbrev pub invariant-loop-i : goal.invariant-loop-i
 invariant-loop-i l = record {

@@ -1,6 +1,6 @@
 use Rattle.std.proofs.Common.{◌≡◌, drop, length}
 use Rattle.std.specs.Str.{all_ascii_digits}
-use Rattle.rj_command.proofs.join.numerals.are_digits.Given as goal
+use Rattle.rj_suggest.proofs.numeral.are_digits.Given as goal
 
 abbrev pub invariant-loop-i : goal.invariant-loop-i
 invariant-loop-i l = record {

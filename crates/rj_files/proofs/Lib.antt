@@ -1,0 +1,2 @@
+pub mod DraftFacts
+pub mod ListFacts
