@@ -1,2 +1,1 @@
 pub mod DraftFacts
-pub mod ListFacts
