@@ -77,7 +77,7 @@ fn place_in_parts<R: Threads + Sync>(
         rt,
         alloc,
         texts.len(),
-        &|i| { place_at_end(texts[i], delimiter) },
+        &|i| place_at_end(texts[i], delimiter),
     );
     let Ok(places) = looked else {
         return None;
