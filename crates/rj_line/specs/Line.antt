@@ -167,8 +167,8 @@ GiveTypes f word =
 abbrev pub AreTablesGiven : Form → (Text → Option Text) → (Text → List Text) → Type 0
 AreTablesGiven f word texts = GiveTypes f word × (length (texts (codes "left-null")) ≤ 4) × (length (texts (codes "right-null")) ≤ 4)
 
--- why the values of the options choose nothing: a delimiter of a table or of the result that is none,
--- then what is chosen of the joined table; or memory ran out
+-- why the values of the options choose nothing: a delimiter of a table or of the result that is
+-- none, then what is chosen of the joined table; or memory ran out
 abbrev pub IsChosenFault : Form → (Text → Option Text) → Fault → Type 0
 IsChosenFault f word fault.BadDelimiter = are_delimiters_given word ≡ false
 IsChosenFault f word fault.Memory = Unit {0}

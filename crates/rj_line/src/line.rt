@@ -240,9 +240,9 @@ fn read_in_form<'a>(
 /// # Errors
 ///
 /// `CommandLine` for a line that `clap` refuses, or that asks for help or the version. Then come,
-/// in this order: a bad type list, that for both tables, the left one, the right one; more than four
-/// NULL texts on the left, and on the right; `BadDelimiter` if that of a table or of the result is
-/// none; `ChosenTwice`; a bad list of kinds of rows; `MatchedLeftColumns`; and a bad suffix.
+/// in this order: a bad type list, that for both tables, the left one, the right one; more than
+/// four NULL texts on the left, and on the right; `BadDelimiter` if that of a table or of the result
+/// is none; `ChosenTwice`; a bad list of kinds of rows; `MatchedLeftColumns`; and a bad suffix.
 /// `Memory` comes only when memory ran out.
 pub fn read_line<'a>(
     alloc: Global,

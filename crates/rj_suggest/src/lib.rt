@@ -57,8 +57,8 @@ fn texts_for(
 /// A number with a leading zero before other digits is a text. A name is between double quotes
 /// unless it is an identifier.
 ///
-/// The file is read as a join reads it in this format if every column is of texts. It is a proposal:
-/// a join's types are declared.
+/// The file is read as a join reads it in this format if every column is of texts. It is a
+/// proposal: a join's types are declared.
 ///
 /// # Errors
 ///
