@@ -264,7 +264,13 @@ fn write_segments<R: Threads + Sync, O: Output>(
     let Ok(texts) = texts_of_joined(rt, alloc, left, written) else {
         return Err(WriteRefused::Memory);
     };
-    write_texts(alloc, writer, header, texts.as_slice(), written.format.delimiter)
+    write_texts(
+        alloc,
+        writer,
+        header,
+        texts.as_slice(),
+        written.format.delimiter,
+    )
 }
 
 // Writes the same with the rows divided evenly among the threads, and the left table whole.
