@@ -23,9 +23,9 @@ returns c =
     let text = c.args.text.now in
     let is : c.as_slice.result.now ≡ 120 ∷ 10 ∷ text =
     c.as_slice.ensures.value ∙ (c.in_ok-extend_from_slice-2.ensures.items ∙ ap (λ (x : List ℕ). x ++ text) (c.in_ok-extend_from_slice.ensures.items ∙ ap (λ (x : List ℕ). x ++ (120 ∷ 10 ∷ [])) c.new-named.ensures.items)) in
+    let tells = rw c.comma.ensures at c.quote_empty_lines.ensures in
     IfOk-weaker c.quote_empty_lines.result _ _ (λ v told names full file low d.
     let whole = c.joined_texts.ensures comma First full (120 ∷ 10 ∷ []) text name_file file refl name-derived (lit< tt) (under-one names full text file low d) in
-    let named = subst (λ (x : List ℕ). Derives comma First full x (joined name_file file)) (sym (ap strip_bom is ∙ unmarked text)) whole in
-    let quoted = told full (joined name_file file) (subst (λ (by : ℕ). Derives by First full (strip_bom c.as_slice.result.now) (joined name_file file)) (sym c.comma.ensures) named) in
+    let quoted = told full (joined name_file file) (subst (λ (x : List ℕ). Derives comma First full x (joined name_file file)) (sym (ap strip_bom is ∙ unmarked text)) whole) in
     ap (λ (x : List ℕ). drop 1 (records (config_of comma) x)) quoted ∙ ap (λ (x : List (List (List ℕ))). drop 1 x) (c.reads_quoted_records.ensures comma First full (120 ∷ 10 ∷ text) (joined name_file file) refl whole))
-    c.quote_empty_lines.ensures
+    tells
