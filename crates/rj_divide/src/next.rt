@@ -46,7 +46,8 @@ pub fn next_piece<I: Input>(
     ensures records { IfOk result (λ p. (more : List ℕ) → (p.is_last ≡ true → more ≡ []) → records (config_of comma) (bytes.new.items ++ more)
         ≡ records (config_of comma) (take p.end bytes.new.items) ++ records (config_of comma) (drop p.end bytes.new.items ++ more)) }
     ensures line { IfOk result (λ p. p.is_last ≡ false → IsLineEnd comma bytes.new.items p.end) }
-    ensures rest { IfOk result (λ p. p.is_last ≡ false → (at : ℕ) → p.end < at → at ≤ length bytes.new.items → IsLineEnd comma bytes.new.items at → ⊥) }
+    ensures rest { IfOk result (λ p. p.is_last ≡ false → (at : ℕ) → p.end < at → at ≤ length bytes.new.items
+        → IsLineEnd comma bytes.new.items at → ⊥) }
     ensures count { I.count input.new ≡ reads_after result (I.count input.old) }
     ensures fault { IfErr result IsInputFault }
 {

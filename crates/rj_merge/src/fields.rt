@@ -75,7 +75,8 @@ impl Fields {
 
     /// Writes them as a record.
     pub(crate) fn write(&self, writer: &mut Writer<Vec<u8>>) -> Result<(), AllocError>
-        ensures { (text : List ℕ) → HasWritten comma writer.old text [] → OnOk result (HasWritten comma writer.new (text ++ row_text (writer_of comma) self.now) []) }
+        ensures { (text : List ℕ) → HasWritten comma writer.old text []
+            → OnOk result (HasWritten comma writer.new (text ++ row_text (writer_of comma) self.now) []) }
     {
         let whole = self.whole.as_ref();
         for i in 0..whole.fields.len() {

@@ -72,7 +72,8 @@ fn open_first<'n, R: Read + Drop>(
 ) -> Result<First<'n, R>, MergeRefused>
     ensures copies { IfOk result (λ f. f.source.copies ≡ first.copies) }
     ensures places { IfOk result (λ f. place_columns (fields_of f.header.names) ≡ Some f.header.columns) }
-    ensures header { IfOk result (λ f. (text : List ℕ) → R.remaining first.reader ≡ Some text → fields_of f.header.names ≡ first_record (records_in comma text)) }
+    ensures header { IfOk result (λ f. (text : List ℕ) → R.remaining first.reader ≡ Some text
+        → fields_of f.header.names ≡ first_record (records_in comma text)) }
     ensures input { IfOk result (λ f. (text : List ℕ) → R.remaining first.reader ≡ Some text → input_tells R.remaining f.source
         × (input_reading R.remaining f.source ≡ reading_of how.entry (first_record (records_in comma text)) 1 text)) }
     ensures fault { IfErr result (λ e. is_outside e ≡ false → (text : List ℕ) → R.remaining first.reader ≡ Some text
