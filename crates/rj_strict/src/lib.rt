@@ -1,12 +1,14 @@
 //! Whether a text of CSV is derived by RFC 4180's grammar, and where it stops being so.
 //!
 //! `Derives`, the grammar, and `HasFault` fix what [`check`] answers. The laws say that a text has
-//! one derivation, what the library `csv` reads from it, and that texts can be checked in parts.
+//! one derivation, what the library `csv` reads from it, and that texts can be checked in parts. All
+//! of them hold for each [`Delimiter`] that may stand in place of the comma.
 #![tactic(auto)]
 
 mod above;
 mod checking;
 mod clean;
+mod delimiter;
 mod fault;
 mod header;
 mod laws;
@@ -17,6 +19,7 @@ mod standing;
 
 pub use above::above_fault;
 pub use checking::check;
+pub use delimiter::Delimiter;
 pub use fault::StrictFault;
 pub use header::Header;
 pub use laws::{
