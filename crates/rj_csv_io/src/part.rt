@@ -44,7 +44,7 @@ fn reader_of_part<'a>(
 ) -> Result<Option<Reader<&'a [u8]>>, ReadRefused>
     ensures reader { IfOk result (λ o. MatchOption o (row_records delimiter has_header text.now ≡ [])
         (λ r. IsBetween (λ s. Some s.now) r
-            × (records_remaining (λ s. Some s.now) r ≡ row_records delimiter has_header text.now))) }
+        × (records_remaining (λ s. Some s.now) r ≡ row_records delimiter has_header text.now))) }
     ensures memory { IfErr result (λ e. e ≡ ReadRefused.Memory) }
 {
     let mut reader = open_reader(alloc, text, delimiter);

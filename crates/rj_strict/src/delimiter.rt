@@ -1,6 +1,6 @@
 //! The byte between the fields of a record.
 
-ghost use Rattle.std.specs.Prelude.{◌≡◌, ◌×◌, true, false, MatchOption};
+ghost use Rattle.std.specs.Prelude.{◌≡◌, true, false, MatchOption};
 ghost use Rattle.rj_strict.specs.Grammar.{comma, may_delimit};
 
 use std::marker::Model;

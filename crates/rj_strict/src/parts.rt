@@ -73,8 +73,12 @@ fn place_in_parts<R: Threads + Sync>(
         return None;
     };
     let texts = texts.as_slice();
-    let look = |i| place_at_end(texts[i], delimiter);
-    let looked = thread::map_indices(rt, alloc, texts.len(), &look);
+    let looked = thread::map_indices(
+        rt,
+        alloc,
+        texts.len(),
+        &|i| place_at_end(texts[i], delimiter),
+    );
     let Ok(places) = looked else {
         return None;
     };

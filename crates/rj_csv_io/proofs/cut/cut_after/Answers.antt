@@ -17,9 +17,9 @@ returns-then-not-starts_with_bom-clause-ends c =
     let high = c.in-Some.ensures.0.high in
     let within : at + k < length text = omega (arith, size, rest, high) in
     let found = rw (rest-at text at k) at c.in-Some.ensures.1 in
-    let next = next-place c.byte.result place.Fresh c.loop-turn.place c.scan-place-in-loop-turn.result text at (at + k + 1) (omega arith) c.loop-turn.invariant.place c.scan-place-in-loop-turn.ensures in
-    let ends = line-ends c.byte.result c.byte.ensures.lawful text (at + k) within found (sym (ap is_open_place next) ∙ (sym c.is_open.ensures ∙ c.if-not-is_open.true)) in
-    subst (λ (d : ℕ). state_after d st.StartRecord (take (at + k + 1) text) ≡ st.StartRecord) c.byte.ensures.value ends
+    let next = next-place c.byte-byte.result place.Fresh c.loop-turn.place c.scan-place-in-loop-turn.result text at (at + k + 1) (omega arith) c.loop-turn.invariant.place c.scan-place-in-loop-turn.ensures in
+    let ends = line-ends c.byte-byte.result c.byte-byte.ensures.lawful text (at + k) within found (sym (ap is_open_place next) ∙ (sym c.is_open.ensures ∙ c.if-not-is_open.true)) in
+    subst (λ (d : ℕ). state_after d st.StartRecord (take (at + k + 1) text) ≡ st.StartRecord) c.byte-byte.ensures.value ends
 
 pub returns-then-not-starts_with_bom-clause-unmarked : goal.returns-then-not-starts_with_bom-clause-unmarked
 returns-then-not-starts_with_bom-clause-unmarked c =
@@ -37,5 +37,5 @@ loop-turn-preserved c =
     let rest = ap length (take_rest text at) in
     let high = c.in-Some.ensures.0.high in
     let within : at + k < length text = omega (arith, size, rest, high) in
-    let next = next-place c.byte.result place.Fresh c.loop-turn.place c.scan-place-in-loop-turn.result text at (at + k + 1) (omega arith) c.loop-turn.invariant.place c.scan-place-in-loop-turn.ensures in
+    let next = next-place c.byte-byte.result place.Fresh c.loop-turn.place c.scan-place-in-loop-turn.result text at (at + k + 1) (omega arith) c.loop-turn.invariant.place c.scan-place-in-loop-turn.ensures in
     record { within = omega (arith, within); place = next }
