@@ -14,8 +14,8 @@ pub fn one_derivation()
         → may_delimit d ≡ true → Derives d header full text file → Derives d header full text other → file ≡ other }
 {}
 
-/// The library `csv`, with this delimiter, its other defaults and without a header of its own, reads
-/// the records of the derivation from a text that is derived, without its empty lines.
+/// The library `csv`, with this delimiter, its other defaults and no header of its own, reads the
+/// records of the derivation from a text that is derived, without its empty lines.
 pub fn reads_records()
     ensures { (d : ℕ) (header : Header) (full : Bool) (text : List ℕ) (file : File)
         → may_delimit d ≡ true → Derives d header full text file → records (config_of d) text ≡ records_of (without_empty file) }

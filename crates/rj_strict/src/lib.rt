@@ -1,8 +1,8 @@
 //! Whether a text of CSV is derived by RFC 4180's grammar, and where it stops being so.
 //!
 //! `Derives`, the grammar, and `HasFault` fix what [`check`] answers. The laws say that a text has
-//! one derivation, what the library `csv` reads from it, and that texts can be checked in parts. All
-//! of them hold for each [`Delimiter`] that may stand in place of the comma.
+//! one derivation, what the library `csv` reads from it, and that texts can be checked in parts.
+//! They hold for each [`Delimiter`]: the comma, or another byte in its place.
 #![tactic(auto)]
 
 mod above;
