@@ -9,9 +9,9 @@ use Rattle.rj_strict.specs.declared.header.Header.TheVariants.{First}
 use Rattle.rj_explain.specs.Explained.{first_record, names_of}
 
 -- lines above a row are a file
-pub above-derives : (text above : List ℕ) (row : ℕ) (lines : List Line) → AreAbove First text row lines → above ≡ lines_text lines
-    → Derives First false above (record { lines = lines; rest = None })
-above-derives text above row lines h e = record { spelled = e ∙ sym (append-nil (lines_text lines)); lines = h.are_lines; rest = refl }
+pub above-derives : (d : ℕ) (text above : List ℕ) (row : ℕ) (lines : List Line) → AreAbove d First text row lines → above ≡ lines_text d lines
+    → Derives d First false above (record { lines = lines; rest = None })
+above-derives d text above row lines h e = record { spelled = e ∙ sym (append-nil (lines_text d lines)); lines = h.are_lines; rest = refl }
 
 -- the names of a header that is the first record, or of none
 pub header-is : (o : Option Header) (rs : List (List (List ℕ))) → MatchOption o (rs ≡ []) (λ h. (rest : List (List (List ℕ))) × (rs ≡ names_in h ∷ rest))

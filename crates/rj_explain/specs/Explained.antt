@@ -3,7 +3,7 @@
 use Rattle.std.specs.Prelude.{ℕ, ◌≡◌, ◌<◌, ◌⊎◌, ◌-◌, ◌==◌, Bool, false, true, List, [], ◌∷◌, codes, length, Option, None, Some, ◌++◌, Result, Ok, Err, if◌then◌else◌, slice_get}
 use Rattle.std.specs.declared.alloc.Global.{Global}
 use Rattle.std.specs.declared.vec.Vec.{Vec}
-use Rattle.csv.specs.Reading.{default_config, records, strip_bom}
+use Rattle.csv.specs.Reading.{records, strip_bom}
 use Rattle.rj_columns.specs.Names.{empty_table}
 use Rattle.rj_columns.specs.Tables.{TableValue}
 use Rattle.rj_columns.specs.declared.refused.BuildRefused.{BuildRefused}
@@ -12,6 +12,8 @@ use Rattle.rj_condition.specs.Clauses.{HasClause}
 use Rattle.rj_condition.specs.Mismatches.{HasNoMismatch, IsMismatch}
 use Rattle.rj_condition.specs.Refusals.{IsRefusedColumn, IsTaken}
 use Rattle.rj_condition.specs.declared.bound.BoundJoin.{BoundJoin}
+use Rattle.rj_condition.specs.declared.refused.BindRefused.{BindRefused}
+use Rattle.rj_condition.specs.declared.refused.BindRefused.TheVariants as refused
 use Rattle.rj_condition.specs.declared.mismatches.Mismatch.{Mismatch}
 use Rattle.rj_condition.specs.declared.refusals.RefusedColumn.{RefusedColumn}
 use Rattle.rj_condition.specs.declared.tree.Clause.{Clause}
@@ -28,13 +30,13 @@ use Rattle.rj_line.specs.declared.request.Strictness.{Strictness}
 use Rattle.rj_line.specs.declared.request.Strictness.TheVariants as strictness
 use Rattle.rj_strict.specs.Faults.{AreAbove, HasFault, row_at}
 use Rattle.rj_strict.specs.Grammar.{Derives, File, file_text}
-use Rattle.rj_strict.specs.Reading.{body_of, quoted}
+use Rattle.rj_strict.specs.Reading.{body_of, config_of, quoted}
 use Rattle.rj_strict.specs.declared.fault.StrictFault.{StrictFault}
 use Rattle.rj_strict.specs.declared.header.Header.TheVariants.{First}
 use Rattle.rj_types.specs.Columns.{types_under}
 use Rattle.rj_types.specs.declared.entry.TypeEntry.{TypeEntry}
 use Rattle.rj_explain.specs.declared.inputs.Inputs.{Inputs}
-use Rattle.rj_explain.specs.Hints.{file_line, file_side, file_words}
+use Rattle.rj_explain.specs.Hints.{file_line, file_side, file_words, separator_line}
 use Rattle.rj_explain.specs.Lines.{both_names_line, cell_of_row, clause_line, columns_line, count_line, grammar_line, mismatch_line, name_line, names_line, null_line, null_rule, ragged_line, repeated_told, row_line}
 use Rattle.rj_explain.specs.Places.{HasNoRow, IsRow, at_column}
 use Rattle.rj_explain.specs.Strict.{IsFaultLine}
@@ -49,6 +51,11 @@ abbrev pub types_of : Side → Inputs → List TypeEntry
 types_of side.Left inputs = inputs.request.now.left_types.items
 types_of side.Right inputs = inputs.request.now.right_types.items
 
+-- the delimiter of a side's file
+abbrev pub delimiter_of : Side → Inputs → ℕ
+delimiter_of side.Left inputs = inputs.request.now.left_delimiter
+delimiter_of side.Right inputs = inputs.request.now.right_delimiter
+
 -- the last line of a file needs its line end
 abbrev pub is_full : Strictness → Bool
 is_full strictness.Off = false
@@ -60,8 +67,12 @@ abbrev pub first_record : List (List (List ℕ)) → List (List ℕ)
 first_record [] = []
 first_record (r ∷ rest) = r
 
-abbrev pub header_names : List ℕ → List (List ℕ)
-header_names file = first_record (records default_config (strip_bom file))
+abbrev pub header_names : ℕ → List ℕ → List (List ℕ)
+header_names d file = first_record (records (config_of d) (strip_bom file))
+
+-- those of a side's file
+abbrev pub side_names : Side → Inputs → List (List ℕ)
+side_names s inputs = header_names (delimiter_of s inputs) (file_of s inputs)
 
 abbrev pub names_of : Option Header → List (List ℕ)
 names_of None = []
@@ -74,28 +85,32 @@ IsCountTold entries names lines =
 
 abbrev pub IsTypeCountTold : Side → Inputs → List ℕ → Type 0
 IsTypeCountTold s inputs lines =
-    ((header_names (file_of s inputs) ≡ []) × (lines ≡ [])) ⊎ IsCountTold (types_of s inputs) (header_names (file_of s inputs)) lines
+    ((side_names s inputs ≡ []) × (lines ≡ [])) ⊎ IsCountTold (types_of s inputs) (side_names s inputs) lines
 
 -- the names of a header
 abbrev pub IsTypeNameTold : Side → Inputs → List ℕ → Type 0
 IsTypeNameTold s inputs lines =
-    ((header_names (file_of s inputs) ≡ []) × (lines ≡ [])) ⊎ (lines ≡ names_line (header_names (file_of s inputs)))
+    ((side_names s inputs ≡ []) × (lines ≡ [])) ⊎ (lines ≡ names_line (side_names s inputs))
 
 -- the file that is in a text, or what is above the place where it stops being one
-abbrev pub IsReadStrictly : List ℕ → File → Type 0
-IsReadStrictly text file =
-    Derives First false (body_of First text) file
-    ⊎ ((f : StrictFault) × HasFault First false (body_of First text) f × AreAbove First (body_of First text) (row_at f) file.lines × (file.rest ≡ None))
+abbrev pub IsReadStrictly : ℕ → List ℕ → File → Type 0
+IsReadStrictly d text file =
+    Derives d First false (body_of First text) file
+    ⊎ ((f : StrictFault) × HasFault d First false (body_of First text) f × AreAbove d First (body_of First text) (row_at f) file.lines × (file.rest ≡ None))
 
 -- the same with its empty lines quoted, in which they are rows
-abbrev pub IsQuotedText : List ℕ → List ℕ → Type 0
-IsQuotedText text read = (file : File) × IsReadStrictly text file × (read ≡ file_text (quoted file))
+abbrev pub IsQuotedText : ℕ → List ℕ → List ℕ → Type 0
+IsQuotedText d text read = (file : File) × IsReadStrictly d text file × (read ≡ file_text d (quoted file))
 
 -- the text of which a file's records are read
-abbrev pub IsReadText : Strictness → List ℕ → List ℕ → Type 0
-IsReadText strictness.Off file text = text ≡ strip_bom file
-IsReadText strictness.On file text = IsQuotedText file text
-IsReadText strictness.Full file text = IsQuotedText file text
+abbrev pub IsReadText : ℕ → Strictness → List ℕ → List ℕ → Type 0
+IsReadText d strictness.Off file text = text ≡ strip_bom file
+IsReadText d strictness.On file text = IsQuotedText d file text
+IsReadText d strictness.Full file text = IsQuotedText d file text
+
+-- the same of a side's file
+abbrev pub IsSideText : Side → Inputs → List ℕ → Type 0
+IsSideText s inputs text = IsReadText (delimiter_of s inputs) inputs.request.now.strict (file_of s inputs) text
 
 -- a text of its own, or that of the file
 abbrev pub text_in : Option (Vec ℕ Global) → List ℕ → List ℕ
@@ -104,14 +119,14 @@ text_in (Some own) file = strip_bom own.items
 
 -- the lines for a row, by the line of the text on which it begins, the names of the header and its
 -- fields
-abbrev pub IsRowTold : List ℕ → ℕ → (ℕ → List (List ℕ) → List (List ℕ) → Type 0) → List ℕ → Type 0
-IsRowTold text row tells lines =
-    ((HasNoRow text 0 ⊎ HasNoRow text row) × (lines ≡ []))
-    ⊎ ((above line : ℕ) × (names fields : List (List ℕ)) × IsRow text 0 above names × IsRow text row line fields × tells line names fields)
+abbrev pub IsRowTold : ℕ → List ℕ → ℕ → (ℕ → List (List ℕ) → List (List ℕ) → Type 0) → List ℕ → Type 0
+IsRowTold d text row tells lines =
+    ((HasNoRow d text 0 ⊎ HasNoRow d text row) × (lines ≡ []))
+    ⊎ ((above line : ℕ) × (names fields : List (List ℕ)) × IsRow d text 0 above names × IsRow d text row line fields × tells line names fields)
 
 abbrev pub IsToldOfRow : Side → ℕ → (ℕ → List (List ℕ) → List (List ℕ) → Type 0) → Inputs → List ℕ → Type 0
 IsToldOfRow s row tells inputs lines =
-    (text : List ℕ) × IsReadText inputs.request.now.strict (file_of s inputs) text × IsRowTold text row tells lines
+    (text : List ℕ) × IsSideText s inputs text × IsRowTold (delimiter_of s inputs) text row tells lines
 
 -- a cell that isn't of its column's type
 abbrev pub IsCellTold : Side → ℕ → ℕ → Inputs → List ℕ → Type 0
@@ -133,21 +148,21 @@ abbrev pub column_name : List (List ℕ) → ℕ → ℕ → Option (List ℕ)
 column_name names row column = if row == 0 then None else at_column column names
 
 -- the lines for the place where a text stops being of the grammar
-abbrev pub IsGrammarTold : Bool → List ℕ → Option (List ℕ) → List ℕ → List ℕ → Type 0
-IsGrammarTold full text name why lines =
-    (((file : File) × Derives First full (body_of First text) file) × (lines ≡ []))
-    ⊎ ((line : ℕ) × IsFaultLine full text line × (lines ≡ grammar_line line name why))
+abbrev pub IsGrammarTold : ℕ → Bool → List ℕ → Option (List ℕ) → List ℕ → List ℕ → Type 0
+IsGrammarTold d full text name why lines =
+    (((file : File) × Derives d First full (body_of First text) file) × (lines ≡ []))
+    ⊎ ((line : ℕ) × IsFaultLine d full text line × (lines ≡ grammar_line line name why))
 
 abbrev pub IsStrictTold : Side → ℕ → ℕ → List ℕ → Inputs → List ℕ → Type 0
 IsStrictTold s row column why inputs lines =
-    IsGrammarTold (is_full inputs.request.now.strict) (file_of s inputs) (column_name (header_names (file_of s inputs)) row column) why lines
+    IsGrammarTold (delimiter_of s inputs) (is_full inputs.request.now.strict) (file_of s inputs) (column_name (side_names s inputs) row column) why lines
 
 -- the table without rows whose columns are those of a side's file
 abbrev pub columns_in : Side → Inputs → Result TableValue BuildRefused
-columns_in s inputs = empty_table (header_names (file_of s inputs)) (types_under (types_of s inputs) (header_names (file_of s inputs)))
+columns_in s inputs = empty_table (side_names s inputs) (types_under (types_of s inputs) (side_names s inputs))
 
 abbrev pub AreColumns : Side → Inputs → Option TableValue → Type 0
-AreColumns s inputs None = (header_names (file_of s inputs) ≡ []) ⊎ ((e : BuildRefused) × (columns_in s inputs ≡ Err e))
+AreColumns s inputs None = (side_names s inputs ≡ []) ⊎ ((e : BuildRefused) × (columns_in s inputs ≡ Err e))
 AreColumns s inputs (Some table) = columns_in s inputs ≡ Ok table
 
 -- the lines over the columns of both sides
@@ -156,22 +171,36 @@ IsToldOfColumns inputs tells lines =
     ((AreColumns side.Left inputs None ⊎ AreColumns side.Right inputs None) × (lines ≡ []))
     ⊎ ((left right : TableValue) × (columns_in side.Left inputs ≡ Ok left) × (columns_in side.Right inputs ≡ Ok right) × tells left right)
 
+-- what is said of both files where neither table has a name
+abbrev pub separators_told : Inputs → TableValue → TableValue → List ℕ
+separators_told inputs left right =
+    separator_line side.Left (delimiter_of side.Left inputs) left.names ++ separator_line side.Right (delimiter_of side.Right inputs) right.names
+
 -- the names of both tables
+abbrev pub shared_told : Inputs → TableValue → TableValue → List ℕ
+shared_told inputs left right = both_names_line left.names right.names ++ separators_told inputs left right
+
 abbrev pub IsSharedNameTold : Inputs → List ℕ → Type 0
-IsSharedNameTold inputs lines = IsToldOfColumns inputs (λ left right. lines ≡ both_names_line left.names right.names) lines
+IsSharedNameTold inputs lines = IsToldOfColumns inputs (λ left right. lines ≡ shared_told inputs left right) lines
 
--- a name of the clause and its byte, and more of it
-abbrev pub IsToldOfName : RefusedColumn → List ℕ → Type 0
-IsToldOfName found lines = (more : List ℕ) × (lines ≡ clause_line found more)
+-- what is said of both files for this reason why a name is refused
+abbrev pub refusal_told : BindRefused → Inputs → TableValue → TableValue → List ℕ
+refusal_told refused.UnknownColumn inputs left right = separators_told inputs left right
+refusal_told _ inputs left right = []
 
--- the lines for the first name of a clause that is refused
-abbrev pub IsRefusalTold : List ℕ → List ℕ → TableValue → TableValue → Type 0
-IsRefusalTold clause lines left right =
-    (((65536 < length clause) ⊎ IsTaken clause left.names right.names) × (lines ≡ []))
-    ⊎ ((name : RefusedColumn) × IsRefusedColumn clause left.names right.names name × IsToldOfName name lines)
+-- a name of the clause and its byte, more of it, and what is said of the files
+abbrev pub IsToldOfName : RefusedColumn → Inputs → List ℕ → TableValue → TableValue → Type 0
+IsToldOfName found inputs lines left right =
+    (more : List ℕ) × (lines ≡ clause_line found more ++ refusal_told found.refused inputs left right)
+
+-- the lines for the first name of the clause that is refused
+abbrev pub IsRefusalTold : Inputs → List ℕ → TableValue → TableValue → Type 0
+IsRefusalTold inputs lines left right =
+    (((65536 < length inputs.request.now.clause.now) ⊎ IsTaken inputs.request.now.clause.now left.names right.names) × (lines ≡ []))
+    ⊎ ((name : RefusedColumn) × IsRefusedColumn inputs.request.now.clause.now left.names right.names name × IsToldOfName name inputs lines left right)
 
 abbrev pub IsNameTold : Inputs → List ℕ → Type 0
-IsNameTold inputs lines = IsToldOfColumns inputs (IsRefusalTold inputs.request.now.clause.now lines) lines
+IsNameTold inputs lines = IsToldOfColumns inputs (IsRefusalTold inputs lines) lines
 
 -- the lines for the first comparison that can't be made
 abbrev pub pair_line : Mismatch → TableValue → TableValue → List ℕ
@@ -204,11 +233,16 @@ IsCellOfResultTold request row column lines left right =
 abbrev pub IsNullTold : ℕ → ℕ → Inputs → List ℕ → Type 0
 IsNullTold row column inputs lines = IsToldOfColumns inputs (IsCellOfResultTold inputs.request.now row column lines) lines
 
+-- why a closing quote doesn't end its field
+abbrev pub behind_quote : ℕ → List ℕ
+behind_quote d =
+    if d == 44 then codes "more than a comma or a line end stands behind the closing quote"
+    else codes "more than a delimiter or a line end stands behind the closing quote"
+
 -- the lines for an error of the grammar
 abbrev pub IsStrictExplained : Fault → Inputs → List ℕ → Type 0
 IsStrictExplained (fault.OpenQuote s row column) inputs lines = IsStrictTold s row column (codes "no quote closes the field that one opens here") inputs lines
-IsStrictExplained (fault.AfterQuote s row column) inputs lines =
-    IsStrictTold s row column (codes "more than a comma or a line end stands behind the closing quote") inputs lines
+IsStrictExplained (fault.AfterQuote s row column) inputs lines = IsStrictTold s row column (behind_quote (delimiter_of s inputs)) inputs lines
 IsStrictExplained (fault.BareQuote s row column) inputs lines =
     IsStrictTold s row column (codes "a quote stands within a field that doesn't begin with one") inputs lines
 IsStrictExplained (fault.BareReturn s row column) inputs lines =
@@ -219,10 +253,10 @@ IsStrictExplained _ inputs lines = lines ≡ []
 
 -- The lines for the place of an error. No definition fixes those of E11.
 abbrev pub IsPlaceTold : Fault → Inputs → List ℕ → Type 0
-IsPlaceTold (fault.BadName s column) inputs lines = lines ≡ name_line (at_column column (header_names (file_of s inputs)))
+IsPlaceTold (fault.BadName s column) inputs lines = lines ≡ name_line (at_column column (side_names s inputs))
 IsPlaceTold (fault.RepeatedName s column) inputs lines =
-    lines ≡ repeated_told (header_names (file_of s inputs)) (at_column column (header_names (file_of s inputs)))
-IsPlaceTold (fault.TooManyColumns s) inputs lines = lines ≡ columns_line (length (header_names (file_of s inputs)))
+    lines ≡ repeated_told (side_names s inputs) (at_column column (side_names s inputs))
+IsPlaceTold (fault.TooManyColumns s) inputs lines = lines ≡ columns_line (length (side_names s inputs))
 IsPlaceTold (fault.RaggedRow s row) inputs lines = IsRaggedTold s row inputs lines
 IsPlaceTold (fault.BadInteger s row column) inputs lines = IsCellTold s row column inputs lines
 IsPlaceTold (fault.BadText s row column) inputs lines = IsCellTold s row column inputs lines
@@ -241,7 +275,7 @@ IsPlaceTold f inputs lines = IsStrictExplained f inputs lines
 -- what is said of the whole file in which an error is
 abbrev pub file_told_of : Fault → Inputs → Option Side → List ℕ
 file_told_of f inputs None = []
-file_told_of f inputs (Some s) = file_line s (file_words f (file_of s inputs) (header_names (file_of s inputs)))
+file_told_of f inputs (Some s) = file_line s (file_words s (delimiter_of s inputs) f (file_of s inputs) (side_names s inputs))
 
 abbrev pub file_told : Fault → Inputs → List ℕ
 file_told f inputs = file_told_of f inputs (file_side f)

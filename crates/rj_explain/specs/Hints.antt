@@ -1,11 +1,13 @@
--- What is said of a whole file that is no CSV in UTF-8 with commas.
-use Rattle.std.specs.Prelude.{ℕ, Bool, false, ◌==◌, ◌||◌, not, List, [], ◌∷◌, ◌++◌, codes, nat_eq, Option, None, Some, if◌then◌else◌}
+-- What is said of a whole file that is no CSV in UTF-8 with its delimiter.
+use Rattle.std.specs.Prelude.{ℕ, Bool, false, ◌==◌, ◌||◌, ◌&&◌, not, List, [], ◌∷◌, ◌++◌, codes, nat_eq, Option, None, Some, if◌then◌else◌}
 use Rattle.std.specs.List.{list_any, starts_with}
 use Rattle.rj_fault.specs.Faults.{side_text}
 use Rattle.rj_fault.specs.declared.fault.Fault.{Fault}
 use Rattle.rj_fault.specs.declared.fault.Fault.TheVariants as fault
 use Rattle.rj_fault.specs.declared.fault.Side.{Side}
 use Rattle.rj_explain.specs.Shown.{is_text}
+use Rattle.rj_explain.specs.declared.hints.Separator.{Separator}
+use Rattle.rj_explain.specs.declared.hints.Separator.TheVariants as separator
 
 -- what another kind of file is, by its first bytes, and what makes a table of it
 unfoldable pub kind_words : List ℕ → List ℕ
@@ -22,35 +24,67 @@ is_foreign (fault.BadText s row column) file names = not (is_text file)
 is_foreign (fault.BadName s column) file names = list_any (λ n. not (is_text n)) names
 is_foreign _ file names = false
 
--- the sign that separates the fields of a file in place of a comma, if it is in this name
-unfoldable pub separator_in : List ℕ → List ℕ
-separator_in name =
-    if list_any (λ b. b == 59) name then codes "seems to be separated by semicolons: docs/user/recipes.md converts it to commas"
-    else (if list_any (λ b. b == 9) name then codes "seems to be separated by tabs: docs/user/recipes.md converts it to commas"
-    else (if list_any (λ b. b == 124) name then codes "seems to be separated by |: docs/user/recipes.md converts it to commas"
-    else []))
+-- what is said of it then
+abbrev pub foreign_words : Fault → List ℕ → List (List ℕ) → List ℕ
+foreign_words told file names =
+    if is_foreign told file names then codes "isn't UTF-8: iconv -f WINDOWS-1252 -t UTF-8 FILE > table.csv, if it is Latin-1" else []
+
+-- a sign that isn't the delimiter is in a name
+abbrev pub stands_in : ℕ → ℕ → List ℕ → Bool
+stands_in d sign name = not (d == sign) && list_any (λ b. b == sign) name
+
+-- the sign that separates the fields of a file in place of its delimiter, if it is in this name
+abbrev pub separator_in : ℕ → List ℕ → Option Separator
+separator_in d name =
+    if stands_in d 59 name then Some separator.Semicolon
+    else (if stands_in d 9 name then Some separator.Tab
+    else (if stands_in d 124 name then Some separator.Bar
+    else (if stands_in d 44 name then Some separator.Comma
+    else None)))
 
 -- the same of the one name of a header
-abbrev pub separator_words : List (List ℕ) → List ℕ
-separator_words (name ∷ []) = separator_in name
-separator_words _ = []
+abbrev pub separator_of : ℕ → List (List ℕ) → Option Separator
+separator_of d (name ∷ []) = separator_in d name
+separator_of d _ = None
+
+-- what several of the sign are called
+abbrev pub plural : Separator → List ℕ
+plural separator.Semicolon = codes "semicolons"
+plural separator.Tab = codes "tabs"
+plural separator.Bar = codes "bars"
+plural separator.Comma = codes "commas"
+
+-- the sign as a shell's word after an option
+abbrev pub shell_word : Separator → List ℕ
+shell_word separator.Semicolon = codes "';'"
+shell_word separator.Tab = codes "tab"
+shell_word separator.Bar = codes "'|'"
+shell_word separator.Comma = codes "','"
+
+-- what is said of a side's file that a sign separates
+abbrev pub separator_words : Side → Option Separator → List ℕ
+separator_words s None = []
+separator_words s (Some sign) =
+    codes "seems to be separated by " ++ (plural sign ++ (codes ": is --" ++ (side_text s ++ (codes "-delimiter " ++ (shell_word sign ++ codes " meant?")))))
 
 -- the first of two that isn't empty
 abbrev pub first_words : List ℕ → List ℕ → List ℕ
 first_words [] more = more
 first_words (b ∷ words) more = b ∷ words
 
--- what is said of a file with these names in its header
-abbrev pub file_words : Fault → List ℕ → List (List ℕ) → List ℕ
-file_words told file names =
-    first_words (kind_words file)
-    (if is_foreign told file names then codes "isn't UTF-8: iconv -f WINDOWS-1252 -t UTF-8 FILE > table.csv, if it is Latin-1"
-    else separator_words names)
+-- what is said of a side's file with this delimiter and these names in its header
+abbrev pub file_words : Side → ℕ → Fault → List ℕ → List (List ℕ) → List ℕ
+file_words s d told file names =
+    first_words (first_words (kind_words file) (foreign_words told file names)) (separator_words s (separator_of d names))
 
 -- a line for it
 abbrev pub file_line : Side → List ℕ → List ℕ
 file_line s [] = []
 file_line s (b ∷ words) = codes "  the " ++ (side_text s ++ (codes " file " ++ ((b ∷ words) ++ 10 ∷ [])))
+
+-- a line for the sign that separates the fields of a side's file, by the names of its columns
+abbrev pub separator_line : Side → ℕ → List (List ℕ) → List ℕ
+separator_line s d names = file_line s (separator_words s (separator_of d names))
 
 -- the side in whose file an error is
 abbrev pub file_side : Fault → Option Side

@@ -118,3 +118,7 @@ null_rule = codes "  a text for null has at most 16 printable ASCII bytes, and n
 -- the line for an invalid list of rows
 abbrev pub rows_rule : List ℕ
 rows_rule = codes "  --rows takes pairs or matched-left, lone-left and lone-right, once each, with single commas" ++ 10 ∷ []
+
+-- the line for an invalid delimiter
+abbrev pub delimiter_rule : List ℕ
+delimiter_rule = codes "  a delimiter is one ASCII character that is no letter, digit or double quote, or the word tab" ++ 10 ∷ []

@@ -9,7 +9,7 @@ use Rattle.rj_fault.specs.declared.fault.Side.TheVariants as side
 use Rattle.rj_types.specs.Lists.{IsTypeList}
 use Rattle.rj_types.specs.declared.entry.TypeEntry.{TypeEntry}
 use Rattle.rj_explain.specs.Entries.{split_entries}
-use Rattle.rj_explain.specs.Lines.{entry_line, mixed_line, rows_rule, shared_line}
+use Rattle.rj_explain.specs.Lines.{delimiter_rule, entry_line, mixed_line, rows_rule, shared_line}
 
 abbrev pub IsList : List ℕ → Type 0
 IsList text = (entries : List TypeEntry) × IsTypeList text entries
@@ -50,10 +50,11 @@ IsValueTold rule None told = told ≡ None
 IsValueTold rule (Some list) None = ⊥
 IsValueTold rule (Some list) (Some lines) = IsListTold rule list lines
 
--- the lines for an error of the command line with these words: those for an invalid type list or list
--- of rows
+-- the lines for an error of the command line with these words: those for an invalid type list, list
+-- of rows or delimiter
 abbrev pub AreWordsTold : Fault → List (List ℕ) → Option (List ℕ) → Type 0
 AreWordsTold (fault.BadTypeList s) words told = IsValueTold mixed_line (value_of (types_option s) words) told
 AreWordsTold fault.BadSharedTypeList words told = IsValueTold shared_line (value_of (codes "--types") words) told
 AreWordsTold fault.BadRows words told = told ≡ Some rows_rule
+AreWordsTold fault.BadDelimiter words told = told ≡ Some delimiter_rule
 AreWordsTold _ words told = told ≡ None

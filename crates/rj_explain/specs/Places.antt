@@ -1,10 +1,12 @@
--- Where the record of a row is in a text of CSV as the library `csv` reads it, and on which line of the file (RFC 4180, section 2).
+-- Where the record of a row is in a text of CSV as the library `csv` reads it by a delimiter, and on
+-- which line of the file (RFC 4180, section 2).
 use Rattle.std.specs.Prelude.{ℕ, zero, suc, ◌≡◌, ◌⊎◌, ◌+◌, ◌≤◌, ◌==◌, ◌||◌, Bool, List, [], Option, None, Some, length, take, drop, slice_get}
 use Rattle.std.specs.List.{count_by, prefix_len}
 use Rattle.csv.specs.Machine.{Read, next_record}
-use Rattle.csv.specs.Reading.{AreRecords, Reached, default_config}
+use Rattle.csv.specs.Reading.{AreRecords, Reached}
 use Rattle.csv.specs.declared.parser.State.{State}
 use Rattle.csv.specs.declared.parser.State.TheVariants as st
+use Rattle.rj_strict.specs.Reading.{config_of}
 use Rattle.rj_explain.specs.declared.places.Standing.{Standing}
 use Rattle.rj_explain.specs.declared.places.Standing.TheVariants as standing
 
@@ -22,21 +24,21 @@ abbrev pub IsBetween : State → Type 0
 IsBetween s = (s ≡ st.StartRecord) ⊎ (s ≡ st.AfterCr)
 
 -- the first record of a text ends before this place
-abbrev pub EndsFirst : List ℕ → ℕ → Type 0
-EndsFirst text end =
-    (fields : List (List ℕ)) × (s : State) × IsBetween s × (next_record default_config st.StartRecord [] [] text ≡ Some (fields, s, drop end text))
+abbrev pub EndsFirst : ℕ → List ℕ → ℕ → Type 0
+EndsFirst d text end =
+    (fields : List (List ℕ)) × (s : State) × IsBetween s × (next_record (config_of d) st.StartRecord [] [] text ≡ Some (fields, s, drop end text))
 
 -- this many records of the text come before this place, the header being one
-pub record StandsAt (text : List ℕ) (row at : ℕ) : Type 0 where
+pub record StandsAt (d : ℕ) (text : List ℕ) (row at : ℕ) : Type 0 where
   pub before : List (List (List ℕ))
   pub state : State
-  pub reached : Reached default_config st.StartRecord text before state (drop at text)
+  pub reached : Reached (config_of d) st.StartRecord text before state (drop at text)
   pub between : IsBetween state
   pub count : length before ≡ row
 
 -- the text has no record of this row: the header's is 0
-abbrev pub HasNoRow : List ℕ → ℕ → Type 0
-HasNoRow text row = (all : List (List (List ℕ))) × AreRecords default_config st.StartRecord text all × (length all ≤ row)
+abbrev pub HasNoRow : ℕ → List ℕ → ℕ → Type 0
+HasNoRow d text row = (all : List (List (List ℕ))) × AreRecords (config_of d) st.StartRecord text all × (length all ≤ row)
 
 -- CR or LF
 abbrev pub is_line_end : ℕ → Bool
@@ -52,11 +54,11 @@ line_of text at = count_by (λ c. c == 10) (take at text) + 1
 
 -- the record of a row, which has this many records before it, its fields, and the line on which its
 -- first byte is
-pub record IsRow (text : List ℕ) (row line : ℕ) (fields : List (List ℕ)) : Type 0 where
+pub record IsRow (d : ℕ) (text : List ℕ) (row line : ℕ) (fields : List (List ℕ)) : Type 0 where
   pub at : ℕ
-  pub stands : StandsAt text row at
+  pub stands : StandsAt d text row at
   pub read : Read
-  pub next : next_record default_config stands.state [] [] (drop at text) ≡ Some read
+  pub next : next_record (config_of d) stands.state [] [] (drop at text) ≡ Some read
   pub fields_of_it : read.0 ≡ fields
   pub on_line : line ≡ line_of text (first_byte text at)
 

@@ -1,4 +1,4 @@
--- The line of the place where a text stops being of RFC 4180's grammar.
+-- The line of the place where a text stops being of RFC 4180's grammar with a delimiter.
 use Rattle.std.specs.Prelude.{ℕ, ◌≡◌, ◌+◌, ◌==◌, Bool, List}
 use Rattle.std.specs.List.{count_by}
 use Rattle.rj_strict.specs.Faults.{AreAbove, HasFault, row_at}
@@ -8,9 +8,9 @@ use Rattle.rj_strict.specs.declared.fault.StrictFault.{StrictFault}
 use Rattle.rj_strict.specs.declared.header.Header.TheVariants.{First}
 
 -- one more than the line feeds in the lines above the row that has the text's error
-pub record IsFaultLine (full : Bool) (text : List ℕ) (line : ℕ) : Type 0 where
+pub record IsFaultLine (d : ℕ) (full : Bool) (text : List ℕ) (line : ℕ) : Type 0 where
   pub fault : StrictFault
   pub lines : List Line
-  pub has : HasFault First full (body_of First text) fault
-  pub above : AreAbove First (body_of First text) (row_at fault) lines
-  pub counted : line ≡ count_by (λ c. c == 10) (lines_text lines) + 1
+  pub has : HasFault d First full (body_of First text) fault
+  pub above : AreAbove d First (body_of First text) (row_at fault) lines
+  pub counted : line ≡ count_by (λ c. c == 10) (lines_text d lines) + 1

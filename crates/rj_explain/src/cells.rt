@@ -3,7 +3,7 @@
 ghost use Rattle.std.specs.Prelude.{◌≡◌, ◌-◌, ◌⊎◌, ℕ, IfOk, List, MatchOption, length, slice_get, string_bytes};
 ghost use Rattle.rj_csv_io.specs.Pieces.{names_in};
 ghost use Rattle.rj_types.specs.Columns as columns;
-ghost use Rattle.rj_explain.specs.Explained.{IsCellTold, IsRaggedTold, IsReadText, file_of, types_of};
+ghost use Rattle.rj_explain.specs.Explained.{IsCellTold, IsRaggedTold, IsSideText, delimiter_of, types_of};
 ghost use Rattle.rj_explain.specs.Lines as lines;
 ghost use Rattle.rj_explain.specs.Lines.{cell_of_row};
 ghost use Rattle.rj_explain.specs.Places.{HasNoRow, IsRow};
@@ -13,6 +13,7 @@ use crate::row::{Row, field_at, find_row};
 use crate::shown::{Shown, Wanted, WantedRule};
 use rj_columns::ColumnType;
 use rj_fault::Side;
+use rj_strict::Delimiter;
 use std::alloc::{AllocError, Global};
 
 // The type of a header's column, counted from 1.
@@ -64,14 +65,19 @@ impl Drop for HeaderAndRow {
 }
 
 // Both, where the text has them.
-fn header_and_row(alloc: Global, text: &[u8], row: u64) -> Result<Option<HeaderAndRow>, AllocError>
-    ensures { IfOk result (λ o. MatchOption o (HasNoRow text.now 0 ⊎ HasNoRow text.now row)
-        (λ b. IsRow text.now 0 b.header.line (names_in b.header.record) × IsRow text.now row b.row.line (names_in b.row.record))) }
+fn header_and_row(
+    alloc: Global,
+    text: &[u8],
+    delimiter: Delimiter,
+    row: u64,
+) -> Result<Option<HeaderAndRow>, AllocError>
+    ensures { IfOk result (λ o. MatchOption o (HasNoRow delimiter text.now 0 ⊎ HasNoRow delimiter text.now row)
+        (λ b. IsRow delimiter text.now 0 b.header.line (names_in b.header.record) × IsRow delimiter text.now row b.row.line (names_in b.row.record))) }
 {
-    let Some(header) = find_row(alloc, text, 0)? else {
+    let Some(header) = find_row(alloc, text, delimiter, 0)? else {
         return Ok(None);
     };
-    match find_row(alloc, text, row)? {
+    match find_row(alloc, text, delimiter, row)? {
         Some(row) => Ok(Some(HeaderAndRow { header, row })),
         None => Ok(None),
     }
@@ -88,12 +94,14 @@ pub(crate) fn find_both(
     side: Side,
     row: u64,
 ) -> Result<Option<HeaderAndRow>, AllocError>
-    ensures { IfOk result (λ o. (text : List ℕ) × IsReadText inputs.now.request.now.strict (file_of side inputs.now) text
-        × MatchOption o (HasNoRow text 0 ⊎ HasNoRow text row)
-        (λ b. IsRow text 0 b.header.line (names_in b.header.record) × IsRow text row b.row.line (names_in b.row.record))) }
+    ensures { IfOk result (λ o. (text : List ℕ) × IsSideText side inputs.now text
+        × MatchOption o (HasNoRow (delimiter_of side inputs.now) text 0 ⊎ HasNoRow (delimiter_of side inputs.now) text row)
+        (λ b. IsRow (delimiter_of side inputs.now) text 0 b.header.line (names_in b.header.record)
+        × IsRow (delimiter_of side inputs.now) text row b.row.line (names_in b.row.record))) }
 {
     let quoted = inputs.quoted_text(alloc, side)?;
-    header_and_row(alloc, text_of(&quoted, inputs.file(side)), row)
+    let text = text_of(&quoted, inputs.file(side));
+    header_and_row(alloc, text, inputs.delimiter(side), row)
 }
 
 // What is told of a cell in a row at hand.

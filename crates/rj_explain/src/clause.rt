@@ -1,15 +1,15 @@
 //! Names of a clause that are refused.
 
-ghost use Rattle.std.specs.Prelude.{◌≡◌, ◌⊎◌, ◌∷◌, [], ◌++◌, codes, IfOk, MatchOption, None, Ok, string_bytes};
+ghost use Rattle.std.specs.Prelude.{◌≡◌, ◌⊎◌, ◌∷◌, [], ◌++◌, ℕ, codes, IfOk, List, MatchOption, None, Ok, string_bytes};
 ghost use Rattle.std.specs.Option.{option_copied};
 ghost use Rattle.rj_csv_io.specs.Pieces.{names_in};
 ghost use Rattle.rj_fault.specs.Faults.{side_text};
 ghost use Rattle.rj_fault.specs.declared.fault.Side.TheVariants as sides;
-ghost use Rattle.rj_explain.specs.Explained.{AreColumns, IsNameTold, IsRefusalTold, IsToldOfName, columns_in, file_of, header_names};
+ghost use Rattle.rj_explain.specs.Explained.{AreColumns, IsNameTold, IsRefusalTold, IsToldOfName, columns_in, refusal_told, side_names};
 ghost use Rattle.rj_explain.specs.Lines.{clause_line};
 ghost use Rattle.rj_explain.specs.Shown.{meant_text, names_text};
 
-use crate::hints::{file_line, separator_in};
+use crate::hints::separator_lines;
 use crate::inputs::Inputs;
 use crate::names::{Meant, NamesOf, nearest};
 use crate::shown::Shown;
@@ -29,7 +29,7 @@ fn table_under(
     side: Side,
     header: &Header,
 ) -> Result<Option<Table>, AllocError>
-    requires { names_in header.now ≡ header_names (file_of side inputs.now) }
+    requires { names_in header.now ≡ side_names side inputs.now }
     ensures { IfOk result (λ o. AreColumns side inputs.now o) }
 {
     let kinds = inputs.kinds(alloc, side, header)?;
@@ -293,14 +293,6 @@ fn words_of_bare(
     words_of_both(alloc, columns, meant)
 }
 
-// The line that tells of another separator in the one name of a side's table, if it has one name.
-fn separator_line(alloc: Global, side: Side, table: &Table) -> Result<String, AllocError> {
-    if table.columns() != 1 {
-        return Ok(String::new(alloc));
-    }
-    file_line(alloc, side, separator_in(table.name(0).as_bytes()))
-}
-
 // The words for a name that can't be resolved.
 fn words_of_unknown(
     alloc: Global,
@@ -308,13 +300,10 @@ fn words_of_unknown(
     found: &RefusedColumn,
     columns: &BothColumns,
 ) -> Result<String, AllocError> {
-    let mut words = match &found.qualifier {
-        Some(qualifier) => words_of_qualified(alloc, clause, found, qualifier.as_str(), columns)?,
-        None => words_of_bare(alloc, clause, found, columns)?,
-    };
-    words.push_str(separator_line(alloc, Side::Left, &columns.left)?.as_str())?;
-    words.push_str(separator_line(alloc, Side::Right, &columns.right)?.as_str())?;
-    Ok(words)
+    match &found.qualifier {
+        Some(qualifier) => words_of_qualified(alloc, clause, found, qualifier.as_str(), columns),
+        None => words_of_bare(alloc, clause, found, columns),
+    }
 }
 
 // The words for a name that is refused.
@@ -333,6 +322,23 @@ fn words_of(
     String::from_str(alloc, words)
 }
 
+// What is said of both files for this reason why a name is refused.
+fn lines_of_files(
+    alloc: Global,
+    inputs: &Inputs<'_, '_>,
+    refused: BindRefused,
+    columns: &BothColumns,
+) -> Result<String, AllocError>
+    ensures { IfOk result (λ s. string_bytes s ≡ refusal_told refused inputs.now columns.now.left columns.now.right) }
+{
+    match refused {
+        BindRefused::UnknownColumn => {
+            separator_lines(alloc, inputs, &columns.left, &columns.right)
+        }
+        _ => Ok(String::new(alloc)),
+    }
+}
+
 // The line for a name that is refused: the byte at which it begins, and the words for it.
 fn refused_line(
     alloc: Global,
@@ -340,25 +346,41 @@ fn refused_line(
     found: &RefusedColumn,
     columns: &BothColumns,
 ) -> Result<String, AllocError>
-    ensures { IfOk result (λ s. IsToldOfName found.now (string_bytes s)) }
+    ensures { IfOk result (λ s. (more : List ℕ) × (string_bytes s ≡ clause_line found.now more)) }
 {
     let words = words_of(alloc, clause, found, columns)?;
     name_line(alloc, found, words.as_str())
 }
 
-// The line for the first name of a clause that is refused, if there is one.
-fn first_refused_line(
+// The lines for a name that is refused: its own, and what is said of the files.
+fn refused_lines(
     alloc: Global,
-    clause: &str,
+    inputs: &Inputs<'_, '_>,
+    found: &RefusedColumn,
     columns: &BothColumns,
 ) -> Result<String, AllocError>
-    ensures { IfOk result (λ s. IsRefusalTold clause.now (string_bytes s) columns.now.left columns.now.right) }
+    ensures { IfOk result (λ s. IsToldOfName found.now inputs.now (string_bytes s) columns.now.left columns.now.right) }
 {
+    let mut lines = refused_line(alloc, inputs.request.clause, found, columns)?;
+    let more = lines_of_files(alloc, inputs, found.refused, columns)?;
+    lines.push_str(more.as_str())?;
+    Ok(lines)
+}
+
+// The lines for the first name of the clause that is refused, if there is one.
+fn first_refused_lines(
+    alloc: Global,
+    inputs: &Inputs<'_, '_>,
+    columns: &BothColumns,
+) -> Result<String, AllocError>
+    ensures { IfOk result (λ s. IsRefusalTold inputs.now (string_bytes s) columns.now.left columns.now.right) }
+{
+    let clause = inputs.request.clause;
     if clause.len() > LONGEST {
         return Ok(String::new(alloc));
     }
     match refused_column(alloc, clause, &columns.left, &columns.right)? {
-        Some(found) => refused_line(alloc, clause, &found, columns),
+        Some(found) => refused_lines(alloc, inputs, &found, columns),
         None => Ok(String::new(alloc)),
     }
 }
@@ -373,7 +395,7 @@ pub(crate) fn name_lines(alloc: Global, inputs: &Inputs<'_, '_>) -> Result<Strin
     ensures { IfOk result (λ s. IsNameTold inputs.now (string_bytes s)) }
 {
     match columns_of_both(alloc, inputs)? {
-        Some(columns) => first_refused_line(alloc, inputs.request.clause, &columns),
+        Some(columns) => first_refused_lines(alloc, inputs, &columns),
         None => Ok(String::new(alloc)),
     }
 }

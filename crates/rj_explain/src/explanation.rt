@@ -1,6 +1,7 @@
 //! The lines that explain an error.
 
-ghost use Rattle.std.specs.Prelude.{IfOk, string_bytes};
+ghost use Rattle.std.specs.Prelude.{◌≡◌, IfOk, string_bytes};
+ghost use Rattle.rj_explain.specs.Explained as explained;
 ghost use Rattle.rj_explain.specs.Explained.{IsExplained, IsPlaceTold, IsStrictExplained};
 
 use crate::cells::{cell_lines, ragged_lines};
@@ -16,12 +17,16 @@ use crate::shared::shared_name_lines;
 use crate::strict::grammar_lines;
 use crate::syntax::syntax_lines;
 use rj_fault::Fault;
+use rj_strict::Delimiter;
 use std::alloc::{AllocError, Global};
 
 // Why a text isn't of RFC 4180's grammar.
 const NOT_CLOSED: &str = "no quote closes the field that one opens here";
 
 const BEHIND_QUOTE: &str = "more than a comma or a line end stands behind the closing quote";
+
+const BEHIND_QUOTE_DELIMITED: &str =
+    "more than a delimiter or a line end stands behind the closing quote";
 
 const QUOTE_WITHIN: &str = "a quote stands within a field that doesn't begin with one";
 
@@ -34,6 +39,16 @@ const CUT_SHORT: &str = "it has no line end";
 // Which texts may stand for NULL.
 const NULL_RULE: &str =
     "  a text for null has at most 16 printable ASCII bytes, and no digit, comma, double quote or space\n";
+
+// Why a closing quote doesn't end its field.
+fn behind_quote(delimiter: Delimiter) -> &'static str
+    ensures { result.now ≡ explained.behind_quote delimiter }
+{
+    if delimiter.byte() == b',' {
+        return BEHIND_QUOTE;
+    }
+    BEHIND_QUOTE_DELIMITED
+}
 
 // The lines for an error of RFC 4180's grammar; for other errors there are none.
 fn explain_grammar(
@@ -48,7 +63,8 @@ fn explain_grammar(
             grammar_lines(alloc, inputs, side, row, column, NOT_CLOSED)
         }
         Fault::AfterQuote(side, row, column) => {
-            grammar_lines(alloc, inputs, side, row, column, BEHIND_QUOTE)
+            let why = behind_quote(inputs.delimiter(side));
+            grammar_lines(alloc, inputs, side, row, column, why)
         }
         Fault::BareQuote(side, row, column) => {
             grammar_lines(alloc, inputs, side, row, column, QUOTE_WITHIN)

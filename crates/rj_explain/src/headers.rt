@@ -5,7 +5,7 @@ ghost use Rattle.std.specs.List.{position_from};
 ghost use Rattle.std.specs.Option.{option_copied};
 ghost use Rattle.std.specs.Str.{str_eq_ignore_ascii_case};
 ghost use Rattle.rj_csv_io.specs.Pieces.{names_in};
-ghost use Rattle.rj_explain.specs.Explained.{IsCountTold, IsTypeCountTold, IsTypeNameTold, file_of, header_names};
+ghost use Rattle.rj_explain.specs.Explained.{IsCountTold, IsTypeCountTold, IsTypeNameTold, side_names};
 ghost use Rattle.rj_explain.specs.Lines as lines;
 ghost use Rattle.rj_explain.specs.Lines.{repeated_at, repeated_told};
 ghost use Rattle.rj_explain.specs.Places.{at_column};
@@ -43,7 +43,7 @@ pub(crate) fn bad_name_lines(
     side: Side,
     column: u64,
 ) -> Result<String, AllocError>
-    ensures { IfOk result (λ s. string_bytes s ≡ lines.name_line (at_column column (header_names (file_of side inputs.now)))) }
+    ensures { IfOk result (λ s. string_bytes s ≡ lines.name_line (at_column column (side_names side inputs.now))) }
 {
     match inputs.header(alloc, side)? {
         Some(header) => name_line(alloc, field_at(alloc, &header, column)?),
@@ -105,7 +105,7 @@ pub(crate) fn repeated_name_lines(
     side: Side,
     column: u64,
 ) -> Result<String, AllocError>
-    ensures { IfOk result (λ s. string_bytes s ≡ repeated_told (header_names (file_of side inputs.now)) (at_column column (header_names (file_of side inputs.now)))) }
+    ensures { IfOk result (λ s. string_bytes s ≡ repeated_told (side_names side inputs.now) (at_column column (side_names side inputs.now))) }
 {
     match inputs.header(alloc, side)? {
         Some(header) => lines_of_repeated(alloc, &header, column),
@@ -210,7 +210,7 @@ pub(crate) fn too_many_lines(
     inputs: &Inputs<'_, '_>,
     side: Side,
 ) -> Result<String, AllocError>
-    ensures { IfOk result (λ s. string_bytes s ≡ lines.columns_line (length (header_names (file_of side inputs.now)))) }
+    ensures { IfOk result (λ s. string_bytes s ≡ lines.columns_line (length (side_names side inputs.now))) }
 {
     match inputs.header(alloc, side)? {
         Some(header) => columns_line(alloc, header.columns()),

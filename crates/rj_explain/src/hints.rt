@@ -1,13 +1,14 @@
-//! What is said of a whole file that isn't CSV in UTF-8 with commas.
+//! What is said of a whole file that isn't CSV in UTF-8 with its delimiter.
 
 ghost use Rattle.std.specs.Prelude.{◌≡◌, IfOk, Some, map, not, string_bytes};
 ghost use Rattle.std.specs.List.{list_any};
-ghost use Rattle.rj_explain.specs.Explained.{file_told, file_told_of};
+ghost use Rattle.rj_explain.specs.Explained.{delimiter_of, file_of, file_told, file_told_of, separators_told};
 ghost use Rattle.rj_explain.specs.Hints as hints;
 ghost use Rattle.rj_explain.specs.Shown as spec;
 
 use crate::inputs::Inputs;
 use crate::shown::text_in;
+use rj_columns::Table;
 use rj_fault::{Fault, Side};
 use std::alloc::{AllocError, Global};
 
@@ -21,13 +22,6 @@ const UTF_16: &str = "is UTF-16: iconv -f UTF-16 -t UTF-8 FILE > table.csv conve
 
 const NO_UTF_8: &str =
     "isn't UTF-8: iconv -f WINDOWS-1252 -t UTF-8 FILE > table.csv, if it is Latin-1";
-
-const SEMICOLONS: &str =
-    "seems to be separated by semicolons: docs/user/recipes.md converts it to commas";
-
-const TABS: &str = "seems to be separated by tabs: docs/user/recipes.md converts it to commas";
-
-const BARS: &str = "seems to be separated by |: docs/user/recipes.md converts it to commas";
 
 // What another kind of file is, by its first bytes, and what makes a table of it.
 #[tactic(auto, unfolding(crate::specs::Hints::kind_words))]
@@ -74,59 +68,162 @@ fn is_foreign(fault: &Fault, file: &[u8], names: &[&[u8]]) -> bool
     }
 }
 
-/// The sign that separates the fields of a file in place of a comma, if it is in this name.
-#[tactic(auto, unfolding(crate::specs::Hints::separator_in))]
-pub(crate) fn separator_in(name: &[u8]) -> &'static str
-    ensures { result.now ≡ hints.separator_in name.now }
+// What is said of a file with these names in its header that is of another kind, or isn't UTF-8.
+fn foreign_words(fault: &Fault, file: &[u8], names: &[&[u8]]) -> &'static str
+    ensures { result.now ≡ hints.first_words (hints.kind_words file.now) (hints.foreign_words fault.now file.now (map (λ n. n.now) names.now)) }
 {
-    if name.contains(&b';') {
-        return SEMICOLONS;
-    }
-    if name.contains(&b'\t') {
-        return TABS;
-    }
-    if name.contains(&b'|') {
-        return BARS;
-    }
-    ""
-}
-
-// The same of the one name of a header.
-fn separator_words(names: &[&[u8]]) -> &'static str
-    ensures { result.now ≡ hints.separator_words (map (λ n. n.now) names.now) }
-{
-    match names {
-        [name] => separator_in(*name),
-        _ => "",
-    }
-}
-
-// What is said of a file with these names in its header.
-fn file_words(fault: &Fault, file: &[u8], names: &[&[u8]]) -> &'static str
-    ensures { result.now ≡ hints.file_words fault.now file.now (map (λ n. n.now) names.now) }
-{
-    let words = kind_words(file);
-    if !words.is_empty() {
-        return words;
+    let kind = kind_words(file);
+    if !kind.is_empty() {
+        return kind;
     }
     if is_foreign(fault, file, names) {
         return NO_UTF_8;
     }
-    separator_words(names)
+    ""
 }
 
-/// A line for what is said of a side's file, if anything is.
-///
-/// # Errors
-///
-/// It fails only when memory runs out.
-pub(crate) fn file_line(alloc: Global, side: Side, words: &str) -> Result<String, AllocError>
+// A sign that may separate the fields of a file.
+#[derive(Clone, Copy)]
+enum Separator {
+    Semicolon,
+    Tab,
+    Bar,
+    Comma,
+}
+
+impl Separator {
+    // What several are called.
+    fn plural(self) -> &'static str
+        ensures { result.now ≡ hints.plural self }
+    {
+        match self {
+            Separator::Semicolon => "semicolons",
+            Separator::Tab => "tabs",
+            Separator::Bar => "bars",
+            Separator::Comma => "commas",
+        }
+    }
+
+    // The sign as a shell's word after an option.
+    fn shell_word(self) -> &'static str
+        ensures { result.now ≡ hints.shell_word self }
+    {
+        match self {
+            Separator::Semicolon => "';'",
+            Separator::Tab => "tab",
+            Separator::Bar => "'|'",
+            Separator::Comma => "','",
+        }
+    }
+}
+
+// Whether a sign that isn't the delimiter is in a name.
+fn stands_in(delimiter: u8, sign: u8, name: &[u8]) -> bool
+    ensures { result ≡ hints.stands_in delimiter sign name.now }
+{
+    delimiter != sign && name.contains(&sign)
+}
+
+// The sign that separates the fields of a file in place of its delimiter, if it is in this name.
+fn separator_in(delimiter: u8, name: &[u8]) -> Option<Separator>
+    ensures { result ≡ hints.separator_in delimiter name.now }
+{
+    if stands_in(delimiter, b';', name) {
+        return Some(Separator::Semicolon);
+    }
+    if stands_in(delimiter, b'\t', name) {
+        return Some(Separator::Tab);
+    }
+    if stands_in(delimiter, b'|', name) {
+        return Some(Separator::Bar);
+    }
+    if stands_in(delimiter, b',', name) {
+        return Some(Separator::Comma);
+    }
+    None
+}
+
+// The same of the one name of a header.
+fn separator_of(delimiter: u8, names: &[&[u8]]) -> Option<Separator>
+    ensures { result ≡ hints.separator_of delimiter (map (λ n. n.now) names.now) }
+{
+    match names {
+        [name] => separator_in(delimiter, *name),
+        _ => None,
+    }
+}
+
+// The same of the one column of a table.
+fn separator_of_table(delimiter: u8, table: &Table) -> Option<Separator>
+    ensures { result ≡ hints.separator_of delimiter table.now.names }
+{
+    if table.columns() != 1 {
+        return None;
+    }
+    separator_in(delimiter, table.name(0).as_bytes())
+}
+
+// What is said of a side's file that a sign separates.
+fn separator_words(
+    alloc: Global,
+    side: Side,
+    separator: Option<Separator>,
+) -> Result<String, AllocError>
+    ensures { IfOk result (λ s. string_bytes s ≡ hints.separator_words side separator) }
+{
+    match separator {
+        Some(separator) => {
+            let (signs, word) = (separator.plural(), separator.shell_word());
+            format!(in alloc;
+                "seems to be separated by {signs}: is --{side}-delimiter {word} meant?"
+            )
+        }
+        None => Ok(String::new(alloc)),
+    }
+}
+
+// What is said of a side's file with these names in its header.
+fn file_words(
+    alloc: Global,
+    fault: &Fault,
+    inputs: &Inputs<'_, '_>,
+    side: Side,
+    names: &[&[u8]],
+) -> Result<String, AllocError>
+    ensures { IfOk result (λ s. string_bytes s
+        ≡ hints.file_words side (delimiter_of side inputs.now) fault.now (file_of side inputs.now) (map (λ n. n.now) names.now)) }
+{
+    let words = foreign_words(fault, inputs.file(side), names);
+    if !words.is_empty() {
+        return String::from_str(alloc, words);
+    }
+    let delimiter = inputs.delimiter(side).byte();
+    separator_words(alloc, side, separator_of(delimiter, names))
+}
+
+// A line for what is said of a side's file, if anything is.
+fn file_line(alloc: Global, side: Side, words: &str) -> Result<String, AllocError>
     ensures { IfOk result (λ s. string_bytes s ≡ hints.file_line side words.now) }
 {
     if words.is_empty() {
         return Ok(String::new(alloc));
     }
     format!(in alloc; "  the {side} file {words}\n")
+}
+
+// The line for a side's file with these names in its header.
+fn line_of_file(
+    alloc: Global,
+    fault: &Fault,
+    inputs: &Inputs<'_, '_>,
+    side: Side,
+    names: &[&[u8]],
+) -> Result<String, AllocError>
+    ensures { IfOk result (λ s. string_bytes s ≡ hints.file_line side
+        (hints.file_words side (delimiter_of side inputs.now) fault.now (file_of side inputs.now) (map (λ n. n.now) names.now))) }
+{
+    let words = file_words(alloc, fault, inputs, side, names)?;
+    file_line(alloc, side, words.as_str())
 }
 
 // The side in whose file an error is.
@@ -160,15 +257,14 @@ fn side_line(
 ) -> Result<String, AllocError>
     ensures { IfOk result (λ s. string_bytes s ≡ file_told_of fault.now inputs.now (Some side)) }
 {
-    let file = inputs.file(side);
     let Some(header) = inputs.header(alloc, side)? else {
-        return file_line(alloc, side, file_words(fault, file, &[]));
+        return line_of_file(alloc, fault, inputs, side, &[]);
     };
     let names = header.names(alloc)?;
-    file_line(alloc, side, file_words(fault, file, names.as_slice()))
+    line_of_file(alloc, fault, inputs, side, names.as_slice())
 }
 
-/// The line for the file in which an error is, if the file isn't CSV in UTF-8 with commas.
+/// The line for the file in which an error is, if the file isn't CSV in UTF-8 with its delimiter.
 ///
 /// # Errors
 ///
@@ -184,4 +280,37 @@ pub(crate) fn file_lines(
         Some(side) => side_line(alloc, fault, inputs, side),
         None => Ok(String::new(alloc)),
     }
+}
+
+// The line for the sign that separates the fields of a side's file, by its table.
+fn separator_line(
+    alloc: Global,
+    inputs: &Inputs<'_, '_>,
+    side: Side,
+    table: &Table,
+) -> Result<String, AllocError>
+    ensures { IfOk result (λ s. string_bytes s ≡ hints.separator_line side (delimiter_of side inputs.now) table.now.names) }
+{
+    let delimiter = inputs.delimiter(side).byte();
+    let words = separator_words(alloc, side, separator_of_table(delimiter, table))?;
+    file_line(alloc, side, words.as_str())
+}
+
+/// The lines for the signs that separate the fields of the two files, by their tables.
+///
+/// # Errors
+///
+/// It fails only when memory runs out.
+pub(crate) fn separator_lines(
+    alloc: Global,
+    inputs: &Inputs<'_, '_>,
+    left: &Table,
+    right: &Table,
+) -> Result<String, AllocError>
+    ensures { IfOk result (λ s. string_bytes s ≡ separators_told inputs.now left.now right.now) }
+{
+    let mut lines = separator_line(alloc, inputs, Side::Left, left)?;
+    let more = separator_line(alloc, inputs, Side::Right, right)?;
+    lines.push_str(more.as_str())?;
+    Ok(lines)
 }

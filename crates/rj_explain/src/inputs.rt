@@ -5,13 +5,13 @@ ghost use Rattle.csv.specs.Reading.{strip_bom};
 ghost use Rattle.rj_csv_io.specs.Pieces.{names_in};
 ghost use Rattle.rj_types.specs.Columns as columns;
 ghost use Rattle.rj_explain.specs.Explained as explained;
-ghost use Rattle.rj_explain.specs.Explained.{IsQuotedText, IsReadText, file_of, header_names, names_of, text_in, types_of};
+ghost use Rattle.rj_explain.specs.Explained.{IsQuotedText, IsSideText, delimiter_of, file_of, names_of, side_names, text_in, types_of};
 
 use rj_columns::ColumnType;
 use rj_csv_io::{Header as Names, without_bom};
 use rj_fault::Side;
 use rj_line::{Request, Strictness};
-use rj_strict::{Header, above_fault, check, quote_empty_lines};
+use rj_strict::{Delimiter, Header, above_fault, check, quote_empty_lines};
 use rj_types::{TypeEntry, types_under};
 use std::alloc::{AllocError, Global};
 
@@ -34,6 +34,16 @@ impl<'a, 'r> Inputs<'a, 'r> {
         match side {
             Side::Left => self.left,
             Side::Right => self.right,
+        }
+    }
+
+    /// The delimiter of a side's file.
+    pub(crate) fn delimiter(&self, side: Side) -> Delimiter
+        ensures { result ≡ delimiter_of side self.now }
+    {
+        match side {
+            Side::Left => self.request.left_delimiter,
+            Side::Right => self.request.right_delimiter,
         }
     }
 
@@ -63,9 +73,9 @@ impl<'a, 'r> Inputs<'a, 'r> {
     ///
     /// It fails only when memory runs out.
     pub(crate) fn header(&self, alloc: Global, side: Side) -> Result<Option<Names>, AllocError>
-        ensures { IfOk result (λ o. names_of o ≡ header_names (file_of side self.now)) }
+        ensures { IfOk result (λ o. names_of o ≡ side_names side self.now) }
     {
-        Names::of(alloc, without_bom(self.file(side)))
+        Names::of(alloc, without_bom(self.file(side)), self.delimiter(side))
     }
 
     /// The types of a side's columns under this header.
@@ -95,23 +105,29 @@ impl<'a, 'r> Inputs<'a, 'r> {
         alloc: Global,
         side: Side,
     ) -> Result<Option<Vec<u8>>, AllocError>
-        ensures { IfOk result (λ o. IsReadText self.now.request.now.strict (file_of side self.now) (text_in o (file_of side self.now))) }
+        ensures { IfOk result (λ o. IsSideText side self.now (text_in o (file_of side self.now))) }
     {
         match self.request.strict {
             Strictness::Off => Ok(None),
-            Strictness::On | Strictness::Full => Ok(Some(quoted_lines(alloc, self.file(side))?)),
+            Strictness::On | Strictness::Full => {
+                let file = self.file(side);
+                Ok(Some(quoted_lines(alloc, file, self.delimiter(side))?))
+            }
         }
     }
 }
 
 // The lines of a text above the place where it stops being of the grammar, with `""` in each empty
 // one.
-fn quoted_lines(alloc: Global, text: &[u8]) -> Result<Vec<u8>, AllocError>
-    ensures { IfOk result (λ v. IsQuotedText text.now (strip_bom v.items)) }
+fn quoted_lines(alloc: Global, text: &[u8], delimiter: Delimiter) -> Result<Vec<u8>, AllocError>
+    ensures { IfOk result (λ v. IsQuotedText delimiter text.now (strip_bom v.items)) }
 {
-    match check(text, Header::First, false) {
-        Ok(()) => quote_empty_lines(alloc, text),
-        Err(fault) => quote_empty_lines(alloc, above_fault(text, Header::First, fault)),
+    match check(text, delimiter, Header::First, false) {
+        Ok(()) => quote_empty_lines(alloc, text, delimiter),
+        Err(fault) => {
+            let above = above_fault(text, delimiter, Header::First, fault);
+            quote_empty_lines(alloc, above, delimiter)
+        }
     }
 }
 

@@ -1,11 +1,11 @@
-//! Where the record of a row is in a text of CSV, and on which line.
+//! Where the record of a row is in a text of CSV by its delimiter, and on which line.
 
 ghost use Rattle.std.specs.Prelude.{◌≡◌, ◌<◌, ◌≤◌, ◌==◌, [], length, drop, take, IfSome, IfNone, MatchOption};
 ghost use Rattle.std.specs.List.{count_by, prefix_len};
 ghost use Rattle.csv.specs.Machine as machine;
 ghost use Rattle.csv.specs.Machine.{is_end, next_record};
-ghost use Rattle.csv.specs.Reading.{default_config};
 ghost use Rattle.csv.specs.declared.parser.State.TheVariants as st;
+ghost use Rattle.rj_strict.specs.Reading.{config_of};
 ghost use Rattle.rj_explain.specs.Places.{EndsFirst, HasNoRow, StandsAt, state_of};
 ghost use Rattle.rj_explain.specs.Places as places;
 
@@ -28,11 +28,13 @@ fn is_line_end(byte: u8) -> bool
 }
 
 // After a byte that is no quote, outside quotes.
-fn behind_plain(byte: u8) -> Standing
-    ensures { state_of result ≡ (machine.in_field default_config byte).0 }
+fn behind_plain(delimiter: u8, byte: u8) -> Standing
+    ensures { state_of result ≡ (machine.in_field (config_of delimiter) byte).0 }
 {
+    if byte == delimiter {
+        return Standing::Field;
+    }
     match byte {
-        b',' => Standing::Field,
         b'\r' => Standing::Return,
         b'\n' => Standing::Record,
         _ => Standing::Inside,
@@ -40,28 +42,28 @@ fn behind_plain(byte: u8) -> Standing
 }
 
 // After a byte at the start of a field.
-fn behind_start(byte: u8) -> Standing
-    ensures { state_of result ≡ (machine.start_field default_config byte).0 }
+fn behind_start(delimiter: u8, byte: u8) -> Standing
+    ensures { state_of result ≡ (machine.start_field (config_of delimiter) byte).0 }
 {
     if byte == b'"' {
         return Standing::Open;
     }
-    behind_plain(byte)
+    behind_plain(delimiter, byte)
 }
 
 // After one more byte.
-fn behind(standing: Standing, byte: u8) -> Standing
-    ensures { state_of result ≡ (machine.step default_config (state_of standing) byte).0 }
+fn behind(delimiter: u8, standing: Standing, byte: u8) -> Standing
+    ensures { state_of result ≡ (machine.step (config_of delimiter) (state_of standing) byte).0 }
 {
     match standing {
         Standing::Record | Standing::Return => {
             if is_line_end(byte) {
                 return Standing::Record;
             }
-            behind_start(byte)
+            behind_start(delimiter, byte)
         }
-        Standing::Field => behind_start(byte),
-        Standing::Inside => behind_plain(byte),
+        Standing::Field => behind_start(delimiter, byte),
+        Standing::Inside => behind_plain(delimiter, byte),
         Standing::Open => {
             if byte == b'"' {
                 Standing::Closed
@@ -73,18 +75,20 @@ fn behind(standing: Standing, byte: u8) -> Standing
             if byte == b'"' {
                 return Standing::Open;
             }
-            behind_plain(byte)
+            behind_plain(delimiter, byte)
         }
     }
 }
 
 // Whether a byte ends a record.
-fn ends_record(standing: Standing, byte: u8) -> bool
-    ensures { result ≡ is_end (machine.step default_config (state_of standing) byte).1 }
+fn ends_record(delimiter: u8, standing: Standing, byte: u8) -> bool
+    ensures { result ≡ is_end (machine.step (config_of delimiter) (state_of standing) byte).1 }
 {
     match standing {
         Standing::Record | Standing::Return | Standing::Open => false,
-        Standing::Field | Standing::Inside | Standing::Closed => is_line_end(byte),
+        Standing::Field | Standing::Inside | Standing::Closed => {
+            is_line_end(byte) && byte != delimiter
+        }
     }
 }
 
@@ -100,16 +104,16 @@ fn ends_at_end(standing: Standing) -> bool
 
 // How many bytes the first record of a text takes, with the line ends before it; none if there is
 // no record.
-fn first_record(text: &[u8]) -> Option<usize>
+fn first_record(text: &[u8], delimiter: u8) -> Option<usize>
     ensures within { IfSome result (λ end. end ≤ length text.now) }
-    ensures record { MatchOption result (next_record default_config st.StartRecord [] [] text.now ≡ None) (EndsFirst text.now) }
+    ensures record { MatchOption result (next_record (config_of delimiter) st.StartRecord [] [] text.now ≡ None) (EndsFirst delimiter text.now) }
 {
     let mut standing = Standing::Record;
     for at in 0..text.len() {
-        if ends_record(standing, text[at]) {
+        if ends_record(delimiter, standing, text[at]) {
             return Some(at + 1);
         }
-        standing = behind(standing, text[at]);
+        standing = behind(delimiter, standing, text[at]);
     }
     if ends_at_end(standing) {
         Some(text.len())
@@ -120,13 +124,13 @@ fn first_record(text: &[u8]) -> Option<usize>
 
 /// The place in a text after the records that come before the one of this row. The header has row
 /// 0. The text's byte order mark was left out already. `None` if the text has fewer records.
-pub(crate) fn place_of_row(text: &[u8], row: u64) -> Option<usize>
+pub(crate) fn place_of_row(text: &[u8], delimiter: u8, row: u64) -> Option<usize>
     ensures within { IfSome result (λ at. at ≤ length text.now) }
-    ensures place { MatchOption result (HasNoRow text.now row) (StandsAt text.now row) }
+    ensures place { MatchOption result (HasNoRow delimiter text.now row) (StandsAt delimiter text.now row) }
 {
     let mut at = 0;
     for _above in 0..row {
-        match first_record(&text[at..]) {
+        match first_record(&text[at..], delimiter) {
             Some(size) => at += size,
             None => return None,
         }

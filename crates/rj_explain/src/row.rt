@@ -7,6 +7,7 @@ ghost use Rattle.rj_explain.specs.Places.{HasNoRow, IsRow, at_column};
 
 use crate::places::{line_from, place_of_row};
 use rj_csv_io::Header;
+use rj_strict::Delimiter;
 use std::alloc::{AllocError, Global};
 
 /// The record of a row.
@@ -18,19 +19,25 @@ pub struct Row {
     pub record: Header,
 }
 
-/// The record of a row in a text of CSV, as the library `csv` reads it. The text's byte order mark
-/// was left out already. The header has row 0. `None` if the text has no such record.
+/// The record of a row in a text of CSV, as the library `csv` reads it by this delimiter. The
+/// text's byte order mark was left out already. The header has row 0. `None` if the text has no such
+/// record.
 ///
 /// # Errors
 ///
 /// It fails only when memory runs out.
-pub fn find_row(alloc: Global, text: &[u8], row: u64) -> Result<Option<Row>, AllocError>
-    ensures { IfOk result (λ o. MatchOption o (HasNoRow text.now row) (λ r. IsRow text.now row r.line (names_in r.record))) }
+pub fn find_row(
+    alloc: Global,
+    text: &[u8],
+    delimiter: Delimiter,
+    row: u64,
+) -> Result<Option<Row>, AllocError>
+    ensures { IfOk result (λ o. MatchOption o (HasNoRow delimiter text.now row) (λ r. IsRow delimiter text.now row r.line (names_in r.record))) }
 {
-    let Some(at) = place_of_row(text, row) else {
+    let Some(at) = place_of_row(text, delimiter.byte(), row) else {
         return Ok(None);
     };
-    match Header::of(alloc, &text[at..])? {
+    match Header::of(alloc, &text[at..], delimiter)? {
         Some(record) => Ok(Some(Row {
             line: line_from(text, at),
             record,

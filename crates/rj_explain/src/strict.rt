@@ -18,23 +18,23 @@ use crate::row::field_at;
 use crate::shown::Shown;
 use rj_csv_io::{Header as Names, without_bom};
 use rj_fault::Side;
-use rj_strict::{Header, above_fault, check};
+use rj_strict::{Delimiter, Header, above_fault, check};
 use std::alloc::{AllocError, Global};
 
-/// The line, counted from 1, on which the row begins in which a text stops being of the grammar.
-/// `None` exactly if the text is of the grammar.
-pub fn line_of_fault(text: &[u8], full: bool) -> Option<u64>
+/// The line, counted from 1, on which the row begins in which a text stops being of the grammar
+/// with this delimiter. `None` exactly if the text is of the grammar.
+pub fn line_of_fault(text: &[u8], delimiter: Delimiter, full: bool) -> Option<u64>
     // Each answer is right.
-    ensures none { IfNone result ((file : File) × Derives First full (body_of First text.now) file) }
-    ensures line { IfSome result (IsFaultLine full text.now) }
+    ensures none { IfNone result ((file : File) × Derives delimiter First full (body_of First text.now) file) }
+    ensures line { IfSome result (IsFaultLine delimiter full text.now) }
     // Each right answer is given.
-    ensures each_file { (file : File) → Derives First full (body_of First text.now) file → result ≡ None }
-    ensures each_fault { (fault : StrictFault) → HasFault First full (body_of First text.now) fault → IsSome result }
+    ensures each_file { (file : File) → Derives delimiter First full (body_of First text.now) file → result ≡ None }
+    ensures each_fault { (fault : StrictFault) → HasFault delimiter First full (body_of First text.now) fault → IsSome result }
 {
-    match check(text, Header::First, full) {
+    match check(text, delimiter, Header::First, full) {
         Ok(()) => None,
         Err(fault) => {
-            let above = without_bom(above_fault(text, Header::First, fault));
+            let above = without_bom(above_fault(text, delimiter, Header::First, fault));
             Some(line_feeds(above) as u64 + 1)
         }
     }
@@ -77,13 +77,14 @@ fn grammar_line(
 fn lines_of_place(
     alloc: Global,
     text: &[u8],
+    delimiter: Delimiter,
     full: bool,
     name: Option<&[u8]>,
     why: &str,
 ) -> Result<String, AllocError>
-    ensures { IfOk result (λ s. IsGrammarTold full text.now (option_copied name.entry) why.now (string_bytes s)) }
+    ensures { IfOk result (λ s. IsGrammarTold delimiter full text.now (option_copied name.entry) why.now (string_bytes s)) }
 {
-    match line_of_fault(text, full) {
+    match line_of_fault(text, delimiter, full) {
         Some(line) => grammar_line(alloc, line, name, why),
         None => Ok(String::new(alloc)),
     }
@@ -107,5 +108,12 @@ pub(crate) fn grammar_lines(
 {
     let header = inputs.header(alloc, side)?;
     let name = name_in_row(alloc, &header, row, column)?;
-    lines_of_place(alloc, inputs.file(side), inputs.is_full(), name, why)
+    lines_of_place(
+        alloc,
+        inputs.file(side),
+        inputs.delimiter(side),
+        inputs.is_full(),
+        name,
+        why,
+    )
 }

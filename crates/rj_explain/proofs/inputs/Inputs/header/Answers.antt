@@ -4,5 +4,5 @@ use Rattle.rj_explain.proofs.inputs.Inputs.header.Goals as goal
 
 pub returns : goal.returns
 returns c =
-    let found = rw (c.without_bom.ensures, c.file.ensures) at c.of.ensures in
+    let found = rw (c.without_bom.ensures, c.file.ensures, c.delimiter.ensures) at c.of.ensures in
     IfOk-weaker c.of.result _ _ (λ o h. header-is o _ h) found
