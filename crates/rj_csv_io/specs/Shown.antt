@@ -1,5 +1,5 @@
--- Text: the CSV text of a header and of rows (RFC 4180, section 2, with any delimiter, as csv's writer
--- writes a record).
+-- Text: the CSV text of a header and of rows (RFC 4180, section 2, with any delimiter, as csv's
+-- writer writes a record).
 use Rattle.std.specs.Prelude.{ℕ, ◌-◌, List, [], ◌∷◌, ◌++◌, map, take, drop}
 use Rattle.std.specs.Fmt.{signed_decimal}
 use Rattle.csv.specs.declared.writer.WriterBuilder.{WriterBuilder}

@@ -53,8 +53,8 @@ pub fn tables_read_back()
 {}
 
 /// A table that was read, by any delimiter, and is written by a lawful one reads back as it was, by
-/// this one and the same types and NULL texts, if one of these is written for NULL and no byte order
-/// mark is at the start.
+/// this one and the same types and NULL texts, if one of these is written for NULL and no byte
+/// order mark is at the start.
 pub fn read_tables_read_back()
     ensures { (d from : ℕ) (bytes : List ℕ) (types : List ColumnType) (nulls : List (List ℕ)) (null : List ℕ) (t : TableValue)
         → may_delimit d ≡ true → read_of from bytes types nulls ≡ Ok t → is_null_field nulls null ≡ true
