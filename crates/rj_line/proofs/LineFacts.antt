@@ -1,5 +1,6 @@
--- Which fault of the command line a bad type list is, and too many null texts.
-use Rattle.std.proofs.Common.{◌≡◌, ◌≢◌, ◌∙◌, ◌⊎◌, ◌<◌, ◌≤◌, ◌∷◌, arith, ℕ, Bool, true, false, List, [], length, Option, Some, ap, inl, inr, refl, sym, subst, true≢false, codes}
+-- Which fault of the command line a bad type list is, too many null texts, and what is chosen wrongly.
+use Rattle.std.proofs.Common.{◌≡◌, ◌≢◌, ◌∙◌, ◌⊎◌, ◌<◌, ◌≤◌, ◌∷◌, arith, ℕ, Bool, true, false, List, [], length, Option, ap, inl, inr, is_some, refl, sym, subst, true≢false, codes}
+use Rattle.std.specs.Cmp.Derive.{both_true}
 use Rattle.clap.specs.Words.{IsAmong, Text, fault_of, kind_of}
 use Rattle.clap.specs.declared.error.Error.{Error}
 use Rattle.clap.specs.declared.error.kind.ErrorKind.{ErrorKind}
@@ -9,7 +10,8 @@ use Rattle.rj_fault.specs.declared.fault.Fault.{Fault}
 use Rattle.rj_fault.specs.declared.fault.Fault.TheVariants as fault
 use Rattle.rj_fault.specs.declared.fault.Side.TheVariants as side
 use Rattle.rj_line.specs.Choices.{IsChoiceFault}
-use Rattle.rj_line.specs.Delimiters.{are_delimiters_given}
+use Rattle.rj_line.specs.Delimiters.{AreDelimitersOf}
+use Rattle.rj_line.specs.declared.delimiters.Delimiters.{Delimiters}
 use Rattle.rj_line.specs.Line.{AreTablesGiven, GiveShared, GiveTypes, IsChosenFault, IsFaultIn, IsParseError, IsRequestFault, nulls_or, word_of, words_of}
 use Rattle.rj_line.specs.Options.{OptionWords, line_app}
 use Rattle.rj_line.specs.Types.{GivesNoShared, GivesNoTypes, GivesTypes}
@@ -24,6 +26,12 @@ is_memory _ = false
 pub or_memory : (P : Fault → Type 0) (f : Fault) → P fault.Memory → (f ≢ fault.Memory → P f) → P f
 or_memory P fault.Memory memory other = memory
 or_memory P f memory other = other (λ is. true≢false (sym (ap is_memory is)))
+
+-- a fault of the choice is told where these delimiters are given
+pub choice_fault : (form : Form) (word : Text → Option Text) (d : Delimiters) (f : Fault) → AreDelimitersOf word d → IsChoiceFault form word f → IsChosenFault form word f
+choice_fault form word d fault.Memory given told = tt
+choice_fault form word d fault.BadDelimiter given told = absurd told
+choice_fault form word d f given told = (both_true (ap is_some given.left) (both_true (ap is_some given.right) (ap is_some given.out)), told)
 
 module _ (form : Form) (word : Text → Option Text) (texts : Text → List Text) where
   pub shared_list_fault : (f : Fault) → (f ≢ fault.Memory → (f ≡ fault.BadSharedTypeList) × GivesNoShared (word (codes "types"))) → IsRequestFault form word texts f
@@ -55,13 +63,7 @@ module _ (form : Form) (word : Text → Option Text) (texts : Text → List Text
       let t = told not in
       subst (IsRequestFault form word texts) (sym t.0) (types, few, t.1))
 
-  -- a fault of the choice is told where the delimiters are given
-  pub choice_fault : (f : Fault) → are_delimiters_given word ≡ true → IsChoiceFault form word f → IsChosenFault form word f
-  choice_fault fault.Memory given told = tt
-  choice_fault fault.BadDelimiter given told = absurd told
-  choice_fault f given told = (given, told)
-
-  -- and one of what is chosen where nothing is wrong with the tables
+  -- a fault of what is chosen is told where nothing is wrong with the tables
   pub chosen_fault : (f : Fault) → AreTablesGiven form word texts → IsChosenFault form word f → IsRequestFault form word texts f
   chosen_fault fault.Memory given told = tt
   chosen_fault (fault.BadTypeList side) given told = absurd told.1
@@ -77,7 +79,7 @@ few_given (t ∷ texts) null count is few = subst (λ n. n ≤ 4) is few
 -- where `clap` has no fault to tell, a fault of the values is one of the line
 pub line_fault : (form : Form) (words : List Text) (h : OptionWords) (f : Fault) → fault_of (line_app form h) words ≡ []
     → IsRequestFault form (word_of form h words) (words_of form h words) f → IsFaultIn form words f
-line_fault form words h (fault.CommandLine e) accepted told = absurd told.1
+line_fault form words h (fault.CommandLine e) accepted told = absurd told.1.1
 line_fault form words h fault.Memory accepted told = tt
 line_fault form words h f accepted told = (h, accepted, told)
 

@@ -1,5 +1,5 @@
 -- The values that a parse of each form has.
-use Rattle.std.proofs.Common.{◌≡◌, refl, true, lit<, true≢false, is_some, codes, List, [], ◌∷◌}
+use Rattle.std.proofs.Common.{◌≡◌, refl, true, lit<, true≢false, is_some, codes, [], ◌∷◌}
 use Rattle.std.specs.List.{list_all}
 use Rattle.clap.specs.Words.{IsParsedFrom, first_value, found_of}
 use Rattle.clap.specs.declared.builder.command.Command.{Command}

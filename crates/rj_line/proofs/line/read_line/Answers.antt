@@ -1,10 +1,8 @@
-use Rattle.std.proofs.Common.{◌≡◌, List, Result, map, subst, Bor}
+use Rattle.std.proofs.Common.{List, map, subst, Bor}
 use Rattle.std.specs.Prelude.{IfErr, IfOk}
 use Rattle.clap.specs.Words.{Text}
-use Rattle.rj_fault.specs.declared.fault.Fault.{Fault}
 use Rattle.rj_line.specs.Line.{IsFaultIn, IsLineIn}
 use Rattle.rj_line.specs.declared.form.Form.{Form}
-use Rattle.rj_line.specs.declared.line.Line.{Line}
 use Rattle.rj_line.proofs.line.read_line.Goals as goal
 
 pub returns-clause-line : goal.returns-clause-line
