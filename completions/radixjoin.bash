@@ -1,6 +1,6 @@
 # Completion of radixjoin for bash: options that were not given yet, files, and the words of options.
 _radixjoin() {
-    local options="--left --right --left-types --right-types --types --join --null --left-null --right-null --out-null --strict --stats --order --rows --columns --anti --semi --repeated --expect --max-rows --count --report --progress --output --explain --lenient --terse --workers
+    local options="--left --right --left-types --right-types --types --join --delimiter --left-delimiter --right-delimiter --out-delimiter --null --left-null --right-null --out-null --strict --stats --order --rows --columns --anti --semi --repeated --expect --max-rows --count --report --progress --output --explain --lenient --terse --workers
         --bits1 --bits2 --hash --piece --block --capacity --lanes --retries --help --version"
     local word=${COMP_WORDS[COMP_CWORD]} before=${COMP_WORDS[COMP_CWORD - 1]}
     # `--left=a` is three words here: --left, = and a.
@@ -43,6 +43,9 @@ _radixjoin() {
             ;;
         --strict)
             mapfile -t COMPREPLY < <(compgen -W "on full" -- "$word")
+            ;;
+        --delimiter | -d | --left-delimiter | --right-delimiter | --out-delimiter)
+            mapfile -t COMPREPLY < <(compgen -W "tab" -- "$word")
             ;;
         --left-types | --right-types | --types)
             if [[ $word == @* ]]; then

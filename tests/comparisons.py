@@ -12,19 +12,21 @@ import harness
 import reference
 
 CASES = 300
+# The delimiters of both files and of the result.
+COMMAS = (",", ",", ",")
 
 
-def run_join(left, right, join, folder, options=()):
-    """Runs radixjoin on two tables."""
-    (folder / "left.csv").write_bytes(left.csv())
-    (folder / "right.csv").write_bytes(right.csv())
+def run_join(left, right, join, folder, options=(), delimiters=COMMAS):
+    """Runs radixjoin on two tables, which are written by these delimiters; the options name them."""
+    (folder / "left.csv").write_bytes(left.csv(delimiters[0]))
+    (folder / "right.csv").write_bytes(right.csv(delimiters[1]))
     words = ["--left", "left.csv", "--left-types", ",".join(left.types), "--right", "right.csv", "--right-types", ",".join(right.types)]
     return harness.run([harness.program("radixjoin"), *words, "--join", join.clause, *options], folder)
 
 
-def rows_of(text):
+def rows_of(text, delimiter=","):
     """The records of CSV text, with nulls for empty fields."""
-    return [[cell if cell != "" else None for cell in row] for row in csv.reader(io.StringIO(text, newline=""))]
+    return [[cell if cell != "" else None for cell in row] for row in csv.reader(io.StringIO(text, newline=""), delimiter=delimiter)]
 
 
 def as_text(rows):
@@ -90,13 +92,13 @@ def sqlite_rows(left, right, join):
     return rows_of(ran.stdout.decode())
 
 
-def faults_of(left, right, join, with_sqlite, with_reference=True, options=()):
+def faults_of(left, right, join, with_sqlite, with_reference=True, options=(), delimiters=COMMAS):
     """Runs a join everywhere, and says what differs."""
     with harness.folder() as name:
-        ran = run_join(left, right, join, pathlib.Path(name), options)
+        ran = run_join(left, right, join, pathlib.Path(name), options, delimiters)
     if ran.status != 0 or ran.stderr:
         return [f"{join.clause}: status {ran.status}: {ran.stderr!r}"]
-    header, *rows = rows_of(ran.stdout.decode())
+    header, *rows = rows_of(ran.stdout.decode(), delimiters[2])
     faults = []
     if header != join.header(left, right):
         faults.append(f"{join.clause}: the header is {header}")
@@ -207,6 +209,33 @@ def random_nulls_that_meet(tally, with_sqlite):
         tally.check(f"random nulls that meet {n}: {join.clause}", faults_of(left, right, join, with_sqlite, options=options))
 
 
+DELIMITERS = [",", ";", ";", "\t", "\t", "|", ":", " ", "-", ".", "'", "^"]
+
+
+def named(source, delimiters):
+    """The words that name delimiters, in one of the ways in which that can be done."""
+    words = [f"--{of}-delimiter={sign}" for of, sign in zip(("left", "right", "out"), delimiters)]
+    if source.random() < 0.5:
+        # (what the common one says already is said once more, or not)
+        common = source.choice(delimiters)
+        words = [word for word, sign in zip(words, delimiters) if sign != common or source.random() < 0.2]
+        words += source.choice([[f"--delimiter={common}"], ["-d", common] if common != "-" else [f"-d{common}"]])
+    return [word.replace("\t", source.choice(["\t", "tab", r"\t"])) for word in words]
+
+
+def random_delimiters(tally, with_sqlite):
+    """Files by random delimiters, which Python's csv writes, and a result that it reads, with texts that hold them."""
+    source = random.Random("radixjoin: random delimiters")
+    for n in range(CASES):
+        left = reference.random_table(source, ["a", "t", "b"], [source.choice(["int", "num(5,2)"]), "text", "int"], 8)
+        right = reference.random_table(source, ["b", "c", "t"], ["int", source.choice(["int", "num(5,2)"]), "text"], 8)
+        for table in (left, right):
+            table.rows = [[cell.replace(",", source.choice(DELIMITERS)) if isinstance(cell, str) else cell for cell in row] for row in table.rows]
+        join, delimiters = reference.random_join(source, left, right), source.choices(DELIMITERS, k=3)
+        options = [*named(source, delimiters), *source.choice([[], ["--workers=3"], ["--strict"]])]
+        tally.check(f"random delimiters {n}, {options}: {join.clause}", faults_of(left, right, join, with_sqlite, options=options, delimiters=delimiters))
+
+
 def large_tables(tally, with_sqlite):
     """Two files of 10,000 rows with quoted fields and nulls."""
     source = random.Random("radixjoin: 10,000 rows")
@@ -233,4 +262,5 @@ def run_all(tally):
     random_decimals(tally, with_sqlite)
     random_bands(tally, with_sqlite)
     random_nulls_that_meet(tally, with_sqlite)
+    random_delimiters(tally, with_sqlite)
     large_tables(tally, with_sqlite)

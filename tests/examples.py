@@ -104,8 +104,35 @@ def sweep_ways(case, files, tally):
         tally.check(f"{case['name']}, {' '.join(words)}", faults_of({**case, "options": [*options, *words]}, files))
 
 
+# Other delimiters, each with the words that name it.
+DELIMITERS = {";": ["--delimiter=;"], "\t": ["-d", "tab"], "|": ["--left-delimiter=|", "--right-delimiter=|", "--out-delimiter=|"]}
+
+
+def has_only_separators(case, files):
+    """Whether a case's files are all that has commas of a text: its clause, types and options have none between quotes, and nothing that it
+    prints shows a cell or a name on standard error."""
+    words = [spelled(case["join"]), *(spelled(files[case[side]].get("types", "")) for side in ("left", "right") if side in case)]
+    is_quoted = any(re.search(r"""(["'])(?:(?!\1).)*[,;\t|]""", word) for word in words)
+    is_given = any(re.search(r'[";\t|]', spelled(word)) for word in case.get("options", []))
+    return not is_quoted and not is_given and '"' not in spelled(case.get("stderr", "")) and not {"stdin", "stdout_holds", "stderr_holds"} & set(case)
+
+
+def sweep_delimiters(case, files, tally):
+    """Runs a case that names no delimiter with another one in the place of each comma of its files, and commas in the place of that one: what
+    it prints is the same, with these exchanged, too."""
+    if "words" in case or any(re.match("--(help|.*delimiter)|-d", word) for word in map(spelled, case.get("options", []))) or not has_only_separators(case, files):
+        return
+    for sign, words in DELIMITERS.items():
+        exchange = str.maketrans(f",{sign}", f"{sign},")
+        of_bytes = bytes.maketrans(b"," + sign.encode(), sign.encode() + b",")
+        changed = {case[side]: {**files[case[side]], "bytes": bytes_of(files[case[side]]).translate(of_bytes).hex()} for side in ("left", "right") if side in case}
+        swept = {**case, "options": [*case.get("options", []), *words], "stdout": spelled(case.get("stdout", "")).translate(exchange)}
+        tally.check(f"{case['name']}, {' '.join(words)}", faults_of(swept, changed))
+
+
 def run_all(tally):
-    """Runs every case of both tables, those of joins for each number of partitions, by both hashes and by several workers too."""
+    """Runs every case of both tables, those of joins for each number of partitions, by both hashes, by several workers and by other
+    delimiters too."""
     for table in ("examples.toml", "arrivals.toml"):
         with open(harness.ROOT / "tests" / table, "rb") as text:
             found = tomllib.load(text)
@@ -116,3 +143,4 @@ def run_all(tally):
                 sweep_partitions(case, files, tally)
                 sweep_bits_and_hashes(case, files, tally)
                 sweep_ways(case, files, tally)
+                sweep_delimiters(case, files, tally)

@@ -40,15 +40,18 @@ def mutated(source, content, pieces):
     return bytes(content)
 
 
-FILE_PIECES = [b",", b'"', b'""', b"\n", b"\r", b"\r\n", b"\xef\xbb\xbf", b"\xff", b"\xc3\xa9", b"\xed\xa0\x80", b" ", b"", b"0", b"-", b"+7", b"NULL", b"a", b"A", b"9223372036854775807", b"-9223372036854775808", b"9223372036854775808", b"00000000000000000000012", b"\x00"]
+FILE_PIECES = [b",", b";", b"\t", b'"', b'""', b"\n", b"\r", b"\r\n", b"\xef\xbb\xbf", b"\xff", b"\xc3\xa9", b"\xed\xa0\x80", b" ", b"", b"0", b"-", b"+7", b"NULL", b"a", b"A", b"9223372036854775807", b"-9223372036854775808", b"9223372036854775808", b"00000000000000000000012", b"\x00"]
 CELLS = {
     "int": [b"0", b"1", b"-1", b"+2", b"007", b"-0", b"", b"9223372036854775807", b"-9223372036854775808"],
-    "text": [b"x", b"", b'"a,b"', b'"say ""hi"""', b"\xc3\xa9", b'"line\nbreak"', b"NULL", b"1", b'"\r"'],
+    "text": [b"x", b"", b'"a,b"', b"p;q", b'"say ""hi"""', b'"line\nbreak"', b"\xc3\xa9", b"NULL", b"1", b'"\r"', b"\t|-"],
     "num(4,2)": [b"1", b"1.5", b"-0.05", b"+99.990", b"007.00", b"", b"-1", b"100", b"1.005", b"1."],
     "num(18,18)": [b"0", b"0.1", b"-0.000000000000000001", b"0.1000000000000000000", b"1", b"", b"-.1"],
 }
 NAMES = [b"a", b"b", b"c", b"k", b"A", b"B", b"t", b"\xc3\xa9", b'"x y"', b"n" * 128]
-NULLS = [b"", b"", b"NULL", b"-", b"x", b"\\N"]
+NULLS = [b"", b"", b"", b"NULL", b"-", b"x", b"\\N", b";"]
+# Names of delimiters, and words that name none.
+DELIMITERS = [b";", b";", b"tab", b"\\t", b"\t", b"|", b":", b" ", b"-", b".", b"'", b"^", b"]", b"\\", b"\x01", b"\x7f", b","]
+BAD_DELIMITERS = [b"", b"ab", b";;", b"a", b"Z", b"7", b'"', b"\r", b"\n", b"\xc3\xa9", b"Tab", b"\\n"]
 BAD_NULLS = [b"7", b"a b", b'"', b",", b"x" * 17, b"\xc3\xa9", b"\x7f"]
 FILE_CLAUSES = [b"CROSS JOIN", b"NATURAL FULL JOIN", b"FULL JOIN USING (a)", b"LEFT JOIN ON L.a = R.a", b"RIGHT JOIN ON L.b IS NULL"]
 FILE_TYPES = [["int"], ["text"], ["int", "text"], ["text", "int"], ["text", "text", "text"], ["int", "int", "int"]]
@@ -58,7 +61,7 @@ WORDS = [of for of in CELLS if of != "num(18,18)"]
 SCRIPT_PIECES = [b" ", b"  ", b"\n", b"\r\n", b"\r", b"0", b"1", b"-1", b"+1", b"x", b"close", b"rows", b" rows 1", b"\xff", b"4294967295", b"4294967296", b"18446744073709551615", b"18446744073709551616", b"000000000000000000000000001"]
 # Lists of kinds of rows; left rows that are in a pair are refused with other columns than the left ones.
 ROWS = [b"pairs", b"lone-left", b"lone-right", b"lone-right,pairs", b"lone-left,lone-right", b"matched-left", b"matched-left,lone-left", b"lone-right,matched-left"]
-LINE_PIECES = [b"-", b"--", b"=", b"--left", b"--help", b"-h", b"--stats", b"--gaps", b"--null=", b"--bits1", b"--workers=64", b"--block", b"--lanes=4", b"--capacity", b"--retries=3", b"--bits2", b"--hash", b"mixed", b"plain", b"--piece=1", b"1048577", b"--version", b"-V", b"11", b"10", b"", b"\xff", b"int", b",", b"text", b" ", b"a", b"--join", b"0", b"--partition=1024", b"-1", b"-w2", b"-w", b"--terse", b"--lenient"]
+LINE_PIECES = [b"-", b"--", b"=", b"--left", b"--help", b"-h", b"--stats", b"--gaps", b"--null=", b"--bits1", b"--workers=64", b"--block", b"--lanes=4", b"--capacity", b"--retries=3", b"--bits2", b"--hash", b"mixed", b"plain", b"--piece=1", b"1048577", b"--version", b"-V", b"11", b"10", b"", b"\xff", b"int", b",", b"text", b" ", b"a", b"--join", b"0", b"--partition=1024", b"-1", b"-w2", b"-w", b"--terse", b"--lenient", b"-d", b"-d;", b"--delimiter", b"--out-delimiter=tab", b"tab", b"\\t", b";", b"\t"]
 
 
 class Cases:
@@ -128,6 +131,26 @@ class Cases:
         names[self.source.randrange(count)] = self.source.choice([b"c1", b"", b"n" * 128, b"n" * 129, b"\xff", b"C9"])
         return b",".join(names) + b"\n" + b",".join([b"5"] * count) + b"\n", types
 
+    def delimited(self, files):
+        """Files by other delimiters than the comma, which stands in its place wherever it was, and the options that name them: one for all, or
+        each its own. Now and then a word names none, or another one than the file has."""
+        source = self.source
+        if source.random() < 0.6:
+            return files, []
+        named = {of: source.choice(DELIMITERS) for of in (b"left", b"right", b"out")}
+        is_shared = source.random() < 0.4
+        given = source.choice([b"--delimiter=", b"-d", b"-d="]) + named[b"left"]
+        options = [given] if is_shared else [b"--%s-delimiter=%s" % (of, word) for of, word in named.items() if source.random() < 0.8]
+        if source.randrange(12) == 0:
+            options.append(b"--%sdelimiter=%s" % (source.choice([b"", b"left-", b"out-"]), source.choice(BAD_DELIMITERS)))
+        found = []
+        for side, content in zip((b"left", b"right"), files):
+            word = named[b"left" if is_shared else side]
+            sign = {b"tab": b"\t", b"\\t": b"\t"}.get(word, word)
+            is_told = is_shared or any(option.startswith(b"--%s-" % side) for option in options)
+            found.append(content.translate(bytes.maketrans(b"," + sign, sign + b",")) if is_told else content)
+        return found, options
+
     def next_of_files(self):
         types = [self.source.choice(FILE_TYPES) for _ in range(2)]
         files = [self.file(of) for of in types]
@@ -136,7 +159,8 @@ class Cases:
                 files[side], types[side] = self.wide()
         null = self.source.choice(BAD_NULLS if self.source.randrange(30) == 0 else NULLS)
         strict = self.source.choice([[], [], [b"--strict"], [b"--strict=full"]])
-        words = self.request([b"left", b"right"], types, self.source.choice(FILE_CLAUSES), null, strict)
+        files, delimiters = self.delimited(files)
+        words = self.request([b"left", b"right"], types, self.source.choice(FILE_CLAUSES), null, strict + delimiters)
         return Case("files", "radixjoin", words, {b"left": files[0], b"right": files[1]}, self.folder)
 
     def next_of_joins(self):
@@ -146,9 +170,11 @@ class Cases:
         for side, of, names in zip((b"left", b"right"), types, fuzz_clauses.COLUMNS):
             rows = [[self.source.choice(CELLS[one][:6]) for one in of] for _ in range(self.source.randrange(20))]
             files[side] = b"".join(b",".join(row) + b"\n" for row in [names, *rows])
+        contents, delimiters = self.delimited(files.values())
+        files = dict(zip(files, contents))
         options = [b"--stats", b"--bits1=%d" % self.source.randrange(11), b"--bits2=%d" % self.source.randrange(11), b"--hash=" + self.source.choice([b"plain", b"mixed"]), b"--piece=%d" % self.source.choice([1, 2, 3, 7, 65536]), b"--workers=%d" % self.source.randrange(1, 4)]
         options += [b"--order=left", b"--rows=" + self.source.choice(ROWS), b"--columns=" + self.source.choice([b"left", b"left", b"right"])]
-        options = self.source.sample(options, self.source.randrange(len(options) + 1))
+        options = delimiters + self.source.sample(options, self.source.randrange(len(options) + 1))
         words = self.request([b"left", b"right"], types, self.clauses.lawful(types), self.source.choice(NULLS), options)
         return Case("joins", "radixjoin", words, files, self.folder)
 
@@ -182,7 +208,7 @@ class Cases:
             words += source.choice([[], [b"--left-types=int"], [b"--right-types", b"int", b"--left-types=int"], [b"--types=int"], [b"--lenient"], [b"--repeated=keep"]])
         else:
             words = [b"--left", b"left", b"--right", b"right", b"--left-types", b"int", b"--right-types=int", b"--join", source.choice([b"CROSS JOIN", b"FULL JOIN USING (a)", b"RIGHT JOIN ON L.a <> R.a"])]
-        words += source.choice([[], [b"--stats"], [b"--bits1", b"3"], [b"--bits2=2"], [b"--hash", b"mixed"], [b"--piece", b"3"], [b"--version"], [b"--workers=2"], [b"--lanes", b"2"], [b"--block=65536", b"--capacity=1"], [b"--null=x"], [b"--gaps"], [b"--help"], [b"--count"], [b"--report"], [b"--expect=many-to-one"], [b"--expect=one-to-one"], [b"--max-rows=2"], [b"--anti"], [b"--semi"], *([b"--rows=" + source.choice(ROWS)] for _ in range(4))])
+        words += source.choice([[], [b"--stats"], [b"--bits1", b"3"], [b"--bits2=2"], [b"--hash", b"mixed"], [b"--piece", b"3"], [b"--version"], [b"--workers=2"], [b"--lanes", b"2"], [b"--block=65536", b"--capacity=1"], [b"--null=x"], [b"--gaps"], [b"--help"], [b"--count"], [b"--report"], [b"--expect=many-to-one"], [b"--expect=one-to-one"], [b"--max-rows=2"], [b"--anti"], [b"--semi"], [b"-d", b";"], [b"--delimiter=ab", b"--out-delimiter=tab"], [b"--out-delimiter=;"], *([b"--rows=" + source.choice(ROWS)] for _ in range(4))])
         for _ in range(source.choice([0, 1, 1, 2, 3])):
             at = source.randrange(len(words))
             how = source.randrange(6)

@@ -11,6 +11,8 @@ import harness
 WORKERS = (1, 2, 4, 7)
 MARK = b"\xef\xbb\xbf"
 ROWS = 40_000
+# The words that name other delimiters, each with the exchange of its byte and the comma.
+DELIMITERS = {("--delimiter=;",): bytes.maketrans(b",;", b";,"), ("--left-delimiter=tab", "--right-delimiter=tab", "--out-delimiter=tab"): bytes.maketrans(b",\t", b"\t,")}
 
 
 class File:
@@ -105,14 +107,19 @@ class Folder:
     def __init__(self, path):
         self.path = path
 
-    def check(self, tally, name, left, right, workers=WORKERS, types="int,text", join="LEFT JOIN USING (k)", **wanted):
-        """Runs the program with each number of workers."""
+    def check(self, tally, name, left, right, workers=WORKERS, types="int,text", join="LEFT JOIN USING (k)", options=(), **wanted):
+        """Runs the program with each number of workers, and with more options."""
         for side, content in (("left", left), ("right", right)):
             (self.path / f"{side}.csv").write_bytes(content)
         for count in workers:
             words = ["--left", "left.csv", "--left-types", types, "--right", "right.csv", "--right-types", types, "--join", join]
-            ran = harness.run([harness.program("radixjoin"), *words, f"--workers={count}"], self.path)
-            tally.check(f"parts: {name}, {count} workers", harness.differences(ran, **wanted))
+            ran = harness.run([harness.program("radixjoin"), *words, f"--workers={count}", *options], self.path)
+            tally.check(f"parts: {name}, {count} workers{''.join(f', {word}' for word in options)}", harness.differences(ran, **wanted))
+
+    def check_delimiters(self, tally, name, left, right, stdout):
+        """Runs it by other delimiters, where these and commas are exchanged in both files: so they are in what is written."""
+        for options, exchange in DELIMITERS.items():
+            self.check(tally, name, left.translate(exchange), right.translate(exchange), (1, 4), options=options, stdout=stdout.translate(exchange))
 
 
 def check_forms(folder, tally):
@@ -123,6 +130,7 @@ def check_forms(folder, tally):
         right = every_third(left)
         stdout = joined(left, right)
         folder.check(tally, form.__name__, left.content(), right.content(), stdout=stdout)
+        folder.check_delimiters(tally, form.__name__, left.content(), right.content(), stdout)
     folder.check(tally, "byte order marks", MARK + left.content(), MARK + right.content(), stdout=stdout)
     folder.check(tally, "no last line end", left.content().rstrip(b"\n"), right.content().rstrip(b"\n"), stdout=stdout)
 
@@ -166,6 +174,8 @@ def check_faults(folder, tally):
             side = ("left", "right")[row % 2]
             tables = (content, small) if side == "left" else (small, content)
             folder.check(tally, f"{fault.format(side)}, at {cut:.2f}", *tables, **told(fault, side))
+            options, exchange = list(DELIMITERS.items())[row % 2]
+            folder.check(tally, f"{fault.format(side)}, at {cut:.2f}", *(table.translate(exchange) for table in tables), (1, 4), options=options, **told(fault, side))
     line, fault = list(faulty_lines(len(file.lines)))[1]
     last = file.with_line(len(file.lines) - 1, line).content()
     other = file.with_line(3, b"z\n").content()

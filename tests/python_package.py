@@ -49,6 +49,7 @@ def tasks_of_scripts(programs):
     frames = harness.python_with("pandas")
     yield run_script(frames or sys.executable, "faults")
     yield run_script(frames or sys.executable, "nulls")
+    yield run_script(frames or sys.executable, "delimiters")
     yield run_script(frames or sys.executable, "chosen")
     yield run_script(frames or sys.executable, "arguments")
     yield run_script(frames or sys.executable, "times")

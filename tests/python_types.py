@@ -23,12 +23,14 @@ two: Frame = radixjoin.join([(1, "a")], frame, using="id", columns=["id", "x"])
 rows: radixjoin.Rows = radixjoin.join("left.csv", open("right.csv", "rb"), natural=True, left_types="int", right_types={"*": int})
 path: pathlib.Path = radixjoin.join(frame, "right.csv", using=["id"], right_types="int", output=pathlib.Path("out.csv"))
 counts: int = radixjoin.stats(frame, frame, using="id").pairs
-types: dict[str, str] = radixjoin.suggest_types("left.csv")
+types: dict[str, str] = radixjoin.suggest_types("left.csv", delimiter=";")
+five: radixjoin.Rows = radixjoin.join("left.csv", "right.csv", using="id", left_types="int", right_types="int", delimiter="tab", left_delimiter=";")
 radixjoin.join(frame, frame, using="id", how="lefft")  # No overload variant
 radixjoin.join(frame, frame, using="id", sufixes=("_x", "_y"))  # No overload variant
 radixjoin.join(frame, frame, using="id", order="right")  # No overload variant
 radixjoin.join(frame, frame, using="id", validate="one-to-one")  # No overload variant
 radixjoin.join(frame, frame, using=7)  # No overload variant
+radixjoin.join("left.csv", "right.csv", using="id", left_types="int", right_types="int", out_delimiter=9)  # No overload variant
 three: radixjoin.Rows = radixjoin.join(frame, frame, using="id")  # Incompatible types
 four: Frame = radixjoin.join("left.csv", "right.csv", using="id")  # Incompatible types
 """

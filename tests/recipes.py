@@ -25,8 +25,15 @@ WAYS = {
     "carriage returns in cells": (False, "\n", "\rx"),
     "all of these": (True, "\r\n", "\n\rx"),
 }
+# The delimiters of the files, but for the comma.
+SIGNS = ";\t"
 # Where the texts that were changed are kept, in the folder of a session.
 KEPT = ".changed"
+
+
+def delimiter_of(header):
+    """What separates the names of a header."""
+    return next((sign for sign in SIGNS if sign in header), ",")
 
 
 def nulls_of(section):
@@ -38,7 +45,7 @@ def with_longer_cells(text, way, nulls):
     """A text of CSV with its texts changed: those that begin with a letter, but for nulls and the header. Gives which they are, too.
     Lines that end in CRLF make Python's writer quote each cell that has a carriage return."""
     _, end, tail = WAYS[way]
-    how = {"delimiter": ";" if ";" in text.split("\n")[0] else ","}
+    how = {"delimiter": delimiter_of(text.split("\n")[0])}
     header, *rows = csv.reader(io.StringIO(text, newline=""), **how)
     texts = {cell for row in rows for cell in row if re.match("[A-Za-z]", cell)} - set(nulls)
     made = io.StringIO(newline="")
@@ -69,7 +76,8 @@ def change(command, way, nulls):
 
 def records(lines):
     """The records that printed lines hold."""
-    return list(csv.reader(io.StringIO("".join(f"{line}\n" for line in lines), newline="")))
+    text = "".join(f"{line}\n" for line in lines)
+    return list(csv.reader(io.StringIO(text, newline=""), delimiter=delimiter_of(text.split("\n")[0])))
 
 
 def wanted_records(lines, command, way, texts):
@@ -104,7 +112,7 @@ def faults_of(section, way, folder, environment):
 def ways_of(section):
     """The ways in which a section's files can be changed: cells are left as they are in a TSV file without quotes, which can't have line
     breaks, and in the files of docs/user/errors.md, which are broken."""
-    keeps_cells = section.page != PAGES[0] or any(".tsv" in command for command, _ in section.commands)
+    keeps_cells = section.page != PAGES[0] or any("QUOTE_NONE" in command for command, _ in section.commands)
     return [way for way, (_, _, tail) in WAYS.items() if not (keeps_cells and tail)]
 
 

@@ -1,5 +1,5 @@
 """Refuses each allocation in turn in further runs of the built programs: statistics, coalesced texts, a remainder, a
-quoted header, a left table of three segments, the versions, faults, a write that fails, scripts with gaps, and the division and
+quoted header, other delimiters, a left table of three segments, the versions, faults, a write that fails, scripts with gaps, and the division and
 the merge of shards, also of broken ones.
 
 Each run ends as if nothing had been refused, or with `E18 Memory`, status 5. Where it would end by a fault it may end
@@ -56,6 +56,7 @@ RUNS = [
     joined("a remainder", b"k,a\n1,5\n1,9\n2,7\n", b"k,b\n1,7\n2,8\n", ["int,int", "int,int"], "LEFT JOIN ON L.k = R.k AND (L.a > R.b OR R.b IN (8, 6) AND NOT L.a IS NULL)", b"k,a,k,b\n1,9,1,7\n2,7,2,8\n1,5,,\n"),
     joined("a quoted header", *QUOTED, ["int,text", "int,text"], 'RIGHT JOIN ON L."a,b" = R."a,b"', b'"a,b","say ""it""","a,b",c\n1,x,1,"p,q"\n'),
     joined("a null text", b"k\nNULL\n1\n", b"k,b\n1,NULL\n", ["int", "int,text"], "NATURAL FULL JOIN", b"k,b\n1,NULL\nNULL,NULL\n", "--null=NULL"),
+    joined("delimiters", b"k;a\n1;\"x;y\"\n2;p,q\n", b"k\tb\n1\t\"u\tv\"\n", ["int,text", "int,text"], "LEFT JOIN USING (k)", b"k|a|b\n1|x;y|u\tv\n2|p,q|\n", "--left-delimiter=;", "--right-delimiter=tab", "--out-delimiter=|", "--strict"),
     joined("two passes by the mixed hash", *TEXTS, ["text,int", "int,text"], "FULL JOIN USING (k)", b"k,a,b\ncy,3,5\nann,1,\n,2,\nbob,,4\n,,6\n", "--bits1=1", "--bits2=2", "--hash=mixed"),
     joined("segments", *LONG, ["int,text", "int,text"], "RIGHT JOIN USING (k)", b"k,a,b\n5,x,q\n70000,x,\n139999,x,p\n"),
     joined("segments, two workers", *LONGER, ["int,text", "int,text"], "RIGHT JOIN USING (k)", b"k,a,b\n5,x,q\n70000,x,\n196607,x,p\n", "--workers=2"),
@@ -67,6 +68,7 @@ RUNS = [
     joined("a write that fails", b"k\n1\n", b"k\n1\n", ["int", "int"], "CROSS JOIN", b"", "--stats", stderr=b"radixjoin: E20 WriteDevice\n", status=6, is_full=True),
     Run("a missing file", ["--left=none", "--right=none", "--left-types=int", "--right-types=int", "--join=JOIN"], {}, b"", b"radixjoin: E19 ReadDevice left\n", 6),
     Run("a bad type list", ["--left=none", "--right=none", "--left-types=int,x", "--right-types=int", "--join=JOIN"], {}, b"", b"radixjoin: bad type list left\n", 2),
+    Run("a bad delimiter", ["--left=none", "--right=none", "--left-types=int", "--right-types=int", "--join=JOIN", "--delimiter=;;"], {}, b"", b"radixjoin: E34 BadDelimiter\n", 2),
     Run("a script with gaps", REPLAY, {}, REPLAYED, status=3, program="arrivals", stdin=SCRIPT),
     Run("a script to a full device", REPLAY, {}, b"", b"arrivals: E20 WriteDevice\n", 6, program="arrivals", stdin=SCRIPT, is_full=True),
     Run("a division", [*DIVISION, "--out=parts"], DIVIDED, b"rows 3 header 15\n", program="shards"),

@@ -100,7 +100,7 @@ def is_example(case):
     (`-1` isn't: Python takes it for a value; nor are options of one letter and the short form, which are the program's alone), and leaves
     room for a column of places."""
     options = case.get("options", [])
-    if case.get("short") or any(word.startswith(("-o", "-w")) for word in options):
+    if case.get("short") or any(word.startswith(("-o", "-w", "-d")) for word in options):
         return False
     if case["name"] == "hostile_inputs, 256 columns" or case["name"].endswith(" twice") or "-1" in options:
         return "null texts" in case["name"]

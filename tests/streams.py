@@ -217,6 +217,15 @@ def suggested_types(folder):
     yield "suggested: a null text", joined(folder, ["--suggest-types", "table.csv", "--null", "NA"], b"a=int\nb=text\n")
     yield "suggested: a null text first", joined(folder, ["--suggest-types", "--null=NA", "table.csv"], b"a=int\nb=text\n")
     yield "suggested: no null text", joined(folder, ["--suggest-types", "table.csv"], b"a=text\nb=text\n")
+    (folder / "table.csv").write_bytes(b'id;"a;b";c\n1;1,5;2\n2;x;\n')
+    for words in (["--delimiter", ";"], ["--delimiter=;"], ["-d", ";"], ["-d;"]):
+        yield f"suggested: by semicolons, {words}", joined(folder, ["--suggest-types", "table.csv", *words], b'id=int\n"a;b"=text\nc=int\n')
+    (folder / "table.csv").write_bytes(b"id\tprice\n1\t1.5\nNA\tNA\n")
+    for word in ("tab", "\\t", "\t"):
+        yield f"suggested: by tabs, {word!r}", joined(folder, ["--suggest-types", f"--delimiter={word}", "table.csv", "--null=NA"], b"id=int\nprice=num(2,1)\n")
+    for word in ("", ";;", "a", "7", '"', "\n", "\u00e9"):
+        yield f"not suggested: by {word!r}", joined(folder, ["--suggest-types", "table.csv", f"--delimiter={word}"], "E34 BadDelimiter", 2)
+    (folder / "table.csv").write_bytes(b"a,b\nNA,NA\n1,\n")
     yield "suggested: a bad null text", joined(folder, ["--suggest-types", "table.csv", "--null", "0"], "E10 BadNull", 3)
     for label, content, told, status in REFUSED:
         (folder / "table.csv").write_bytes(content)
@@ -231,7 +240,7 @@ def ends_of_suggesting(folder):
         ran = run("radixjoin", ["--suggest-types", *words], folder)
         yield f"--suggest-types {words}", harness.differences(ran, b"", None, 2) + ([] if ran.stderr else ["nothing is told"])
     ran = run("radixjoin", ["--suggest-types", "--help"], folder)
-    lacking = [f"no {word}" for word in ("--suggest-types", "FILE", "--null") if word.encode() not in ran.stdout]
+    lacking = [f"no {word}" for word in ("--suggest-types", "FILE", "--null", "--delimiter") if word.encode() not in ran.stdout]
     yield "--suggest-types --help", lacking + harness.differences(ran, None)
     ran = run("radixjoin", ["--left", "table.csv", "--suggest-types", "table.csv"], folder)
     yield "--suggest-types behind another word", harness.differences(ran, b"", None, 2)
@@ -297,6 +306,7 @@ SWEPT = [
         JOINED,
     ),
     ("suggested types", "radixjoin", {"table.csv": b'id,"a b"\n1,1.5\n2,x\n3,\n'}, ["--suggest-types", "table.csv"], b"", b'id=int\n"a b"=text\n'),
+    ("suggested types by tabs", "radixjoin", {"table.tsv": b"id\ta\n1\t1.5\n"}, ["--suggest-types", "table.tsv", "--delimiter=tab"], b"", b"id=int\na=num(2,1)\n"),
     ("suggested numbers", "radixjoin", {}, ["--suggest-types", "-", "--null", "NA"], b"a,b\n1.5,NA\n", b"a=num(2,1)\nb=text\n"),
 ]
 

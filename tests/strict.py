@@ -1,5 +1,6 @@
 """Files read strictly: the lines of the faults as docs/user/errors.md has them, typed here; by one and by four workers, in files of no
-record, of one and of many, around the cuts of parts; and random bytes beside Python's csv, where the two have one meaning."""
+record, of one and of many, around the cuts of parts; by other delimiters; and random bytes beside Python's csv, where the two have one
+meaning."""
 import csv
 import io
 import itertools
@@ -183,65 +184,83 @@ def check_large(tally, folder):
         tally.check(f"empty lines of a large column, {workers}", harness.differences(joined(folder, column, "int", ON, workers=workers), wanted))
 
 
-def broken_by(text):
+def check_delimiters(tally, folder):
+    """Each text by other delimiters, where these and commas are exchanged: it has the same fault, or the cells with these exchanged."""
+    for sign in ";\t|:":
+        exchange, options = bytes.maketrans(f",{sign}".encode(), f"{sign},".encode()), [*ON, f"--left-delimiter={sign}", f"--out-delimiter={sign}"]
+        for text, types, line in TEXTS:
+            ran = joined(folder, text.translate(exchange), types, options)
+            tally.check(f"{text} by {sign!r}", harness.differences(ran, b"", f"radixjoin: {line.replace('SIDE', 'left')}\n".encode(), 3))
+        for text, types, line in CUT:
+            ran = joined(folder, text.translate(exchange), types, [*FULL, *options[1:]])
+            tally.check(f"{text} by {sign!r}, full", harness.differences(ran, b"", f"radixjoin: {line.replace('SIDE', 'left')}\n".encode(), 3))
+        for text, types, null, wanted in READ:
+            ran = joined(folder, text.translate(exchange), types, options, null=null)
+            tally.check(f"{text} by {sign!r}", harness.differences(ran, wanted.translate(exchange)))
+
+
+def broken_by(text, delimiter):
     """The name of the fault by the oracle's grammar, or None, and the records above it."""
     found = []
     try:
-        found.extend(strict.records(text, False))
+        found.extend(strict.records(text, False, delimiter))
     except strict.Broken as broken:
         return broken.name, found
     return None, found
 
 
-def python_rows(text):
+def python_rows(text, delimiter):
     """The records that Python's csv reads strictly, or None where it refuses the text."""
     try:
-        return list(csv.reader(io.StringIO(text.decode(), newline=""), strict=True))
+        return list(csv.reader(io.StringIO(text.decode(), newline=""), delimiter=delimiter.decode(), strict=True))
     except csv.Error:
         return None
 
 
-def check_python(tally, text):
+def check_python(tally, text, delimiter):
     """Python's strict reader beside the grammar, where the two have one meaning: it takes a quote within a field for a letter, ends
     a line by a lone CR, and reads an empty line as no field at all."""
-    fault, found = broken_by(text)
+    fault, found = broken_by(text, delimiter)
     if fault in ("BareQuote", "BareReturn", "EmptyLine"):
         return False
     ours = None if fault else [[cell.decode() for cell in record] for record in found]
-    theirs = python_rows(text)
-    tally.check(f"Python's csv of {text}", [] if theirs == ours else [f"{theirs}, and not {ours}"])
+    theirs = python_rows(text, delimiter)
+    tally.check(f"Python's csv of {text} by {delimiter}", [] if theirs == ours else [f"{theirs}, and not {ours}"])
     return True
 
 
-def check_cells(tally, folder, text):
+def check_cells(tally, folder, text, delimiter):
     """The program's cells of a text of two columns beside the oracle's, or its fault."""
     (folder / "file.csv").write_bytes(text)
     (folder / "one.csv").write_bytes(ONE)
     words = ["--left", "file.csv", "--left-types", "text,text", "--right", "one.csv", "--right-types", "int", "--join", "CROSS JOIN"]
-    ran = harness.run([harness.program("radixjoin"), *words, "--strict", "--null=-"], folder)
+    named = [] if delimiter == b"," else [f"--left-delimiter={delimiter.decode()}"]
+    ran = harness.run([harness.program("radixjoin"), *words, *named, "--strict", "--null=-"], folder)
     try:
-        table = strict.read(text, [reading.Text(), reading.Text()], [b"-"], "left", False)
+        table = strict.read(text, [reading.Text(), reading.Text()], [b"-"], "left", False, delimiter)
     except faults.Fault as fault:
-        tally.check(f"{text}", harness.differences(ran, b"", f"radixjoin: {fault}\n".encode(), 3))
+        tally.check(f"{text} by {delimiter}", harness.differences(ran, b"", f"radixjoin: {fault}\n".encode(), 3))
         return
     wanted = [["-" if cell is None else cell.decode() for cell in row] for row in table.rows]
     got = [row[:2] for row in csv.reader(io.StringIO(ran.stdout.decode(), newline=""))][1:]
-    tally.check(f"{text}", harness.differences(ran, None) + ([] if got == wanted else [f"{got}, and not {wanted}"]))
+    tally.check(f"{text} by {delimiter}", harness.differences(ran, None) + ([] if got == wanted else [f"{got}, and not {wanted}"]))
 
 
 def check_random(tally, folder):
-    """Random texts: the program beside the oracle's grammar, and that beside Python's csv."""
+    """Random texts by several delimiters: the program beside the oracle's grammar, and that beside Python's csv."""
     source, compared = random.Random(4180), 0
-    pieces = [b"1", b"a", b"-", b",", b"\n", b"\r\n", b'"', b'""', b'"x"', b'"\n"', b"\r", b" "]
-    for _ in range(600):
-        text = b"b,c\n" + b"".join(source.choices(pieces, [6, 6, 2, 12, 9, 4, 1, 1, 3, 1, 0.3, 1], k=source.randrange(30)))
-        check_cells(tally, folder, text)
-        compared += check_python(tally, text)
+    pieces = [b"1", b"a", b"-", b",", b"\n", b"\r\n", b'"', b'""', b'"x"', b'"\n"', b"\r", b" ", b";\t"]
+    for _ in range(900):
+        text = b"b,c\n" + b"".join(source.choices(pieces, [6, 6, 2, 12, 9, 4, 1, 1, 3, 1, 0.3, 1, 1], k=source.randrange(30)))
+        delimiter = source.choice([b",", b";", b"\t", b"|"])
+        text = text.translate(bytes.maketrans(b"," + delimiter, delimiter + b","))
+        check_cells(tally, folder, text, delimiter)
+        compared += check_python(tally, text, delimiter)
     tally.check("texts of one meaning", [] if compared > 100 else [f"{compared} alone"])
 
 
 def run_all(tally):
     """All of it, in a folder of its own."""
-    for check in (check_texts, check_ends, check_without, check_parts, check_large, check_random):
+    for check in (check_texts, check_ends, check_without, check_parts, check_large, check_delimiters, check_random):
         with harness.folder() as name:
             check(tally, pathlib.Path(name))

@@ -54,21 +54,47 @@ def copy_of_kept(code, folder, to):
         shutil.copytree(folder, to)
 
 
-def take_proved(code):
-    """Gives the libraries that the gate proved on this machine, of the same files and over the same libraries, to what is checked over them, so that
-    it doesn't begin by proving them again. The gate takes nothing of it."""
-    if not hasattr(code, "Kept"):
-        return
-    code.Crate.allowed = code.handles_of(str(ROOT))
-    found = code.crates_of(str(ROOT))
-    kept = code.Kept(found)
-    for crate in (it for it in found if not it.is_program):
-        if not crate.is_built():
-            stamp, out = crate.stamp(), Path(crate.folder, "out", "rlib")
-            shutil.rmtree(out, ignore_errors=True)
-            if kept.give(crate, False, kept.key(crate)) and crate.stamp() == stamp:
-                (out / "stamp").write_text(stamp)
-        kept.is_built(crate)
+class Proved:
+    """What the gate proved on this machine, of the same files and over the same libraries: what is checked or built takes it, so that it doesn't begin
+    by proving it again. The gate takes nothing of it. Nothing else may be at work in the crates' out/ meanwhile."""
+
+    def __init__(self, code):
+        self.code, self.crates = code, {}
+        if hasattr(code, "Kept"):
+            code.Crate.allowed = code.handles_of(str(ROOT))
+            self.crates = {it.name: it for it in code.crates_of(str(ROOT))}
+            self.kept = code.Kept(self.crates.values())
+
+    def take(self):
+        """Takes libraries and programs."""
+        for crate in self.crates.values():
+            if crate.is_program:
+                self.take_program(crate)
+            elif not crate.is_built():
+                self.take_library(crate)
+            self.kept.is_built(crate)
+
+    def take_library(self, crate):
+        stamp, out = crate.stamp(), Path(crate.folder, "out", "rlib")
+        shutil.rmtree(out, ignore_errors=True)
+        if self.kept.give(crate, False, self.kept.key(crate)) and crate.stamp() == stamp:
+            (out / "stamp").write_text(stamp)
+
+    def take_program(self, crate):
+        """Takes a program as `rt run` leaves it, with the sums by which that sees that nothing has changed."""
+        program, noted = Path(crate.folder, "out", crate.name), Path(crate.folder, "out", f"{crate.name}.stamp")
+        stamp = crate.stamp()
+        if program.is_file() and noted.is_file() and noted.read_text() == stamp + self.code.rtlib.sum_of(str(program)):
+            return
+        if self.kept.give(crate, False, self.kept.key(crate)) and crate.stamp() == stamp:
+            noted.write_text(stamp + self.code.rtlib.sum_of(str(program)))
+
+    def take_tests(self, name):
+        """Takes the proved tests of a crate, compiled, and gives whether it could."""
+        crate = self.crates.get(name)
+        for it in crate.below() if crate else ():
+            self.kept.is_built(it)
+        return crate is not None and self.kept.give(crate, True, self.kept.key(crate))
 
 
 def processors():

@@ -32,6 +32,7 @@ _EXPECTED = {"1:1": "one-to-one", "1:m": "one-to-many", "m:1": "many-to-one", "m
 _INSTEAD = {
     "left_index": "an index is no column here: reset_index() first",
     "right_index": "an index is no column here: reset_index() first",
+    "sep": "delimiter=",
     "sort": "order='left' keeps the order of the left rows; else sort_values() afterwards",
     "copy": "a result is always made anew",
     "type": "how=",
@@ -71,6 +72,10 @@ class Arguments:
     left_null: "Texts" = None
     right_null: "Texts" = None
     out_null: Optional[str] = None
+    delimiter: Optional[str] = None
+    left_delimiter: Optional[str] = None
+    right_delimiter: Optional[str] = None
+    out_delimiter: Optional[str] = None
     strict: Union[bool, str] = True
     explain: bool = True
     output: Optional[Path] = None
@@ -129,7 +134,7 @@ def refuse_values(given: Mapping[str, Any]) -> None:
 
 
 def _not_of(call: str) -> Tuple[str, ...]:
-    return ("report",) if call == "join" else ("output", "suffixes", "indicator")
+    return ("report",) if call == "join" else ("output", "out_delimiter", "suffixes", "indicator")
 
 
 def _refuse(call: str, name: str, known: Sequence[str]) -> NoReturn:

@@ -12,6 +12,7 @@ from .arguments import Arguments
 from .clauses import given, needs_names
 from .columns import Column, Types
 from .conditions import compared, comparisons
+from .delimiters import Delimiters
 from .faults import ClauseFault, Fault, InputFault, fault_of
 from .foreign import is_foreign
 from .frames import FrameTable, is_frame
@@ -31,14 +32,14 @@ def are_rows(table: Any) -> bool:
     return not (is_frame(table) or is_foreign(table) or is_path(table) or hasattr(table, "read"))
 
 
-def _table(side: str, table: Any, types: Types, names: Any, watched: FrozenSet[str]) -> Table:
+def _table(side: str, table: Any, types: Types, names: Any, delimiter: str, watched: FrozenSet[str]) -> Table:
     """One side of a join, of whatever was given."""
     if is_frame(table):
         return FrameTable(side, table, types)
     if is_path(table):
-        return table_of_path(side, table, types)
+        return table_of_path(side, table, types, delimiter)
     if not are_rows(table):
-        return FileTable(side, table, types)
+        return FileTable(side, table, types, delimiter)
     if isinstance(table, Mapping) or not hasattr(table, "__iter__") or hasattr(table, "dtypes"):
         # (a frame of a library that isn't known here gives its columns one by one)
         raise TypeError(f"{side} is {type(table).__module__}.{type(table).__qualname__}, and neither a path, an open file, a frame nor rows")
@@ -59,11 +60,14 @@ class Asked:
         self.arguments = arguments
         self.clause = arguments.text_of_clause()
         self.nulls = Nulls(arguments.null, arguments.left_null, arguments.right_null, arguments.out_null)
+        self.delimiters = Delimiters(arguments.delimiter, arguments.left_delimiter, arguments.right_delimiter, arguments.out_delimiter)
         watched = self.nulls.watched()
         self.tables: List[Table] = []
         try:
             for side, table in (("left", left), ("right", right)):
-                self.tables.append(_table(side, table, getattr(arguments, f"{side}_types"), getattr(arguments, f"{side}_columns"), watched))
+                types, names = (getattr(arguments, f"{side}_{of}") for of in ("types", "columns"))
+                self.tables.append(_table(side, table, types, names, self.delimiters.of(side), watched))
+            self.delimiters.refuse(self.tables, arguments.output is not None)
             if arguments.indicator and not (self.makes_frame() and all(isinstance(it, FrameTable) for it in self.tables)):
                 raise ValueError("indicator= is for two frames whose result is a frame: radixjoin.stats counts the rows of each kind, and rows= chooses them")
             is_known = not any(isinstance(it, RowsTable) for it in self.tables)
@@ -147,7 +151,8 @@ class Asked:
 
     def _line(self, words: Sequence[Union[str, bytes]], tables: Sequence[Table]) -> List[Union[str, bytes]]:
         """The words of the command line, for some tables."""
-        return [*words, *(f"--{it.side}-types={it.types_given()}" for it in tables), *self.nulls.words(self.known)]
+        delimiters = self.delimiters.words(self.known, tables, self.arguments.output is not None)
+        return [*words, *(f"--{it.side}-types={it.types_given()}" for it in tables), *self.nulls.words(self.known), *delimiters]
 
     def header(self) -> List[str]:
         """The names of the result's columns, as the program writes them of the tables' columns alone.

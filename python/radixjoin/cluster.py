@@ -38,7 +38,7 @@ from .columns import Types
 from .explained import of_cell, of_row, of_unread
 from .faults import Fault, fault_of
 from .feeding import FILES_OF_INPUT, Input, bytes_of, run_program
-from .line import MOST_MERGES, OF_ONE_JOIN, SIDES, beyond, read_line
+from .line import COMMAS_ALONE, DELIMITERS, MOST_MERGES, OF_ONE_JOIN, SIDES, beyond, read_line
 from .lists import lower, with_place
 from .local import Machine
 from .making import append, beginning, folder_beside, made, remove, result_of
@@ -700,6 +700,9 @@ def join(
     """
     if client is not None and processes is not None:
         raise TypeError("processes= is of this machine, and client= of a cluster")
+    delimiter = next((name for name in DELIMITERS if of_one_join.pop(name, None) not in (None, ",")), None)
+    if delimiter is not None:
+        raise TypeError(f"{delimiter}=: {COMMAS_ALONE}")
     unknown = next((name for name in of_one_join if name not in OF_ONE_JOIN), None)
     if unknown is not None:
         raise TypeError(f"{unknown}= is no option of the join of a shard")

@@ -68,7 +68,8 @@ def join(
     left_columns: Optional[Sequence[str]] = None, right_columns: Optional[Sequence[str]] = None, rows: Optional[str] = None, order: Order = None,
     repeated: Optional[str] = None, suffixes: Optional[Tuple[Optional[str], Optional[str]]] = None, indicator: Union[bool, str] = False,
     expect: Expect = None, validate: Validate = None, max_rows: Optional[int] = None, null: Optional[str] = None, left_null: Texts = None, right_null: Texts = None,
-    out_null: Optional[str] = None, strict: Strict = True, explain: bool = True, output: None = None, program: Optional[Program] = None, workers: Optional[int] = None, hash: Hash = None,
+    out_null: Optional[str] = None, delimiter: Optional[str] = None, left_delimiter: Optional[str] = None, right_delimiter: Optional[str] = None,
+    out_delimiter: Optional[str] = None, strict: Strict = True, explain: bool = True, output: None = None, program: Optional[Program] = None, workers: Optional[int] = None, hash: Hash = None,
     bits1: Optional[int] = None, bits2: Optional[int] = None, piece: Optional[int] = None, block: Optional[int] = None, capacity: Optional[int] = None,
     lanes: Optional[int] = None, retries: Optional[int] = None,
 ) -> FrameT: ...
@@ -81,7 +82,8 @@ def join(
     left_columns: Optional[Sequence[str]] = None, right_columns: Optional[Sequence[str]] = None, rows: Optional[str] = None, order: Order = None,
     repeated: Optional[str] = None, suffixes: Optional[Tuple[Optional[str], Optional[str]]] = None, indicator: Union[bool, str] = False,
     expect: Expect = None, validate: Validate = None, max_rows: Optional[int] = None, null: Optional[str] = None, left_null: Texts = None, right_null: Texts = None,
-    out_null: Optional[str] = None, strict: Strict = True, explain: bool = True, output: None = None, program: Optional[Program] = None, workers: Optional[int] = None, hash: Hash = None,
+    out_null: Optional[str] = None, delimiter: Optional[str] = None, left_delimiter: Optional[str] = None, right_delimiter: Optional[str] = None,
+    out_delimiter: Optional[str] = None, strict: Strict = True, explain: bool = True, output: None = None, program: Optional[Program] = None, workers: Optional[int] = None, hash: Hash = None,
     bits1: Optional[int] = None, bits2: Optional[int] = None, piece: Optional[int] = None, block: Optional[int] = None, capacity: Optional[int] = None,
     lanes: Optional[int] = None, retries: Optional[int] = None,
 ) -> FrameT: ...
@@ -94,7 +96,8 @@ def join(
     left_columns: Optional[Sequence[str]] = None, right_columns: Optional[Sequence[str]] = None, rows: Optional[str] = None, order: Order = None,
     repeated: Optional[str] = None, suffixes: Optional[Tuple[Optional[str], Optional[str]]] = None, indicator: Union[bool, str] = False,
     expect: Expect = None, validate: Validate = None, max_rows: Optional[int] = None, null: Optional[str] = None, left_null: Texts = None, right_null: Texts = None,
-    out_null: Optional[str] = None, strict: Strict = True, explain: bool = True, output: None = None, program: Optional[Program] = None, workers: Optional[int] = None, hash: Hash = None,
+    out_null: Optional[str] = None, delimiter: Optional[str] = None, left_delimiter: Optional[str] = None, right_delimiter: Optional[str] = None,
+    out_delimiter: Optional[str] = None, strict: Strict = True, explain: bool = True, output: None = None, program: Optional[Program] = None, workers: Optional[int] = None, hash: Hash = None,
     bits1: Optional[int] = None, bits2: Optional[int] = None, piece: Optional[int] = None, block: Optional[int] = None, capacity: Optional[int] = None,
     lanes: Optional[int] = None, retries: Optional[int] = None,
 ) -> Rows: ...
@@ -107,7 +110,8 @@ def join(
     left_columns: Optional[Sequence[str]] = None, right_columns: Optional[Sequence[str]] = None, rows: Optional[str] = None, order: Order = None,
     repeated: Optional[str] = None, suffixes: Optional[Tuple[Optional[str], Optional[str]]] = None, indicator: Union[bool, str] = False,
     expect: Expect = None, validate: Validate = None, max_rows: Optional[int] = None, null: Optional[str] = None, left_null: Texts = None, right_null: Texts = None,
-    out_null: Optional[str] = None, strict: Strict = True, explain: bool = True, output: PathT, program: Optional[Program] = None, workers: Optional[int] = None, hash: Hash = None,
+    out_null: Optional[str] = None, delimiter: Optional[str] = None, left_delimiter: Optional[str] = None, right_delimiter: Optional[str] = None,
+    out_delimiter: Optional[str] = None, strict: Strict = True, explain: bool = True, output: PathT, program: Optional[Program] = None, workers: Optional[int] = None, hash: Hash = None,
     bits1: Optional[int] = None, bits2: Optional[int] = None, piece: Optional[int] = None, block: Optional[int] = None, capacity: Optional[int] = None,
     lanes: Optional[int] = None, retries: Optional[int] = None,
 ) -> PathT: ...
@@ -146,7 +150,9 @@ def join(left: Any, right: Any, clause: Optional[str] = None, **arguments: Any) 
     `suffixes`, a pair, is added to names that both tables have, and `indicator=True` adds a column `_merge`, as pandas.merge does;
     `validate` says what `expect` does. `strict` has files read by RFC 4180's grammar alone. `null` is the text that stands for null in files,
     read and written (the empty field unless given); `left_null` and `right_null` are those of one table, a text or up to four, and
-    `out_null` is the one that is written. `program` is the path of the program. All other arguments are the program's own options, as
+    `out_null` is the one that is written. `delimiter` is what stands between the fields of files, read and written: one ASCII character that
+    is no letter, digit or double quote (a comma unless given), or "tab"; `left_delimiter`, `right_delimiter` and `out_delimiter` are those of
+    one file. `program` is the path of the program. All other arguments are the program's own options, as
     `workers=4`, `rows="lone-left"`, `columns="left"`, `repeated="_right"` or `expect="many-to-one"`.
 
     Raises:

@@ -13,6 +13,9 @@ OF_ONE_JOIN = ("workers", "bits1", "bits2", "hash", "block", "capacity", "lanes"
 # The options of `radixjoin` that a join in shards has no other value of than this one: the merge goes by the places of the rows of
 # both sides, whose columns have to stand in the joined shards.
 OF_WHOLE_TABLES = {"columns": "all"}
+# The options of `radixjoin` that say how the fields of a file are separated: shards and the merge of their joins know the comma alone.
+DELIMITERS = ("delimiter", "left_delimiter", "right_delimiter", "out_delimiter")
+COMMAS_ALONE = "a join in shards reads and writes commas alone, so convert the files first (docs/user/recipes.md)"
 # The options that may be given again.
 SEVERAL = ("--left-null", "--right-null")
 # The most ranges of a merge.
@@ -84,6 +87,8 @@ def parser() -> Parser:
         line.add_argument(f"--{option}", metavar="X", help=f"as radixjoin's --{option}, for each join")
     for option in OF_WHOLE_TABLES:
         line.add_argument(f"--{option}", help=argparse.SUPPRESS)
+    for option in DELIMITERS:
+        line.add_argument(*(["-d"] if option == "delimiter" else []), f"--{option.replace('_', '-')}", help=argparse.SUPPRESS)
     return line
 
 
@@ -107,6 +112,9 @@ def read_line(words: Sequence[str]) -> argparse.Namespace:
     for option, only in OF_WHOLE_TABLES.items():
         if getattr(asked, option) not in (None, only):
             line.error(f"--{option}: a join in shards writes all columns, so leave those out of the files that aren't wanted")
+    for option in DELIMITERS:
+        if getattr(asked, option) not in (None, ","):
+            line.error(f"--{option.replace('_', '-')}: {COMMAS_ALONE}")
     if "matched-left" in (asked.rows or "").split(","):
         line.error("--rows: a join in shards has no matched-left, so join by USING with a right file of the keys alone, each once")
     return asked

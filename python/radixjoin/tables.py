@@ -13,6 +13,10 @@ from .columns import Column, Types, by_name, declared_of, list_of_types, text_of
 from .lists import is_by_name
 
 _CHUNK = 1 << 20
+# What stands between the fields of a file of which nothing else is said, and of what this package writes.
+SIGN = ","
+# Names of the tab.
+_TABS = ("tab", "\\t")
 # What the names of a process's own files begin with.
 _OWN = ("/dev/stdin", "/dev/fd/", "/proc/self/")
 
@@ -72,10 +76,11 @@ class _Given(Table):
 
     is_written = False
 
-    def __init__(self, side: str, types: Types) -> None:
+    def __init__(self, side: str, types: Types, delimiter: str) -> None:
         if types is None:
             raise ValueError(f"{side}_types has to be given: of a file types are declared, never guessed (radixjoin --suggest-types FILE prints a list to look at)")
         self.side = side
+        self.delimiter = "\t" if delimiter in _TABS else delimiter
         # The types by Python's own names of columns, or the program's list of them.
         self.by_name = types if isinstance(types, Mapping) else {}
         self.list = None if isinstance(types, Mapping) else text_of(side, types)
@@ -97,7 +102,7 @@ class _Given(Table):
         return [Column(name, word) for name, word in zip(self.names(), self.words())]
 
     def names(self) -> List[str]:
-        return text.header_in(self.head())
+        return text.header_in(self.head(), self.delimiter)
 
     def head(self) -> bytes:
         """The first bytes of the file."""
@@ -107,8 +112,8 @@ class _Given(Table):
 class PathTable(_Given):
     """A regular file of some name."""
 
-    def __init__(self, side: str, path: Any, types: Types) -> None:
-        super().__init__(side, types)
+    def __init__(self, side: str, path: Any, types: Types, delimiter: str = SIGN) -> None:
+        super().__init__(side, types, delimiter)
         self.path = os.fsencode(path)
 
     def opened(self) -> Optional[bytes]:
@@ -128,8 +133,8 @@ class PathTable(_Given):
 class FileTable(_Given):
     """An open binary file, which is read from where it stands."""
 
-    def __init__(self, side: str, file: BinaryIO, types: Types, owned: bool = False) -> None:
-        super().__init__(side, types)
+    def __init__(self, side: str, file: BinaryIO, types: Types, delimiter: str = SIGN, owned: bool = False) -> None:
+        super().__init__(side, types, delimiter)
         self.file = file
         self.is_owned = owned
         self.begun: Optional[bytes] = None
@@ -174,14 +179,14 @@ class FileTable(_Given):
             self.file.close()
 
 
-def table_of_path(side: str, path: Any, types: Types) -> Table:
+def table_of_path(side: str, path: Any, types: Types, delimiter: str) -> Table:
     """The table of a path. A pipe that has a name is opened here, since its header can be read only once, and so is what has another
     meaning for the program, as its own standard input."""
     try:
         is_opened = stat.S_ISFIFO(os.stat(path).st_mode) or os.fsdecode(path).startswith(_OWN)
     except OSError:
         is_opened = False
-    return FileTable(side, open(path, "rb"), types, owned=True) if is_opened else PathTable(side, path, types)
+    return FileTable(side, open(path, "rb"), types, delimiter, owned=True) if is_opened else PathTable(side, path, types, delimiter)
 
 
 class HeaderTable(Table):

@@ -74,11 +74,14 @@ def with_nulls(text: bytes, null: str, is_alone: bool) -> bytes:
     return text.replace(_NULL, b'""' if is_alone and not null else null.encode("utf-8", "surrogatepass"))
 
 
-def header_in(text: bytes) -> List[str]:
-    """The names of a file's first record, of its first bytes; none where they can't be read."""
+def header_in(text: bytes, delimiter: str = ",") -> List[str]:
+    """The names of a file's first record, of its first bytes, with this delimiter; none where they can't be read, or the program would
+    refuse it."""
+    if len(delimiter) != 1 or not delimiter.isascii() or delimiter.isalnum() or delimiter in '"\r\n':
+        return []
     try:
         lines = io.StringIO(text[:_HEADER].decode("utf-8-sig", "surrogateescape"), newline="")
-        return next((record for record in csv.reader(lines) if record), [])
+        return next((record for record in csv.reader(lines, delimiter=delimiter) if record), [])
     except (csv.Error, UnicodeDecodeError):
         return []
 

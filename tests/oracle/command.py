@@ -1,7 +1,8 @@
 """The words of both command lines: "The order" and "Errors and statuses" of docs/user/specification.md.
 
 Options are long ones, used at most once but for those of a side's null texts; `--name value` and `--name=value` mean the same, and a value that begins
-with `-` is given by `=` (but `-` alone is a value). `-o` and `-w` are letters of two of them. In the short form three words are no options."""
+with `-` is given by `=` (but `-` alone is a value). `-o`, `-w` and `-d` are letters of three of them. In the short form three words are no
+options."""
 import math
 import re
 
@@ -49,7 +50,7 @@ class WordOrNone(Word):
 PLACES = ("left", "right", "join")
 
 # The options of which one letter is enough.
-LETTERS = {"o": "output", "w": "workers"}
+LETTERS = {"o": "output", "w": "workers", "d": "delimiter"}
 
 OPTIONS_OF = {
     "radixjoin": {
@@ -62,6 +63,10 @@ OPTIONS_OF = {
         "left-null": TEXTS,
         "right-null": TEXTS,
         "out-null": TEXT,
+        "delimiter": TEXT,
+        "left-delimiter": TEXT,
+        "right-delimiter": TEXT,
+        "out-delimiter": TEXT,
         "strict": WordOrNone(("on", "full"), None),
         "bits1": Number(0, 10, 4),
         "bits2": Number(0, 10, 0),
@@ -229,6 +234,7 @@ class Request:
         null = found.get("null", "")
         self.nulls = {side: self.nulls_of(found, side, null, bad) for side in ("left", "right")}
         self.out_null = found.get("out-null", null).encode()
+        self.delimiters = {of: self.delimiter_of(found, of) for of in ("left", "right", "out")}
         self.is_short = found["is short"]
         self.strict = found.get("strict", "on" if found["is short"] and "lenient" not in found else None)
         self.bits1 = found.get("bits1", options["bits1"].default)
@@ -249,6 +255,14 @@ class Request:
         self.repeated = found.get("repeated", "qualify" if found["is short"] else "keep")
         if self.repeated not in ("keep", "qualify") and not 1 <= len(self.repeated.encode()) <= LONGEST_SUFFIX:
             raise bad("bad suffix of repeated names")
+
+    @staticmethod
+    def delimiter_of(found, of):
+        """The delimiter of a side's file, or of the result."""
+        delimiter = reading.delimiter_named(found.get(f"{of}-delimiter", found.get("delimiter", ",")))
+        if delimiter is None:
+            raise Fault(34, "BadDelimiter")
+        return delimiter
 
     @staticmethod
     def looked_for(found, bad):

@@ -8,6 +8,7 @@ MOST_ROWS = 2**31 - 1
 MOST_COLUMNS = 256
 LONGEST_NAME = 128
 LONGEST_NULL = 16
+COMMA = b","
 LEAST_INT, MOST_INT = -(2**63), 2**63 - 1
 
 
@@ -101,8 +102,17 @@ def lowered(name):
     return bytes(byte + 32 if 65 <= byte <= 90 else byte for byte in name)
 
 
-def records(text):
-    """The records of CSV bytes, as the csv library reads them: one byte at a time."""
+def delimiter_named(word):
+    """The delimiter of this name, or None where it is none: one ASCII character that is no letter, digit, double quote, CR or LF, or a
+    name of the tab."""
+    if word in ("tab", "\\t"):
+        return b"\t"
+    is_one = len(word) == 1 and word.isascii() and not word.isalnum() and word not in '"\r\n'
+    return word.encode() if is_one else None
+
+
+def records(text, delimiter=COMMA):
+    """The records of CSV bytes, as the csv library reads them with this delimiter: one byte at a time."""
     found, fields, field = [], [], bytearray()
     # Where the reading stands: before a record, before a field, in a bare field, in quotes, after a quote in them.
     state = "record"
@@ -121,11 +131,11 @@ def records(text):
         elif state == "after quote" and byte == 0x22:
             field.append(byte)
             state = "quoted"
-        elif byte in b",\r\n":
+        elif byte in delimiter + b"\r\n":
             fields.append(bytes(field))
             field = bytearray()
             state = "field"
-            if byte != 0x2C:
+            if byte not in delimiter:
                 found.append(fields)
                 fields, state = [], "record"
         else:
@@ -134,6 +144,11 @@ def records(text):
     if state != "record":
         found.append([*fields, bytes(field)])
     return found
+
+
+def without_mark(content):
+    """A file's bytes without the byte order mark that they begin with, if they do."""
+    return content.removeprefix(b"\xef\xbb\xbf")
 
 
 def is_lawful_null(null):
@@ -164,24 +179,24 @@ def check_header(header, types, side):
         raise Fault(4, "TypeCount", side)
 
 
-def undeclared(content):
+def undeclared(content, delimiter):
     """The types of a file's columns of which none was given."""
-    found = records(content[3:] if content.startswith(b"\xef\xbb\xbf") else content)
+    found = records(without_mark(content), delimiter)
     return [Undeclared()] * len(found[0]) if found else []
 
 
-def read_header(content, types, side):
+def read_header(content, types, side, delimiter):
     """The table of a file's header, without rows; or its first fault."""
-    found = records(content[3:] if content.startswith(b"\xef\xbb\xbf") else content)
+    found = records(without_mark(content), delimiter)
     if not found:
         raise Fault(1, "NoHeader", side)
     check_header(found[0], types, side)
     return Table(found[0], types, [])
 
 
-def read(content, types, nulls, side):
-    """The table of a file's bytes, by its column types and its null texts; or its first fault."""
-    found = records(content[3:] if content.startswith(b"\xef\xbb\xbf") else content)
+def read(content, types, nulls, side, delimiter):
+    """The table of a file's bytes, by its column types, its null texts and its delimiter; or its first fault."""
+    found = records(without_mark(content), delimiter)
     if not found:
         raise Fault(1, "NoHeader", side)
     header, *rest = found

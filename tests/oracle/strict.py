@@ -1,13 +1,13 @@
 """The records of a text by RFC 4180's grammar, or where it stops being of it: "Reading strictly" of docs/user/specification.md.
 
 Each field is found by one expression, so that nothing here goes over a text byte by byte as a machine."""
+import functools
 import re
 
 from .faults import Fault
 from . import reading
 
 ESCAPED = re.compile(rb'"(?:[^"]|"")*+"')
-BARE = re.compile(rb'[^",\r\n]*')
 LINE_END = re.compile(rb"\r?\n")
 
 
@@ -26,30 +26,36 @@ class Broken(Exception):
         return Fault(self.number, self.name, side, "row", self.row, *column)
 
 
-def field_at(text, at, row, column):
+@functools.cache
+def bare(delimiter):
+    """The expression of a field without quotes: any TEXTDATA."""
+    return re.compile(b'[^"\r\n' + re.escape(delimiter) + b"]*")
+
+
+def field_at(text, at, row, column, delimiter):
     """The value of the field at a place, whether it is escaped, and the place behind it."""
     if text[at : at + 1] == b'"':
         found = ESCAPED.match(text, at)
         if not found:
             raise Broken(21, "OpenQuote", row, column)
         behind = text[found.end() : found.end() + 1]
-        if behind not in (b"", b",", b"\r", b"\n"):
+        if behind not in (b"", delimiter, b"\r", b"\n"):
             raise Broken(22, "AfterQuote", row, column)
         return found[0][1:-1].replace(b'""', b'"'), True, found.end()
-    found = BARE.match(text, at)
+    found = bare(delimiter).match(text, at)
     if text[found.end() : found.end() + 1] == b'"':
         raise Broken(23, "BareQuote", row, column)
     return found[0], False, found.end()
 
 
-def record_at(text, at, row):
+def record_at(text, at, row, delimiter):
     """The fields of the record at a place, whether it is an empty line, the place behind its last field, and that behind its
     line end, which is None where it has none."""
     fields = []
     while True:
-        value, is_escaped, at = field_at(text, at, row, len(fields) + 1)
+        value, is_escaped, at = field_at(text, at, row, len(fields) + 1, delimiter)
         fields.append(value)
-        if text[at : at + 1] == b",":
+        if text[at : at + 1] == delimiter:
             at += 1
             continue
         is_empty = len(fields) == 1 and not value and not is_escaped
@@ -61,11 +67,11 @@ def record_at(text, at, row):
         return fields, is_empty, at, None
 
 
-def records(text, full):
-    """The records one by one, the header first; a Broken where the text stops being of the grammar."""
+def records(text, full, delimiter=reading.COMMA):
+    """The records one by one, the header first; a Broken where the text stops being of the grammar, in which COMMA is this delimiter."""
     at, row, names = 0, 0, None
     while at < len(text):
-        fields, is_empty, _, behind = record_at(text, at, row)
+        fields, is_empty, _, behind = record_at(text, at, row, delimiter)
         if is_empty and names is not None and names > 1:
             raise Broken(25, "EmptyLine", row)
         if behind is None and full:
@@ -77,9 +83,9 @@ def records(text, full):
         at, row = behind, row + 1
 
 
-def read(content, types, nulls, side, full):
+def read(content, types, nulls, side, full, delimiter=reading.COMMA):
     """The table of a file's bytes read strictly, or its first fault."""
-    found = records(content[3:] if content.startswith(b"\xef\xbb\xbf") else content, full)
+    found = records(reading.without_mark(content), full, delimiter)
     try:
         header = next(found, None)
         if header is None:

@@ -16,9 +16,9 @@ class Lacking(Exception):
     """A tool that a task needs isn't installed."""
 
 
-def records(text):
-    """The records of CSV text, the header first."""
-    return list(csv.reader(io.StringIO(text, newline="")))
+def records(text, delimiter=","):
+    """The records of CSV text with this delimiter, the header first."""
+    return list(csv.reader(io.StringIO(text, newline=""), delimiter=delimiter))
 
 
 def file_or(path, made):
@@ -64,10 +64,10 @@ class Desk:
         ran = subprocess.run(words, cwd=self.folder, capture_output=True, env={**os.environ, "LC_ALL": "C.UTF-8"}, timeout=harness.SECONDS)
         return harness.Ran(ran.returncode, ran.stdout, ran.stderr)
 
-    def gives(self, command, wanted, status=0, told=""):
+    def gives(self, command, wanted, status=0, told="", delimiter=","):
         """Runs a command, and tests its records, its status and what it tells on standard error."""
         ran = self.bash(command)
-        got = records(ran.stdout.decode(errors="replace"))
+        got = records(ran.stdout.decode(errors="replace"), delimiter)
         wanted = [["" if cell is None else str(cell) for cell in row] for row in wanted]
         self.faults += harness.differences(ran, None, told.encode(), status)
         if got != wanted:

@@ -155,12 +155,36 @@ def users_with_groups(desk):
         ./radixjoin --left users.csv --left-types text,text,int,int,text,text,text \
             --right groups.csv --right-types text,text,int,text \
             --join "LEFT JOIN USING (gid)" --order left --repeated _of_group"""
+    desk.gives(command, groups_of_users())
+
+
+def groups_of_users():
+    """Each user with the groups of his number, the header first."""
     users, groups = ([line.split(":") for line in text.splitlines()] for text in (PASSWD, GROUP))
     wanted = [["gid", "user", "password", "uid", "name", "home", "shell", "group", "password_of_group", "members"]]
     for name, password, number, group_number, *rest in users:
         found = [[group, secret, members] for group, secret, other, members in groups if other == group_number]
         wanted += [[group_number, name, password, number, *rest, *group] for group in found or [["", "", ""]]]
-    desk.gives(command, wanted)
+    return wanted
 
 
-TASKS = (needs_that_are_not_met, packages_that_others_need, packages_of_one_source, services_with_protocols, services_of_tcp_and_udp, users_with_groups)
+def users_with_groups_by_colons(desk):
+    """The same from these files as they are: the colon is named, and double quotes within a name stand for themselves."""
+    desk.text("passwd", PASSWD)
+    desk.text("group", GROUP)
+    command = r"""
+        ./radixjoin --left <(echo user:password:uid:gid:name:home:shell; cat passwd) --left-types text,text,int,int,text,text,text \
+            --right <(echo group:password:gid:members; cat group) --right-types text,text,int,text \
+            --join "LEFT JOIN USING (gid)" --order left --repeated _of_group --delimiter : --out-delimiter ,"""
+    desk.gives(command, groups_of_users())
+
+
+TASKS = (
+    needs_that_are_not_met,
+    packages_that_others_need,
+    packages_of_one_source,
+    services_with_protocols,
+    services_of_tcp_and_udp,
+    users_with_groups,
+    users_with_groups_by_colons,
+)

@@ -47,6 +47,16 @@ def zones_with_countries(desk):
     desk.gives(command, [["code", "zone", "country"], *([code, zone, names.get(code)] for code, zone in zones)])
 
 
+def zones_with_countries_by_tabs(desk):
+    """The same from both files as they are, but for their comments and a header: tabs are named, and nothing else converts them."""
+    zones, countries = zones_and_countries(desk)
+    command = r"""./radixjoin <(printf 'code\tzone\n'; grep -v '^#' zone.tab | cut -f 1,3) \
+        <(printf 'code\tcountry\n'; grep -v '^#' iso3166.tab) 'LEFT JOIN USING (code)' --order left --lenient --terse \
+        --left-delimiter tab --right-delimiter tab"""
+    names = dict(countries)
+    desk.gives(command, [["code", "zone", "country"], *([code, zone, names.get(code)] for code, zone in zones)])
+
+
 def countries_without_zone(desk):
     """The countries that no time zone belongs to."""
     zones, countries = zones_and_countries(desk)
@@ -144,6 +154,7 @@ def prices_of_the_day(desk):
 
 TASKS = (
     zones_with_countries,
+    zones_with_countries_by_tabs,
     countries_without_zone,
     zones_of_one_country,
     places_of_visits,

@@ -1,4 +1,4 @@
-"""Tasks over what spreadsheets, databases and other programs export: semicolons, decimal commas, umlauts, tabs, compressed files."""
+"""Tasks over what spreadsheets, databases and other programs export: semicolons, decimal commas, umlauts, tabs, bars, compressed files."""
 import csv
 import gzip
 
@@ -86,6 +86,52 @@ def postal_codes_without_zeros(desk):
     desk.gives(command, wanted)
 
 
+def write_unconverted(desk):
+    """Makes the same files as a spreadsheet writes them in UTF-8, with a byte order mark; nothing converts them."""
+    desk.text("kunden.csv", CUSTOMERS.replace("\n", "\r\n"), "utf-8-sig")
+    desk.text("bestellungen.csv", ORDERS.replace("\n", "\r\n"), "utf-8-sig")
+
+
+def orders_of_a_german_sheet_as_they_are(desk):
+    """Each order with its customer, by semicolons in and out: amounts such as 1.234,50 are texts, and stay as they are."""
+    write_unconverted(desk)
+    command = r"""./radixjoin bestellungen.csv kunden.csv 'LEFT JOIN USING ("Kunden-Nr")' --order left \
+        --types '"Kunden-Nr"=text' -d ';' --output verbunden.csv && cat verbunden.csv"""
+    customers = {row[0]: row[1:] for row in sheet(CUSTOMERS) if row[0]}
+    wanted = [["Kunden-Nr", "Bestell-Nr", "Datum", "Betrag", "Firma", "Straße", "PLZ", "Ort", "Rabatt %"]]
+    wanted += [[customer, number, day, amount, *customers.get(customer, [""] * 5)] for number, customer, day, amount in sheet(ORDERS)]
+    desk.gives(command, wanted, delimiter=";")
+
+
+def towns_of_a_tsv_file(desk):
+    """Each customer of a sheet with semicolons with his town of a file with tabs, by commas out; decimal commas are in quotes then."""
+    write_unconverted(desk)
+    desk.text("orte.tsv", TOWNS.replace(";", "\t").replace("Leipzig", '"Leip\tzig"'))
+    command = r"""./radixjoin kunden.csv orte.tsv 'FULL JOIN USING (PLZ)' --types PLZ=int --repeated _neu \
+        --left-delimiter ';' --right-delimiter tab"""
+    towns = {int(row[0]): row[1] for row in sheet(TOWNS)}
+    customers = [[int(row[3]) if row[3] else None, *row[:3], *row[4:]] for row in sheet(CUSTOMERS)]
+    wanted = [["PLZ", "Kunden-Nr", "Firma", "Straße", "Ort", "Rabatt %", "Ort_neu"]]
+    wanted += [[*row, towns[row[0]]] for row in customers if row[0] in towns] + [[*row, ""] for row in customers if row[0] not in towns]
+    wanted += [[code, "", "", "", "", "", town.replace("Leipzig", "Leip\tzig")] for code, town in towns.items() if code not in [row[0] for row in customers]]
+    desk.gives(command, wanted)
+
+
+def feeds_with_bars(desk):
+    """Two feeds of a supplier with bars and without quotes, of which one has a double quote for inches: bars out, too."""
+    articles = [["a1", "nut, 5 mm", "0.20"], ["a2", "bolt; long", "1.5"], ["b7", 'saw 12" wide', "12"], ["d4", "", "3"]]
+    stock = [["a2", "7"], ["b7", ""], ["c3", "1"], ["a1", "12"]]
+    for name, lines in (("articles.txt", [["sku", "name", "price"], *articles]), ("stock.txt", [["sku", "pieces"], *stock])):
+        desk.text(name, "".join("|".join(line) + "\n" for line in lines))
+    command = r"""./radixjoin articles.txt stock.txt 'FULL JOIN USING (sku)' -d '|' --lenient \
+        --types 'price=num(9,2),pieces=int'"""
+    pieces, prices = dict(stock), {sku: f"{float(price):.2f}" for sku, _, price in articles}
+    wanted = [[sku, name, prices[sku], pieces[sku]] for sku, name, _ in articles if sku in pieces]
+    wanted += [[sku, name, prices[sku], ""] for sku, name, _ in articles if sku not in pieces]
+    wanted += [[sku, "", "", count] for sku, count in stock if sku not in prices]
+    desk.gives(command, [["sku", "name", "price", "pieces"], *wanted], delimiter="|")
+
+
 def names_in_other_spellings(desk):
     """Guests by name in two lists that differ in capital letters, blanks, and ß or ss."""
     guests = [["Jürgen  Groß", "2"], ["MÜLLER, Ann", "1"], ["bob", "3"], ["", "9"]]
@@ -149,6 +195,9 @@ TASKS = (
     orders_of_a_german_sheet,
     large_orders_of_a_town,
     postal_codes_without_zeros,
+    orders_of_a_german_sheet_as_they_are,
+    towns_of_a_tsv_file,
+    feeds_with_bars,
     names_in_other_spellings,
     dump_of_a_database,
     compressed_exports,

@@ -133,6 +133,12 @@ REFUSED = [
     (ValueError, "suffixes= is a pair", {"suffixes": ("_x", "_y"), "output": "out.csv"}),
     (ValueError, "suffixes= is a pair", {"suffixes": "_x"}),
     (ValueError, "indicator= is for two frames", {"indicator": True, "output": "out.csv"}),
+    (TypeError, "join has no sep=: delimiter=", {"sep": ";"}),
+    (TypeError, "join has no delimeter=: did you mean delimiter=?", {"delimeter": ";"}),
+    (ValueError, "left_delimiter= is of a file, and the left table is none", {"left_delimiter": ";"}),
+    (ValueError, "right_delimiter= is of a file, and the right table is none", {"right_delimiter": ";", "output": "out.csv"}),
+    (ValueError, "out_delimiter= is of the file that output= names", {"out_delimiter": ";"}),
+    (ValueError, "delimiter= is of files, and neither table is one", {"delimiter": ";"}),
 ]
 
 
@@ -143,6 +149,8 @@ def refused(folder):
         yield from [] if type(error) is kind and told in str(error) else [f"{named}: {error!r}"]
     error = telling.raised(radixjoin.stats, unread(), unread(), using="id", program="nowhere", output="out.csv")
     yield from telling.differs("statistics", repr(error), repr(TypeError("stats has no output=")))
+    error = telling.raised(radixjoin.stats, unread(), unread(), using="id", program="nowhere", out_delimiter=";")
+    yield from [] if type(error) is TypeError and "stats has no out_delimiter=" in str(error) else [f"statistics with a delimiter: {error!r}"]
     path = folder / "a.csv"
     path.write_text("id\n1\n")
     for left, named, kind in ((path, {}, ValueError), (path, {"left_types": [7]}, TypeError), (unread(), {"left_types": "int"}, ValueError)):
@@ -169,6 +177,10 @@ def suggested(folder):
     yield from telling.differs("types", types, {"id": "int", "price": "num(4,2)", 'a "name", and more': "text", "none": "text"})
     got = list(radixjoin.join(path, [(1,)], using="id", left_types=types, right_columns=["id"], null="~"))
     yield from telling.differs("a join with them", [tuple(map(str, row)) for row in got], [("1", "1.50", "x", "None")])
+    path.write_text('id;"a;b"\n1;1,5\n')
+    yield from telling.differs("types by semicolons", radixjoin.suggest_types(path, delimiter=";"), {"id": "int", "a;b": "text"})
+    fault = telling.raised(radixjoin.suggest_types, path, delimiter=";;")
+    yield from telling.differs("no delimiter", (type(fault), getattr(fault, "line", None)), (radixjoin.LineFault, "radixjoin: E34 BadDelimiter"))
     fault = telling.raised(radixjoin.suggest_types, folder / "nowhere")
     yield from telling.differs("no file", (type(fault), getattr(fault, "code", None)), (radixjoin.DeviceFault, "E19"))
 

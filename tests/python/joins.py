@@ -29,6 +29,7 @@ FEW_TEXTS = ["", "x", "y", "it's"]
 TEXTS = FEW_TEXTS + ['a"b', '"', "p,q", "é", "\ufeffz", "line\nbreak", "\r\n", "\r", "nul\0", " ", "\\N", "NULL", "null", "~", "-", "?", "None", "~a"]
 TYPES = ("int", "text", "num(5,2)", "num(3,0)", "num(4,1)")
 FEW = 100
+DELIMITERS = (",", ",", ";", "\t", "|")
 FORMS = ("frames", "frames", "sequences", "mappings", "paths", "files", "mixed")
 
 
@@ -81,16 +82,16 @@ def types_of(pick, table, is_declared):
     return {table.names[at]: table.types[at] for at in lacking} or None
 
 
-def text_of(table, null):
-    """The table as CSV, with this null text."""
+def text_of(table, null, delimiter):
+    """The table as CSV, with this null text and this delimiter."""
     text = io.StringIO(newline="")
-    writer = csv.writer(text, lineterminator="\n", quoting=csv.QUOTE_ALL)
+    writer = csv.writer(text, delimiter=delimiter, lineterminator="\n", quoting=csv.QUOTE_ALL)
     for row in [table.names, *table.rows]:
         writer.writerow([null if cell is None else cell for cell in row])
     return text.getvalue().encode()
 
 
-def given(pick, form, table, place):
+def given(pick, form, table, place, delimiter):
     """A table in a form, and the types that are declared for it."""
     if form == "frames":
         return frame_of(pick, table), types_of(pick, table, False)
@@ -98,7 +99,7 @@ def given(pick, form, table, place):
         return iter([tuple(row) for row in table.rows]), types_of(pick, table, False)
     if form == "mappings":
         return [dict(zip(table.names, row)) for row in table.rows], types_of(pick, table, False)
-    place.write_bytes(text_of(table, "~~"))
+    place.write_bytes(text_of(table, "~~", delimiter))
     types = types_of(pick, table, True)
     if form == "paths":
         return pick.choice([str(place), place]), types
@@ -158,11 +159,13 @@ def run_join(number, folder):
     header, wanted = join.header(left, right), in_classes(left, right, join, reference.joined(left, right, join))
     header, wanted = of_columns(left, join, header, which), [of_columns(left, join, row, which) for row in wanted]
     options = {} if pick.random() < 0.7 else {"bits1": pick.randrange(4), "workers": pick.choice([1, 2]), "hash": pick.choice(["plain", "mixed"])}
-    tables = [given(pick, it, table, folder / f"{side}.csv") for it, table, side in zip(forms, (left, right), ("left", "right"))]
+    delimiters = {side: pick.choice(DELIMITERS) if form in ("paths", "files") else None for side, form in zip(("left", "right"), forms)}
+    tables = [given(pick, it, table, folder / f"{side}.csv", delimiters[side]) for it, table, side in zip(forms, (left, right), delimiters)]
     named = {"left_types": tables[0][1], "right_types": tables[1][1], "left_columns": left.names, "right_columns": right.names}
     if {"paths", "files"} & set(forms):
         options.update(null="~~", strict=False)
     options.update({} if which == "all" else {"columns": which})
+    options.update({f"{side}_delimiter": delimiter for side, delimiter in delimiters.items() if delimiter not in (None, ",")})
     got = radixjoin.join(tables[0][0], tables[1][0], **arguments_of(pick, join), **named, **options)
     if "frames" in forms:
         rows, columns = got.itertuples(index=False, name=None), list(got.columns)

@@ -2,7 +2,7 @@
 use Rattle.std.proofs.Common.{◌≡◌, ◌≢◌, ◌∙◌, ℕ, zero, suc, List, [], ◌∷◌, length, map, Bool, true, false, Option, Some, None, Result, Ok, Err, refl, ap, inl, inr}
 use Rattle.std.specs.Prelude.{if◌then◌else◌, slice_index_or, ◌==◌}
 use Rattle.std.proofs.lemmas.Bool.{cases_Bool}
-use Rattle.csv.specs.Reading.{default_config, records, strip_bom}
+use Rattle.csv.specs.Reading.{records, strip_bom}
 use Rattle.rj_decimal.specs.Numbers.{finer}
 use Rattle.rj_columns.specs.declared.cell.ColumnType.{ColumnType}
 use Rattle.rj_columns.specs.Contents.{Content, nothing, whole, decimal, word}
@@ -23,7 +23,8 @@ use Rattle.rj_engine.specs.declared.joined.JoinedRow.TheVariants.{Both, LeftOnly
 use Rattle.rj_engine.specs.declared.origin.Origin.{Origin}
 use Rattle.rj_engine.specs.declared.origin.Origin.TheVariants.{Coalesced, Left, Right}
 use Rattle.rj_strict.specs.Grammar.{records_of}
-use Rattle.rj_command.specs.Sides.{IsTable, IsTableBy, has_lawful_nulls, header_records, nulls_of, side_records, told, told_first, type_fault, types_of}
+use Rattle.rj_strict.specs.Reading.{config_of}
+use Rattle.rj_command.specs.Sides.{IsTable, IsTableBy, delimiter_of, has_lawful_nulls, header_records, nulls_of, side_records, told, told_first, type_fault, types_of}
 use Rattle.rj_fault.specs.Faults.{read_fault}
 use Rattle.rj_fault.specs.declared.fault.Fault.{Fault}
 use Rattle.rj_fault.specs.declared.fault.Fault.TheVariants as fault
@@ -107,7 +108,7 @@ module _ (P : TableValue → Type 0) (q : Request) (s : Side)
   ]
 
   by-holds : (x : Strictness) (bytes : List ℕ) (t : TableValue) → IsTableBy x q s bytes t → P t
-  by-holds strictness.Off bytes t is = side-holds (records default_config (strip_bom bytes)) t is
+  by-holds strictness.Off bytes t is = side-holds (records (config_of (delimiter_of q s)) (strip_bom bytes)) t is
   by-holds strictness.On bytes t is = side-holds (records_of is.0) t is.2
   by-holds strictness.Full bytes t is = side-holds (records_of is.0) t is.2
 

@@ -1,8 +1,8 @@
 -- What a header denotes alone.
-use Rattle.std.proofs.Common.{◌≡◌, ◌≢◌, ◌∙◌, true, List, [], ◌∷◌, ℕ, refl, sym, ap}
+use Rattle.std.proofs.Common.{◌≡◌, ◌≢◌, ◌∙◌, true, List, [], ◌∷◌, ℕ, refl, sym, ap, ap₂}
 use Rattle.std.specs.Prelude.{Result, Ok, Err, Option, Some, None, take}
 use Rattle.std.proofs.lemmas.Bool.{and_parts}
-use Rattle.csv.specs.Reading.{default_config, records, strip_bom}
+use Rattle.csv.specs.Reading.{records, strip_bom}
 use Rattle.rj_columns.specs.Contents.{Content}
 use Rattle.rj_columns.specs.Names.{empty_table}
 use Rattle.rj_columns.specs.Tables.{TableValue}
@@ -22,8 +22,9 @@ use Rattle.rj_fault.specs.declared.fault.Fault.TheVariants as fault
 use Rattle.rj_fault.specs.declared.fault.Side.{Side}
 use Rattle.rj_fault.specs.declared.fault.Side.TheVariants as side
 use Rattle.rj_line.specs.declared.request.Request.{Request}
+use Rattle.rj_strict.specs.Reading.{config_of}
 use Rattle.rj_command.specs.Operands.{header_table}
-use Rattle.rj_command.specs.Sides.{has_lawful_nulls, nulls_of, side_records, type_fault, types_of}
+use Rattle.rj_command.specs.Sides.{delimiter_of, has_lawful_nulls, nulls_of, side_records, type_fault, types_of}
 
 lawful-nulls : (q : Request) (s : Side) → has_lawful_nulls q ≡ true → are_null_texts (nulls_of q s) ≡ true
 lawful-nulls q side.Left lawful = (and_parts _ _ (and_parts _ _ lawful).0).0
@@ -76,10 +77,13 @@ module _ (q : Request) (s : Side) (lawful : has_lawful_nulls q ≡ true) where
           fault-read header none-named b.0 (ap (empty_table header) kinds-under ∙ b.1) ∙ ap Err (sym (shown ∙ ap (read_fault s) b.2))
 
   -- the header of a text
-  module _ (text stripped : List ℕ) (is : stripped ≡ strip_bom text) where
-    pub header_taken : (header : List (List ℕ)) (rest : List (List (List ℕ))) → records default_config stripped ≡ header ∷ rest
-        → header_table q s text ≡ side_records q s (header ∷ [])
-    header_taken header rest found = ap (λ rs. side_records q s (take 1 rs)) (ap (records default_config) (sym is) ∙ found)
+  module _ (text stripped : List ℕ) (is : stripped ≡ strip_bom text) (d : ℕ) (by : d ≡ delimiter_of q s) where
+    same-records : records (config_of (delimiter_of q s)) (strip_bom text) ≡ records (config_of d) stripped
+    same-records = ap₂ (λ (n : ℕ) (t : List ℕ). records (config_of n) t) (sym by) (sym is)
 
-    pub header_missing : records default_config stripped ≡ [] → header_table q s text ≡ Err (fault.NoHeader s)
-    header_missing found = ap (λ rs. side_records q s (take 1 rs)) (ap (records default_config) (sym is) ∙ found) ∙ none-read
+    pub header_taken : (header : List (List ℕ)) (rest : List (List (List ℕ))) → records (config_of d) stripped ≡ header ∷ rest
+        → header_table q s text ≡ side_records q s (header ∷ [])
+    header_taken header rest found = ap (λ rs. side_records q s (take 1 rs)) (same-records ∙ found)
+
+    pub header_missing : records (config_of d) stripped ≡ [] → header_table q s text ≡ Err (fault.NoHeader s)
+    header_missing found = ap (λ rs. side_records q s (take 1 rs)) (same-records ∙ found) ∙ none-read

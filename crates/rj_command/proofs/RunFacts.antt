@@ -2,10 +2,11 @@
 use Rattle.std.proofs.Common.{◌≡◌, ◌∙◌, ◌++◌, ◌∷◌, [], Bool, true, false, cond, inl, inr, ap, refl, subst, sym, true≢false, List, Option, Some, None, ℕ}
 use Rattle.std.specs.Prelude.{◌≢◌, if◌then◌else◌, option_map, Result, Ok, Err, IfOk, IfErr}
 use Rattle.std.proofs.lemmas.Bool.{cases_Bool}
-use Rattle.csv.specs.Reading.{default_config, records, strip_bom}
+use Rattle.csv.specs.Reading.{records, strip_bom}
 use Rattle.rj_columns.specs.Names.{empty_table}
 use Rattle.rj_csv_io.specs.Tables.{records_read}
 use Rattle.rj_strict.specs.Grammar.{records_of}
+use Rattle.rj_strict.specs.Reading.{config_of}
 use Rattle.rj_types.specs.Columns.{name_fault, types_under}
 use Rattle.std.proofs.lemmas.Result.{IfOk-weaker, IfErr-weaker}
 use Rattle.rj_columns.specs.Tables.{TableValue}
@@ -25,7 +26,7 @@ use Rattle.rj_condition.specs.Joins.{kind_of_join}
 use Rattle.rj_condition.specs.declared.bound.BoundJoin.{BoundJoin}
 use Rattle.rj_condition.specs.declared.undeclared.TableColumn.{TableColumn}
 use Rattle.rj_condition.specs.declared.undeclared.TableColumn.TheVariants as column
-use Rattle.rj_command.specs.Sides.{IsStrictFault, IsTableFaultBy, fault_below, has_lawful_nulls, header_records, is_no_header, nulls_of, of_records, of_text, records_in_lines, side_records, stands, strict_fault, told, told_first, types_of}
+use Rattle.rj_command.specs.Sides.{IsStrictFault, IsTableFaultBy, delimiter_of, fault_below, has_lawful_nulls, header_records, is_no_header, nulls_of, of_records, of_text, records_in_lines, side_records, stands, strict_fault, told, told_first, types_of}
 use Rattle.rj_fault.specs.Faults.{read_fault}
 use Rattle.rj_command.specs.Runs.{CanBeWritten, HasJoined, IsJoined, IsReady, IsRunFault, IsUnwritten, WritesJoined, WritesTables, chosen_text}
 use Rattle.rj_fault.specs.declared.fault.Fault.{Fault}
@@ -151,7 +152,7 @@ text_apart full q s bytes _ (of_records file f derives told) = records_apart q s
 text_apart full q s bytes _ (of_text f lines has above) = below_apart s f _ (records_apart q s (records_in_lines lines))
 
 table_apart : (x : Strictness) (q : Request) (s : Side) (bytes : List ℕ) (f : Fault) → IsTableFaultBy x q s bytes f → is_device f ≡ false
-table_apart strictness.Off q s bytes f told = records_apart q s (records default_config (strip_bom bytes)) f told
+table_apart strictness.Off q s bytes f told = records_apart q s (records (config_of (delimiter_of q s)) (strip_bom bytes)) f told
 table_apart strictness.On q s bytes f told = text_apart false q s bytes f told
 table_apart strictness.Full q s bytes f told = text_apart true q s bytes f told
 

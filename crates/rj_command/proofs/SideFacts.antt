@@ -8,7 +8,7 @@ use Rattle.rj_strict.specs.Grammar.{Derives, File, Line, lines_text, records_of}
 use Rattle.rj_strict.specs.Reading.{body_of}
 use Rattle.rj_strict.specs.declared.fault.StrictFault.{StrictFault}
 use Rattle.rj_strict.specs.declared.header.Header.TheVariants.{First}
-use Rattle.rj_command.specs.Sides.{IsReading, IsStrictFault, IsStrictTable, fault_below, of_records, of_text, records_in_lines, side_records, told}
+use Rattle.rj_command.specs.Sides.{IsReading, IsStrictFault, IsStrictTable, delimiter_of, fault_below, of_records, of_text, records_in_lines, side_records, told}
 use Rattle.rj_fault.specs.declared.fault.Fault.{Fault}
 use Rattle.rj_fault.specs.declared.fault.Fault.TheVariants as fault
 use Rattle.rj_fault.specs.declared.fault.Side.{Side}
@@ -21,12 +21,12 @@ module _ (q : Request) (s : Side) where
 
 module _ (full : Bool) (q : Request) (s : Side) (text : List ℕ) where
   -- the table, and the fault, of the records of a derivation
-  pub records_table : (file : File) (r : Result TableValue Fault) → Derives First full (body_of First text) file → IsReading q s (records_of file) r
+  pub records_table : (file : File) (r : Result TableValue Fault) → Derives (delimiter_of q s) First full (body_of First text) file → IsReading q s (records_of file) r
       → IfOk r (IsStrictTable full q s text)
   records_table file (Ok t) derives told = (file, derives, told)
   records_table file (Err f) derives told = tt
 
-  pub records_fault : (file : File) (r : Result TableValue Fault) → Derives First full (body_of First text) file → IsReading q s (records_of file) r
+  pub records_fault : (file : File) (r : Result TableValue Fault) → Derives (delimiter_of q s) First full (body_of First text) file → IsReading q s (records_of file) r
       → IfErr r (λ f. f ≢ fault.Memory → IsStrictFault full q s text f)
   records_fault file (Ok t) derives told = tt
   records_fault file (Err f) derives told = λ not. of_records file f derives (told not)
@@ -38,13 +38,13 @@ module _ (full : Bool) (q : Request) (s : Side) (text : List ℕ) where
       is ∙ ap (fault_below s g) (sym (told (λ memory. not (is ∙ ap (λ (x : Fault). fault_below s g (Err x)) memory))))
 
   -- the fault of a text that has no derivation
-  pub text_fault : (g : StrictFault) (lines : List Line) (r : Result TableValue Fault) (f : Fault) → HasFault First full (body_of First text) g
-      → AreAbove First (body_of First text) (row_at g) lines → IsReading q s (records_in_lines lines) r → f ≡ fault_below s g r → f ≢ fault.Memory
+  pub text_fault : (g : StrictFault) (lines : List Line) (r : Result TableValue Fault) (f : Fault) → HasFault (delimiter_of q s) First full (body_of First text) g
+      → AreAbove (delimiter_of q s) First (body_of First text) (row_at g) lines → IsReading q s (records_in_lines lines) r → f ≡ fault_below s g r → f ≢ fault.Memory
       → IsStrictFault full q s text f
   text_fault g lines r f has above told is not =
       subst (IsStrictFault full q s text) (sym (same_below g (records_in_lines lines) r f told is not)) (of_text g lines has above)
 
 -- whole lines are derived
-pub lines_derived : (text above : List ℕ) (row : ℕ) (lines : List Line) → AreAbove First text row lines → above ≡ lines_text lines
-    → Derives First true above (record { lines = lines; rest = None })
-lines_derived text above row lines are is = record { spelled = is ∙ sym (append-nil (lines_text lines)); lines = are.are_lines; rest = refl }
+pub lines_derived : (d : ℕ) (text above : List ℕ) (row : ℕ) (lines : List Line) → AreAbove d First text row lines → above ≡ lines_text d lines
+    → Derives d First true above (record { lines = lines; rest = None })
+lines_derived d text above row lines are is = record { spelled = is ∙ sym (append-nil (lines_text d lines)); lines = are.are_lines; rest = refl }

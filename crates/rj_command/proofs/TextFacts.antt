@@ -15,8 +15,8 @@ use Rattle.std.proofs.lemmas.List.Elements.{All-head, All-tail}
 use Rattle.std.proofs.lemmas.List.Folds.{concat-append}
 use Rattle.rj_columns.specs.Contents.{Content}
 use Rattle.rj_columns.specs.Tables.{TableValue, rows_of_all}
-use Rattle.csv.specs.Writing.{default_writer, row_text}
-use Rattle.rj_csv_io.specs.Shown.{range_text, rows_text, table_text}
+use Rattle.csv.specs.Writing.{row_text}
+use Rattle.rj_csv_io.specs.Shown.{range_text, rows_text, table_text, writer_of}
 use Rattle.rj_csv_io.proofs.RangeFacts.{range-join, range-none}
 use Rattle.rj_engine.specs.declared.joined.JoinedRow.{JoinedRow}
 use Rattle.rj_engine.specs.declared.runs.Run.{Run}
@@ -181,33 +181,36 @@ rows_of w = shown_rows w.shown.now.chosen w.joined.now.members
 -- the text of runs that follow one another up to the last row
 texts-follow : (w : Written) (segments : List TableValue) (l : TableValue) (from : ℕ) (runs : List Run) → l.rows ≡ rows_of_all segments
     → All (λ (t : TableValue). t.types ≡ l.types) segments → Follow from (length (rows_of w)) runs → All (IsRunOf segments (rows_of w)) runs
-    → concat (map (text_in w segments) runs) ≡ range_text w.null.now (shown_cells w l) from (length (rows_of w))
+    → concat (map (text_in w segments) runs) ≡ range_text w.format.delimiter w.format.null.now (shown_cells w l) from (length (rows_of w))
 unfolding Follow
 texts-follow w segments l from [] rows types h each =
     let n = length (rows_of w) in
-    sym (ap (λ k. range_text w.null.now (shown_cells w l) k n) h ∙ range-none w.null.now (shown_cells w l) n)
+    let d = w.format.delimiter in
+    let null = w.format.null.now in
+    sym (ap (λ k. range_text d null (shown_cells w l) k n) h ∙ range-none d null (shown_cells w l) n)
 texts-follow w segments l from (run ∷ runs) rows types h each =
     let n = length (rows_of w) in
-    let null = w.null.now in
+    let d = w.format.delimiter in
+    let null = w.format.null.now in
     let cells = shown_cells w l in
     let one = All-head (IsRunOf segments (rows_of w)) run runs each in
     let others = All-tail (IsRunOf segments (rows_of w)) run runs each in
     let t = get_or segments run.segment no_table in
     let there : t ≡ get_or segments run.segment t = get_or_default segments run.segment no_table t one.segment in
-    let here : text_in w segments run ≡ range_text null cells run.from run.to =
-    ap (cells_text null) (run-cells segments l w.right.now t w.joined.now.members w.shown.now run rows (types run.segment no_table one.segment) one there) in
+    let here : text_in w segments run ≡ range_text d null cells run.from run.to =
+    ap (cells_text d null) (run-cells segments l w.right.now t w.joined.now.members w.shown.now run rows (types run.segment no_table one.segment) one there) in
     let rest = texts-follow w segments l run.to runs rows types h.1 others in
-    (λ i. here i ++ rest i) ∙ (range-join null cells run.from run.to n one.order one.to ∙ ap (λ k. range_text null cells k n) h.0)
+    (λ i. here i ++ rest i) ∙ (range-join d null cells run.from run.to n one.order one.to ∙ ap (λ k. range_text d null cells k n) h.0)
 
 -- the text of all runs is that of all rows
 pub whole-texts : (w : Written) (segments : List TableValue) (l : TableValue) (runs : List Run) → l.rows ≡ rows_of_all segments
     → All (λ (t : TableValue). t.types ≡ l.types) segments → Follow 0 (length (rows_of w)) runs → All (IsRunOf segments (rows_of w)) runs
-    → concat (map (text_in w segments) runs) ≡ cells_text w.null.now (shown_cells w l)
+    → concat (map (text_in w segments) runs) ≡ cells_text w.format.delimiter w.format.null.now (shown_cells w l)
 whole-texts w segments l runs rows types h each =
     let all = rows_of w in
     let cells = shown_cells w l in
     let size : length cells ≡ length all = length-map all (joined_cells l w.right.now w.shown.now.origins.items) in
-    texts-follow w segments l 0 runs rows types h each ∙ ap (cells_text w.null.now) (take_all (length all - 0) cells (omega (arith, size)))
+    texts-follow w segments l 0 runs rows types h each ∙ ap (cells_text w.format.delimiter w.format.null.now) (take_all (length all - 0) cells (omega (arith, size)))
 
 -- the runs of a segment are within it
 pub all-within : (w : Written) (segments : List TableValue) (l : TableValue) (runs : List Run) (k : ℕ) → l.rows ≡ rows_of_all segments
@@ -219,7 +222,7 @@ all-within w segments l runs k rows types h each low = λ i d lt is.
     run-within segments l w.right.now t w.joined.now.members w.shown.now (get_or runs i d) rows (types k no_table low) (each i d lt) (there ∙ ap (λ n. get_or segments n t) (sym is)) h
 
 -- under a header the text of rows is that of a table
-pub table-text : (null : List ℕ) (header : List (List ℕ)) (cells : List (List Content)) (texts : Texts) → whole_text texts ≡ cells_text null cells
-    → row_text default_writer header ++ whole_text texts ≡ table_text null header cells
+pub table-text : (d : ℕ) (null : List ℕ) (header : List (List ℕ)) (cells : List (List Content)) (texts : Texts) → whole_text texts ≡ cells_text d null cells
+    → row_text (writer_of d) header ++ whole_text texts ≡ table_text d null header cells
 unfolding rows_text
-table-text null header cells texts is = ap (λ t. row_text default_writer header ++ t) is
+table-text d null header cells texts is = ap (λ t. row_text (writer_of d) header ++ t) is

@@ -1,6 +1,6 @@
 -- The operands of a run: two tables and a join bound to them, or the first error.
 use Rattle.std.specs.Prelude.{◌≡◌, ◌≢◌, ◌++◌, true, List, ℕ, take, Result, Ok, Err, Option, None, Some, option_map}
-use Rattle.csv.specs.Reading.{default_config, records, strip_bom}
+use Rattle.csv.specs.Reading.{records, strip_bom}
 use Rattle.rj_columns.specs.Tables.{TableValue}
 use Rattle.rj_condition.specs.Bound.{bound}
 use Rattle.rj_condition.specs.declared.tree.Clause.{Clause}
@@ -11,8 +11,9 @@ use Rattle.rj_fault.specs.declared.fault.Fault.TheVariants as fault
 use Rattle.rj_fault.specs.declared.fault.Side.{Side}
 use Rattle.rj_fault.specs.declared.fault.Side.TheVariants as side
 use Rattle.rj_line.specs.declared.request.Request.{Request}
+use Rattle.rj_strict.specs.Reading.{config_of}
 use Rattle.rj_command.specs.Refused.{bind_fault, parse_fault}
-use Rattle.rj_command.specs.Sides.{IsTable, IsTableFault, side_records}
+use Rattle.rj_command.specs.Sides.{IsTable, IsTableFault, delimiter_of, side_records}
 use Rattle.rj_command.specs.SuchRows.{asked_for}
 use Rattle.rj_types.specs.Columns.{name_fault}
 use Rattle.rj_condition.specs.Clauses.{HasClause, IsFault}
@@ -53,7 +54,7 @@ pub record AreOperands (left right : List ℕ) (q : Request) (l r : TableValue) 
 
 -- the table of a side's header, without rows: that of the first record which `csv` finds in the bytes of its file, or its error
 abbrev pub header_table : Request → Side → List ℕ → Result TableValue Fault
-header_table q s bytes = side_records q s (take 1 (records default_config (strip_bom bytes)))
+header_table q s bytes = side_records q s (take 1 (records (config_of (delimiter_of q s)) (strip_bom bytes)))
 
 -- both headers make tables
 pub record AreHeaders (left right : List ℕ) (q : Request) (l r : TableValue) : Type 0 where

@@ -44,14 +44,14 @@ pub record AreNames (q : Request) (join : BoundJoin) (l r : TableValue) (names :
   pub many : length names ≡ length (chosen_header q.choice join l r)
   pub lawful : q.choice.repeated ≢ Kept → name_fault [] names ≡ None
 
--- the text of the joined table of two tables by a bound join
-abbrev pub joined_text : List ℕ → BoundJoin → TableValue → TableValue → List ℕ
-joined_text null join l r = table_text null (header_of join l r) (view_of join l r).cells
+-- the text of the joined table of two tables by a bound join, with this delimiter
+abbrev pub joined_text : ℕ → List ℕ → BoundJoin → TableValue → TableValue → List ℕ
+joined_text d null join l r = table_text d null (header_of join l r) (view_of join l r).cells
 
 -- the text of what is chosen of it, under these names; if nothing is chosen, that is the text of
 -- the joined table (`plain_text`)
 abbrev pub chosen_text : Request → List (List ℕ) → BoundJoin → TableValue → TableValue → List ℕ
-chosen_text q names join l r = table_text q.out_null.now names (chosen_view q.choice join l r).cells
+chosen_text q names join l r = table_text q.out_delimiter q.out_null.now names (chosen_view q.choice join l r).cells
 
 -- read strictly, rows have no cell that isn't NULL and is written as NULL is
 abbrev pub IsToldApart : Strictness → List ℕ → List (List Content) → Type 0

@@ -1,6 +1,6 @@
 -- What the bytes of a table's file denote, or their first error.
 use Rattle.std.specs.Prelude.{◌≡◌, ◌≢◌, ◌&&◌, if◌then◌else◌, Bool, true, false, List, [], ◌∷◌, ℕ, Result, Ok, Err, Option, Some, None, option_map}
-use Rattle.csv.specs.Reading.{default_config, records, strip_bom}
+use Rattle.csv.specs.Reading.{records, strip_bom}
 use Rattle.rj_columns.specs.Names.{empty_table}
 use Rattle.rj_columns.specs.Tables.{TableValue}
 use Rattle.rj_columns.specs.declared.refused.BuildRefused.{BuildRefused}
@@ -10,7 +10,7 @@ use Rattle.rj_csv_io.specs.Typed.{null_texts}
 use Rattle.rj_csv_io.specs.declared.refused.ReadRefused.{ReadRefused}
 use Rattle.rj_strict.specs.Faults.{AreAbove, HasFault, row_at}
 use Rattle.rj_strict.specs.Grammar.{Derives, File, Line, records_of}
-use Rattle.rj_strict.specs.Reading.{body_of}
+use Rattle.rj_strict.specs.Reading.{body_of, config_of}
 use Rattle.rj_strict.specs.declared.fault.StrictFault.{StrictFault}
 use Rattle.rj_strict.specs.declared.fault.StrictFault.TheVariants as strict
 use Rattle.rj_strict.specs.declared.header.Header.TheVariants.{First}
@@ -38,6 +38,11 @@ strict_fault s (strict.CutShort row) = fault.CutShort s row
 abbrev pub types_of : Request → Side → List TypeEntry
 types_of q side.Left = q.left_types.items
 types_of q side.Right = q.right_types.items
+
+-- the byte between the fields of a table's records
+abbrev pub delimiter_of : Request → Side → ℕ
+delimiter_of q side.Left = q.left_delimiter
+delimiter_of q side.Right = q.right_delimiter
 
 -- the texts that stand for NULL in a table
 abbrev pub nulls_of : Request → Side → List (List ℕ)
@@ -81,9 +86,9 @@ header_records q s (header ∷ rest) =
 abbrev pub side_records : Request → Side → List (List (List ℕ)) → Result TableValue Fault
 side_records q s rs = if has_lawful_nulls q then header_records q s rs else Err fault.BadNull
 
--- what the bytes of a table's file denote
+-- what the bytes of a table's file denote, read by its delimiter
 abbrev pub side_read : Request → Side → List ℕ → Result TableValue Fault
-side_read q s bytes = side_records q s (records default_config (strip_bom bytes))
+side_read q s bytes = side_records q s (records (config_of (delimiter_of q s)) (strip_bom bytes))
 
 -- a reading of these records, or memory runs out
 abbrev pub IsReading : Request → Side → List (List (List ℕ)) → Result TableValue Fault → Type 0
@@ -104,15 +109,16 @@ abbrev pub fault_below : Side → StrictFault → Result TableValue Fault → Fa
 fault_below s f (Ok t) = strict_fault s f
 fault_below s f (Err g) = if is_no_header g then strict_fault s f else g
 
--- the table of the records of the one derivation of a text
+-- the table of the records of the one derivation of a text, by its delimiter
 abbrev pub IsStrictTable : Bool → Request → Side → List ℕ → TableValue → Type 0
-IsStrictTable full q s bytes t = (file : File) × Derives First full (body_of First bytes) file × (side_records q s (records_of file) ≡ Ok t)
+IsStrictTable full q s bytes t = (file : File) × Derives (delimiter_of q s) First full (body_of First bytes) file × (side_records q s (records_of file) ≡ Ok t)
 
 -- an error of those records, or of a text that has no derivation
 pub data IsStrictFault (full : Bool) (q : Request) (s : Side) (bytes : List ℕ) : Fault → Type 0 where
-  of_records : (file : File) (f : Fault) → Derives First full (body_of First bytes) file → side_records q s (records_of file) ≡ Err f
+  of_records : (file : File) (f : Fault) → Derives (delimiter_of q s) First full (body_of First bytes) file → side_records q s (records_of file) ≡ Err f
       → IsStrictFault full q s bytes f
-  of_text : (f : StrictFault) (lines : List Line) → HasFault First full (body_of First bytes) f → AreAbove First (body_of First bytes) (row_at f) lines
+  of_text : (f : StrictFault) (lines : List Line) → HasFault (delimiter_of q s) First full (body_of First bytes) f
+      → AreAbove (delimiter_of q s) First (body_of First bytes) (row_at f) lines
       → IsStrictFault full q s bytes (fault_below s f (side_records q s (records_in_lines lines)))
 
 -- the table that the bytes of a file denote, read as strictly as this

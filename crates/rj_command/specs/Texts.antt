@@ -15,8 +15,8 @@ abbrev pub whole_text : Vec (Vec ℕ Global) Global → List ℕ
 whole_text v = concat (map (λ (t : Vec ℕ Global). t.items) v.items)
 
 -- the text of rows of cells
-abbrev pub cells_text : List ℕ → List (List Content) → List ℕ
-cells_text null rows = rows_text (map (map (shown null)) rows)
+abbrev pub cells_text : ℕ → List ℕ → List (List Content) → List ℕ
+cells_text d null rows = rows_text d (map (map (shown null)) rows)
 
 -- whether the left rows of a run are in this segment
 abbrev pub is_of : ℕ → Run → Bool
@@ -24,7 +24,7 @@ is_of segment run = run.segment == segment
 
 -- the text of a run of what is written, by its segment of the left table
 abbrev pub run_text : Written → TableValue → Run → List ℕ
-run_text w t run = cells_text w.null.now (run_view w.shown.now t w.right.now w.joined.now.members run).cells
+run_text w t run = cells_text w.format.delimiter w.format.null.now (run_view w.shown.now t w.right.now w.joined.now.members run).cells
 
 -- the texts of the runs of a segment, in their order
 abbrev pub AreRunTexts : Written → TableValue → ℕ → List Run → Vec (Vec (Vec ℕ Global) Global) Global → Type 0

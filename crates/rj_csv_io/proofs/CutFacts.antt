@@ -9,50 +9,53 @@ use Rattle.csv.specs.declared.parser.State.{State}
 use Rattle.csv.specs.declared.parser.State.TheVariants as st
 use Rattle.csv.specs.declared.parser.Action.{Action}
 use Rattle.csv.specs.Machine.{next_record, step, in_field, start_field, start_record, ends_with, ends_at_end, is_end, fields_after, field_after, line_feed}
-use Rattle.csv.specs.Reading.{records, records_from, records_next, default_config, strip_bom, is_bom}
+use Rattle.csv.specs.Reading.{records, records_from, records_next, strip_bom, is_bom}
+use Rattle.rj_strict.specs.Grammar.{may_delimit}
+use Rattle.rj_strict.specs.Reading.{config_of}
 use Rattle.rj_csv_io.specs.Cuts.{records_in, records_in_all, state_after, is_open, has_bom}
+use Rattle.rj_csv_io.proofs.DelimiterFacts.{no-delimiter}
 
 -- every record of a text, byte by byte
-unfoldable all_records : State → List (List ℕ) → List ℕ → List ℕ → List (List (List ℕ))
-all_records s fields field [] = if ends_at_end s then (fields ++ field ∷ []) ∷ [] else []
-all_records s fields field (c ∷ rest) =
-    if is_end (step default_config s c).1
-    then fields_after (step default_config s c).1 fields field ∷ all_records (step default_config s c).0 [] [] rest
-    else all_records (step default_config s c).0 (fields_after (step default_config s c).1 fields field) (field_after (step default_config s c).1 c field) rest
+unfoldable all_records : ℕ → State → List (List ℕ) → List ℕ → List ℕ → List (List (List ℕ))
+all_records d s fields field [] = if ends_at_end s then (fields ++ field ∷ []) ∷ [] else []
+all_records d s fields field (c ∷ rest) =
+    if is_end (step (config_of d) s c).1
+    then fields_after (step (config_of d) s c).1 fields field ∷ all_records d (step (config_of d) s c).0 [] [] rest
+    else all_records d (step (config_of d) s c).0 (fields_after (step (config_of d) s c).1 fields field) (field_after (step (config_of d) s c).1 c field) rest
 
-no-bytes : (n : ℕ) → records_from default_config n st.StartRecord [] ≡ []
+no-bytes : (d : ℕ) (n : ℕ) → records_from (config_of d) n st.StartRecord [] ≡ []
 unfolding records_from next_record
-no-bytes zero = refl
-no-bytes (suc n) = refl
+no-bytes d zero = refl
+no-bytes d (suc n) = refl
 
-by-byte : (xs : List ℕ) (n : ℕ) (s : State) (fields : List (List ℕ)) (field : List ℕ) → length xs ≤ n
-    → records_next (records_from default_config n) (next_record default_config s fields field xs) ≡ all_records s fields field xs
+by-byte : (d : ℕ) (xs : List ℕ) (n : ℕ) (s : State) (fields : List (List ℕ)) (field : List ℕ) → length xs ≤ n
+    → records_next (records_from (config_of d) n) (next_record (config_of d) s fields field xs) ≡ all_records d s fields field xs
 unfolding next_record all_records records_from
-by-byte [] n s fields field h = go (ends_at_end s)
+by-byte d [] n s fields field h = go (ends_at_end s)
   where
-    go : (b : Bool) → records_next (records_from default_config n) (if b then Some (fields ++ (field ∷ []), st.StartRecord, []) else None) ≡ (if b then (fields ++ field ∷ []) ∷ [] else [])
-    go true = ap (λ t. (fields ++ field ∷ []) ∷ t) (no-bytes n)
+    go : (b : Bool) → records_next (records_from (config_of d) n) (if b then Some (fields ++ (field ∷ []), st.StartRecord, []) else None) ≡ (if b then (fields ++ field ∷ []) ∷ [] else [])
+    go true = ap (λ t. (fields ++ field ∷ []) ∷ t) (no-bytes d n)
     go false = refl
-by-byte (c ∷ rest) zero s fields field h = absurd (omega arith)
-by-byte (c ∷ rest) (suc n) s fields field h =
-    go (is_end (step default_config s c).1) (by-byte rest n (step default_config s c).0 [] [] (omega arith))
-    (by-byte rest (suc n) (step default_config s c).0 (fields_after (step default_config s c).1 fields field) (field_after (step default_config s c).1 c field) (omega arith))
+by-byte d (c ∷ rest) zero s fields field h = absurd (omega arith)
+by-byte d (c ∷ rest) (suc n) s fields field h =
+    go (is_end (step (config_of d) s c).1) (by-byte d rest n (step (config_of d) s c).0 [] [] (omega arith))
+    (by-byte d rest (suc n) (step (config_of d) s c).0 (fields_after (step (config_of d) s c).1 fields field) (field_after (step (config_of d) s c).1 c field) (omega arith))
   where
     go : (b : Bool)
-        → records_next (records_from default_config n) (next_record default_config (step default_config s c).0 [] [] rest) ≡ all_records (step default_config s c).0 [] [] rest
-        → records_next (records_from default_config (suc n)) (next_record default_config (step default_config s c).0 (fields_after (step default_config s c).1 fields field) (field_after (step default_config s c).1 c field) rest)
-        ≡ all_records (step default_config s c).0 (fields_after (step default_config s c).1 fields field) (field_after (step default_config s c).1 c field) rest
-        → records_next (records_from default_config (suc n))
-        (if b then Some (fields_after (step default_config s c).1 fields field, (step default_config s c).0, rest)
-        else next_record default_config (step default_config s c).0 (fields_after (step default_config s c).1 fields field) (field_after (step default_config s c).1 c field) rest)
-        ≡ (if b then fields_after (step default_config s c).1 fields field ∷ all_records (step default_config s c).0 [] [] rest
-        else all_records (step default_config s c).0 (fields_after (step default_config s c).1 fields field) (field_after (step default_config s c).1 c field) rest)
-    go true e f = ap (λ t. fields_after (step default_config s c).1 fields field ∷ t) e
+        → records_next (records_from (config_of d) n) (next_record (config_of d) (step (config_of d) s c).0 [] [] rest) ≡ all_records d (step (config_of d) s c).0 [] [] rest
+        → records_next (records_from (config_of d) (suc n)) (next_record (config_of d) (step (config_of d) s c).0 (fields_after (step (config_of d) s c).1 fields field) (field_after (step (config_of d) s c).1 c field) rest)
+        ≡ all_records d (step (config_of d) s c).0 (fields_after (step (config_of d) s c).1 fields field) (field_after (step (config_of d) s c).1 c field) rest
+        → records_next (records_from (config_of d) (suc n))
+        (if b then Some (fields_after (step (config_of d) s c).1 fields field, (step (config_of d) s c).0, rest)
+        else next_record (config_of d) (step (config_of d) s c).0 (fields_after (step (config_of d) s c).1 fields field) (field_after (step (config_of d) s c).1 c field) rest)
+        ≡ (if b then fields_after (step (config_of d) s c).1 fields field ∷ all_records d (step (config_of d) s c).0 [] [] rest
+        else all_records d (step (config_of d) s c).0 (fields_after (step (config_of d) s c).1 fields field) (field_after (step (config_of d) s c).1 c field) rest)
+    go true e f = ap (λ t. fields_after (step (config_of d) s c).1 fields field ∷ t) e
     go false e f = f
 
-records-all : (xs : List ℕ) → records default_config xs ≡ all_records st.StartRecord [] [] xs
+records-all : (d : ℕ) (xs : List ℕ) → records (config_of d) xs ≡ all_records d st.StartRecord [] [] xs
 unfolding records_from
-records-all xs = rw (add-one (length xs)) (by-byte xs (length xs) st.StartRecord [] [] (omega arith))
+records-all d xs = rw (add-one (length xs)) (by-byte d xs (length xs) st.StartRecord [] [] (omega arith))
 
 -- between two records
 abbrev is_between : State → Bool
@@ -72,23 +75,23 @@ Clean s fields field = is_between s ≡ true → (fields ≡ []) × (field ≡ [
 abbrev StaysClean : List (List ℕ) → List ℕ → ℕ → State × Action → Type 0
 StaysClean fields field c p = is_end p.1 ≡ false → Clean p.0 (fields_after p.1 fields field) (field_after p.1 c field)
 
-module _ (fields : List (List ℕ)) (field : List ℕ) (c : ℕ) where
+module _ (d : ℕ) (fields : List (List ℕ)) (field : List ℕ) (c : ℕ) where
   clean-if : (b : Bool) (p q : State × Action) → StaysClean fields field c p → StaysClean fields field c q → StaysClean fields field c (if b then p else q)
   clean-if true p q hp hq = hp
   clean-if false p q hp hq = hq
 
-  field-clean : StaysClean fields field c (in_field default_config c)
+  field-clean : StaysClean fields field c (in_field (config_of d) c)
   field-clean =
-      clean-if (c == 44) _ _ (λ e b. absurd (false≢true b))
+      clean-if (c == d) _ _ (λ e b. absurd (false≢true b))
       (clean-if (ends_with term.CRLF c) _ _ (λ e. absurd (false≢true (sym e))) (λ e b. absurd (false≢true b)))
 
-  start_field-clean : StaysClean fields field c (start_field default_config c)
+  start_field-clean : StaysClean fields field c (start_field (config_of d) c)
   start_field-clean = clean-if (c == 34) _ _ (λ e b. absurd (false≢true b)) field-clean
 
-  start_record-clean : (fields ≡ []) × (field ≡ []) → StaysClean fields field c (start_record default_config c)
+  start_record-clean : (fields ≡ []) × (field ≡ []) → StaysClean fields field c (start_record (config_of d) c)
   start_record-clean none = clean-if (ends_with term.CRLF c) _ _ (λ e b. none) start_field-clean
 
-  step-clean : (s : State) → Clean s fields field → StaysClean fields field c (step default_config s c)
+  step-clean : (s : State) → Clean s fields field → StaysClean fields field c (step (config_of d) s c)
   step-clean st.StartRecord h = start_record-clean (h refl)
   step-clean st.StartField h = start_field-clean
   step-clean st.InField h = field-clean
@@ -99,33 +102,33 @@ module _ (fields : List (List ℕ)) (field : List ℕ) (c : ℕ) where
   step-clean st.InComment h = clean-if (c == line_feed) _ _ (λ e b. h refl) (λ e b. h refl)
   step-clean st.AfterCr h = clean-if (c == line_feed) _ _ (λ e b. h refl) (start_record-clean (h refl))
 
-all-split : (a b : List ℕ) (s : State) (fields : List (List ℕ)) (field : List ℕ) → Clean s fields field → state_after s a ≡ st.StartRecord
-    → all_records s fields field (a ++ b) ≡ all_records s fields field a ++ all_records st.StartRecord [] [] b
+all-split : (d : ℕ) (a b : List ℕ) (s : State) (fields : List (List ℕ)) (field : List ℕ) → Clean s fields field → state_after d s a ≡ st.StartRecord
+    → all_records d s fields field (a ++ b) ≡ all_records d s fields field a ++ all_records d st.StartRecord [] [] b
 unfolding all_records state_after
-all-split [] b s fields field h e =
+all-split d [] b s fields field h e =
     let none = h (ap is_between e) in
     rw (e, none.0, none.1) refl
-all-split (c ∷ a) b s fields field h e = go (is_end (step default_config s c).1) (step-clean fields field c s h)
-    (all-split a b (step default_config s c).0 [] [] (λ _. (refl, refl)) e)
-    (λ clean. all-split a b (step default_config s c).0 (fields_after (step default_config s c).1 fields field) (field_after (step default_config s c).1 c field) clean e)
+all-split d (c ∷ a) b s fields field h e = go (is_end (step (config_of d) s c).1) (step-clean d fields field c s h)
+    (all-split d a b (step (config_of d) s c).0 [] [] (λ _. (refl, refl)) e)
+    (λ clean. all-split d a b (step (config_of d) s c).0 (fields_after (step (config_of d) s c).1 fields field) (field_after (step (config_of d) s c).1 c field) clean e)
   where
     go : (x : Bool)
-        → (x ≡ false → Clean (step default_config s c).0 (fields_after (step default_config s c).1 fields field) (field_after (step default_config s c).1 c field))
-        → all_records (step default_config s c).0 [] [] (a ++ b) ≡ all_records (step default_config s c).0 [] [] a ++ all_records st.StartRecord [] [] b
-        → (Clean (step default_config s c).0 (fields_after (step default_config s c).1 fields field) (field_after (step default_config s c).1 c field)
-        → all_records (step default_config s c).0 (fields_after (step default_config s c).1 fields field) (field_after (step default_config s c).1 c field) (a ++ b)
-        ≡ all_records (step default_config s c).0 (fields_after (step default_config s c).1 fields field) (field_after (step default_config s c).1 c field) a ++ all_records st.StartRecord [] [] b)
-        → (if x then fields_after (step default_config s c).1 fields field ∷ all_records (step default_config s c).0 [] [] (a ++ b)
-        else all_records (step default_config s c).0 (fields_after (step default_config s c).1 fields field) (field_after (step default_config s c).1 c field) (a ++ b))
-        ≡ (if x then fields_after (step default_config s c).1 fields field ∷ all_records (step default_config s c).0 [] [] a
-        else all_records (step default_config s c).0 (fields_after (step default_config s c).1 fields field) (field_after (step default_config s c).1 c field) a) ++ all_records st.StartRecord [] [] b
-    go true clean p q = ap (λ t. fields_after (step default_config s c).1 fields field ∷ t) p
+        → (x ≡ false → Clean (step (config_of d) s c).0 (fields_after (step (config_of d) s c).1 fields field) (field_after (step (config_of d) s c).1 c field))
+        → all_records d (step (config_of d) s c).0 [] [] (a ++ b) ≡ all_records d (step (config_of d) s c).0 [] [] a ++ all_records d st.StartRecord [] [] b
+        → (Clean (step (config_of d) s c).0 (fields_after (step (config_of d) s c).1 fields field) (field_after (step (config_of d) s c).1 c field)
+        → all_records d (step (config_of d) s c).0 (fields_after (step (config_of d) s c).1 fields field) (field_after (step (config_of d) s c).1 c field) (a ++ b)
+        ≡ all_records d (step (config_of d) s c).0 (fields_after (step (config_of d) s c).1 fields field) (field_after (step (config_of d) s c).1 c field) a ++ all_records d st.StartRecord [] [] b)
+        → (if x then fields_after (step (config_of d) s c).1 fields field ∷ all_records d (step (config_of d) s c).0 [] [] (a ++ b)
+        else all_records d (step (config_of d) s c).0 (fields_after (step (config_of d) s c).1 fields field) (field_after (step (config_of d) s c).1 c field) (a ++ b))
+        ≡ (if x then fields_after (step (config_of d) s c).1 fields field ∷ all_records d (step (config_of d) s c).0 [] [] a
+        else all_records d (step (config_of d) s c).0 (fields_after (step (config_of d) s c).1 fields field) (field_after (step (config_of d) s c).1 c field) a) ++ all_records d st.StartRecord [] [] b
+    go true clean p q = ap (λ t. fields_after (step (config_of d) s c).1 fields field ∷ t) p
     go false clean p q = q (clean refl)
 
 -- a text that is cut after the end of a record
-pub records-split : (a b : List ℕ) → state_after st.StartRecord a ≡ st.StartRecord
-    → records default_config (a ++ b) ≡ records default_config a ++ records default_config b
-records-split a b e = records-all (a ++ b) ∙ all-split a b st.StartRecord [] [] (λ _. (refl, refl)) e ∙ rw (records-all a, records-all b) refl
+pub records-split : (d : ℕ) (a b : List ℕ) → state_after d st.StartRecord a ≡ st.StartRecord
+    → records (config_of d) (a ++ b) ≡ records (config_of d) a ++ records (config_of d) b
+records-split d a b e = records-all d (a ++ b) ∙ all-split d a b st.StartRecord [] [] (λ _. (refl, refl)) e ∙ rw (records-all d a, records-all d b) refl
 
 -- a text with no byte order mark has none at the start of its first part
 pub plain-part : (a b : List ℕ) → strip_bom (a ++ b) ≡ a ++ b → strip_bom a ≡ a
@@ -139,29 +142,29 @@ plain-part (x ∷ y ∷ z ∷ a) b e = go (is_bom x y z) e
     go true e = let size = ap length e in absurd (omega (arith, size))
     go false e = refl
 
-pub in-split : (a b : List ℕ) → strip_bom (a ++ b) ≡ a ++ b → strip_bom b ≡ b → state_after st.StartRecord a ≡ st.StartRecord
-    → records_in (a ++ b) ≡ records_in a ++ records_in b
-in-split a b e f h = rw (e, f, plain-part a b e) (records-split a b h)
+pub in-split : (d : ℕ) (a b : List ℕ) → strip_bom (a ++ b) ≡ a ++ b → strip_bom b ≡ b → state_after d st.StartRecord a ≡ st.StartRecord
+    → records_in d (a ++ b) ≡ records_in d a ++ records_in d b
+in-split d a b e f h = rw (e, f, plain-part a b e) (records-split d a b h)
 
 -- an LF outside quotes ends a record
-lf-closes : (s : State) → is_open (step default_config s 10).0 ≡ false → (step default_config s 10).0 ≡ st.StartRecord
-lf-closes st.StartRecord e = refl
-lf-closes st.StartField e = refl
-lf-closes st.InField e = refl
-lf-closes st.InQuoted e = absurd (false≢true (sym e))
-lf-closes st.AfterQuote e = refl
-lf-closes st.InEscape e = absurd (false≢true (sym e))
-lf-closes st.InComment e = refl
-lf-closes st.AfterCr e = refl
+lf-closes : (d : ℕ) → may_delimit d ≡ true → (s : State) → is_open (step (config_of d) s 10).0 ≡ false → (step (config_of d) s 10).0 ≡ st.StartRecord
+lf-closes d lawful st.StartRecord e = refl
+lf-closes d lawful st.StartField e = rw (no-delimiter d lawful 10 refl) refl
+lf-closes d lawful st.InField e = rw (no-delimiter d lawful 10 refl) refl
+lf-closes d lawful st.InQuoted e = absurd (false≢true (sym e))
+lf-closes d lawful st.AfterQuote e = rw (no-delimiter d lawful 10 refl) refl
+lf-closes d lawful st.InEscape e = absurd (false≢true (sym e))
+lf-closes d lawful st.InComment e = refl
+lf-closes d lawful st.AfterCr e = refl
 
-pub after-append : (s : State) (a b : List ℕ) → state_after s (a ++ b) ≡ state_after (state_after s a) b
+pub after-append : (d : ℕ) (s : State) (a b : List ℕ) → state_after d s (a ++ b) ≡ state_after d (state_after d s a) b
 unfolding state_after
-after-append s [] b = refl
-after-append s (c ∷ a) b = after-append (step default_config s c).0 a b
+after-append d s [] b = refl
+after-append d s (c ∷ a) b = after-append d (step (config_of d) s c).0 a b
 
-pub line-closes : (s : State) (a : List ℕ) → is_open (state_after s (a ++ 10 ∷ [])) ≡ false → state_after s (a ++ 10 ∷ []) ≡ st.StartRecord
+pub line-closes : (d : ℕ) → may_delimit d ≡ true → (s : State) (a : List ℕ) → is_open (state_after d s (a ++ 10 ∷ [])) ≡ false → state_after d s (a ++ 10 ∷ []) ≡ st.StartRecord
 unfolding state_after
-line-closes s a e = let more = after-append s a (10 ∷ []) in rw more (lf-closes (state_after s a) (rw more at e))
+line-closes d lawful s a e = let more = after-append d s a (10 ∷ []) in rw more (lf-closes d lawful (state_after d s a) (rw more at e))
 
 pub bom-short : (text : List ℕ) → length text < 3 → has_bom text ≡ false
 unfolding has_bom
@@ -198,32 +201,32 @@ bom-size (a ∷ []) h = absurd (false≢true h)
 bom-size (a ∷ b ∷ []) h = absurd (false≢true h)
 bom-size (a ∷ b ∷ c ∷ rest) h = omega arith
 
-pub all-none : records_in_all [] ≡ []
+pub all-none : (d : ℕ) → records_in_all d [] ≡ []
 unfolding records_in_all
-all-none = refl
+all-none d = refl
 
-pub all-one : (text : List ℕ) → records_in_all (text ∷ []) ≡ records_in text
+pub all-one : (d : ℕ) (text : List ℕ) → records_in_all d (text ∷ []) ≡ records_in d text
 unfolding records_in_all
-all-one text = append-nil (records_in text)
+all-one d text = append-nil (records_in d text)
 
 -- more texts
-pub all-append : (a b : List (List ℕ)) → records_in_all (a ++ b) ≡ records_in_all a ++ records_in_all b
+pub all-append : (d : ℕ) (a b : List (List ℕ)) → records_in_all d (a ++ b) ≡ records_in_all d a ++ records_in_all d b
 unfolding records_in_all
-all-append [] b = refl
-all-append (p ∷ a) b = ap (λ r. records_in p ++ r) (all-append a b) ∙ sym (append_assoc (records_in p) (records_in_all a) (records_in_all b))
+all-append d [] b = refl
+all-append d (p ∷ a) b = ap (λ r. records_in d p ++ r) (all-append d a b) ∙ sym (append_assoc (records_in d p) (records_in_all d a) (records_in_all d b))
 
 -- one more text
-pub all-more : (texts : List (List ℕ)) (text : List ℕ) → records_in_all (texts ++ text ∷ []) ≡ records_in_all texts ++ records_in text
-all-more texts text = all-append texts (text ∷ []) ∙ ap (λ r. records_in_all texts ++ r) (all-one text)
+pub all-more : (d : ℕ) (texts : List (List ℕ)) (text : List ℕ) → records_in_all d (texts ++ text ∷ []) ≡ records_in_all d texts ++ records_in d text
+all-more d texts text = all-append d texts (text ∷ []) ∙ ap (λ r. records_in_all d texts ++ r) (all-one d text)
 
 -- a text more
-pub text-step : (done : List (List ℕ)) (rest whole : List ℕ) (at : ℕ) → strip_bom rest ≡ rest → strip_bom (drop at rest) ≡ drop at rest
-    → state_after st.StartRecord (take at rest) ≡ st.StartRecord → records_in_all done ++ records_in rest ≡ records_in whole
-    → records_in_all (done ++ take at rest ∷ []) ++ records_in (drop at rest) ≡ records_in whole
-text-step done rest whole at e f h so =
+pub text-step : (d : ℕ) (done : List (List ℕ)) (rest whole : List ℕ) (at : ℕ) → strip_bom rest ≡ rest → strip_bom (drop at rest) ≡ drop at rest
+    → state_after d st.StartRecord (take at rest) ≡ st.StartRecord → records_in_all d done ++ records_in d rest ≡ records_in d whole
+    → records_in_all d (done ++ take at rest ∷ []) ++ records_in d (drop at rest) ≡ records_in d whole
+text-step d done rest whole at e f h so =
     let parts = take-append-drop at rest in
     let unmarked : strip_bom (take at rest ++ drop at rest) ≡ take at rest ++ drop at rest = ap strip_bom parts ∙ (e ∙ sym parts) in
-    let split = in-split (take at rest) (drop at rest) unmarked f h in
-    ap (λ r. r ++ records_in (drop at rest)) (all-more done (take at rest))
-    ∙ (append_assoc (records_in_all done) (records_in (take at rest)) (records_in (drop at rest))
-    ∙ (ap (λ r. records_in_all done ++ r) (sym split ∙ ap records_in parts) ∙ so))
+    let split = in-split d (take at rest) (drop at rest) unmarked f h in
+    ap (λ r. r ++ records_in d (drop at rest)) (all-more d done (take at rest))
+    ∙ (append_assoc (records_in_all d done) (records_in d (take at rest)) (records_in d (drop at rest))
+    ∙ (ap (λ r. records_in_all d done ++ r) (sym split ∙ ap (records_in d) parts) ∙ so))

@@ -2,10 +2,12 @@
 use Rattle.std.proofs.Common.{◌≡◌, ◌∙◌, ℕ, List, [], ◌∷◌, ◌++◌, map, get_or, Bool, true, false, refl, ap, append_assoc}
 use Rattle.std.specs.Prelude.{◌==◌, ◌&&◌, if◌then◌else◌}
 use Rattle.std.proofs.lemmas.Bool.{and_left, and_right}
-use Rattle.csv.specs.Writing.{default_writer, escaped, field_text, fields_text, is_blank, needs_quotes, row_text}
+use Rattle.csv.specs.Writing.{escaped, field_text, fields_text, is_blank, needs_quotes, row_text}
 use Rattle.rj_columns.specs.Contents.{Content}
+use Rattle.rj_strict.specs.Grammar.{may_delimit}
 use Rattle.rj_csv_io.specs.Cuts.{has_bom}
-use Rattle.rj_csv_io.specs.Shown.{rows_text, shown, table_text}
+use Rattle.rj_csv_io.specs.Shown.{rows_text, shown, table_text, writer_of}
+use Rattle.rj_csv_io.proofs.DelimiterFacts.{delimiter-other}
 
 -- a byte of no mark
 record IsPlain (c : ℕ) : Type 0 where
@@ -13,8 +15,8 @@ record IsPlain (c : ℕ) : Type 0 where
   second : (c == 0xBB) ≡ false
   third : (c == 0xBF) ≡ false
 
-comma-plain : IsPlain 44
-comma-plain = record { first = refl; second = refl; third = refl }
+delimiter-plain : (d : ℕ) → may_delimit d ≡ true → IsPlain d
+delimiter-plain d lawful = record { first = delimiter-other d lawful 0xEF refl; second = delimiter-other d lawful 0xBB refl; third = delimiter-other d lawful 0xBF refl }
 
 quote-plain : IsPlain 34
 quote-plain = record { first = refl; second = refl; third = refl }
@@ -44,46 +46,47 @@ record Behind (first text : List ℕ) : Type 0 where
   plain : IsPlain byte
   parts : text ≡ first ++ byte ∷ tail
 
-behind-first : (f : List ℕ) (fields : List (List ℕ)) (more : List ℕ) → Behind (field_text default_writer f) (row_text default_writer (f ∷ fields) ++ more)
-unfolding fields_text is_blank
-behind-first f [] more = go (is_blank default_writer (f ∷ []))
-  where
-    go : (b : Bool) → Behind (field_text default_writer f) (((field_text default_writer f ++ []) ++ ((if b then 34 ∷ 34 ∷ [] else []) ++ 10 ∷ [])) ++ more)
-    go true = record {
-      byte = 34;
-      tail = 34 ∷ 10 ∷ more;
-      plain = quote-plain;
-      parts = append_assoc (field_text default_writer f ++ []) (34 ∷ 34 ∷ 10 ∷ []) more ∙ append_assoc (field_text default_writer f) [] (34 ∷ 34 ∷ 10 ∷ more);
-    }
-    go false = record {
-      byte = 10;
-      tail = more;
-      plain = feed-plain;
-      parts = append_assoc (field_text default_writer f ++ []) (10 ∷ []) more ∙ append_assoc (field_text default_writer f) [] (10 ∷ more);
-    }
-behind-first f (g ∷ fields) more = record {
-  byte = 44;
-  tail = (field_text default_writer g ++ fields_text default_writer fields) ++ 10 ∷ more;
-  plain = comma-plain;
-  parts = append_assoc (field_text default_writer f ++ fields_text default_writer (g ∷ fields)) (10 ∷ []) more
-      ∙ append_assoc (field_text default_writer f) (fields_text default_writer (g ∷ fields)) (10 ∷ more);
-}
+module _ (d : ℕ) (lawful : may_delimit d ≡ true) where
+  behind-first : (f : List ℕ) (fields : List (List ℕ)) (more : List ℕ) → Behind (field_text (writer_of d) f) (row_text (writer_of d) (f ∷ fields) ++ more)
+  unfolding fields_text is_blank
+  behind-first f [] more = go (is_blank (writer_of d) (f ∷ []))
+    where
+      go : (b : Bool) → Behind (field_text (writer_of d) f) (((field_text (writer_of d) f ++ []) ++ ((if b then 34 ∷ 34 ∷ [] else []) ++ 10 ∷ [])) ++ more)
+      go true = record {
+        byte = 34;
+        tail = 34 ∷ 10 ∷ more;
+        plain = quote-plain;
+        parts = append_assoc (field_text (writer_of d) f ++ []) (34 ∷ 34 ∷ 10 ∷ []) more ∙ append_assoc (field_text (writer_of d) f) [] (34 ∷ 34 ∷ 10 ∷ more);
+      }
+      go false = record {
+        byte = 10;
+        tail = more;
+        plain = feed-plain;
+        parts = append_assoc (field_text (writer_of d) f ++ []) (10 ∷ []) more ∙ append_assoc (field_text (writer_of d) f) [] (10 ∷ more);
+      }
+  behind-first f (g ∷ fields) more = record {
+    byte = d;
+    tail = (field_text (writer_of d) g ++ fields_text (writer_of d) fields) ++ 10 ∷ more;
+    plain = delimiter-plain d lawful;
+    parts = append_assoc (field_text (writer_of d) f ++ fields_text (writer_of d) (g ∷ fields)) (10 ∷ []) more
+        ∙ append_assoc (field_text (writer_of d) f) (fields_text (writer_of d) (g ∷ fields)) (10 ∷ more);
+  }
 
--- between quotes a field begins with none, and else as it is written
-field-unmarked : (f : List ℕ) → has_bom f ≡ false → has_bom (field_text default_writer f) ≡ false
-field-unmarked f unmarked = go (needs_quotes default_writer f)
-  where
-    go : (b : Bool) → has_bom (if b then 34 ∷ (escaped default_writer f ++ (34 ∷ [])) else f) ≡ false
-    go true = plain-start 34 (escaped default_writer f ++ (34 ∷ [])) quote-plain
-    go false = unmarked
+  -- between quotes a field begins with none, and else as it is written
+  field-unmarked : (f : List ℕ) → has_bom f ≡ false → has_bom (field_text (writer_of d) f) ≡ false
+  field-unmarked f unmarked = go (needs_quotes (writer_of d) f)
+    where
+      go : (b : Bool) → has_bom (if b then 34 ∷ (escaped (writer_of d) f ++ (34 ∷ [])) else f) ≡ false
+      go true = plain-start 34 (escaped (writer_of d) f ++ (34 ∷ [])) quote-plain
+      go false = unmarked
 
-record-unmarked : (fields : List (List ℕ)) (more : List ℕ) → has_bom (get_or fields 0 []) ≡ false → has_bom (row_text default_writer fields ++ more) ≡ false
-unfolding is_blank
-record-unmarked [] more unmarked = plain-start 34 (34 ∷ 10 ∷ more) quote-plain
-record-unmarked (f ∷ fields) more unmarked =
-    let b = behind-first f fields more in
-    ap has_bom b.parts ∙ plain-behind (field_text default_writer f) b.byte b.tail b.plain (field-unmarked f unmarked)
+  record-unmarked : (fields : List (List ℕ)) (more : List ℕ) → has_bom (get_or fields 0 []) ≡ false → has_bom (row_text (writer_of d) fields ++ more) ≡ false
+  unfolding is_blank
+  record-unmarked [] more unmarked = plain-start 34 (34 ∷ 10 ∷ more) quote-plain
+  record-unmarked (f ∷ fields) more unmarked =
+      let b = behind-first f fields more in
+      ap has_bom b.parts ∙ plain-behind (field_text (writer_of d) f) b.byte b.tail b.plain (field-unmarked f unmarked)
 
-pub table-unmarked : (null : List ℕ) (names : List (List ℕ)) (rows : List (List Content)) → has_bom (get_or names 0 []) ≡ false → has_bom (table_text null names rows) ≡ false
-unfolding rows_text
-table-unmarked null names rows unmarked = record-unmarked names (rows_text (map (map (shown null)) rows)) unmarked
+  pub table-unmarked : (null : List ℕ) (names : List (List ℕ)) (rows : List (List Content)) → has_bom (get_or names 0 []) ≡ false → has_bom (table_text d null names rows) ≡ false
+  unfolding rows_text
+  table-unmarked null names rows unmarked = record-unmarked names (rows_text d (map (map (shown null)) rows)) unmarked

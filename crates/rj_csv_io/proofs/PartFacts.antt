@@ -23,43 +23,43 @@ use Rattle.rj_csv_io.specs.Cuts.{records_in, records_in_all}
 use Rattle.rj_csv_io.specs.Tables.{are_null_texts, of_begun, read_of, read_records}
 use Rattle.rj_csv_io.specs.Parts.{AreReadings, AreTables, IsReading, moved, row_records, under_header}
 
-under-more : (texts : List (List ℕ)) (p : List ℕ) → under_header (texts ++ p ∷ []) ≡ under_header texts ++ row_records (length texts == 0) p
+under-more : (d : ℕ) (texts : List (List ℕ)) (p : List ℕ) → under_header d (texts ++ p ∷ []) ≡ under_header d texts ++ row_records d (length texts == 0) p
 unfolding under_header records_in_all
-under-more [] p = append-nil (drop 1 (records_in p))
-under-more (q ∷ texts) p =
+under-more d [] p = append-nil (drop 1 (records_in d p))
+under-more d (q ∷ texts) p =
     let some : (length (q ∷ texts) == 0) ≡ false = ne_eqb (length (q ∷ texts)) 0 (λ z. absurd (omega (arith, z))) in
-    rw some (ap (λ r. drop 1 (records_in q) ++ r) (all-more texts p)
-    ∙ sym (append_assoc (drop 1 (records_in q)) (records_in_all texts) (records_in p)))
+    rw some (ap (λ r. drop 1 (records_in d q) ++ r) (all-more d texts p)
+    ∙ sym (append_assoc (drop 1 (records_in d q)) (records_in_all d texts) (records_in d p)))
 
 -- one more text
-pub under-next : (texts : List (List ℕ)) (i : ℕ) → i < length texts
-    → under_header (take (i + 1) texts) ≡ under_header (take i texts) ++ row_records (i == 0) (slice_index_or texts i [])
-under-next texts i h =
+pub under-next : (d : ℕ) (texts : List (List ℕ)) (i : ℕ) → i < length texts
+    → under_header d (take (i + 1) texts) ≡ under_header d (take i texts) ++ row_records d (i == 0) (slice_index_or texts i [])
+under-next d texts i h =
     let size = length-take i texts in
     let same : length (take i texts) ≡ i = omega (arith, size, h) in
-    ap under_header (take_more texts i [] h) ∙ (under-more (take i texts) (slice_index_or texts i [])
-    ∙ ap (λ n. under_header (take i texts) ++ row_records (n == 0) (slice_index_or texts i [])) same)
+    ap (under_header d) (take_more texts i [] h) ∙ (under-more d (take i texts) (slice_index_or texts i [])
+    ∙ ap (λ n. under_header d (take i texts) ++ row_records d (n == 0) (slice_index_or texts i [])) same)
 
-under-append : (p : List ℕ) (a b : List (List ℕ)) → under_header ((p ∷ a) ++ b) ≡ under_header (p ∷ a) ++ records_in_all b
+under-append : (d : ℕ) (p : List ℕ) (a b : List (List ℕ)) → under_header d ((p ∷ a) ++ b) ≡ under_header d (p ∷ a) ++ records_in_all d b
 unfolding under_header
-under-append p a b = ap (λ r. drop 1 (records_in p) ++ r) (all-append a b) ∙ sym (append_assoc (drop 1 (records_in p)) (records_in_all a) (records_in_all b))
+under-append d p a b = ap (λ r. drop 1 (records_in d p) ++ r) (all-append d a b) ∙ sym (append_assoc (drop 1 (records_in d p)) (records_in_all d a) (records_in_all d b))
 
 -- the texts from one on
-pub under-rest : (texts : List (List ℕ)) (i : ℕ) → i < length texts → under_header texts ≡ under_header (take (i + 1) texts) ++ records_in_all (drop (i + 1) texts)
-under-rest [] i h = absurd (omega arith)
-under-rest (p ∷ texts) i h =
+pub under-rest : (d : ℕ) (texts : List (List ℕ)) (i : ℕ) → i < length texts → under_header d texts ≡ under_header d (take (i + 1) texts) ++ records_in_all d (drop (i + 1) texts)
+under-rest d [] i h = absurd (omega arith)
+under-rest d (p ∷ texts) i h =
     let n : i + 1 ≡ suc i = omega arith in
-    rw n (ap (λ t. under_header (p ∷ t)) (sym (take-append-drop i texts)) ∙ under-append p (take i texts) (drop i texts))
+    rw n (ap (λ t. under_header d (p ∷ t)) (sym (take-append-drop i texts)) ∙ under-append d p (take i texts) (drop i texts))
 
-pub under-none : under_header [] ≡ []
+pub under-none : (d : ℕ) → under_header d [] ≡ []
 unfolding under_header
-under-none = refl
+under-none d = refl
 
 -- the records of a text are its header and those under it
-pub header-first : (text : List ℕ) (texts : List (List ℕ)) (header : List (List ℕ)) (rest : List (List (List ℕ))) → records_in text ≡ header ∷ rest
-    → records_in_all (text ∷ texts) ≡ header ∷ under_header (text ∷ texts)
+pub header-first : (d : ℕ) (text : List ℕ) (texts : List (List ℕ)) (header : List (List ℕ)) (rest : List (List (List ℕ))) → records_in d text ≡ header ∷ rest
+    → records_in_all d (text ∷ texts) ≡ header ∷ under_header d (text ∷ texts)
 unfolding under_header records_in_all
-header-first text texts header rest e = rw e refl
+header-first d text texts header rest e = rw e refl
 
 pub empty_table-rows : (names : List (List ℕ)) (types : List ColumnType) (t : TableValue) → empty_table names types ≡ Ok t → t.rows ≡ []
 empty_table-rows names types t e = elim (cases_Bool (nat_lt 256 (length names))) [
@@ -94,15 +94,15 @@ reading-from nulls types header records start (Ok t) b ok err =
 reading-from nulls types header records start (Err e) b ok err = λ ne. read_fault nulls types header records start e b (err ne)
 
 -- and so of a text with this header
-module _ (bytes : List ℕ) (types : List ColumnType) (nulls : List (List ℕ)) (lawful : are_null_texts nulls ≡ true) (header : List (List ℕ)) (records : List (List (List ℕ)))
-    (e : records_in bytes ≡ header ∷ records) where
-  pub reading-table : (r : Result TableValue ReadRefused) → IsReading nulls types header records r → IfOk r (λ t. read_of bytes types nulls ≡ Ok t)
-  reading-table (Ok t) read = of_table bytes types nulls lawful header records e record t { rows = [] } t.rows read.0 read.1
+module _ (d : ℕ) (bytes : List ℕ) (types : List ColumnType) (nulls : List (List ℕ)) (lawful : are_null_texts nulls ≡ true) (header : List (List ℕ)) (records : List (List (List ℕ)))
+    (e : records_in d bytes ≡ header ∷ records) where
+  pub reading-table : (r : Result TableValue ReadRefused) → IsReading nulls types header records r → IfOk r (λ t. read_of d bytes types nulls ≡ Ok t)
+  reading-table (Ok t) read = of_table d bytes types nulls lawful header records e record t { rows = [] } t.rows read.0 read.1
   reading-table (Err x) read = tt
 
-  pub reading-fault : (r : Result TableValue ReadRefused) → IsReading nulls types header records r → IfErr r (λ x. x ≢ refused.Memory → read_of bytes types nulls ≡ Err x)
+  pub reading-fault : (r : Result TableValue ReadRefused) → IsReading nulls types header records r → IfErr r (λ x. x ≢ refused.Memory → read_of d bytes types nulls ≡ Err x)
   reading-fault (Ok t) read = tt
-  reading-fault (Err x) read = λ ne. of_reading bytes types nulls lawful header records e x (read ne)
+  reading-fault (Err x) read = λ ne. of_reading d bytes types nulls lawful header records e x (read ne)
 
 not-memory : (n : ℕ) (e : ReadRefused) → moved n e ≢ refused.Memory → e ≢ refused.Memory
 not-memory n e ne q = ne (ap (moved n) q)
@@ -122,80 +122,80 @@ rows-more tables t =
     rw (← more) (length-append (rows_of_all tables) t.rows)
 
 -- the reading of no records
-pub none-read : (nulls : List (List ℕ)) (types : List ColumnType) (header : List (List ℕ)) → AreTables nulls types header (under_header []) []
-none-read nulls types header = record { columns = All-nil _; rows = rw under-none (rows-end nulls types []); few = omega arith }
+pub none-read : (d : ℕ) (nulls : List (List ℕ)) (types : List ColumnType) (header : List (List ℕ)) → AreTables nulls types header (under_header d []) []
+none-read d nulls types header = record { columns = All-nil _; rows = rw (under-none d) (rows-end nulls types []); few = omega arith }
 
-module _ (nulls : List (List ℕ)) (types : List ColumnType) (header : List (List ℕ)) (texts : List (List ℕ)) (parts : List (Result TableValue ReadRefused))
-    (are : AreReadings nulls types header texts parts) (i : ℕ) (h : i < length texts) (tables : List TableValue)
-    (read : AreTables nulls types header (under_header (take i texts)) tables) where
+module _ (d : ℕ) (nulls : List (List ℕ)) (types : List ColumnType) (header : List (List ℕ)) (texts : List (List ℕ)) (parts : List (Result TableValue ReadRefused))
+    (are : AreReadings d nulls types header texts parts) (i : ℕ) (h : i < length texts) (tables : List TableValue)
+    (read : AreTables nulls types header (under_header d (take i texts)) tables) where
   -- one more part
   pub part-more : (t : TableValue) → slice_index_or parts i (Ok t) ≡ Ok t → length (rows_of_all tables) + length t.rows ≤ 2 ^ 31 - 1
-      → AreTables nulls types header (under_header (take (i + 1) texts)) (tables ++ t ∷ [])
+      → AreTables nulls types header (under_header d (take (i + 1) texts)) (tables ++ t ∷ [])
   part-more t e fits =
       let is = rw e at (are i (Ok t) h) in
       let more : rows_of_all tables ++ t.rows ≡ rows_of_all (tables ++ t ∷ []) = flat_map_more (λ (t : TableValue). t.rows) [] tables t in
       let size = length-append (rows_of_all tables) t.rows in
       record {
         columns = All-push (λ (t : TableValue). empty_table header types ≡ Ok record t { rows = [] }) tables t read.columns is.0;
-        rows = rw (under-next texts i h, ← more) (part-rows nulls types (under_header (take i texts)) _ (rows_of_all tables) t.rows read.rows is.1 fits);
+        rows = rw (under-next d texts i h, ← more) (part-rows nulls types (under_header d (take i texts)) _ (rows_of_all tables) t.rows read.rows is.1 fits);
         few = rw (← more) (omega (arith, size, fits));
       }
 
-  rest-on : under_header texts ≡ (under_header (take i texts) ++ row_records (i == 0) (slice_index_or texts i [])) ++ records_in_all (drop (i + 1) texts)
-  rest-on = under-rest texts i h ∙ ap (λ r. r ++ records_in_all (drop (i + 1) texts)) (under-next texts i h)
+  rest-on : under_header d texts ≡ (under_header d (take i texts) ++ row_records d (i == 0) (slice_index_or texts i [])) ++ records_in_all d (drop (i + 1) texts)
+  rest-on = under-rest d texts i h ∙ ap (λ r. r ++ records_in_all d (drop (i + 1) texts)) (under-next d texts i h)
 
   -- a part with too many rows
   pub part-past : (t : TableValue) → slice_index_or parts i (Ok t) ≡ Ok t → 2 ^ 31 - 1 < length (rows_of_all tables) + length t.rows
-      → read_rows nulls types [] (under_header texts) ≡ Err refused.TooManyRows
+      → read_rows nulls types [] (under_header d texts) ≡ Err refused.TooManyRows
   part-past t e many =
       let is = rw e at (are i (Ok t) h) in
-      let so = part-many nulls types (under_header (take i texts)) _ (rows_of_all tables) t.rows read.rows is.1 read.few many in
-      rw rest-on (fault-first nulls types (under_header (take i texts) ++ row_records (i == 0) (slice_index_or texts i [])) _ refused.TooManyRows so)
+      let so = part-many nulls types (under_header d (take i texts)) _ (rows_of_all tables) t.rows read.rows is.1 read.few many in
+      rw rest-on (fault-first nulls types (under_header d (take i texts) ++ row_records d (i == 0) (slice_index_or texts i [])) _ refused.TooManyRows so)
 
   -- a part with a fault
   pub part-bad : (x : ReadRefused) (t : TableValue) → slice_index_or parts i (Err x) ≡ Err x → empty_table header types ≡ Ok t → moved (length (rows_of_all tables)) x ≢ refused.Memory
-      → read_rows nulls types [] (under_header texts) ≡ Err (moved (length (rows_of_all tables)) x)
+      → read_rows nulls types [] (under_header d texts) ≡ Err (moved (length (rows_of_all tables)) x)
   part-bad x t e b ne =
       let is = rw e at (are i (Err x) h) in
-      let so = part-fault nulls types (under_header (take i texts)) _ (rows_of_all tables) x read.rows (rows_fault nulls types header (row_records (i == 0) (slice_index_or texts i [])) t x b (is (not-memory _ x ne))) read.few in
-      rw rest-on (fault-first nulls types (under_header (take i texts) ++ row_records (i == 0) (slice_index_or texts i [])) _ _ so)
+      let so = part-fault nulls types (under_header d (take i texts)) _ (rows_of_all tables) x read.rows (rows_fault nulls types header (row_records d (i == 0) (slice_index_or texts i [])) t x b (is (not-memory _ x ne))) read.few in
+      rw rest-on (fault-first nulls types (under_header d (take i texts) ++ row_records d (i == 0) (slice_index_or texts i [])) _ _ so)
 
   -- and so the reading of all ends
   pub part-over : (t : TableValue) → slice_index_or parts i (Ok t) ≡ Ok t → 2 ^ 31 - 1 < length (rows_of_all tables) + length t.rows
-      → read_records nulls types (header ∷ under_header texts) ≡ Err refused.TooManyRows
+      → read_records nulls types (header ∷ under_header d texts) ≡ Err refused.TooManyRows
   part-over t e many =
       let is = rw e at (are i (Ok t) h) in
-      read_fault nulls types header (under_header texts) record t { rows = [] } refused.TooManyRows is.0 (part-past t e many)
+      read_fault nulls types header (under_header d texts) record t { rows = [] } refused.TooManyRows is.0 (part-past t e many)
 
   pub part-stops : (x : ReadRefused) → slice_index_or parts i (Err x) ≡ Err x → moved (length (rows_of_all tables)) x ≢ refused.Memory
-      → read_records nulls types (header ∷ under_header texts) ≡ Err (moved (length (rows_of_all tables)) x)
+      → read_records nulls types (header ∷ under_header d texts) ≡ Err (moved (length (rows_of_all tables)) x)
   part-stops x e ne = go (empty_table header types) refl
     where
-      go : (r : Result TableValue BuildRefused) → empty_table header types ≡ r → read_records nulls types (header ∷ under_header texts) ≡ Err (moved (length (rows_of_all tables)) x)
-      go (Ok t) b = read_fault nulls types header (under_header texts) t (moved (length (rows_of_all tables)) x) b (part-bad x t e b ne)
+      go : (r : Result TableValue BuildRefused) → empty_table header types ≡ r → read_records nulls types (header ∷ under_header d texts) ≡ Err (moved (length (rows_of_all tables)) x)
+      go (Ok t) b = read_fault nulls types header (under_header d texts) t (moved (length (rows_of_all tables)) x) b (part-bad x t e b ne)
       go (Err f) b =
           let is = rw e at (are i (Err x) h) in
-          let own = header_fault nulls types header (row_records (i == 0) (slice_index_or texts i [])) f x b (is (not-memory _ x ne)) in
-          read_bad_header nulls types header (under_header texts) f b ∙ ap Err (sym (ap (moved (length (rows_of_all tables))) own ∙ moved-header (length (rows_of_all tables)) f))
+          let own = header_fault nulls types header (row_records d (i == 0) (slice_index_or texts i [])) f x b (is (not-memory _ x ne)) in
+          read_bad_header nulls types header (under_header d texts) f b ∙ ap Err (sym (ap (moved (length (rows_of_all tables))) own ∙ moved-header (length (rows_of_all tables)) f))
 
 -- the records of a text by its texts
-pub records-by : (texts : List (List ℕ)) (bytes : List ℕ) (header : List (List ℕ)) (rest : List (List (List ℕ))) → 0 < length texts
-    → records_in (slice_index_or texts 0 []) ≡ header ∷ rest → records_in_all texts ≡ records_in bytes → records_in bytes ≡ header ∷ under_header texts
-records-by [] bytes header rest h e all = absurd (omega arith)
-records-by (p ∷ texts) bytes header rest h e all = sym all ∙ header-first p texts header rest e
+pub records-by : (d : ℕ) (texts : List (List ℕ)) (bytes : List ℕ) (header : List (List ℕ)) (rest : List (List (List ℕ))) → 0 < length texts
+    → records_in d (slice_index_or texts 0 []) ≡ header ∷ rest → records_in_all d texts ≡ records_in d bytes → records_in d bytes ≡ header ∷ under_header d texts
+records-by d [] bytes header rest h e all = absurd (omega arith)
+records-by d (p ∷ texts) bytes header rest h e all = sym all ∙ header-first d p texts header rest e
 
 pub some-there : {X : Type 0} (xs : List X) → false ≡ (length xs == 0) → 0 < length xs
 some-there [] e = absurd (false≢true e)
 some-there (x ∷ xs) e = omega arith
 
-pub head-records : (texts : List (Bor (List ℕ))) (d : Bor (List ℕ)) (bytes : List ℕ) (header : List (List ℕ)) (rest : List (List (List ℕ)))
-    → false ≡ (length texts == 0) → records_in (slice_index_or texts 0 d).now ≡ header ∷ rest
-    → records_in_all (map (λ p. p.now) texts) ≡ records_in bytes → records_in bytes ≡ header ∷ under_header (map (λ p. p.now) texts)
-head-records texts d bytes header rest some e all =
+pub head-records : (d : ℕ) (texts : List (Bor (List ℕ))) (other : Bor (List ℕ)) (bytes : List ℕ) (header : List (List ℕ)) (rest : List (List (List ℕ)))
+    → false ≡ (length texts == 0) → records_in d (slice_index_or texts 0 other).now ≡ header ∷ rest
+    → records_in_all d (map (λ p. p.now) texts) ≡ records_in d bytes → records_in d bytes ≡ header ∷ under_header d (map (λ p. p.now) texts)
+head-records d texts other bytes header rest some e all =
     let h = some-there texts some in
     let size = length-map texts (λ (p : Bor (List ℕ)). p.now) in
-    let one = get_or-map (λ (p : Bor (List ℕ)). p.now) texts 0 d [] h in
-    records-by (map (λ (p : Bor (List ℕ)). p.now) texts) bytes header rest (omega (arith, size, h)) (ap records_in one ∙ e) all
+    let one = get_or-map (λ (p : Bor (List ℕ)). p.now) texts 0 other [] h in
+    records-by d (map (λ (p : Bor (List ℕ)). p.now) texts) bytes header rest (omega (arith, size, h)) (ap (records_in d) one ∙ e) all
 
 -- tables that one header begins are alike
 module _ (header : List (List ℕ)) (types : List ColumnType) where

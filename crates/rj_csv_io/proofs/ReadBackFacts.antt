@@ -13,7 +13,7 @@ use Rattle.csv.specs.declared.parser.Config.{Config}
 use Rattle.csv.specs.declared.parser.State.{State}
 use Rattle.csv.specs.declared.parser.State.TheVariants as st
 use Rattle.csv.specs.Machine.{Read, ends_at_end, field_after, fields_after, is_end, next_record, step}
-use Rattle.csv.specs.Reading.{default_config, records, records_from, records_next, strip_bom}
+use Rattle.csv.specs.Reading.{records, records_from, records_next, strip_bom}
 use Rattle.rj_decimal.specs.Read.{numeric_of}
 use Rattle.rj_columns.specs.declared.cell.ColumnType.{ColumnType}
 use Rattle.rj_columns.specs.declared.cell.ColumnType.TheVariants as kind
@@ -22,6 +22,8 @@ use Rattle.rj_columns.specs.declared.refused.BuildRefused.TheVariants as build
 use Rattle.rj_columns.specs.Contents.{Content, nothing, whole, decimal, word}
 use Rattle.rj_columns.specs.Names.{empty_table, name_fault}
 use Rattle.rj_columns.specs.Tables.{TableValue, FitsTypes}
+use Rattle.rj_strict.specs.Grammar.{may_delimit}
+use Rattle.rj_strict.specs.Reading.{config_of}
 use Rattle.rj_csv_io.specs.declared.refused.ReadRefused.{ReadRefused}
 use Rattle.rj_csv_io.specs.declared.refused.ReadRefused.TheVariants as refused
 use Rattle.rj_csv_io.specs.Ambiguous.{AreApart}
@@ -65,16 +67,16 @@ next-some cfg s fields field (c ∷ rest) p e = go (is_end (step cfg s c).1) ref
         rw (← q) (ended (step cfg s c).1 h)
     go false h e again = again e
 
-header-some : (n : ℕ) (s : State) (xs : List ℕ) (header : List (List ℕ)) (rest : List (List (List ℕ))) → records_from default_config n s xs ≡ header ∷ rest → 0 < length header
+header-some : (cfg : Config) (n : ℕ) (s : State) (xs : List ℕ) (header : List (List ℕ)) (rest : List (List (List ℕ))) → records_from cfg n s xs ≡ header ∷ rest → 0 < length header
 unfolding records_from
-header-some zero s xs header rest e = absurd (cc)
-header-some (suc n) s xs header rest e = go (next_record default_config s [] [] xs) refl e
+header-some cfg zero s xs header rest e = absurd (cc)
+header-some cfg (suc n) s xs header rest e = go (next_record cfg s [] [] xs) refl e
   where
-    go : (o : Option Read) → next_record default_config s [] [] xs ≡ o → records_next (records_from default_config n) o ≡ header ∷ rest → 0 < length header
+    go : (o : Option Read) → next_record cfg s [] [] xs ≡ o → records_next (records_from cfg n) o ≡ header ∷ rest → 0 < length header
     go None is e = absurd (cc)
     go (Some p) is e =
         let q : p.0 ≡ header = cc in
-        rw (← q) (next-some default_config s [] [] xs p is)
+        rw (← q) (next-some cfg s [] [] xs p is)
 
 -- a cell that was read is one that a `Cell` can hold
 typed-held : (k : ColumnType) (f : List ℕ) (x : Content) → typed_cell k f ≡ Some x → IsHeld x
@@ -236,11 +238,11 @@ module _ (nulls : List (List ℕ)) where
       typed : t.types ≡ types
       back : (others : List (List ℕ)) → Apart others t → CanReadBack others t
 
-    read-told : (bytes : List ℕ) (t : TableValue) → read_of bytes types nulls ≡ Ok t → Told t
-    read-told bytes t e = elim (cases_Bool (are_null_texts nulls)) [
+    read-told : (from : ℕ) (bytes : List ℕ) (t : TableValue) → read_of from bytes types nulls ≡ Ok t → Told t
+    read-told from bytes t e = elim (cases_Bool (are_null_texts nulls)) [
       | inl lawful ↦
-          let read : read_records nulls types (records default_config (strip_bom bytes)) ≡ Ok t = rw lawful at e in
-          with_header lawful (records default_config (strip_bom bytes)) refl read
+          let read : read_records nulls types (records (config_of from) (strip_bom bytes)) ≡ Ok t = rw lawful at e in
+          with_header lawful (records (config_of from) (strip_bom bytes)) refl read
       | inr unlawful ↦ let no : Err refused.BadNull ≡ Ok t = rw unlawful at e in absurd (cc)
     ]
       where
@@ -272,24 +274,24 @@ module _ (nulls : List (List ℕ)) where
                   };
                 })
 
-        with_header : are_null_texts nulls ≡ true → (all : List (List (List ℕ))) → records default_config (strip_bom bytes) ≡ all → read_records nulls types all ≡ Ok t → Told t
+        with_header : are_null_texts nulls ≡ true → (all : List (List (List ℕ))) → records (config_of from) (strip_bom bytes) ≡ all → read_records nulls types all ≡ Ok t → Told t
         with_header lawful [] is r = absurd (cc)
         with_header lawful (header ∷ rest) is r =
-            under lawful header rest (header-some (length (strip_bom bytes) + 1) st.StartRecord (strip_bom bytes) header rest is) (empty_table header types) refl r
+            under lawful header rest (header-some (config_of from) (length (strip_bom bytes) + 1) st.StartRecord (strip_bom bytes) header rest is) (empty_table header types) refl r
 
 -- its text is read back by null texts that it is apart from
-pub others-back : (bytes : List ℕ) (types : List ColumnType) (known nulls : List (List ℕ)) (null : List ℕ) (t : TableValue)
-    → read_of bytes types known ≡ Ok t → are_null_texts nulls ≡ true → is_null_field nulls null ≡ true → Apart known types nulls t → has_bom (table_text null t.names t.rows) ≡ false
-    → read_of (table_text null t.names t.rows) types nulls ≡ Ok t
-others-back bytes types known nulls null t e lawful among apart plain =
-    let told = read-told known types bytes t e in
-    let P : List ColumnType → Type 0 = λ types. read_of (table_text null t.names t.rows) types nulls ≡ Ok t in
-    subst P told.typed (table-back nulls null lawful among t (told.back nulls apart) plain)
+pub others-back : (d from : ℕ) (bytes : List ℕ) (types : List ColumnType) (known nulls : List (List ℕ)) (null : List ℕ) (t : TableValue)
+    → may_delimit d ≡ true → read_of from bytes types known ≡ Ok t → are_null_texts nulls ≡ true → is_null_field nulls null ≡ true → Apart known types nulls t → has_bom (table_text d null t.names t.rows) ≡ false
+    → read_of d (table_text d null t.names t.rows) types nulls ≡ Ok t
+others-back d from bytes types known nulls null t delimits e lawful among apart plain =
+    let told = read-told known types from bytes t e in
+    let P : List ColumnType → Type 0 = λ types. read_of d (table_text d null t.names t.rows) types nulls ≡ Ok t in
+    subst P told.typed (table-back nulls null lawful among d delimits t (told.back nulls apart) plain)
 
 -- and by those that it was read by
-pub read-back : (bytes : List ℕ) (types : List ColumnType) (nulls : List (List ℕ)) (null : List ℕ) (t : TableValue)
-    → read_of bytes types nulls ≡ Ok t → is_null_field nulls null ≡ true → has_bom (table_text null t.names t.rows) ≡ false
-    → read_of (table_text null t.names t.rows) types nulls ≡ Ok t
-read-back bytes types nulls null t e among plain =
-    others-back bytes types nulls nulls null t e (read-told nulls types bytes t e).lawful among
-    (λ text is. read-apart nulls text is (records default_config (strip_bom bytes)) types t e) plain
+pub read-back : (d from : ℕ) (bytes : List ℕ) (types : List ColumnType) (nulls : List (List ℕ)) (null : List ℕ) (t : TableValue)
+    → may_delimit d ≡ true → read_of from bytes types nulls ≡ Ok t → is_null_field nulls null ≡ true → has_bom (table_text d null t.names t.rows) ≡ false
+    → read_of d (table_text d null t.names t.rows) types nulls ≡ Ok t
+read-back d from bytes types nulls null t delimits e among plain =
+    others-back d from bytes types nulls nulls null t delimits e (read-told nulls types from bytes t e).lawful among
+    (λ text is. read-apart nulls text is (records (config_of from) (strip_bom bytes)) types t e) plain

@@ -1,25 +1,26 @@
 -- Where a text of CSV can be cut: after the end of a record.
 use Rattle.std.specs.Prelude.{ℕ, ◌==◌, ◌||◌, if◌then◌else◌, Bool, true, false, List, [], ◌∷◌, ◌++◌}
 use Rattle.csv.specs.Machine.{step}
-use Rattle.csv.specs.Reading.{default_config, is_bom, records, strip_bom}
+use Rattle.csv.specs.Reading.{is_bom, records, strip_bom}
 use Rattle.csv.specs.declared.parser.State.{State}
 use Rattle.csv.specs.declared.parser.State.TheVariants as st
+use Rattle.rj_strict.specs.Reading.{config_of}
 use Rattle.rj_csv_io.specs.declared.place.ReaderPlace.{ReaderPlace}
 use Rattle.rj_csv_io.specs.declared.place.ReaderPlace.TheVariants as place
 
--- the records of a text that may begin with a byte order mark
-abbrev pub records_in : List ℕ → List (List (List ℕ))
-records_in text = records default_config (strip_bom text)
+-- the records of a text that may begin with a byte order mark, by this delimiter
+abbrev pub records_in : ℕ → List ℕ → List (List (List ℕ))
+records_in d text = records (config_of d) (strip_bom text)
 
 -- the records of several texts, one after the other
-unfoldable pub records_in_all : List (List ℕ) → List (List (List ℕ))
-records_in_all [] = []
-records_in_all (text ∷ texts) = records_in text ++ records_in_all texts
+unfoldable pub records_in_all : ℕ → List (List ℕ) → List (List (List ℕ))
+records_in_all d [] = []
+records_in_all d (text ∷ texts) = records_in d text ++ records_in_all d texts
 
 -- the state of csv's machine after these bytes
-unfoldable pub state_after : State → List ℕ → State
-state_after s [] = s
-state_after s (c ∷ text) = state_after (step default_config s c).0 text
+unfoldable pub state_after : ℕ → State → List ℕ → State
+state_after d s [] = s
+state_after d s (c ∷ text) = state_after d (step (config_of d) s c).0 text
 
 -- between quotes
 abbrev pub is_open : State → Bool
@@ -32,13 +33,13 @@ is_open st.InEscape = true
 is_open st.InComment = true
 is_open st.AfterCr = false
 
--- a comma, CR or LF
-abbrev pub is_separator : ℕ → Bool
-is_separator c = (c == 44) || (c == 13) || (c == 10)
+-- the delimiter, CR or LF
+abbrev pub is_separator : ℕ → ℕ → Bool
+is_separator d c = (c == d) || (c == 13) || (c == 10)
 
 -- the place after a byte that is no quote, outside quotes
-abbrev pub after_plain : ℕ → ReaderPlace
-after_plain c = if is_separator c then place.Fresh else place.Inside
+abbrev pub after_plain : ℕ → ℕ → ReaderPlace
+after_plain d c = if is_separator d c then place.Fresh else place.Inside
 
 -- the place after a quote
 abbrev pub after_quote : ReaderPlace → ReaderPlace
@@ -48,19 +49,19 @@ after_quote place.Open = place.Closed
 after_quote place.Closed = place.Open
 
 -- the place after one or more bytes without a quote, of which this is the last
-abbrev pub after_run : ReaderPlace → ℕ → ReaderPlace
-after_run place.Fresh c = after_plain c
-after_run place.Inside c = after_plain c
-after_run place.Open c = place.Open
-after_run place.Closed c = after_plain c
+abbrev pub after_run : ℕ → ReaderPlace → ℕ → ReaderPlace
+after_run d place.Fresh c = after_plain d c
+after_run d place.Inside c = after_plain d c
+after_run d place.Open c = place.Open
+after_run d place.Closed c = after_plain d c
 
-abbrev pub after_byte : ReaderPlace → ℕ → ReaderPlace
-after_byte p c = if c == 34 then after_quote p else after_run p c
+abbrev pub after_byte : ℕ → ReaderPlace → ℕ → ReaderPlace
+after_byte d p c = if c == 34 then after_quote p else after_run d p c
 
 -- the place after these bytes
-unfoldable pub place_after : ReaderPlace → List ℕ → ReaderPlace
-place_after p [] = p
-place_after p (c ∷ text) = place_after (after_byte p c) text
+unfoldable pub place_after : ℕ → ReaderPlace → List ℕ → ReaderPlace
+place_after d p [] = p
+place_after d p (c ∷ text) = place_after d (after_byte d p c) text
 
 abbrev pub place_of : State → ReaderPlace
 place_of st.StartRecord = place.Fresh

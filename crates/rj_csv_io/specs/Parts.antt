@@ -29,14 +29,14 @@ moved n refused.ReadDevice = refused.ReadDevice
 moved n refused.Memory = refused.Memory
 
 -- the records of rows in a text: all, or all but the first one if that is the header
-abbrev pub row_records : Bool → List ℕ → List (List (List ℕ))
-row_records true text = drop 1 (records_in text)
-row_records false text = records_in text
+abbrev pub row_records : ℕ → Bool → List ℕ → List (List (List ℕ))
+row_records d true text = drop 1 (records_in d text)
+row_records d false text = records_in d text
 
 -- the records under the header, which is in the first of the texts
-unfoldable pub under_header : List (List ℕ) → List (List (List ℕ))
-under_header [] = []
-under_header (text ∷ texts) = drop 1 (records_in text) ++ records_in_all texts
+unfoldable pub under_header : ℕ → List (List ℕ) → List (List (List ℕ))
+under_header d [] = []
+under_header d (text ∷ texts) = drop 1 (records_in d text) ++ records_in_all d texts
 
 -- the result of reading records under a header: the table, or the first error of the header and the
 -- records; or memory runs out
@@ -45,9 +45,9 @@ IsReading nulls types header records (Ok t) = (empty_table header types ≡ Ok r
 IsReading nulls types header records (Err e) = e ≢ refused.Memory → read_records nulls types (header ∷ records) ≡ Err e
 
 -- each part is the result of reading its text
-abbrev pub AreReadings : List (List ℕ) → List ColumnType → List (List ℕ) → List (List ℕ) → List (Result TableValue ReadRefused) → Type 0
-AreReadings nulls types header texts parts = (i : ℕ) (d : Result TableValue ReadRefused) → i < length texts
-    → IsReading nulls types header (row_records (i == 0) (slice_index_or texts i [])) (slice_index_or parts i d)
+abbrev pub AreReadings : ℕ → List (List ℕ) → List ColumnType → List (List ℕ) → List (List ℕ) → List (Result TableValue ReadRefused) → Type 0
+AreReadings d nulls types header texts parts = (i : ℕ) (r : Result TableValue ReadRefused) → i < length texts
+    → IsReading nulls types header (row_records d (i == 0) (slice_index_or texts i [])) (slice_index_or parts i r)
 
 -- tables with the header's columns, whose rows put together are those that the records read as
 pub record AreTables (nulls : List (List ℕ)) (types : List ColumnType) (header : List (List ℕ)) (records : List (List (List ℕ)))

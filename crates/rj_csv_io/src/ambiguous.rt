@@ -10,7 +10,8 @@ use crate::block::{RowBlock, next_block, no_rows};
 use rj_columns::{Cell, RowSource};
 use std::alloc::{AllocError, Global};
 
-// Whether a cell that isn't NULL has the NULL text. Only a text can: a number has a digit, and no NULL text has one.
+// Whether a cell that isn't NULL has the NULL text. Only a text can: a number has a digit, and no
+// NULL text has one.
 fn has_null_text(cell: Cell<'_>, null: &str) -> bool
     requires { IsTrue (is_null_text null.now) }
     ensures { result ≡ is_ambiguous null.now (content_of cell.entry) }

@@ -7,6 +7,7 @@ ghost use Rattle.rj_csv_io.specs.Cuts.{has_bom, records_in, records_in_all, stat
 
 use crate::place::{ReaderPlace, is_open, scan};
 use memchr::memchr;
+use rj_strict::Delimiter;
 use std::alloc::{AllocError, Global};
 
 /// Whether a text begins with a byte order mark.
@@ -31,20 +32,21 @@ pub fn without_bom(text: &[u8]) -> &[u8]
 }
 
 // The first place after this one where a record ends and no byte order mark begins.
-fn cut_after(text: &[u8], target: usize) -> Option<usize>
+fn cut_after(text: &[u8], target: usize, delimiter: Delimiter) -> Option<usize>
     requires { target ≤ length text.now }
     ensures within { IfSome result (λ c. c ≤ length text.now) }
-    ensures ends { IfSome result (λ c. state_after st.StartRecord (take c text.now) ≡ st.StartRecord) }
+    ensures ends { IfSome result (λ c. state_after delimiter st.StartRecord (take c text.now) ≡ st.StartRecord) }
     ensures unmarked { IfSome result (λ c. strip_bom (drop c text.now) ≡ drop c text.now) }
 {
-    let mut place = scan(ReaderPlace::Fresh, &text[..target]);
+    let byte = delimiter.byte();
+    let mut place = scan(ReaderPlace::Fresh, &text[..target], byte);
     let mut at = target;
     for _turn in target..text.len() {
         let Some(k) = memchr(b'\n', &text[at..]) else {
             return None;
         };
         let next = at + k + 1;
-        place = scan(place, &text[at..next]);
+        place = scan(place, &text[at..next], byte);
         at = next;
         if !is_open(place) && !starts_with_bom(&text[at..]) {
             return Some(at);
@@ -58,9 +60,10 @@ pub(crate) fn cut_text<'a>(
     alloc: Global,
     text: &'a [u8],
     count: usize,
+    delimiter: Delimiter,
 ) -> Result<Vec<&'a [u8]>, AllocError>
     ensures few { IfOk result (λ v. length v.items ≤ max 1 count) }
-    ensures records { IfOk result (λ v. records_in_all (map (λ p. p.now) v.items) ≡ records_in text.now) }
+    ensures records { IfOk result (λ v. records_in_all delimiter (map (λ p. p.now) v.items) ≡ records_in delimiter text.now) }
 {
     let mut parts = Vec::new(alloc);
     let mut rest = without_bom(text);
@@ -73,7 +76,7 @@ pub(crate) fn cut_text<'a>(
         if rest.len() <= size {
             break;
         }
-        let Some(cut) = cut_after(rest, size) else {
+        let Some(cut) = cut_after(rest, size, delimiter) else {
             break;
         };
         let (part, more) = rest.split_at(cut);

@@ -1,8 +1,9 @@
 //! How the reading of a table begins: its reader, its header, and the room for its rows.
 
 ghost use Rattle.std.specs.Prelude.{◌≡◌, ◌≢◌, ◌≤◌, ◌*◌, [], length, map, IfOk, IfErr, Ok, Err, Some};
-ghost use Rattle.csv.specs.Reading.{default_config, records, strip_bom};
+ghost use Rattle.csv.specs.Reading.{records, strip_bom};
 ghost use Rattle.csv.specs.Records.{fields_of};
+ghost use Rattle.rj_strict.specs.Reading.{config_of};
 ghost use Rattle.rj_columns.specs.Names.{empty_table};
 ghost use Rattle.rj_columns.specs.declared.refused.BuildRefused.{BuildRefused};
 ghost use Rattle.rj_csv_io.specs.Remaining.{records_remaining, IsBetween};
@@ -11,17 +12,23 @@ ghost use Rattle.rj_csv_io.specs.Tables.{of_begun};
 use crate::refused::ReadRefused;
 use csv::{ByteRecord, Reader, ReaderBuilder};
 use rj_columns::{BuildRefused, ColumnType, TableBuilder};
+use rj_strict::Delimiter;
 use std::alloc::{AllocError, Global};
 
 // How many of the first bytes are used to estimate the length of a line.
 const SAMPLE: usize = 65536;
 
 /// A reader of all the records of these bytes.
-pub(crate) fn open_reader<'a>(alloc: Global, bytes: &'a [u8]) -> Reader<&'a [u8]>
+pub(crate) fn open_reader<'a>(
+    alloc: Global,
+    bytes: &'a [u8],
+    delimiter: Delimiter,
+) -> Reader<&'a [u8]>
     ensures between { IsBetween (λ s. Some s.now) result }
-    ensures records { records_remaining (λ s. Some s.now) result ≡ records default_config (strip_bom bytes.now) }
+    ensures records { records_remaining (λ s. Some s.now) result ≡ records (config_of delimiter) (strip_bom bytes.now) }
 {
     ReaderBuilder::new()
+        .delimiter(delimiter.byte())
         .has_headers(false)
         .flexible(true)
         .from_reader(alloc, bytes)

@@ -1,5 +1,5 @@
-//! Reads tables from CSV (RFC 4180, section 2), writes rows as CSV, and has the devices that bytes
-//! come from and go to.
+//! Reads tables from CSV (RFC 4180, section 2, with a delimiter that the caller chooses), writes
+//! rows as CSV, and has the devices that bytes come from and go to.
 //!
 //! `read_of` defines what [`read_table`] answers, and `table_text` what [`write_rows`] writes.
 #![tactic(auto)]
@@ -9,6 +9,7 @@ mod block;
 mod cut;
 mod fields;
 mod filling;
+mod format;
 mod header;
 mod input;
 mod laws;
@@ -33,6 +34,7 @@ pub use ambiguous::first_ambiguous;
 pub use cut::without_bom;
 pub use fields::is_null_field;
 pub use filling::{read_all, read_up_to};
+pub use format::{InputFormat, OutputFormat};
 pub use input::{CountedReader, Input};
 pub use laws::{
     cells_read_back, mark_is_of_the_first_name, null_texts_read_as_null, read_cells_read_back,

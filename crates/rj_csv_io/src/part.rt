@@ -7,20 +7,26 @@ ghost use Rattle.rj_csv_io.specs.Remaining.{IsBetween, records_remaining};
 ghost use Rattle.rj_csv_io.specs.Parts.{IsReading, moved, row_records};
 ghost use Rattle.rj_csv_io.specs.Typed.{null_texts};
 
+use crate::format::InputFormat;
 use crate::header::{begin_table, likely_rows, open_reader};
 use crate::read_rows::{MAX_ROWS, next_record, rows_of_reader};
 use crate::refused::ReadRefused;
 use csv::{ByteRecord, Reader};
 use rj_columns::{ColumnType, Table};
+use rj_strict::Delimiter;
 use std::alloc::Global;
 
 /// The first record of a text, if it has one.
-pub(crate) fn header_of(alloc: Global, text: &[u8]) -> Result<Option<ByteRecord>, ReadRefused>
-    ensures header { IfOk result (λ o. MatchOption o (records_in text.now ≡ [])
-        (λ h. (rest : List (List (List ℕ))) × (records_in text.now ≡ fields_of h ∷ rest))) }
+pub(crate) fn header_of(
+    alloc: Global,
+    text: &[u8],
+    delimiter: Delimiter,
+) -> Result<Option<ByteRecord>, ReadRefused>
+    ensures header { IfOk result (λ o. MatchOption o (records_in delimiter text.now ≡ [])
+        (λ h. (rest : List (List (List ℕ))) × (records_in delimiter text.now ≡ fields_of h ∷ rest))) }
     ensures memory { IfErr result (λ e. e ≡ ReadRefused.Memory) }
 {
-    let mut reader = open_reader(alloc, text);
+    let mut reader = open_reader(alloc, text, delimiter);
     let mut header = ByteRecord::new(alloc);
     if !next_record(&mut reader, &mut header)? {
         return Ok(None);
@@ -34,12 +40,14 @@ fn reader_of_part<'a>(
     alloc: Global,
     text: &'a [u8],
     has_header: bool,
+    delimiter: Delimiter,
 ) -> Result<Option<Reader<&'a [u8]>>, ReadRefused>
-    ensures reader { IfOk result (λ o. MatchOption o (row_records has_header text.now ≡ [])
-        (λ r. IsBetween (λ s. Some s.now) r × (records_remaining (λ s. Some s.now) r ≡ row_records has_header text.now))) }
+    ensures reader { IfOk result (λ o. MatchOption o (row_records delimiter has_header text.now ≡ [])
+        (λ r. IsBetween (λ s. Some s.now) r
+        × (records_remaining (λ s. Some s.now) r ≡ row_records delimiter has_header text.now))) }
     ensures memory { IfErr result (λ e. e ≡ ReadRefused.Memory) }
 {
-    let mut reader = open_reader(alloc, text);
+    let mut reader = open_reader(alloc, text, delimiter);
     if !has_header {
         return Ok(Some(reader));
     }
@@ -58,15 +66,16 @@ pub(crate) fn read_part(
     has_header: bool,
     header: &ByteRecord,
     types: &[ColumnType],
-    nulls: &[&str],
+    format: &InputFormat<'_>,
 ) -> Result<Table, ReadRefused>
-    ensures { IsReading (null_texts nulls.now) types.now (fields_of header.now) (row_records has_header text.now) result }
+    ensures { IsReading (null_texts format.now.nulls.now) types.now (fields_of header.now)
+        (row_records format.now.delimiter has_header text.now) result }
 {
     let builder = begin_table(alloc, header, types, likely_rows(text, types.len()))?;
-    let Some(reader) = reader_of_part(alloc, text, has_header)? else {
+    let Some(reader) = reader_of_part(alloc, text, has_header, format.delimiter)? else {
         return Ok(builder.finish());
     };
-    rows_of_reader(alloc, reader, builder, nulls, types)
+    rows_of_reader(alloc, reader, builder, format.nulls, types)
 }
 
 /// An error of a part that has this many rows before it, with its row counted from the whole table's first one.

@@ -1,7 +1,8 @@
 //! Reading a table piece by piece: its header, and the rows of each piece.
 
 ghost use Rattle.std.specs.Prelude.{◌≡◌, ◌≢◌, ◌∷◌, [], List, ℕ, length, IfOk, IfErr, MatchOption, Ok, Err, Some, map};
-ghost use Rattle.csv.specs.Reading.{default_config, records};
+ghost use Rattle.csv.specs.Reading.{records, strip_bom};
+ghost use Rattle.rj_strict.specs.Reading.{config_of};
 ghost use Rattle.rj_columns.specs.Names.{empty_table};
 ghost use Rattle.rj_columns.specs.declared.refused.BuildRefused.{BuildRefused};
 ghost use Rattle.rj_csv_io.specs.Cuts.{records_in};
@@ -11,11 +12,13 @@ ghost use Rattle.rj_csv_io.specs.Tables.{of_begun};
 ghost use Rattle.rj_csv_io.specs.Typed.{null_texts};
 
 use crate::cut::starts_with_bom;
+use crate::format::InputFormat;
 use crate::header::{begin_table, fields_of_record};
 use crate::part::{header_of, read_part};
 use crate::refused::ReadRefused;
 use csv::ByteRecord;
 use rj_columns::{ColumnType, Table};
+use rj_strict::Delimiter;
 use std::alloc::{AllocError, Global};
 
 /// The first record of a file, which names the columns of its rows.
@@ -26,7 +29,7 @@ pub struct Header {
 
 // A text with a byte order mark before it.
 fn with_mark(alloc: Global, text: &[u8]) -> Result<Vec<u8>, AllocError>
-    ensures { IfOk result (λ v. records_in v.items ≡ records default_config text.now) }
+    ensures { IfOk result (λ v. strip_bom v.items ≡ text.now) }
 {
     let mut marked = vec![in alloc; 0xEF, 0xBB, 0xBF]?;
     marked.extend_from_slice(text)?;
@@ -35,11 +38,15 @@ fn with_mark(alloc: Global, text: &[u8]) -> Result<Vec<u8>, AllocError>
 
 impl Header {
     // The header of a text that begins with no byte order mark.
-    fn of_unmarked(alloc: Global, text: &[u8]) -> Result<Option<Header>, AllocError>
-        ensures { IfOk result (λ o. MatchOption o (records_in text.now ≡ [])
-            (λ h. (rest : List (List (List ℕ))) × (records_in text.now ≡ names_in h ∷ rest))) }
+    fn of_unmarked(
+        alloc: Global,
+        text: &[u8],
+        delimiter: Delimiter,
+    ) -> Result<Option<Header>, AllocError>
+        ensures { IfOk result (λ o. MatchOption o (records_in delimiter text.now ≡ [])
+            (λ h. (rest : List (List (List ℕ))) × (records_in delimiter text.now ≡ names_in h ∷ rest))) }
     {
-        match header_of(alloc, text) {
+        match header_of(alloc, text, delimiter) {
             Ok(Some(record)) => Ok(Some(Header { record })),
             Ok(None) => Ok(None),
             Err(_) => Err(AllocError),
@@ -47,20 +54,24 @@ impl Header {
     }
 
     /// The header of a text whose byte order mark was left out already: the first record, if there
-    /// is one.
+    /// is one. The delimiter is that of the text.
     ///
     /// # Errors
     ///
     /// It fails only when memory runs out.
-    pub fn of(alloc: Global, text: &[u8]) -> Result<Option<Header>, AllocError>
-        ensures { IfOk result (λ o. MatchOption o (records default_config text.now ≡ [])
-            (λ h. (rest : List (List (List ℕ))) × (records default_config text.now ≡ names_in h ∷ rest))) }
+    pub fn of(
+        alloc: Global,
+        text: &[u8],
+        delimiter: Delimiter,
+    ) -> Result<Option<Header>, AllocError>
+        ensures { IfOk result (λ o. MatchOption o (records (config_of delimiter) text.now ≡ [])
+            (λ h. (rest : List (List (List ℕ))) × (records (config_of delimiter) text.now ≡ names_in h ∷ rest))) }
     {
         if starts_with_bom(text) {
             let marked = with_mark(alloc, text)?;
-            return Header::of_unmarked(alloc, marked.as_slice());
+            return Header::of_unmarked(alloc, marked.as_slice(), delimiter);
         }
-        Header::of_unmarked(alloc, text)
+        Header::of_unmarked(alloc, text, delimiter)
     }
 
     /// The names in the header, from left to right.
@@ -115,9 +126,10 @@ impl Header {
         text: &[u8],
         is_first: bool,
         types: &[ColumnType],
-        nulls: &[&str],
+        format: &InputFormat<'_>,
     ) -> Result<Table, ReadRefused>
-        ensures { IsReading (null_texts nulls.now) types.now (names_in self.now) (piece_records is_first text.now) result }
+        ensures { IsReading (null_texts format.now.nulls.now) types.now (names_in self.now)
+            (piece_records format.now.delimiter is_first text.now) result }
     {
         if starts_with_bom(text) {
             let Ok(marked) = with_mark(alloc, text) else {
@@ -129,9 +141,9 @@ impl Header {
                 is_first,
                 &self.record,
                 types,
-                nulls,
+                format,
             );
         }
-        read_part(alloc, text, is_first, &self.record, types, nulls)
+        read_part(alloc, text, is_first, &self.record, types, format)
     }
 }

@@ -37,42 +37,43 @@ fn quoted(place: ReaderPlace) -> ReaderPlace
 }
 
 // The place after bytes without a quote, of which this is the last.
-fn plain(place: ReaderPlace, byte: u8) -> ReaderPlace
-    ensures { result ≡ after_run place byte }
+fn plain(place: ReaderPlace, byte: u8, delimiter: u8) -> ReaderPlace
+    ensures { result ≡ after_run delimiter place byte }
 {
     if place == ReaderPlace::Open {
         return ReaderPlace::Open;
     }
-    if byte == b',' || byte == b'\r' || byte == b'\n' {
+    if byte == delimiter || byte == b'\r' || byte == b'\n' {
         return ReaderPlace::Fresh;
     }
     ReaderPlace::Inside
 }
 
 // The place after more bytes, of which none is a quote.
-fn run(place: ReaderPlace, text: &[u8], from: usize, to: usize) -> ReaderPlace
+fn run(place: ReaderPlace, text: &[u8], from: usize, to: usize, delimiter: u8) -> ReaderPlace
     requires order { from ≤ to }
     requires within { to ≤ length text.now }
     requires plain { (i : ℕ) → from ≤ i → i < to → (slice_index text.now i == 34) ≡ false }
-    ensures { (p : ReaderPlace) → place ≡ place_after p (take from text.now) → result ≡ place_after p (take to text.now) }
+    ensures { (p : ReaderPlace) → place ≡ place_after delimiter p (take from text.now)
+        → result ≡ place_after delimiter p (take to text.now) }
 {
     if from == to {
         return place;
     }
-    plain(place, text[to - 1])
+    plain(place, text[to - 1], delimiter)
 }
 
-/// The place after a text that begins at this place.
-pub(crate) fn scan(start: ReaderPlace, text: &[u8]) -> ReaderPlace
-    ensures { result ≡ place_after start text.now }
+/// The place after a text that begins at this place. The delimiter is given by its byte.
+pub(crate) fn scan(start: ReaderPlace, text: &[u8], delimiter: u8) -> ReaderPlace
+    ensures { result ≡ place_after delimiter start text.now }
 {
     let mut place = start;
     let mut at = 0usize;
     for _turn in 0..text.len() {
         match memchr(b'"', &text[at..]) {
-            None => return run(place, text, at, text.len()),
+            None => return run(place, text, at, text.len(), delimiter),
             Some(k) => {
-                place = quoted(run(place, text, at, at + k));
+                place = quoted(run(place, text, at, at + k, delimiter));
                 at += k + 1;
             }
         }

@@ -2,15 +2,17 @@
 
 ghost use Rattle.std.specs.Prelude.{◌≡◌, ◌<◌, ◌≤◌, ◌++◌, ◌-◌, List, ℕ, [], map, length, slice_index_or, OnOk, IfOk};
 ghost use Rattle.std.specs.List.{concat};
-ghost use Rattle.csv.specs.Writing.{default_writer, row_text};
+ghost use Rattle.csv.specs.Writing.{row_text};
 ghost use Rattle.rj_csv_io.specs.Blocks.{Holds};
-ghost use Rattle.rj_csv_io.specs.Shown.{range_text, shown};
+ghost use Rattle.rj_csv_io.specs.Shown.{range_text, shown, writer_of};
 ghost use Rattle.rj_csv_io.specs.Written.{HasWritten};
 
 use crate::block::{BLOCK_ROWS, RowBlock, next_block, no_rows};
+use crate::format::OutputFormat;
 use crate::text::{close_text, end_record, open_text, write_cell, write_field};
 use csv::Writer;
 use rj_columns::RowSource;
+use rj_strict::Delimiter;
 use std::alloc::{AllocError, Global};
 
 /// The most bytes of room that a text reserves before it has grown to them.
@@ -26,8 +28,8 @@ const LEAST_SAMPLED: u64 = 64 * BLOCK_ROWS;
 
 // Writes the record of the names.
 fn write_header(writer: &mut Writer<Vec<u8>>, header: &[&str]) -> Result<(), AllocError>
-    ensures { (text : List ℕ) → HasWritten writer.old text []
-        → OnOk result (HasWritten writer.new (text ++ row_text default_writer (map (λ n. n.now) header.now)) []) }
+    ensures { (d : ℕ) (text : List ℕ) → HasWritten d writer.old text []
+        → OnOk result (HasWritten d writer.new (text ++ row_text (writer_of d) (map (λ n. n.now) header.now)) []) }
 {
     for i in 0..header.len() {
         write_field(writer, header[i].as_bytes())?;
@@ -36,11 +38,15 @@ fn write_header(writer: &mut Writer<Vec<u8>>, header: &[&str]) -> Result<(), All
     Ok(())
 }
 
-/// The text of a header.
-pub(crate) fn text_of_header(alloc: Global, header: &[&str]) -> Result<Vec<u8>, AllocError>
-    ensures { IfOk result (λ v. v.items ≡ row_text default_writer (map (λ n. n.now) header.now)) }
+/// The text of a header, with this delimiter.
+pub(crate) fn text_of_header(
+    alloc: Global,
+    header: &[&str],
+    delimiter: Delimiter,
+) -> Result<Vec<u8>, AllocError>
+    ensures { IfOk result (λ v. v.items ≡ row_text (writer_of delimiter) (map (λ n. n.now) header.now)) }
 {
-    let mut writer = open_text(Vec::new(alloc));
+    let mut writer = open_text(Vec::new(alloc), delimiter);
     write_header(&mut writer, header)?;
     close_text(writer)
 }
@@ -56,8 +62,8 @@ fn write_row<S: RowSource>(
     requires holds { Holds (S.contents source.now) (S.width source.now) block.now }
     requires from { block.now.from ≤ row }
     requires to { row < block.now.to }
-    ensures { (text : List ℕ) → HasWritten writer.old text []
-        → OnOk result (HasWritten writer.new (text ++ row_text default_writer (map (shown null.now) (slice_index_or (S.contents source.now) row []))) []) }
+    ensures { (d : ℕ) (text : List ℕ) → HasWritten d writer.old text []
+        → OnOk result (HasWritten d writer.new (text ++ row_text (writer_of d) (map (shown null.now) (slice_index_or (S.contents source.now) row []))) []) }
 {
     let step = (block.to - block.from) as usize;
     let at = (row - block.from) as usize;
@@ -78,8 +84,8 @@ fn write_block<S: RowSource>(
     null: &str,
 ) -> Result<(), AllocError>
     requires { Holds (S.contents source.now) (S.width source.now) block.now }
-    ensures { (text : List ℕ) → HasWritten writer.old text []
-        → OnOk result (HasWritten writer.new (text ++ range_text null.now (S.contents source.now) block.now.from block.now.to) []) }
+    ensures { (d : ℕ) (text : List ℕ) → HasWritten d writer.old text []
+        → OnOk result (HasWritten d writer.new (text ++ range_text d null.now (S.contents source.now) block.now.from block.now.to) []) }
 {
     for row in block.from..block.to {
         write_row(writer, block, source, row, null)?;
@@ -94,18 +100,18 @@ fn add_blocks<S: RowSource>(
     source: &S,
     from: u64,
     to: u64,
-    null: &str,
+    format: &OutputFormat<'_>,
 ) -> Result<Vec<u8>, AllocError>
     requires order { from ≤ to }
     requires within { to ≤ length (S.contents source.now) }
-    ensures { IfOk result (λ v. v.items ≡ text.items ++ range_text null.now (S.contents source.now) from to) }
+    ensures { IfOk result (λ v. v.items ≡ text.items ++ range_text format.now.delimiter format.now.null.now (S.contents source.now) from to) }
 {
-    let mut writer = open_text(text);
+    let mut writer = open_text(text, format.delimiter);
     let mut block = no_rows(alloc);
     let mut row = from;
     while row < to {
         next_block(&mut block, source, row, to)?;
-        write_block(&mut writer, &block, source, null)?;
+        write_block(&mut writer, &block, source, format.null)?;
         row = block.to;
     }
     close_text(writer)
@@ -113,7 +119,13 @@ fn add_blocks<S: RowSource>(
 
 // About how many bytes the records of rows take, estimated from a block amid them. The answer is 0
 // for few rows, and when memory runs out for the block.
-fn likely_room<S: RowSource>(alloc: Global, source: &S, from: u64, to: u64, null: &str) -> usize
+fn likely_room<S: RowSource>(
+    alloc: Global,
+    source: &S,
+    from: u64,
+    to: u64,
+    format: &OutputFormat<'_>,
+) -> usize
     requires order { from ≤ to }
     requires within { to ≤ length (S.contents source.now) }
 {
@@ -123,7 +135,7 @@ fn likely_room<S: RowSource>(alloc: Global, source: &S, from: u64, to: u64, null
     }
     let middle = from + rows / 2;
     let end = middle + BLOCK_ROWS;
-    match add_blocks(alloc, Vec::new(alloc), source, middle, end, null) {
+    match add_blocks(alloc, Vec::new(alloc), source, middle, end, format) {
         Ok(sample) => {
             let likely = (sample.len() as u64 / BLOCK_ROWS + 1).saturating_mul(rows);
             likely.min(MOST_ROOM) as usize
@@ -139,16 +151,16 @@ pub(crate) fn add_range<S: RowSource>(
     source: &S,
     from: u64,
     to: u64,
-    null: &str,
+    format: &OutputFormat<'_>,
 ) -> Result<Vec<u8>, AllocError>
     requires order { from ≤ to }
     requires within { to ≤ length (S.contents source.now) }
-    ensures { IfOk result (λ v. v.items ≡ text.items ++ range_text null.now (S.contents source.now) from to) }
+    ensures { IfOk result (λ v. v.items ≡ text.items ++ range_text format.now.delimiter format.now.null.now (S.contents source.now) from to) }
 {
-    let room = likely_room(alloc, source, from, to, null);
+    let room = likely_room(alloc, source, from, to, format);
     // If this room can't be had, the text still grows as it has to.
     let _ = text.reserve(room);
-    add_blocks(alloc, text, source, from, to, null)
+    add_blocks(alloc, text, source, from, to, format)
 }
 
 /// The records of a source's rows from one to another, in consecutive texts of at most this many
@@ -158,17 +170,17 @@ pub(crate) fn texts_of_range<S: RowSource>(
     source: &S,
     from: u64,
     to: u64,
-    null: &str,
+    format: &OutputFormat<'_>,
 ) -> Result<Vec<Vec<u8>>, AllocError>
     requires order { from ≤ to }
     requires within { to ≤ length (S.contents source.now) }
-    ensures { IfOk result (λ v. concat (map (λ t. t.items) v.items) ≡ range_text null.now (S.contents source.now) from to) }
+    ensures { IfOk result (λ v. concat (map (λ t. t.items) v.items) ≡ range_text format.now.delimiter format.now.null.now (S.contents source.now) from to) }
 {
     let mut texts = Vec::new(alloc);
     let mut row = from;
     for _text in 0..(to - from).saturating_sub(1) / TEXT_ROWS + 1 {
         let end = row + (to - row).min(TEXT_ROWS);
-        let text = add_range(alloc, Vec::new(alloc), source, row, end, null)?;
+        let text = add_range(alloc, Vec::new(alloc), source, row, end, format)?;
         texts.push(text)?;
         row = end;
     }

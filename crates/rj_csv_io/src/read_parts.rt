@@ -7,6 +7,7 @@ ghost use Rattle.rj_csv_io.specs.Tables.{are_null_texts, read_of};
 ghost use Rattle.rj_csv_io.specs.Typed.{null_texts};
 
 use crate::cut::cut_text;
+use crate::format::InputFormat;
 use crate::header::begin_table;
 use crate::null_text::are_lawful_nulls;
 use crate::part::{header_of, moved_on, read_part};
@@ -28,13 +29,16 @@ fn tables_of_parts(
     texts: &[&[u8]],
     header: &ByteRecord,
     types: &[ColumnType],
-    nulls: &[&str],
+    format: &InputFormat<'_>,
 ) -> Result<Vec<Table>, ReadRefused>
     requires count { length parts.items ≡ length texts.now }
-    requires parts { AreReadings (null_texts nulls.now) types.now (fields_of header.now) (map (λ t. t.now) texts.now) parts.items }
+    requires parts { AreReadings format.now.delimiter (null_texts format.now.nulls.now) types.now (fields_of header.now)
+        (map (λ t. t.now) texts.now) parts.items }
     ensures count { IfOk result (λ v. length v.items ≡ length texts.now) }
-    ensures tables { IfOk result (λ v. AreTables (null_texts nulls.now) types.now (fields_of header.now) (under_header (map (λ t. t.now) texts.now)) v.items) }
-    ensures fault { IfErr result (λ e. IsReading (null_texts nulls.now) types.now (fields_of header.now) (under_header (map (λ t. t.now) texts.now)) (Err e)) }
+    ensures tables { IfOk result (λ v. AreTables (null_texts format.now.nulls.now) types.now (fields_of header.now)
+        (under_header format.now.delimiter (map (λ t. t.now) texts.now)) v.items) }
+    ensures fault { IfErr result (λ e. IsReading (null_texts format.now.nulls.now) types.now (fields_of header.now)
+        (under_header format.now.delimiter (map (λ t. t.now) texts.now)) (Err e)) }
 {
     let mut tables = Vec::new(alloc);
     let mut rows = 0u64;
@@ -64,21 +68,22 @@ fn read_texts<R: Threads + Sync>(
     texts: &[&[u8]],
     header: &ByteRecord,
     types: &[ColumnType],
-    nulls: &[&str],
+    format: &InputFormat<'_>,
 ) -> Result<Table, ReadRefused>
     requires { 0 < length texts.now }
-    ensures { IsReading (null_texts nulls.now) types.now (fields_of header.now) (under_header (map (λ t. t.now) texts.now)) result }
+    ensures { IsReading (null_texts format.now.nulls.now) types.now (fields_of header.now)
+        (under_header format.now.delimiter (map (λ t. t.now) texts.now)) result }
 {
     let read = thread::map_indices(
         rt,
         alloc,
         texts.len(),
-        &|i| read_part(alloc, texts[i], i == 0, header, types, nulls),
+        &|i| read_part(alloc, texts[i], i == 0, header, types, format),
     );
     let Ok(parts) = read else {
         return Err(ReadRefused::Memory);
     };
-    let tables = tables_of_parts(alloc, parts, texts, header, types, nulls)?;
+    let tables = tables_of_parts(alloc, parts, texts, header, types, format)?;
     match Table::concat(tables) {
         Ok(table) => Ok(table),
         Err(_) => Err(ReadRefused::Memory),
@@ -99,30 +104,31 @@ pub fn read_table_in_parts<R: Threads + Sync>(
     alloc: Global,
     bytes: &[u8],
     types: &[ColumnType],
-    nulls: &[&str],
+    format: &InputFormat<'_>,
     parts: usize,
 ) -> Result<Table, ReadRefused>
-    ensures table { IfOk result (λ t. read_of bytes.now types.now (null_texts nulls.now) ≡ Ok t) }
-    ensures fault { IfErr result (λ e. e ≢ ReadRefused.Memory → read_of bytes.now types.now (null_texts nulls.now) ≡ Err e) }
-    ensures lawful { OnOk result (IsTrue (are_null_texts (null_texts nulls.now))) }
+    ensures table { IfOk result (λ t. read_of format.now.delimiter bytes.now types.now (null_texts format.now.nulls.now) ≡ Ok t) }
+    ensures fault { IfErr result (λ e. e ≢ ReadRefused.Memory
+        → read_of format.now.delimiter bytes.now types.now (null_texts format.now.nulls.now) ≡ Err e) }
+    ensures lawful { OnOk result (IsTrue (are_null_texts (null_texts format.now.nulls.now))) }
 {
     let parts = parts.min(bytes.len() / LEAST_PART);
     if parts <= 1 {
-        return read_table(alloc, bytes, types, nulls);
+        return read_table(alloc, bytes, types, format);
     }
-    if !are_lawful_nulls(nulls) {
+    if !are_lawful_nulls(format.nulls) {
         return Err(ReadRefused::BadNull);
     }
-    let Ok(texts) = cut_text(alloc, bytes, parts) else {
+    let Ok(texts) = cut_text(alloc, bytes, parts, format.delimiter) else {
         return Err(ReadRefused::Memory);
     };
     let texts = texts.as_slice();
     if texts.is_empty() {
-        return read_table(alloc, bytes, types, nulls);
+        return read_table(alloc, bytes, types, format);
     }
-    let Some(header) = header_of(alloc, texts[0])? else {
-        return read_table(alloc, bytes, types, nulls);
+    let Some(header) = header_of(alloc, texts[0], format.delimiter)? else {
+        return read_table(alloc, bytes, types, format);
     };
     begin_table(alloc, &header, types, 0)?;
-    read_texts(rt, alloc, texts, &header, types, nulls)
+    read_texts(rt, alloc, texts, &header, types, format)
 }

@@ -1,28 +1,31 @@
 //! The text of records, made in memory by the writer of `csv`.
 
 ghost use Rattle.std.specs.Prelude.{◌≡◌, ◌<◌, ◌+◌, ◌++◌, ◌∷◌, ◌^◌, ◌-◌, List, ℕ, [], length, OnOk, IfOk};
-ghost use Rattle.csv.specs.Writing.{default_writer, row_text};
+ghost use Rattle.csv.specs.Writing.{row_text};
 ghost use Rattle.rj_columns.specs.Contents.{content_of};
-ghost use Rattle.rj_csv_io.specs.Shown.{shown};
+ghost use Rattle.rj_csv_io.specs.Shown.{shown, writer_of};
 ghost use Rattle.rj_csv_io.specs.Written.{HasWritten};
 
 use csv::{Writer, WriterBuilder};
 use itoa::Buffer;
 use rj_columns::Cell;
 use rj_decimal::DecimalBuffer;
+use rj_strict::Delimiter;
 use std::alloc::AllocError;
 
-/// A writer after a text.
-pub(crate) fn open_text(text: Vec<u8>) -> Writer<Vec<u8>>
-    ensures { HasWritten result text.items [] }
+/// A writer after a text, with this delimiter.
+pub(crate) fn open_text(text: Vec<u8>, delimiter: Delimiter) -> Writer<Vec<u8>>
+    ensures { HasWritten delimiter result text.items [] }
 {
-    WriterBuilder::new().from_writer(text)
+    WriterBuilder::new()
+        .delimiter(delimiter.byte())
+        .from_writer(text)
 }
 
 /// Writes one more field of a record.
 pub(crate) fn write_field(writer: &mut Writer<Vec<u8>>, field: &[u8]) -> Result<(), AllocError>
-    ensures { (text : List ℕ) → (fields : List (List ℕ)) → length fields < 2 ^ 64 - 1 → HasWritten writer.old text fields
-        → OnOk result (HasWritten writer.new text (fields ++ field.now ∷ [])) }
+    ensures { (d : ℕ) (text : List ℕ) → (fields : List (List ℕ)) → length fields < 2 ^ 64 - 1 → HasWritten d writer.old text fields
+        → OnOk result (HasWritten d writer.new text (fields ++ field.now ∷ [])) }
 {
     if writer.write_field(field).is_err() {
         return Err(AllocError);
@@ -36,8 +39,8 @@ pub(crate) fn write_cell(
     cell: Cell<'_>,
     null: &str,
 ) -> Result<(), AllocError>
-    ensures { (text : List ℕ) → (fields : List (List ℕ)) → length fields < 2 ^ 64 - 1 → HasWritten writer.old text fields
-        → OnOk result (HasWritten writer.new text (fields ++ shown null.now (content_of cell.entry) ∷ [])) }
+    ensures { (d : ℕ) (text : List ℕ) → (fields : List (List ℕ)) → length fields < 2 ^ 64 - 1 → HasWritten d writer.old text fields
+        → OnOk result (HasWritten d writer.new text (fields ++ shown null.now (content_of cell.entry) ∷ [])) }
 {
     match cell {
         Cell::Null => write_field(writer, null.as_bytes()),
@@ -55,8 +58,8 @@ pub(crate) fn write_cell(
 
 /// Ends a record.
 pub(crate) fn end_record(writer: &mut Writer<Vec<u8>>) -> Result<(), AllocError>
-    ensures { (text : List ℕ) → (fields : List (List ℕ)) → HasWritten writer.old text fields
-        → OnOk result (HasWritten writer.new (text ++ row_text default_writer fields) []) }
+    ensures { (d : ℕ) (text : List ℕ) → (fields : List (List ℕ)) → HasWritten d writer.old text fields
+        → OnOk result (HasWritten d writer.new (text ++ row_text (writer_of d) fields) []) }
 {
     if writer.end_record().is_err() {
         return Err(AllocError);
@@ -66,7 +69,7 @@ pub(crate) fn end_record(writer: &mut Writer<Vec<u8>>) -> Result<(), AllocError>
 
 /// The text that was written.
 pub(crate) fn close_text(writer: Writer<Vec<u8>>) -> Result<Vec<u8>, AllocError>
-    ensures { (text : List ℕ) → HasWritten writer text [] → IfOk result (λ v. v.items ≡ text) }
+    ensures { (d : ℕ) (text : List ℕ) → HasWritten d writer text [] → IfOk result (λ v. v.items ≡ text) }
 {
     match writer.into_inner() {
         Ok(text) => Ok(text),

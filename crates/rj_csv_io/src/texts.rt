@@ -3,13 +3,15 @@
 ghost use Rattle.std.specs.Prelude.{◌≡◌, ◌≢◌, ◌<◌, ◌+◌, ◌++◌, ◌-◌, ◌^◌, Err, map, IfOk, OnOk, OnErr};
 ghost use Rattle.std.specs.Io.KnownBytes.{Appends};
 ghost use Rattle.std.specs.List.{concat};
-ghost use Rattle.csv.specs.Writing.{default_writer, row_text};
-ghost use Rattle.rj_csv_io.specs.Shown.{rows_text, shown};
+ghost use Rattle.csv.specs.Writing.{row_text};
+ghost use Rattle.rj_csv_io.specs.Shown.{rows_text, shown, writer_of};
 
+use crate::format::OutputFormat;
 use crate::output::{Failed, Output};
 use crate::range::{text_of_header, texts_of_range};
 use crate::write::WriteRefused;
 use rj_columns::RowSource;
+use rj_strict::Delimiter;
 use std::alloc::{AllocError, Global};
 
 /// The records of a source's rows, without a header, as [`write_rows`] writes them, in consecutive
@@ -23,11 +25,12 @@ use std::alloc::{AllocError, Global};
 pub fn texts_of_rows<S: RowSource>(
     alloc: Global,
     source: &S,
-    null: &str,
+    format: &OutputFormat<'_>,
 ) -> Result<Vec<Vec<u8>>, AllocError>
-    ensures { IfOk result (λ v. concat (map (λ t. t.items) v.items) ≡ rows_text (map (map (shown null.now)) (S.contents source.now))) }
+    ensures { IfOk result (λ v. concat (map (λ t. t.items) v.items)
+        ≡ rows_text format.now.delimiter (map (map (shown format.now.null.now)) (S.contents source.now))) }
 {
-    texts_of_range(alloc, source, 0, source.rows(), null)
+    texts_of_range(alloc, source, 0, source.rows(), format)
 }
 
 // Puts texts one after the other, up to the first that fails.
@@ -54,7 +57,8 @@ fn put_under<O: Output>(output: &mut O, header: &[u8], texts: &[Vec<u8>]) -> Res
     put_all(output, texts)
 }
 
-/// Writes a header and then texts of rows as [`texts_of_rows`] makes them, one after the other.
+/// Writes a header with this delimiter and then texts of rows as [`texts_of_rows`] makes them, one
+/// after the other.
 ///
 /// The header's text is made first. Then it and each of the texts are put in order, each by a call
 /// of the device, up to the first call that fails.
@@ -68,15 +72,16 @@ pub fn write_texts<O: Output>(
     output: &mut O,
     header: &[&str],
     texts: &[Vec<u8>],
+    delimiter: Delimiter,
 ) -> Result<(), WriteRefused>
     requires failures { O.count output.old < 2 ^ 64 - 1 }
     ensures ok { OnOk result (Appends (O.told output.old) (O.told output.new)
-        (row_text default_writer (map (λ n. n.now) header.now) ++ concat (map (λ t. t.items) texts.now))) }
+        (row_text (writer_of delimiter) (map (λ n. n.now) header.now) ++ concat (map (λ t. t.items) texts.now))) }
     ensures memory { result ≡ Err WriteRefused.Memory → output.new ≡ output.old }
     ensures device { result ≡ Err WriteRefused.WriteDevice → O.count output.new ≡ O.count output.old + 1 }
     ensures kept { result ≢ Err WriteRefused.WriteDevice → O.count output.new ≡ O.count output.old }
 {
-    let Ok(text) = text_of_header(alloc, header) else {
+    let Ok(text) = text_of_header(alloc, header, delimiter) else {
         return Err(WriteRefused::Memory);
     };
     match put_under(output, text.as_slice(), texts) {

@@ -5,6 +5,7 @@ ghost use Rattle.std.specs.Io.KnownBytes.{Appends};
 ghost use Rattle.rj_csv_io.specs.Shown.{table_text};
 ghost use Rattle.rj_csv_io.specs.Tables.{is_null_text};
 
+use crate::format::OutputFormat;
 use crate::output::{Failed, Output};
 use crate::range::{add_range, text_of_header};
 use rj_columns::RowSource;
@@ -24,17 +25,17 @@ fn text_of_rows<S: RowSource>(
     alloc: Global,
     header: &[&str],
     source: &S,
-    null: &str,
+    format: &OutputFormat<'_>,
 ) -> Result<Vec<u8>, AllocError>
-    ensures { IfOk result (λ v. v.items ≡ table_text null.now (map (λ n. n.now) header.now) (S.contents source.now)) }
+    ensures { IfOk result (λ v. v.items ≡ table_text format.now.delimiter format.now.null.now (map (λ n. n.now) header.now) (S.contents source.now)) }
 {
-    let text = text_of_header(alloc, header)?;
-    add_range(alloc, text, source, 0, source.rows(), null)
+    let text = text_of_header(alloc, header, format.delimiter)?;
+    add_range(alloc, text, source, 0, source.rows(), format)
 }
 
-/// Writes a header and the rows of a source as CSV (RFC 4180). A field with a comma, a double
-/// quote, CR or LF is in double quotes. NULL is the NULL text. A decimal has exactly its scale's
-/// digits after the point. Each record ends with LF.
+/// Writes a header and the rows of a source as CSV (RFC 4180, with the format's delimiter). A field
+/// with the delimiter, a double quote, CR or LF is in double quotes. NULL is the NULL text. A
+/// decimal has exactly its scale's digits after the point. Each record ends with LF.
 ///
 /// The whole text is made before it is put, by one call of the device.
 ///
@@ -47,18 +48,18 @@ pub fn write_rows<O: Output, S: RowSource>(
     output: &mut O,
     header: &[&str],
     source: &S,
-    null: &str,
+    format: &OutputFormat<'_>,
 ) -> Result<(), WriteRefused>
     requires header { length header.now ≡ S.width source.now }
-    requires null { IsTrue (is_null_text null.now) }
+    requires null { IsTrue (is_null_text format.now.null.now) }
     requires failures { O.count output.old < 2 ^ 64 - 1 }
     ensures ok { OnOk result (Appends (O.told output.old) (O.told output.new)
-        (table_text null.now (map (λ n. n.now) header.now) (S.contents source.now))) }
+        (table_text format.now.delimiter format.now.null.now (map (λ n. n.now) header.now) (S.contents source.now))) }
     ensures memory { result ≡ Err WriteRefused.Memory → output.new ≡ output.old }
     ensures device { result ≡ Err WriteRefused.WriteDevice → O.count output.new ≡ O.count output.old + 1 }
     ensures kept { result ≢ Err WriteRefused.WriteDevice → O.count output.new ≡ O.count output.old }
 {
-    let Ok(text) = text_of_rows(alloc, header, source, null) else {
+    let Ok(text) = text_of_rows(alloc, header, source, format) else {
         return Err(WriteRefused::Memory);
     };
     match output.put(text.as_slice()) {

@@ -7,6 +7,7 @@ ghost use Rattle.rj_csv_io.specs.RowParts.{part_start, IsPartText, ArePartTexts}
 ghost use Rattle.rj_csv_io.specs.Shown.{range_text, rows_text, shown, table_text};
 ghost use Rattle.rj_csv_io.specs.Tables.{is_null_text};
 
+use crate::format::OutputFormat;
 use crate::output::Output;
 use crate::range::texts_of_range;
 use crate::texts::write_texts;
@@ -41,12 +42,12 @@ fn first_row(rows: u64, parts: u64, part: u64) -> u64
 fn part_texts<S: RowSource>(
     alloc: Global,
     source: &S,
-    null: &str,
+    format: &OutputFormat<'_>,
     parts: usize,
     part: usize,
 ) -> Result<Vec<Vec<u8>>, AllocError>
     requires { 0 < parts }
-    ensures { IsPartText null.now (S.contents source.now) parts part result }
+    ensures { IsPartText format.now.delimiter format.now.null.now (S.contents source.now) parts part result }
 {
     if part >= parts {
         return Ok(Vec::new(alloc));
@@ -54,7 +55,7 @@ fn part_texts<S: RowSource>(
     let rows = source.rows();
     let from = first_row(rows, parts as u64, part as u64);
     let to = first_row(rows, parts as u64, part as u64 + 1);
-    texts_of_range(alloc, source, from, to, null)
+    texts_of_range(alloc, source, from, to, format)
 }
 
 // The texts of all parts, if each was made.
@@ -62,13 +63,14 @@ fn all_made<S: RowSource>(
     alloc: Global,
     mut made: Vec<Result<Vec<Vec<u8>>, AllocError>>,
     source: &S,
-    null: &str,
+    format: &OutputFormat<'_>,
     parts: usize,
 ) -> Result<Vec<Vec<u8>>, AllocError>
     requires some { 0 < parts }
     requires enough { parts ≤ length made.items }
-    requires parts { ArePartTexts null.now (S.contents source.now) parts made.items }
-    ensures { IfOk result (λ v. concat (map (λ t. t.items) v.items) ≡ range_text null.now (S.contents source.now) 0 (length (S.contents source.now))) }
+    requires parts { ArePartTexts format.now.delimiter format.now.null.now (S.contents source.now) parts made.items }
+    ensures { IfOk result (λ v. concat (map (λ t. t.items) v.items)
+        ≡ range_text format.now.delimiter format.now.null.now (S.contents source.now) 0 (length (S.contents source.now))) }
 {
     let mut texts = Vec::new(alloc);
     for _part in 0..made.len() {
@@ -96,19 +98,20 @@ fn texts_of_parts<R: Threads + Sync, S: RowSource + Sync>(
     rt: &R,
     alloc: Global,
     source: &S,
-    null: &str,
+    format: &OutputFormat<'_>,
     parts: usize,
 ) -> Result<Vec<Vec<u8>>, AllocError>
     requires { 0 < parts }
-    ensures { IfOk result (λ v. concat (map (λ t. t.items) v.items) ≡ rows_text (map (map (shown null.now)) (S.contents source.now))) }
+    ensures { IfOk result (λ v. concat (map (λ t. t.items) v.items)
+        ≡ rows_text format.now.delimiter (map (map (shown format.now.null.now)) (S.contents source.now))) }
 {
     let made = thread::map_indices(
         rt,
         alloc,
         job_count(source.rows(), parts),
-        &|part| part_texts(alloc, source, null, parts, part),
+        &|part| part_texts(alloc, source, format, parts, part),
     )?;
-    all_made(alloc, made, source, null, parts)
+    all_made(alloc, made, source, format, parts)
 }
 
 /// Writes a header and the rows of a source as `write_rows` does. Up to `parts` threads make the
@@ -128,21 +131,21 @@ pub fn write_rows_in_parts<R: Threads + Sync, O: Output, S: RowSource + Sync>(
     output: &mut O,
     header: &[&str],
     source: &S,
-    null: &str,
+    format: &OutputFormat<'_>,
     parts: usize,
 ) -> Result<(), WriteRefused>
     requires header { length header.now ≡ S.width source.now }
-    requires null { IsTrue (is_null_text null.now) }
+    requires null { IsTrue (is_null_text format.now.null.now) }
     requires failures { O.count output.old < 2 ^ 64 - 1 }
     ensures ok { OnOk result (Appends (O.told output.old) (O.told output.new)
-        (table_text null.now (map (λ n. n.now) header.now) (S.contents source.now))) }
+        (table_text format.now.delimiter format.now.null.now (map (λ n. n.now) header.now) (S.contents source.now))) }
     ensures memory { result ≡ Err WriteRefused.Memory → output.new ≡ output.old }
     ensures device { result ≡ Err WriteRefused.WriteDevice → O.count output.new ≡ O.count output.old + 1 }
     ensures kept { result ≢ Err WriteRefused.WriteDevice → O.count output.new ≡ O.count output.old }
 {
     let parts = part_count(source.rows(), parts);
-    let Ok(texts) = texts_of_parts(rt, alloc, source, null, parts) else {
+    let Ok(texts) = texts_of_parts(rt, alloc, source, format, parts) else {
         return Err(WriteRefused::Memory);
     };
-    write_texts(alloc, output, header, texts.as_slice())
+    write_texts(alloc, output, header, texts.as_slice(), format.delimiter)
 }

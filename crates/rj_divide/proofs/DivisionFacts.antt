@@ -7,9 +7,10 @@ use Rattle.std.proofs.lemmas.List.{length-append, map-append}
 use Rattle.std.proofs.lemmas.List.Concat.{flat_map-cons}
 use Rattle.std.proofs.lemmas.List.Elements.{filter-append}
 use Rattle.std.specs.List.{flat_map}
-use Rattle.csv.specs.Writing.{default_writer, row_text}
+use Rattle.csv.specs.Writing.{row_text}
 use Rattle.rj_columns.specs.Contents.{Content}
-use Rattle.rj_csv_io.specs.Shown.{rows_text, shown}
+use Rattle.rj_csv_io.specs.Shown.{rows_text, shown, writer_of}
+use Rattle.rj_strict.specs.Grammar.{comma}
 use Rattle.rj_divide.specs.Divisions.{Dividing, IsDivided, after_rows, counts_after, part_text, written_null}
 use Rattle.rj_divide.specs.declared.refused.DivideRefused.{DivideRefused}
 use Rattle.rj_divide.specs.declared.refused.DivideRefused.TheVariants as refused
@@ -18,10 +19,10 @@ use Rattle.rj_divide.specs.Placed.{part_rows, placed, with_place}
 use Rattle.rj_divide.proofs.ReadingFacts.{rows-append}
 
 -- the text of records has their texts one after another
-rows_text-flat : (xs : List (List (List ℕ))) → rows_text xs ≡ flat_map (row_text default_writer) xs
+rows_text-flat : (xs : List (List (List ℕ))) → rows_text comma xs ≡ flat_map (row_text (writer_of comma)) xs
 unfolding rows_text
 rows_text-flat [] = refl
-rows_text-flat (x ∷ xs) = ap (λ t. row_text default_writer x ++ t) (rows_text-flat xs) ∙ sym (flat_map-cons (row_text default_writer) x xs)
+rows_text-flat (x ∷ xs) = ap (λ t. row_text (writer_of comma) x ++ t) (rows_text-flat xs) ∙ sym (flat_map-cons (row_text (writer_of comma)) x xs)
 
 placed-append : (first : ℕ) (a b : List (List Content)) → placed first (a ++ b) ≡ placed first a ++ placed (first + length a) b
 placed-append first [] b = ap (λ k. placed k b) (sym (add-zero first))
@@ -47,14 +48,14 @@ module _ (part : List Content → ℕ) (p : ℕ) where
   part_text-append null first a b =
       let A = part_rows part p first a in let B = part_rows part p (first + length a) b in
       let X = map (map (shown null)) A in let Y = map (map (shown null)) B in
-      let texts : flat_map (row_text default_writer) (X ++ Y) ≡ rows_text X ++ rows_text Y =
-      rw (rows_text-flat X, rows_text-flat Y) (flat_map-append (row_text default_writer) X Y) in
-      ap (λ l. rows_text (map (map (shown null)) l)) (part_rows-append first a b)
-      ∙ (ap rows_text (map-append (map (shown null)) A B) ∙ (rows_text-flat (X ++ Y) ∙ texts))
+      let texts : flat_map (row_text (writer_of comma)) (X ++ Y) ≡ rows_text comma X ++ rows_text comma Y =
+      rw (rows_text-flat X, rows_text-flat Y) (flat_map-append (row_text (writer_of comma)) X Y) in
+      ap (λ l. rows_text comma (map (map (shown null)) l)) (part_rows-append first a b)
+      ∙ (ap (rows_text comma) (map-append (map (shown null)) A B) ∙ (rows_text-flat (X ++ Y) ∙ texts))
 
   part_text-none : (null : List ℕ) (first : ℕ) → part_text null part p first [] ≡ []
   unfolding rows_text
-  part_text-none null first = ap (λ l. rows_text (map (map (shown null)) l)) (part_rows-none first)
+  part_text-none null first = ap (λ l. rows_text comma (map (map (shown null)) l)) (part_rows-none first)
 
 module _ (d : Dividing) where
   -- nothing is divided yet

@@ -6,11 +6,13 @@ use Rattle.std.proofs.lemmas.Bool.{cases_lt}
 use Rattle.std.proofs.lemmas.List.{append-nil, drop-drop, length-append, take-append-drop}
 use Rattle.std.proofs.lemmas.List.Elements.{All-push}
 use Rattle.std.proofs.Math.Seq.{take-add, take-append_seam}
-use Rattle.csv.specs.Reading.{default_config, records}
+use Rattle.csv.specs.Reading.{records}
 use Rattle.csv.specs.declared.parser.State.TheVariants as st
 use Rattle.rj_csv_io.specs.Cuts.{state_after}
 use Rattle.rj_csv_io.specs.Pieces.{IsLineEnd, piece_records}
 use Rattle.rj_csv_io.proofs.CutFacts.{after-append, records-split}
+use Rattle.rj_strict.specs.Grammar.{comma}
+use Rattle.rj_strict.specs.Reading.{config_of}
 use Rattle.rj_divide.specs.Ranges.{AreCuts, AreShort, EndIn, IsCutPlace, IsCutting, IsReadFor, IsShort, RiseBy, RiseTo, range_records}
 use Rattle.rj_divide.specs.Taken.{IsTaken}
 use Rattle.rj_divide.specs.Underway.{SplitsAs}
@@ -50,10 +52,10 @@ some-last : (a b : List (List (List ℕ))) → b ≢ [] → a ++ b ≢ []
 some-last [] b h = h
 some-last (x ∷ a) b h = λ e. cc
 
-piece-split : (is_first : Bool) (a b : List ℕ) → state_after st.StartRecord a ≡ st.StartRecord → (is_first ≡ true → records default_config a ≢ [])
-    → piece_records is_first (a ++ b) ≡ piece_records is_first a ++ piece_records false b
-piece-split true a b ends some = ap (λ (r : List (List (List ℕ))). drop 1 r) (records-split a b ends) ∙ some-front (records default_config a) (records default_config b) (some refl)
-piece-split false a b ends some = records-split a b ends
+piece-split : (is_first : Bool) (a b : List ℕ) → state_after comma st.StartRecord a ≡ st.StartRecord → (is_first ≡ true → records (config_of comma) a ≢ [])
+    → piece_records comma is_first (a ++ b) ≡ piece_records comma is_first a ++ piece_records comma false b
+piece-split true a b ends some = ap (λ (r : List (List (List ℕ))). drop 1 r) (records-split comma a b ends) ∙ some-front (records (config_of comma) a) (records (config_of comma) b) (some refl)
+piece-split false a b ends some = records-split comma a b ends
 
 -- the header was seen
 header-seen : (is_first ahead : Bool) (piece : List (List (List ℕ))) → SplitsAs is_first piece ahead
@@ -82,21 +84,21 @@ behind text from cut h =
     let e : from + (cut - from) ≡ cut = omega (arith, h) in
     sym (take-append-drop (cut - from) (drop from text)) ∙ ap (λ l. slice_range text from cut ++ l) (drop-drop (cut - from) from text ∙ ap (λ n. drop n text) e)
 
-none-taken : (text : List ℕ) → state_after st.StartRecord (take 0 text) ≡ st.StartRecord
+none-taken : (text : List ℕ) → state_after comma st.StartRecord (take 0 text) ≡ st.StartRecord
 unfolding state_after
 none-taken text = refl
 
 -- behind a record no header is ahead
-records-on : (text : List ℕ) (at to : ℕ) → at ≤ to → state_after st.StartRecord (take at text) ≡ st.StartRecord → records default_config (take at text) ≢ []
-    → records default_config (take to text) ≢ []
+records-on : (text : List ℕ) (at to : ℕ) → at ≤ to → state_after comma st.StartRecord (take at text) ≡ st.StartRecord → records (config_of comma) (take at text) ≢ []
+    → records (config_of comma) (take to text) ≢ []
 records-on text at to h ends some =
     let slice = slice_range text at to in
-    subst (λ r. r ≢ []) (sym (ap (records default_config) (between text at to h) ∙ records-split (take at text) slice ends))
-    (some-both (records default_config (take at text)) (records default_config slice) some)
+    subst (λ r. r ≢ []) (sym (ap (records (config_of comma)) (between text at to h) ∙ records-split comma (take at text) slice ends))
+    (some-both (records (config_of comma) (take at text)) (records (config_of comma) slice) some)
 
 module _ (size block : ℕ) (text : List ℕ) where
-  ranges : (cuts : List ℕ) (from : ℕ) (is_first : Bool) → RiseBy size from cuts → state_after st.StartRecord (take from text) ≡ st.StartRecord
-      → (is_first ≡ true → from ≡ 0) → All (IsCutPlace text) cuts → piece_records is_first (drop from text) ≡ range_records is_first from cuts text
+  ranges : (cuts : List ℕ) (from : ℕ) (is_first : Bool) → RiseBy size from cuts → state_after comma st.StartRecord (take from text) ≡ st.StartRecord
+      → (is_first ≡ true → from ≡ 0) → All (IsCutPlace text) cuts → piece_records comma is_first (drop from text) ≡ range_records is_first from cuts text
   unfolding range_records RiseBy
   ranges [] from is_first rise ends start good = refl
   ranges (cut ∷ cuts) from is_first rise ends start good =
@@ -104,12 +106,12 @@ module _ (size block : ℕ) (text : List ℕ) where
       let here = good 0 0 (omega arith) in
       let part = between text from cut order in
       let slice = slice_range text from cut in
-      let clean : state_after st.StartRecord slice ≡ st.StartRecord =
-      ap (λ s. state_after s slice) (sym ends) ∙ (sym (after-append st.StartRecord (take from text) slice) ∙ (ap (state_after st.StartRecord) (sym part) ∙ here.line.ends)) in
-      let some : is_first ≡ true → records default_config slice ≢ [] = λ e r. here.header (ap (records default_config) (part ∙ ap (λ n. take n text ++ slice) (start e)) ∙ r) in
-      ap (piece_records is_first) (behind text from cut order)
+      let clean : state_after comma st.StartRecord slice ≡ st.StartRecord =
+      ap (λ s. state_after comma s slice) (sym ends) ∙ (sym (after-append comma st.StartRecord (take from text) slice) ∙ (ap (state_after comma st.StartRecord) (sym part) ∙ here.line.ends)) in
+      let some : is_first ≡ true → records (config_of comma) slice ≢ [] = λ e r. here.header (ap (records (config_of comma)) (part ∙ ap (λ n. take n text ++ slice) (start e)) ∙ r) in
+      ap (piece_records comma is_first) (behind text from cut order)
       ∙ (piece-split is_first slice (drop cut text) clean some
-      ∙ ap (λ l. piece_records is_first slice ++ l) (ranges cuts cut false rise.1 here.line.ends (λ e. absurd (cc)) (λ k d l. good (suc k) d (omega (arith, l)))))
+      ∙ ap (λ l. piece_records comma is_first slice ++ l) (ranges cuts cut false rise.1 here.line.ends (λ e. absurd (cc)) (λ k d l. good (suc k) d (omega (arith, l)))))
 
   -- places that rise and are ends of records cut the text
   are-cuts : (cuts : List ℕ) (last : ℕ) → RiseTo size 0 cuts last → All (IsCutPlace text) cuts → AreShort size block text 0 cuts → IsShort size block text last (length text)
@@ -150,19 +152,19 @@ module _ (size block : ℕ) (text : List ℕ) where
     order-all = order-now text old.bytes.items bytes before tells n u.front reads
 
     -- a range that ends among the bytes
-    short-now : IsReadFor block old.bytes.items bytes → (end : ℕ) → end ≤ length bytes → (end ≡ length bytes) ⊎ IsLineEnd bytes end → (next : ℕ) → next ≡ old.place + end → IsShort size block text old.last next
+    short-now : IsReadFor block old.bytes.items bytes → (end : ℕ) → end ≤ length bytes → (end ≡ length bytes) ⊎ IsLineEnd comma bytes end → (next : ℕ) → next ≡ old.place + end → IsShort size block text old.last next
     short-now r end within stops next is = λ at run far here each.
         let found = read-bound block old.bytes.items bytes r u.front.none end stops in
         let late = u.passed at far here in
         let more : found.0 < run = elim (cases_lt found.0 run) [ inl less ↦ less | inr few ↦ absurd (stuck found.0 found.1 found.2 run few each) ] in
         omega (arith, late, more, within, found.3, is)
       where
-        stuck : (plain : ℕ) → plain ≤ end → ((at : ℕ) → at ≤ plain → IsLineEnd bytes at → ⊥) → (run : ℕ) → run ≤ plain → EndIn text old.last next run → ⊥
+        stuck : (plain : ℕ) → plain ≤ end → ((at : ℕ) → at ≤ plain → IsLineEnd comma bytes at → ⊥) → (run : ℕ) → run ≤ plain → EndIn text old.last next run → ⊥
         stuck plain some none run few each =
             let found = each old.place u.behind (omega (arith, few, some, is)) in
             let k = found.0 - old.place in
             let at : found.0 ≡ length taken + k = omega (arith, found.1, u.place) in
-            let line : IsLineEnd (taken ++ (bytes ++ left)) (length taken + k) = subst (λ m. IsLineEnd (taken ++ (bytes ++ left)) m) at (subst (λ l. IsLineEnd l found.0) order-all found.3) in
+            let line : IsLineEnd comma (taken ++ (bytes ++ left)) (length taken + k) = subst (λ m. IsLineEnd comma (taken ++ (bytes ++ left)) m) at (subst (λ l. IsLineEnd comma l found.0) order-all found.3) in
             none k (omega (arith, found.2, few)) (line-in taken bytes left u.ends k (omega (arith, found.2, few, some, within)) (omega (arith, found.1)) line)
 
     -- the text was read to its end
@@ -178,8 +180,8 @@ module _ (size block : ℕ) (text : List ℕ) where
         let a = ap length order-all in let b = length-append taken (bytes ++ left) in let c = length-append bytes left in
         omega (arith, a, b, c, u.place, within, high)
 
-    module _ (end : ℕ) (within : end ≤ length bytes) (line : IsLineEnd bytes end) (rest : (at : ℕ) → end < at → at ≤ length bytes → IsLineEnd bytes at → ⊥) (ahead : Bool)
-        (law : SplitsAs old.is_first (records default_config (take end bytes)) ahead) where
+    module _ (end : ℕ) (within : end ≤ length bytes) (line : IsLineEnd comma bytes end) (rest : (at : ℕ) → end < at → at ≤ length bytes → IsLineEnd comma bytes at → ⊥) (ahead : Bool)
+        (law : SplitsAs old.is_first (records (config_of comma) (take end bytes)) ahead) where
       abbrev piece : List ℕ
       piece = take end bytes
 
@@ -189,21 +191,21 @@ module _ (size block : ℕ) (text : List ℕ) where
       size-on : length (taken ++ piece) ≡ old.place + end
       size-on = let a = length-append taken piece in let b = length-take-le end bytes within in omega (arith, a, b, u.place)
 
-      ends-on : state_after st.StartRecord (taken ++ piece) ≡ st.StartRecord
-      ends-on = after-append st.StartRecord taken piece ∙ (ap (λ s. state_after s piece) u.ends ∙ line.ends)
+      ends-on : state_after comma st.StartRecord (taken ++ piece) ≡ st.StartRecord
+      ends-on = after-append comma st.StartRecord taken piece ∙ (ap (λ s. state_after comma s piece) u.ends ∙ line.ends)
 
-      header-on : ahead ≡ false → records default_config (taken ++ piece) ≢ []
+      header-on : ahead ≡ false → records (config_of comma) (taken ++ piece) ≢ []
       header-on e = go old.is_first refl
         where
-          go : (b : Bool) → old.is_first ≡ b → records default_config (taken ++ piece) ≢ []
-          go false is = rw (records-split taken piece u.ends) (some-both (records default_config taken) (records default_config piece) (u.header is))
-          go true is = rw (records-split taken piece u.ends) (some-last (records default_config taken) (records default_config piece) (header-seen old.is_first ahead (records default_config piece) law e is))
+          go : (b : Bool) → old.is_first ≡ b → records (config_of comma) (taken ++ piece) ≢ []
+          go false is = rw (records-split comma taken piece u.ends) (some-both (records (config_of comma) taken) (records (config_of comma) piece) (u.header is))
+          go true is = rw (records-split comma taken piece u.ends) (some-last (records (config_of comma) taken) (records (config_of comma) piece) (header-seen old.is_first ahead (records (config_of comma) piece) law e is))
 
-      ahead-on : ahead ≡ true → records default_config (taken ++ piece) ≡ []
+      ahead-on : ahead ≡ true → records (config_of comma) (taken ++ piece) ≡ []
       ahead-on e =
-          let found = header-ahead old.is_first (records default_config piece) (subst (λ b. SplitsAs old.is_first (records default_config piece) b) e law) in
+          let found = header-ahead old.is_first (records (config_of comma) piece) (subst (λ b. SplitsAs old.is_first (records (config_of comma) piece) b) e law) in
           let a = u.ahead found.0 in
-          records-split taken piece u.ends ∙ ((λ i. a i ++ found.1 i))
+          records-split comma taken piece u.ends ∙ ((λ i. a i ++ found.1 i))
 
       front-on : (at : ℕ) → at ≡ old.place + end → take at text ≡ taken ++ piece
       front-on at is = (λ i. take ((is ∙ sym size-on) i) ((front (drop end bytes) refl).order i)) ∙ take-append_seam (taken ++ piece) (drop end bytes ++ left)
@@ -215,7 +217,7 @@ module _ (size block : ℕ) (text : List ℕ) where
           let there : length taken + end ≡ at = omega (arith, is, u.place) in
           record {
             within = omega (arith, a, b, c, is, u.place, within);
-            line = subst (λ m. IsLineEnd text m) there (subst (λ l. IsLineEnd l (length taken + end)) (sym order-all) (line-out taken bytes left u.ends end within line));
+            line = subst (λ m. IsLineEnd comma text m) there (subst (λ l. IsLineEnd comma l (length taken + end)) (sym order-all) (line-out taken bytes left u.ends end within line));
             header = rw (front-on at is) (header-on e);
           }
 
@@ -225,7 +227,7 @@ module _ (size block : ℕ) (text : List ℕ) where
         where
           go : (b : Bool) → ahead ≡ b → at < next → ⊥
           go false e early = let less = few e in omega (arith, less, early, far)
-          go true e early = records-on text at next (omega (arith, early)) here.line.ends here.header (ap (records default_config) (front-on next is) ∙ ahead-on e)
+          go true e early = records-on text at next (omega (arith, early)) here.line.ends here.header (ap (records (config_of comma)) (front-on next is) ∙ ahead-on e)
 
       module _ (next : Cutting) (cut-off : next.bytes.items ≡ drop end bytes) (place : next.place ≡ old.place + end) (first : next.is_first ≡ ahead) where
         -- a piece was looked at

@@ -20,31 +20,31 @@ use Rattle.rj_divide.proofs.BrokenFacts.{EndsWell, Reads, above-behind, all-both
 use Rattle.rj_divide.proofs.DivisionFacts.{divided-more, divided-none, piece-reads}
 use Rattle.rj_divide.proofs.ReadingFacts.{first-behind, rows-append, rows-many}
 use Rattle.rj_divide.proofs.TakenFacts.{none-more, order-cut, piece-read, taken-more, taken-none, told-now}
-use Rattle.rj_strict.specs.Grammar.{Derives, File, Line, Record, is_blank, is_line, is_record, is_rest, lines_text, records_of, rest_records, rest_text, values_of}
+use Rattle.rj_strict.specs.Grammar.{Derives, File, Line, Record, comma, is_blank, is_line, is_record, is_rest, lines_text, records_of, rest_records, rest_text, values_of}
 use Rattle.rj_strict.specs.Faults.{AreAbove, HasFault, row_at}
 use Rattle.rj_strict.specs.declared.fault.StrictFault.{StrictFault}
 use Rattle.rj_strict.specs.declared.header.Header.TheVariants.{Above}
 
-no-rest : (rest : Option Record) → is_rest true rest ≡ true → rest ≡ None
+no-rest : (rest : Option Record) → is_rest comma true rest ≡ true → rest ≡ None
 no-rest None e = refl
-no-rest (Some r) e = absurd (false≢true (and_parts (is_record r && not (is_blank r)) false e).1)
+no-rest (Some r) e = absurd (false≢true (and_parts (is_record comma r && not (is_blank r)) false e).1)
 
 -- a file whose lines all end
-ended : (file : File) → is_rest true file.rest ≡ true → file ≡ record { lines = file.lines; rest = None }
+ended : (file : File) → is_rest comma true file.rest ≡ true → file ≡ record { lines = file.lines; rest = None }
 ended file e = λ i. record { lines = file.lines; rest = no-rest file.rest e i }
 
 -- lines, and a file below them
 abbrev below : List Line → File → File
 below lines file = record { lines = lines ++ file.lines; rest = file.rest }
 
-derives-below : (names : ℕ) (full : Bool) (taken text : List ℕ) (lines : List Line) (file : File) → Derives (Above names) true taken (record { lines = lines; rest = None })
-    → Derives (Above names) full text file → Derives (Above names) full (taken ++ text) (below lines file)
+derives-below : (names : ℕ) (full : Bool) (taken text : List ℕ) (lines : List Line) (file : File) → Derives comma (Above names) true taken (record { lines = lines; rest = None })
+    → Derives comma (Above names) full text file → Derives comma (Above names) full (taken ++ text) (below lines file)
 derives-below names full taken text lines file d e =
-    let first : taken ≡ lines_text lines = d.spelled ∙ append-nil (lines_text lines) in
+    let first : taken ≡ lines_text comma lines = d.spelled ∙ append-nil (lines_text comma lines) in
     record {
       spelled = (λ i. first i ++ e.spelled i)
-          ∙ (sym (append_assoc (lines_text lines) (lines_text file.lines) (rest_text file.rest)) ∙ ap (λ (t : List ℕ). t ++ rest_text file.rest) (sym (lines-append lines file.lines)));
-      lines = all-both (is_line names) lines file.lines d.lines e.lines;
+          ∙ (sym (append_assoc (lines_text comma lines) (lines_text comma file.lines) (rest_text comma file.rest)) ∙ ap (λ (t : List ℕ). t ++ rest_text comma file.rest) (sym (lines-append lines file.lines)));
+      lines = all-both (is_line comma names) lines file.lines d.lines e.lines;
       rest = e.rest;
     }
 
@@ -76,7 +76,7 @@ module _ (d : Dividing) (begin : Beginning) where
     cut-text = order-cut begin.text old.bytes.items now told tells blocks u.front reads end
 
     -- a block behind what was divided
-    both : (full : Bool) (other : File) (after : List (Option (List ℕ))) (n : ℕ) → Derives (Above (length d.types)) full (take end now) other
+    both : (full : Bool) (other : File) (after : List (Option (List ℕ))) (n : ℕ) → Derives comma (Above (length d.types)) full (take end now) other
         → IsDivided (after_rows old.rows d) (records_of other) between after n → IsRangeDivided d full (u.front.taken ++ take end now) begin.told after (old.rows + n)
     both full other after n e new = (
       below u.lines other,
@@ -86,9 +86,9 @@ module _ (d : Dividing) (begin : Beginning) where
     )
 
     -- one block more
-    pub read-more : (next : strict.Rest) (other : File) (after : List (Option (List ℕ))) (n : ℕ) → length after ≡ length between → IsLineEnd now end
-        → ((at : ℕ) → end < at → at ≤ length now → IsLineEnd now at → ⊥) → end ≤ length now
-        → next.bytes.items ≡ drop end now → next.rows ≡ old.rows + n → Derives (Above (length d.types)) true (take end now) other
+    pub read-more : (next : strict.Rest) (other : File) (after : List (Option (List ℕ))) (n : ℕ) → length after ≡ length between → IsLineEnd comma now end
+        → ((at : ℕ) → end < at → at ≤ length now → IsLineEnd comma now at → ⊥) → end ≤ length now
+        → next.bytes.items ≡ drop end now → next.rows ≡ old.rows + n → Derives comma (Above (length d.types)) true (take end now) other
         → IsDivided (after_rows old.rows d) (records_of other) between after n → IsReadTo d begin tells next after (blocks + 1)
     read-more next other after n many line rest within left rows e new =
         let all = both true other after n e new in
@@ -96,7 +96,7 @@ module _ (d : Dividing) (begin : Beginning) where
         record {
           front = taken-more begin.text old.bytes.items now told tells blocks u.front reads end within line rest next.bytes.items left;
           lines = all.0.lines;
-          derived = subst (Derives (Above (length d.types)) true (u.front.taken ++ take end now)) same all.1;
+          derived = subst (Derives comma (Above (length d.types)) true (u.front.taken ++ take end now)) same all.1;
           divided = rw rows (subst (λ (f : File). IsDivided d (records_of f) begin.told after (old.rows + n)) same all.2);
           outputs = many ∙ u.outputs;
         }
@@ -114,7 +114,7 @@ module _ (d : Dividing) (begin : Beginning) where
 
     -- the last block
     pub read-last : (full : Bool) (other : File) (after : List (Option (List ℕ))) (n rows : ℕ) → IsAtEnd tells → end ≡ length now → rows ≡ old.rows + n
-        → Derives (Above (length d.types)) full (take end now) other
+        → Derives comma (Above (length d.types)) full (take end now) other
         → IsDivided (after_rows old.rows d) (records_of other) between after n → IsRangeDivided d full begin.text begin.told after rows
     read-last full other after n rows ended whole many e new = rw (many, whole-text ended whole) (both full other after n e new)
 
@@ -122,7 +122,7 @@ module _ (d : Dividing) (begin : Beginning) where
     abbrev pub Stops : Bool → Bool → Type 0
     Stops full whole =
         ((end ≡ length now) × IsAtEnd tells × (whole ≡ full))
-        ⊎ ((slice_index_or now (end - 1) 0 ≡ 10) × (0 < end) × (end ≤ length now) × (state_after st.StartRecord (take end now) ≡ st.StartRecord) × (whole ≡ true))
+        ⊎ ((slice_index_or now (end - 1) 0 ≡ 10) × (0 < end) × (end ≤ length now) × (state_after comma st.StartRecord (take end now) ≡ st.StartRecord) × (whole ≡ true))
 
     ends-well : (full whole : Bool) → Stops full whole → EndsWell full whole (take end now) (drop end now ++ tail)
     ends-well full whole (inl e) = inl (none-left e.1 e.0, e.2)
@@ -131,8 +131,8 @@ module _ (d : Dividing) (begin : Beginning) where
         let last : slice_index_or (take end now) (end - 1) 0 ≡ slice_index_or now (end - 1) 0 = get_or-take end now (end - 1) 0 (omega (arith, e.1)) in
         inr (ap (λ (k : ℕ). slice_index_or (take end now) (k - 1) 0) size ∙ (last ∙ e.0), e.3)
 
-    text-behind : begin.text ≡ lines_text u.lines ++ (take end now ++ (drop end now ++ tail))
-    text-behind = cut-text ∙ ap (λ (l : List ℕ). l ++ (take end now ++ (drop end now ++ tail))) (u.derived.spelled ∙ append-nil (lines_text u.lines))
+    text-behind : begin.text ≡ lines_text comma u.lines ++ (take end now ++ (drop end now ++ tail))
+    text-behind = cut-text ∙ ap (λ (l : List ℕ). l ++ (take end now ++ (drop end now ++ tail))) (u.derived.spelled ∙ append-nil (lines_text comma u.lines))
 
     rows-behind : old.rows ≡ length u.lines
     rows-behind = u.divided.many ∙ (sym (rows-many d.nulls d.types (records_in u.lines) u.divided.rows u.divided.read) ∙ lines-many u.lines)
@@ -141,28 +141,28 @@ module _ (d : Dividing) (begin : Beginning) where
     records-behind : (lines : List Line) → records_in u.lines ++ records_in lines ≡ records_in (u.lines ++ lines)
     records-behind lines = records-below u.lines (record { lines = lines; rest = None })
 
-    lines-behind : (row : ℕ) (lines : List Line) → AreAbove (Above (length d.types)) (take end now) row lines
-        → AreAbove (Above (length d.types)) begin.text (length u.lines + row) (u.lines ++ lines)
+    lines-behind : (row : ℕ) (lines : List Line) → AreAbove comma (Above (length d.types)) (take end now) row lines
+        → AreAbove comma (Above (length d.types)) begin.text (length u.lines + row) (u.lines ++ lines)
     lines-behind row lines a =
-        subst (λ (t : List ℕ). AreAbove (Above (length d.types)) t (length u.lines + row) (u.lines ++ lines)) (sym text-behind)
+        subst (λ (t : List ℕ). AreAbove comma (Above (length d.types)) t (length u.lines + row) (u.lines ++ lines)) (sym text-behind)
         (above-behind (length d.types) u.lines u.derived.lines (take end now) (drop end now ++ tail) row lines a)
 
-    begin-lines : (full : Bool) (row : ℕ) (lines : List Line) → AreAbove (Above (length d.types)) (take end now) row lines
+    begin-lines : (full : Bool) (row : ℕ) (lines : List Line) → AreAbove comma (Above (length d.types)) (take end now) row lines
         → BeginIn (length d.types) full begin.text (records_in u.lines ++ records_in lines)
     begin-lines full row lines a =
         subst (λ (x : List (List (List ℕ))). BeginIn (length d.types) full begin.text x) (sym (records-behind lines))
         (in_lines (length u.lines + row) (u.lines ++ lines) (lines-behind row lines a))
 
-    begin-file : (full whole : Bool) (file : File) → Stops full whole → Derives (Above (length d.types)) whole (take end now) file
+    begin-file : (full whole : Bool) (file : File) → Stops full whole → Derives comma (Above (length d.types)) whole (take end now) file
         → BeginIn (length d.types) full begin.text (records_in u.lines ++ records_of file)
     begin-file full whole file (inl e) x =
-        let derived = derives-below (length d.types) full u.front.taken (take end now) u.lines file u.derived (subst (λ (b : Bool). Derives (Above (length d.types)) b (take end now) file) e.2 x) in
-        let all = subst (λ (t : List ℕ). Derives (Above (length d.types)) full t (below u.lines file)) (sym (whole-text e.1 e.0)) derived in
+        let derived = derives-below (length d.types) full u.front.taken (take end now) u.lines file u.derived (subst (λ (b : Bool). Derives comma (Above (length d.types)) b (take end now) file) e.2 x) in
+        let all = subst (λ (t : List ℕ). Derives comma (Above (length d.types)) full t (below u.lines file)) (sym (whole-text e.1 e.0)) derived in
         subst (BeginIn (length d.types) full begin.text) (sym (records-below u.lines file)) (in_text (below u.lines file) all)
     begin-file full whole file (inr e) x =
-        let derived = subst (λ (b : Bool). Derives (Above (length d.types)) b (take end now) file) e.4 x in
+        let derived = subst (λ (b : Bool). Derives comma (Above (length d.types)) b (take end now) file) e.4 x in
         let same = ended file derived.rest in
-        let lines = subst (Derives (Above (length d.types)) true (take end now)) same derived in
+        let lines = subst (Derives comma (Above (length d.types)) true (take end now)) same derived in
         subst (λ (f : File). BeginIn (length d.types) full begin.text (records_in u.lines ++ records_of f)) (sym same)
         (begin-lines full (1 + length file.lines) file.lines (record { left = []; spelled = lines.spelled; are_lines = lines.lines; at_row = refl }))
 
@@ -177,9 +177,9 @@ module _ (d : Dividing) (begin : Beginning) where
         let has = fault-behind (length d.types) u.lines u.derived.lines (take end now) (drop end now ++ tail) law full whole b.at (ends-well full whole s) b.has in
         record {
           at = strict_behind k b.at;
-          has = subst (λ (t : List ℕ). HasFault (Above (length d.types)) full t (strict_behind k b.at)) (sym text-behind) has;
+          has = subst (λ (t : List ℕ). HasFault comma (Above (length d.types)) full t (strict_behind k b.at)) (sym text-behind) has;
           lines = u.lines ++ b.lines;
-          above = subst (λ (r : ℕ). AreAbove (Above (length d.types)) begin.text r (u.lines ++ b.lines)) (sym (row-counts k b.at)) (lines-behind (row_at b.at) b.lines b.above);
+          above = subst (λ (r : ℕ). AreAbove comma (Above (length d.types)) begin.text r (u.lines ++ b.lines)) (sym (row-counts k b.at)) (lines-behind (row_at b.at) b.lines b.above);
           rows = u.divided.rows ++ b.rows;
           read = subst (λ (x : List (List (List ℕ))). AreRows d.nulls d.types x (u.divided.rows ++ b.rows)) (records-behind b.lines)
               (rows-append d.nulls d.types (records_in u.lines) (records_in b.lines) u.divided.rows b.rows u.divided.read b.read);
@@ -193,7 +193,7 @@ module _ (d : Dividing) (begin : Beginning) where
       | inr e ↦ stands block read e.2 (inr (record { behind = e.1; feed = e.0; ends = e.3 }))
     ]
       where
-        stands : (block : ℕ) → IsReadFor block old.bytes.items now → end ≤ length now → (end ≡ length now) ⊎ IsLineEnd now end → IsPiece block begin.text (take end now)
+        stands : (block : ℕ) → IsReadFor block old.bytes.items now → end ≤ length now → (end ≡ length now) ⊎ IsLineEnd comma now end → IsPiece block begin.text (take end now)
         stands block = piece-read begin.text old.bytes.items now told tells blocks u.front reads block end
 
     -- a block that is not divided

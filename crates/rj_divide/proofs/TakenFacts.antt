@@ -3,6 +3,7 @@ use Rattle.std.proofs.Common.{◌≡◌, ◌<◌, ◌≤◌, ◌+◌, ◌⊎◌,
 use Rattle.std.specs.Io.KnownBytes.{Consumes, IsAtEnd}
 use Rattle.std.proofs.lemmas.List.{length-append, length-drop, length-take-le, take-append-drop}
 use Rattle.rj_csv_io.specs.Pieces.{IsLineEnd}
+use Rattle.rj_strict.specs.Grammar.{comma}
 use Rattle.rj_divide.specs.Ranges.{IsPiece, IsReadFor}
 use Rattle.rj_divide.specs.Taken.{IsTaken}
 use Rattle.rj_divide.proofs.ShortFacts.{line-back, line-rest, read-bound}
@@ -51,7 +52,7 @@ module _ (text old bytes : List ℕ) (before tells : Option (List ℕ)) (pieces 
       order-now ∙ ap (λ l. u.taken ++ l) (ap (λ l. l ++ more) (sym (take-append-drop end bytes)) ∙ append_assoc (take end bytes) (drop end bytes) more)
 
   -- the bytes up to a line end, or all of them, are a piece of the text
-  pub piece-read : (block end : ℕ) → IsReadFor block old bytes → end ≤ length bytes → (end ≡ length bytes) ⊎ IsLineEnd bytes end → IsPiece block text (take end bytes)
+  pub piece-read : (block end : ℕ) → IsReadFor block old bytes → end ≤ length bytes → (end ≡ length bytes) ⊎ IsLineEnd comma bytes end → IsPiece block text (take end bytes)
   piece-read block end read within stops =
       let found = read-bound block old bytes read u.none end stops in
       let size = length-take-le end bytes within in
@@ -66,7 +67,7 @@ module _ (text old bytes : List ℕ) (before tells : Option (List ℕ)) (pieces 
       }
 
   -- one piece more is taken away
-  abbrev pub taken-more : (end : ℕ) → end ≤ length bytes → IsLineEnd bytes end → ((at : ℕ) → end < at → at ≤ length bytes → IsLineEnd bytes at → ⊥)
+  abbrev pub taken-more : (end : ℕ) → end ≤ length bytes → IsLineEnd comma bytes end → ((at : ℕ) → end < at → at ≤ length bytes → IsLineEnd comma bytes at → ⊥)
       → (next : List ℕ) → next ≡ drop end bytes → IsTaken text tells next (pieces + 1)
   taken-more end within line rest next is = record {
     left = more;
@@ -75,7 +76,7 @@ module _ (text old bytes : List ℕ) (before tells : Option (List ℕ)) (pieces 
     order = order-cut end ∙ (sym (append_assoc u.taken (take end bytes) (drop end bytes ++ more)) ∙ ap (λ l. (u.taken ++ take end bytes) ++ (l ++ more)) (sym is));
     none = λ at h e.
         let few = ap length is in
-        line-rest bytes end within line rest at (omega (arith, few, h)) (subst (λ l. IsLineEnd l at) is e);
+        line-rest bytes end within line rest at (omega (arith, few, h)) (subst (λ l. IsLineEnd comma l at) is e);
     shorter =
         let a = ap length told-now.same in let b = length-append bytes more in let c = length-append next more in let d = length-drop end bytes in let e = ap length is in
         omega (arith, u.shorter, a, b, c, d, e, line.behind, within);

@@ -8,7 +8,7 @@ use Rattle.rj_divide.specs.Divisions.{Dividing, IsDivided, counts_after}
 use Rattle.rj_divide.specs.Ranges.{IsPiece}
 use Rattle.rj_divide.specs.Readings.{IsAfterReading, IsFaultBehind, IsFirstFault, IsHeaderRefusal, reads_after}
 use Rattle.rj_strict.specs.Faults.{AreAbove, HasFault, row_at}
-use Rattle.rj_strict.specs.Grammar.{Derives, File, Line, records_of}
+use Rattle.rj_strict.specs.Grammar.{Derives, File, Line, comma, records_of}
 use Rattle.rj_strict.specs.declared.header.Header.TheVariants.{Above}
 use Rattle.rj_strict.specs.declared.fault.StrictFault.{StrictFault}
 use Rattle.rj_strict.specs.declared.fault.StrictFault.TheVariants as fault
@@ -31,16 +31,16 @@ records_in lines = records_of (record { lines = lines; rest = None })
 
 -- the records of a block's derivation, or those above the place where it stops being derived
 pub data StandIn (names : ℕ) (full : Bool) (text : List ℕ) : List (List (List ℕ)) → Type 0 where
-  in_all : (file : File) → Derives (Above names) full text file → StandIn names full text (records_of file)
-  above : (f : StrictFault) (lines : List Line) → HasFault (Above names) full text f → AreAbove (Above names) text (row_at f) lines
+  in_all : (file : File) → Derives comma (Above names) full text file → StandIn names full text (records_of file)
+  above : (f : StrictFault) (lines : List Line) → HasFault comma (Above names) full text f → AreAbove comma (Above names) text (row_at f) lines
       → StandIn names full text (records_in lines)
 
 -- the place where a block stops being derived, below records that are all rows
 pub record IsBrokenAt (d : Dividing) (full : Bool) (text : List ℕ) (before : ℕ) (told : StrictFault) : Type 0 where
   pub at : StrictFault
-  pub has : HasFault (Above (length d.types)) full text at
+  pub has : HasFault comma (Above (length d.types)) full text at
   pub lines : List Line
-  pub above : AreAbove (Above (length d.types)) text (row_at at) lines
+  pub above : AreAbove comma (Above (length d.types)) text (row_at at) lines
   pub rows : List (List Content)
   pub read : AreRows d.nulls d.types (records_in lines) rows
   pub is : told ≡ strict_behind before at
@@ -77,13 +77,13 @@ IsBlockRefusal b (refused.Divided e) = IsHeaderRefusal b e
 -- header's names
 abbrev pub IsRangeDivided : Dividing → Bool → List ℕ → List (Option (List ℕ)) → List (Option (List ℕ)) → ℕ → Type 0
 IsRangeDivided d full text before after rows =
-    (file : File) × Derives (Above (length d.types)) full text file × IsDivided d (records_of file) before after rows
+    (file : File) × Derives comma (Above (length d.types)) full text file × IsDivided d (records_of file) before after rows
 
 -- the first records of the lines of a range, or all its records, as the grammar derives them below
 -- this many names
 pub data BeginIn (names : ℕ) (full : Bool) (text : List ℕ) : List (List (List ℕ)) → Type 0 where
-  in_text : (file : File) → Derives (Above names) full text file → BeginIn names full text (records_of file)
-  in_lines : (row : ℕ) (lines : List Line) → AreAbove (Above names) text row lines → BeginIn names full text (records_in lines)
+  in_text : (file : File) → Derives comma (Above names) full text file → BeginIn names full text (records_of file)
+  in_lines : (row : ℕ) (lines : List Line) → AreAbove comma (Above names) text row lines → BeginIn names full text (records_in lines)
 
 -- records of a range, below this many names, that are those of one piece of it: the range begins
 -- with some others and these

@@ -9,6 +9,7 @@ use Rattle.rj_columns.specs.Tables.{TableValue}
 use Rattle.rj_csv_io.specs.Pieces.{AreRows, names_in}
 use Rattle.rj_csv_io.specs.Shown.{rows_text, shown}
 use Rattle.rj_csv_io.specs.Typed.{null_texts}
+use Rattle.rj_strict.specs.Grammar.{comma}
 use Rattle.rj_divide.specs.Placed.{part_rows}
 use Rattle.rj_divide.specs.declared.piece.Division.{Division}
 use Rattle.rj_divide.specs.declared.refused.DivideRefused.{DivideRefused}
@@ -16,7 +17,7 @@ use Rattle.rj_divide.specs.declared.refused.DivideRefused.TheVariants as refused
 
 -- the text of the rows of one part
 abbrev pub part_text : List ℕ → (List Content → ℕ) → ℕ → ℕ → List (List Content) → List ℕ
-part_text null part p first rows = rows_text (map (map (shown null)) (part_rows part p first rows))
+part_text null part p first rows = rows_text comma (map (map (shown null)) (part_rows part p first rows))
 
 -- each part's output got the text of its rows after what it already had, if it tells what it got
 abbrev pub AreAppended : List ℕ → (List Content → ℕ) → ℕ → List (List Content) → List (Option (List ℕ)) → List (Option (List ℕ)) → Type 0

@@ -1,13 +1,15 @@
 -- The header of rows with their places.
 use Rattle.std.specs.Prelude.{ℕ, ◌≡◌, ◌<◌, List, [], ◌∷◌, ◌++◌, length, slice_index_or, Option, None, Err}
 use Rattle.std.specs.Io.KnownBytes.{Appends}
-use Rattle.csv.specs.Writing.{default_writer, row_text}
+use Rattle.csv.specs.Writing.{row_text}
 use Rattle.rj_columns.specs.declared.cell.ColumnType.{ColumnType}
 use Rattle.rj_columns.specs.declared.cell.ColumnType.TheVariants as kind
 use Rattle.rj_columns.specs.declared.refused.BuildRefused.{BuildRefused}
 use Rattle.rj_columns.specs.Names.{empty_table}
 use Rattle.rj_columns.specs.Tables.{TableValue}
+use Rattle.rj_csv_io.specs.Shown.{writer_of}
 use Rattle.rj_csv_io.specs.Tables.{of_begun}
+use Rattle.rj_strict.specs.Grammar.{comma}
 use Rattle.rj_divide.specs.declared.refused.DivideRefused.{DivideRefused}
 use Rattle.rj_divide.specs.declared.refused.DivideRefused.TheVariants as refused
 
@@ -21,7 +23,7 @@ types_with t = t.types ++ kind.Int ∷ []
 
 -- the record of the names
 abbrev pub header_text : TableValue → List ℕ → List ℕ
-header_text t name = row_text default_writer (names_with t name)
+header_text t name = row_text (writer_of comma) (names_with t name)
 
 -- each output got this text after what it already had, if it tells what it got
 abbrev pub HaveText : List ℕ → List (Option (List ℕ)) → List (Option (List ℕ)) → Type 0

@@ -1,9 +1,11 @@
 -- Places that cut a text into ranges.
 use Rattle.std.specs.Prelude.{ℕ, ◌+◌, ◌-◌, ◌*◌, ◌^◌, ◌≡◌, ◌≢◌, ◌≤◌, ◌<◌, Bool, true, false, List, [], ◌∷◌, ◌++◌, length, take, drop, slice_range, All, Option}
-use Rattle.csv.specs.Reading.{default_config, records}
+use Rattle.csv.specs.Reading.{records}
 use Rattle.csv.specs.declared.parser.State.TheVariants as st
 use Rattle.rj_csv_io.specs.Cuts.{state_after}
 use Rattle.rj_csv_io.specs.Pieces.{IsLastEnd, IsLineEnd, piece_records}
+use Rattle.rj_strict.specs.Grammar.{comma}
+use Rattle.rj_strict.specs.Reading.{config_of}
 use Rattle.rj_divide.specs.Taken.{IsTaken}
 use Rattle.rj_divide.specs.declared.cuts.Cutting.{Cutting}
 use Rattle.rj_divide.specs.declared.refused.DivideRefused.{DivideRefused}
@@ -11,8 +13,8 @@ use Rattle.rj_divide.specs.declared.refused.DivideRefused.TheVariants as refused
 
 -- the records of rows in the ranges from a place on, cut at these places, one after the other
 unfoldable pub range_records : Bool → ℕ → List ℕ → List ℕ → List (List (List ℕ))
-range_records is_first from [] text = piece_records is_first (drop from text)
-range_records is_first from (cut ∷ cuts) text = piece_records is_first (slice_range text from cut) ++ range_records false cut cuts text
+range_records is_first from [] text = piece_records comma is_first (drop from text)
+range_records is_first from (cut ∷ cuts) text = piece_records comma is_first (slice_range text from cut) ++ range_records false cut cuts text
 
 -- each place is at least this far after the one before
 unfoldable pub RiseBy : ℕ → ℕ → List ℕ → Type 0
@@ -22,12 +24,12 @@ RiseBy size from (cut ∷ cuts) = (from + size ≤ cut) × RiseBy size cut cuts
 -- a place where the text can be cut: after the header, and after a line feed that ends a record
 pub record IsCutPlace (text : List ℕ) (at : ℕ) : Type 0 where
   pub within : at ≤ length text
-  pub line : IsLineEnd text at
-  pub header : records default_config (take at text) ≢ []
+  pub line : IsLineEnd comma text at
+  pub header : records (config_of comma) (take at text) ≢ []
 
 -- between two places a line feed ends a record in each run of this many bytes
 abbrev pub EndIn : List ℕ → ℕ → ℕ → ℕ → Type 0
-EndIn text from to run = (at : ℕ) → from ≤ at → at + run ≤ to → (end : ℕ) × (at < end) × (end ≤ at + run) × IsLineEnd text end
+EndIn text from to run = (at : ℕ) → from ≤ at → at + run ≤ to → (end : ℕ) × (at < end) × (end ≤ at + run) × IsLineEnd comma text end
 
 -- a range that ends soon after each place in it, at least this many bytes from its beginning, where
 -- the text can be cut: if a record ends in each run of some number of bytes, within a block, twice
@@ -46,7 +48,7 @@ AreShort size block text from (to ∷ ends) = IsShort size block text from to ×
 pub record AreCuts (size block : ℕ) (text : List ℕ) (cuts : List ℕ) : Type 0 where
   pub rise : RiseBy size 0 cuts
   pub places : All (IsCutPlace text) cuts
-  pub records : piece_records true text ≡ range_records true 0 cuts text
+  pub records : piece_records comma true text ≡ range_records true 0 cuts text
   pub short : AreShort size block text 0 (cuts ++ length text ∷ [])
 
 -- the bytes that were read for a piece after those that were there: if there are more, at most a
@@ -55,7 +57,7 @@ pub record IsReadFor (block : ℕ) (old bytes : List ℕ) : Type 0 where
   pub front : take (length old) bytes ≡ old
   pub plain : ℕ
   pub within : plain ≤ length bytes
-  pub none : IsLastEnd bytes plain 0
+  pub none : IsLastEnd comma bytes plain 0
   pub most : length old < length bytes → length bytes ≤ block + 2 * plain + 2 ^ 16
 
 -- bytes of a text that can be a piece of it: at most a block, twice the first bytes, in which no
@@ -66,7 +68,7 @@ pub record IsPiece (block : ℕ) (text piece : List ℕ) : Type 0 where
   pub order : text ≡ above ++ (piece ++ below)
   pub plain : ℕ
   pub within : plain ≤ length piece
-  pub none : (at : ℕ) → at ≤ plain → IsLineEnd piece at → ⊥
+  pub none : (at : ℕ) → at ≤ plain → IsLineEnd comma piece at → ⊥
   pub most : length piece ≤ block + 2 * plain + 2 ^ 16
 
 -- the places rise up to this one, which is the last
@@ -78,9 +80,9 @@ RiseTo size from (cut ∷ cuts) last = (from + size ≤ cut) × RiseTo size cut 
 pub record IsCutting (size block : ℕ) (text : List ℕ) (tells : Option (List ℕ)) (now : Cutting) (pieces : ℕ) : Type 0 where
   pub front : IsTaken text tells now.bytes.items pieces
   pub place : now.place ≡ length front.taken
-  pub ends : state_after st.StartRecord front.taken ≡ st.StartRecord
-  pub header : now.is_first ≡ false → records default_config front.taken ≢ []
-  pub ahead : now.is_first ≡ true → records default_config front.taken ≡ []
+  pub ends : state_after comma st.StartRecord front.taken ≡ st.StartRecord
+  pub header : now.is_first ≡ false → records (config_of comma) front.taken ≢ []
+  pub ahead : now.is_first ≡ true → records (config_of comma) front.taken ≡ []
   pub rise : RiseTo size 0 now.cuts.items now.last
   pub behind : now.last ≤ now.place
   pub cuts : All (IsCutPlace text) now.cuts.items

@@ -1,17 +1,20 @@
 //! The header of rows with their places.
 
 ghost use Rattle.std.specs.Prelude.{◌≡◌, ◌≢◌, ◌<◌, ◌-◌, ◌^◌, [], Ok, Err, map, length, All, IfErr, IfOk, OnOk};
-ghost use Rattle.csv.specs.Writing.{default_writer, row_text};
+ghost use Rattle.csv.specs.Writing.{row_text};
 ghost use Rattle.rj_columns.specs.Names.{empty_table};
 ghost use Rattle.rj_columns.specs.Tables.{TableValue};
 ghost use Rattle.rj_columns.specs.declared.refused.BuildRefused.{BuildRefused};
+ghost use Rattle.rj_csv_io.specs.Shown.{writer_of};
 ghost use Rattle.rj_csv_io.specs.Tables.{of_begun};
+ghost use Rattle.rj_strict.specs.Grammar.{comma};
 ghost use Rattle.rj_divide.specs.Divisions.{counts_after};
 ghost use Rattle.rj_divide.specs.Headers.{HaveText, IsHeaderFault, header_text, names_with, types_with};
 
 use crate::refused::DivideRefused;
 use rj_columns::{BuildRefused, ColumnType, Table, TableBuilder};
-use rj_csv_io::{CountedWriter, Failed, Output, ReadRefused, write_rows};
+use rj_csv_io::{CountedWriter, Failed, Output, OutputFormat, ReadRefused, write_rows};
+use rj_strict::Delimiter;
 use std::alloc::{AllocError, Global};
 
 // The names of a table's columns, and one more.
@@ -91,10 +94,14 @@ fn widened(alloc: Global, table: &Table, names: &[&str]) -> Result<Table, Divide
 fn text_of_names(alloc: Global, table: &Table, names: &[&str]) -> Result<Vec<u8>, AllocError>
     requires names { length names.now ≡ length table.now.types }
     requires rows { table.now.rows ≡ [] }
-    ensures { IfOk result (λ v. v.items ≡ row_text default_writer (map (λ n. n.now) names.now)) }
+    ensures { IfOk result (λ v. v.items ≡ row_text (writer_of comma) (map (λ n. n.now) names.now)) }
 {
+    let format = OutputFormat {
+        delimiter: Delimiter::comma(),
+        null: "",
+    };
     let mut output = CountedWriter::new(Vec::new(alloc));
-    match write_rows(alloc, &mut output, names, table, "") {
+    match write_rows(alloc, &mut output, names, table, &format) {
         Ok(()) => Ok(output.into_inner()),
         Err(_) => Err(AllocError),
     }

@@ -2,13 +2,16 @@
 
 ghost use Rattle.std.specs.Prelude.{◌≡◌, ◌<◌, ◌≤◌, ◌+◌, ◌-◌, ◌^◌, ◌++◌, ℕ, List, [], Option, true, false, length, vec_len, take, drop, IfOk, IfErr, OnOk};
 ghost use Rattle.std.specs.Io.KnownBytes.{Consumes, IsAtEnd};
-ghost use Rattle.csv.specs.Reading.{default_config, records};
+ghost use Rattle.csv.specs.Reading.{records};
 ghost use Rattle.rj_csv_io.specs.Pieces.{IsLineEnd};
+ghost use Rattle.rj_strict.specs.Grammar.{comma};
+ghost use Rattle.rj_strict.specs.Reading.{config_of};
 ghost use Rattle.rj_divide.specs.Ranges.{IsReadFor};
 ghost use Rattle.rj_divide.specs.Readings.{IsInputFault, reads_after};
 
 use crate::refused::DivideRefused;
 use rj_csv_io::{Input, ReadRefused, last_cut, read_up_to};
+use rj_strict::Delimiter;
 
 /// A piece of a text, at the start of the bytes that were read.
 #[derive(Clone, Copy)]
@@ -40,10 +43,11 @@ pub fn next_piece<I: Input>(
     ensures read { OnOk result (IsReadFor block bytes.old.items bytes.new.items) }
     ensures block { IfOk result (λ p. p.is_last ≡ false → block ≤ vec_len bytes.new) }
     ensures last { IfOk result (λ p. p.is_last ≡ true → (p.end ≡ vec_len bytes.new) × IsAtEnd (I.tells input.new)) }
-    ensures records { IfOk result (λ p. (more : List ℕ) → (p.is_last ≡ true → more ≡ []) → records default_config (bytes.new.items ++ more)
-        ≡ records default_config (take p.end bytes.new.items) ++ records default_config (drop p.end bytes.new.items ++ more)) }
-    ensures line { IfOk result (λ p. p.is_last ≡ false → IsLineEnd bytes.new.items p.end) }
-    ensures rest { IfOk result (λ p. p.is_last ≡ false → (at : ℕ) → p.end < at → at ≤ length bytes.new.items → IsLineEnd bytes.new.items at → ⊥) }
+    ensures records { IfOk result (λ p. (more : List ℕ) → (p.is_last ≡ true → more ≡ []) → records (config_of comma) (bytes.new.items ++ more)
+        ≡ records (config_of comma) (take p.end bytes.new.items) ++ records (config_of comma) (drop p.end bytes.new.items ++ more)) }
+    ensures line { IfOk result (λ p. p.is_last ≡ false → IsLineEnd comma bytes.new.items p.end) }
+    ensures rest { IfOk result (λ p. p.is_last ≡ false → (at : ℕ) → p.end < at → at ≤ length bytes.new.items
+        → IsLineEnd comma bytes.new.items at → ⊥) }
     ensures count { I.count input.new ≡ reads_after result (I.count input.old) }
     ensures fault { IfErr result IsInputFault }
 {
@@ -60,7 +64,7 @@ pub fn next_piece<I: Input>(
             Err(ReadRefused::ReadDevice) => return Err(DivideRefused::ReadDevice),
             Err(_) => return Err(DivideRefused::Memory),
         }
-        let end = last_cut(bytes.as_slice());
+        let end = last_cut(bytes.as_slice(), Delimiter::comma());
         if end > 0 {
             return Ok(Piece {
                 end,

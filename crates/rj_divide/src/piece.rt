@@ -6,6 +6,7 @@ ghost use Rattle.rj_columns.specs.Tables.{TableValue};
 ghost use Rattle.rj_csv_io.specs.Pieces.{piece_records};
 ghost use Rattle.rj_csv_io.specs.Tables.{is_null_text};
 ghost use Rattle.rj_csv_io.specs.Typed.{null_texts};
+ghost use Rattle.rj_strict.specs.Grammar.{comma};
 ghost use Rattle.rj_divide.specs.Divisions.{IsDivided, after_rows, counts_after, dividing, table_begun, written_null};
 ghost use Rattle.rj_divide.specs.Readings.{IsAfterReading, IsFaultBehind, IsHeaderRefusal, IsReadingFault, fault_behind, row_told};
 
@@ -13,10 +14,11 @@ use crate::refused::DivideRefused;
 use crate::route::Route;
 use crate::table::divide_table;
 use rj_columns::ColumnType;
-use rj_csv_io::{Header, Output, ReadRefused};
+use rj_csv_io::{Header, InputFormat, Output, ReadRefused};
+use rj_strict::Delimiter;
 use std::alloc::Global;
 
-/// How the rows of a text are read, and to which parts they go.
+/// How the rows of a text with commas are read, and to which parts they go.
 #[derive(Drop)]
 pub struct Division<'a, R: Route> {
     /// The header of the text.
@@ -90,14 +92,14 @@ pub fn divide_piece<O: Output, R: Route>(
     requires first { division.now.first ≤ 2 ^ 62 }
     requires null { IsTrue (is_null_text (written_null (null_texts division.now.nulls.now))) }
     requires failures { All (λ o. O.count o < 2 ^ 64 - 1) outputs.old }
-    ensures divided { IfOk result (λ n. IsDivided (after_rows before (dividing R.part division.now)) (piece_records is_first text.now)
+    ensures divided { IfOk result (λ n. IsDivided (after_rows before (dividing R.part division.now)) (piece_records comma is_first text.now)
         (map O.told outputs.old) (map O.told outputs.new) n) }
     ensures read { IfErr result IsAfterReading }
     ensures few { IfOk result (λ n. before + n < 2 ^ 62) }
     ensures counts { map O.count outputs.new ≡ counts_after result (map O.count outputs.old) }
     ensures writes { OnOk result (All (λ o. O.count o < 2 ^ 64 - 1) outputs.new) }
     ensures fault { IfErr result (λ e. (t : TableValue) → table_begun division.now ≡ Ok t
-        → IsFaultBehind (dividing R.part division.now) before (length outputs.old) (piece_records is_first text.now) e) }
+        → IsFaultBehind (dividing R.part division.now) before (length outputs.old) (piece_records comma is_first text.now) e) }
     ensures begins { OnOk result ((t : TableValue) × (table_begun division.now ≡ Ok t)) }
     ensures refusal { IfErr result (λ e. (b : BuildRefused) → table_begun division.now ≡ Err b → before ≡ 0 → IsHeaderRefusal b e) }
     ensures untouched { (b : BuildRefused) → table_begun division.now ≡ Err b → outputs.new ≡ outputs.old }
@@ -105,9 +107,13 @@ pub fn divide_piece<O: Output, R: Route>(
     if before > MOST_ROWS {
         return Err(DivideRefused::TooLong);
     }
+    let format = InputFormat {
+        delimiter: Delimiter::comma(),
+        nulls: division.nulls,
+    };
     let table = match division
         .header
-        .read_piece(alloc, text, is_first, division.types, division.nulls)
+        .read_piece(alloc, text, is_first, division.types, &format)
     {
         Ok(table) => table,
         Err(e) => return Err(fault_behind(before, e)),

@@ -4,6 +4,7 @@ ghost use Rattle.std.specs.Prelude.{◌≡◌, ◌≢◌, ◌<◌, ◌+◌, ◌-
 ghost use Rattle.std.specs.Io.KnownBytes.{Appends};
 ghost use Rattle.rj_csv_io.specs.Shown.{rows_text, shown};
 ghost use Rattle.rj_csv_io.specs.Tables.{is_null_text};
+ghost use Rattle.rj_strict.specs.Grammar.{comma};
 ghost use Rattle.rj_divide.specs.Divisions.{AreAppended, IsPutFault, counts_after};
 ghost use Rattle.rj_divide.specs.Placed.{rows_at};
 
@@ -12,7 +13,8 @@ use crate::placed::PlacedRows;
 use crate::refused::DivideRefused;
 use crate::route::Route;
 use rj_columns::Table;
-use rj_csv_io::{Output, WriteRefused, write_more_rows};
+use rj_csv_io::{Output, OutputFormat, WriteRefused, write_more_rows};
+use rj_strict::Delimiter;
 use std::alloc::Global;
 
 // Puts some rows of a table to an output, each with its place.
@@ -29,12 +31,16 @@ fn put_rows<O: Output>(
     requires null { IsTrue (is_null_text null.now) }
     requires failures { O.count output.old < 2 ^ 64 - 1 }
     ensures ok { OnOk result (Appends (O.told output.old) (O.told output.new)
-        (rows_text (map (map (shown null.now)) (rows_at table.now.rows first rows.now)))) }
+        (rows_text comma (map (map (shown null.now)) (rows_at table.now.rows first rows.now)))) }
     ensures device { result ≡ Err WriteRefused.WriteDevice → O.count output.new ≡ O.count output.old + 1 }
     ensures kept { result ≢ Err WriteRefused.WriteDevice → O.count output.new ≡ O.count output.old }
 {
     let placed = PlacedRows::new(table, rows, first);
-    write_more_rows(alloc, output, &placed, null)
+    let format = OutputFormat {
+        delimiter: Delimiter::comma(),
+        null,
+    };
+    write_more_rows(alloc, output, &placed, &format)
 }
 
 /// Puts each row of a table, with its place, to the output of its part, in order. The first row has

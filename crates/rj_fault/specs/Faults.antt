@@ -56,6 +56,7 @@ status_of fault.NotText = 2
 status_of (fault.BadTypeList side) = 2
 status_of fault.BadSharedTypeList = 2
 status_of (fault.TooManyNulls side) = 2
+status_of fault.BadDelimiter = 2
 status_of fault.BadRows = 2
 status_of fault.ChosenTwice = 2
 status_of fault.MatchedLeftColumns = 2

@@ -49,6 +49,10 @@ pub enum Fault {
     /// More than four texts are to stand for NULL in a table.
     #[error("radixjoin: more than four null texts {0}")]
     TooManyNulls(Side),
+    /// The delimiter of a table or of the result is none that may delimit: one ASCII character that
+    /// is no letter, no digit, no double quote, no CR and no LF.
+    #[error("radixjoin: E34 BadDelimiter")]
+    BadDelimiter,
     /// A list of kinds of rows isn't of the form `pairs,lone-left,lone-right`, names a kind twice,
     /// or has both `pairs` and `matched-left`.
     #[error("radixjoin: bad list of rows")]
@@ -137,7 +141,7 @@ pub enum Fault {
     /// reported only if files are read strictly.
     #[error("radixjoin: E21 OpenQuote {0} row {1} column {2}")]
     OpenQuote(Side, u64, u64),
-    /// A byte other than a comma, a double quote, CR and LF comes after a closing quote.
+    /// A byte other than the delimiter, a double quote, CR and LF comes after a closing quote.
     #[error("radixjoin: E22 AfterQuote {0} row {1} column {2}")]
     AfterQuote(Side, u64, u64),
     /// A double quote is in a field that doesn't begin with one.
@@ -253,6 +257,7 @@ impl Fault {
             | Fault::BadTypeList(_)
             | Fault::BadSharedTypeList
             | Fault::TooManyNulls(_)
+            | Fault::BadDelimiter
             | Fault::BadRows
             | Fault::ChosenTwice
             | Fault::MatchedLeftColumns

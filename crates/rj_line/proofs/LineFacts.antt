@@ -9,7 +9,8 @@ use Rattle.rj_fault.specs.declared.fault.Fault.{Fault}
 use Rattle.rj_fault.specs.declared.fault.Fault.TheVariants as fault
 use Rattle.rj_fault.specs.declared.fault.Side.TheVariants as side
 use Rattle.rj_line.specs.Choices.{IsChoiceFault}
-use Rattle.rj_line.specs.Line.{AreTablesGiven, GiveShared, GiveTypes, IsFaultIn, IsParseError, IsRequestFault, nulls_or, word_of, words_of}
+use Rattle.rj_line.specs.Delimiters.{are_delimiters_given}
+use Rattle.rj_line.specs.Line.{AreTablesGiven, GiveShared, GiveTypes, IsChosenFault, IsFaultIn, IsParseError, IsRequestFault, nulls_or, word_of, words_of}
 use Rattle.rj_line.specs.Options.{OptionWords, line_app}
 use Rattle.rj_line.specs.Types.{GivesNoShared, GivesNoTypes, GivesTypes}
 use Rattle.rj_line.specs.declared.form.Form.{Form}
@@ -54,13 +55,19 @@ module _ (form : Form) (word : Text → Option Text) (texts : Text → List Text
       let t = told not in
       subst (IsRequestFault form word texts) (sym t.0) (types, few, t.1))
 
-  -- a fault of what is chosen is told where nothing is wrong with the tables
-  pub choice_fault : (f : Fault) → AreTablesGiven form word texts → IsChoiceFault form word f → IsRequestFault form word texts f
+  -- a fault of the choice is told where the delimiters are given
+  pub choice_fault : (f : Fault) → are_delimiters_given word ≡ true → IsChoiceFault form word f → IsChosenFault form word f
   choice_fault fault.Memory given told = tt
-  choice_fault (fault.BadTypeList side) given told = absurd told
-  choice_fault fault.BadSharedTypeList given told = absurd told
-  choice_fault (fault.TooManyNulls side) given told = absurd told
+  choice_fault fault.BadDelimiter given told = absurd told
   choice_fault f given told = (given, told)
+
+  -- and one of what is chosen where nothing is wrong with the tables
+  pub chosen_fault : (f : Fault) → AreTablesGiven form word texts → IsChosenFault form word f → IsRequestFault form word texts f
+  chosen_fault fault.Memory given told = tt
+  chosen_fault (fault.BadTypeList side) given told = absurd told.1
+  chosen_fault fault.BadSharedTypeList given told = absurd told.1
+  chosen_fault (fault.TooManyNulls side) given told = absurd told.1
+  chosen_fault f given told = (given, told)
 
 -- a table has as many null texts as it is given, or one
 pub few_given : (texts : List Text) (null : Text) (count : ℕ) → count ≡ length (nulls_or texts null) → count ≤ 4 → length texts ≤ 4

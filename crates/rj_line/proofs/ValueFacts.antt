@@ -43,21 +43,21 @@ module _ (start command : Command) (h : OptionWords) (m : ArgMatches) (bare : Is
         right_types = λ _. given 3 (lit< tt) refl parsed;
         join = given 4 (lit< tt) refl parsed;
         numbers = record {
-          bits1 = number 10 0 10 (lit< tt) refl parsed;
-          bits2 = number 11 0 10 (lit< tt) refl parsed;
-          workers = number 13 1 64 (lit< tt) refl parsed;
-          block = number 14 1 65536 (lit< tt) refl parsed;
-          capacity = number 15 1 4096 (lit< tt) refl parsed;
-          lanes = number 16 1 4 (lit< tt) refl parsed;
-          retries = number 17 0 3 (lit< tt) refl parsed;
-          piece = number 18 1 1048576 (lit< tt) refl parsed;
+          bits1 = number 14 0 10 (lit< tt) refl parsed;
+          bits2 = number 15 0 10 (lit< tt) refl parsed;
+          workers = number 17 1 64 (lit< tt) refl parsed;
+          block = number 18 1 65536 (lit< tt) refl parsed;
+          capacity = number 19 1 4096 (lit< tt) refl parsed;
+          lanes = number 20 1 4 (lit< tt) refl parsed;
+          retries = number 21 0 3 (lit< tt) refl parsed;
+          piece = number 22 1 1048576 (lit< tt) refl parsed;
         };
-        expect = name_given start command rules m bare chain refl refl matching_name (matching.OneToOne ∷ matching.ManyToOne ∷ matching.OneToMany ∷ []) h.matchings h.are_matchings 28 (lit< tt) refl refl parsed;
-        most_rows = number 29 0 4294967295 (lit< tt) refl parsed;
-        hash = name_given start command rules m bare chain refl refl hash_name (hash.Plain ∷ hash.Mixed ∷ []) h.hashes h.are_hashes 12 (lit< tt) refl refl parsed;
-        order = name_given start command rules m bare chain refl refl order_name (order.PairsFirst ∷ order.LeftFirst ∷ []) h.orders h.are_orders 22 (lit< tt) refl refl parsed;
-        columns = name_given start command rules m bare chain refl refl columns_name (columns.All ∷ columns.Left ∷ columns.Right ∷ []) h.sides h.are_sides 24 (lit< tt) refl refl parsed;
-        strict = strict_given start command rules m bare chain refl refl 9 (lit< tt) h refl refl parsed;
+        expect = name_given start command rules m bare chain refl refl matching_name (matching.OneToOne ∷ matching.ManyToOne ∷ matching.OneToMany ∷ []) h.matchings h.are_matchings 32 (lit< tt) refl refl parsed;
+        most_rows = number 33 0 4294967295 (lit< tt) refl parsed;
+        hash = name_given start command rules m bare chain refl refl hash_name (hash.Plain ∷ hash.Mixed ∷ []) h.hashes h.are_hashes 16 (lit< tt) refl refl parsed;
+        order = name_given start command rules m bare chain refl refl order_name (order.PairsFirst ∷ order.LeftFirst ∷ []) h.orders h.are_orders 26 (lit< tt) refl refl parsed;
+        columns = name_given start command rules m bare chain refl refl columns_name (columns.All ∷ columns.Left ∷ columns.Right ∷ []) h.sides h.are_sides 28 (lit< tt) refl refl parsed;
+        strict = strict_given start command rules m bare chain refl refl 13 (lit< tt) h refl refl parsed;
       }
 
   short_values : IsChain start (option_rules form.Short h) command → HasValues form.Short (first_value (found_of m))
@@ -70,21 +70,21 @@ module _ (start command : Command) (h : OptionWords) (m : ArgMatches) (bare : Is
         right_types = λ e. absurd (true≢false e);
         join = given 2 (lit< tt) refl parsed;
         numbers = record {
-          bits1 = number 13 0 10 (lit< tt) refl parsed;
-          bits2 = number 14 0 10 (lit< tt) refl parsed;
-          workers = number 16 1 64 (lit< tt) refl parsed;
-          block = number 17 1 65536 (lit< tt) refl parsed;
-          capacity = number 18 1 4096 (lit< tt) refl parsed;
-          lanes = number 19 1 4 (lit< tt) refl parsed;
-          retries = number 20 0 3 (lit< tt) refl parsed;
-          piece = number 21 1 1048576 (lit< tt) refl parsed;
+          bits1 = number 17 0 10 (lit< tt) refl parsed;
+          bits2 = number 18 0 10 (lit< tt) refl parsed;
+          workers = number 20 1 64 (lit< tt) refl parsed;
+          block = number 21 1 65536 (lit< tt) refl parsed;
+          capacity = number 22 1 4096 (lit< tt) refl parsed;
+          lanes = number 23 1 4 (lit< tt) refl parsed;
+          retries = number 24 0 3 (lit< tt) refl parsed;
+          piece = number 25 1 1048576 (lit< tt) refl parsed;
         };
-        expect = name_given start command rules m bare chain refl refl matching_name (matching.OneToOne ∷ matching.ManyToOne ∷ matching.OneToMany ∷ []) h.matchings h.are_matchings 31 (lit< tt) refl refl parsed;
-        most_rows = number 32 0 4294967295 (lit< tt) refl parsed;
-        hash = name_given start command rules m bare chain refl refl hash_name (hash.Plain ∷ hash.Mixed ∷ []) h.hashes h.are_hashes 15 (lit< tt) refl refl parsed;
-        order = name_given start command rules m bare chain refl refl order_name (order.PairsFirst ∷ order.LeftFirst ∷ []) h.orders h.are_orders 25 (lit< tt) refl refl parsed;
-        columns = name_given start command rules m bare chain refl refl columns_name (columns.All ∷ columns.Left ∷ columns.Right ∷ []) h.sides h.are_sides 27 (lit< tt) refl refl parsed;
-        strict = strict_given start command rules m bare chain refl refl 12 (lit< tt) h refl refl parsed;
+        expect = name_given start command rules m bare chain refl refl matching_name (matching.OneToOne ∷ matching.ManyToOne ∷ matching.OneToMany ∷ []) h.matchings h.are_matchings 35 (lit< tt) refl refl parsed;
+        most_rows = number 36 0 4294967295 (lit< tt) refl parsed;
+        hash = name_given start command rules m bare chain refl refl hash_name (hash.Plain ∷ hash.Mixed ∷ []) h.hashes h.are_hashes 19 (lit< tt) refl refl parsed;
+        order = name_given start command rules m bare chain refl refl order_name (order.PairsFirst ∷ order.LeftFirst ∷ []) h.orders h.are_orders 29 (lit< tt) refl refl parsed;
+        columns = name_given start command rules m bare chain refl refl columns_name (columns.All ∷ columns.Left ∷ columns.Right ∷ []) h.sides h.are_sides 31 (lit< tt) refl refl parsed;
+        strict = strict_given start command rules m bare chain refl refl 16 (lit< tt) h refl refl parsed;
       }
 
   pub values_given : (f : Form) → IsChain start (option_rules f h) command → HasValues f (first_value (found_of m))

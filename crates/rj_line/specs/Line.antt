@@ -21,6 +21,7 @@ use Rattle.rj_line.specs.declared.request.Request.{Request}
 use Rattle.rj_line.specs.declared.request.Strictness.{Strictness}
 use Rattle.rj_line.specs.declared.request.Strictness.TheVariants as strictness
 use Rattle.rj_line.specs.Choices.{IsChoiceFault, IsChoiceOf, columns_name, order_name}
+use Rattle.rj_line.specs.Delimiters.{are_delimiters_given, delimiter_given}
 use Rattle.rj_line.specs.Forms.{default_explain, default_strictness, default_workers, form_of, is_short}
 use Rattle.rj_line.specs.Named.{IsNameOf, IsNamedOr, is_true}
 use Rattle.rj_line.specs.Options.{OptionWords, line_app}
@@ -122,6 +123,9 @@ pub record IsRequestOf (f : Form) (processors : ℕ) (word : Text → Option Tex
   pub right_nulls : null_texts r.right_nulls.items ≡ nulls_or (texts (codes "right-null")) (null_word word)
   pub few_nulls : (length r.left_nulls.items ≤ 4) × (length r.right_nulls.items ≤ 4)
   pub out_null : r.out_null.now ≡ unwrap_or (word (codes "out-null")) (null_word word)
+  pub left_delimiter : delimiter_given word (codes "left-delimiter") ≡ Some r.left_delimiter
+  pub right_delimiter : delimiter_given word (codes "right-delimiter") ≡ Some r.right_delimiter
+  pub out_delimiter : delimiter_given word (codes "out-delimiter") ≡ Some r.out_delimiter
   pub strict : IsStrictness (default_strictness f (is_true (word (codes "lenient")))) (word (codes "strict")) r.strict
   pub settings : AreSettings (default_workers f processors) word r.settings
   pub hash : IsNamedOr hash_name hash.Plain (word (codes "hash")) r.hash
@@ -163,9 +167,16 @@ GiveTypes f word =
 abbrev pub AreTablesGiven : Form → (Text → Option Text) → (Text → List Text) → Type 0
 AreTablesGiven f word texts = GiveTypes f word × (length (texts (codes "left-null")) ≤ 4) × (length (texts (codes "right-null")) ≤ 4)
 
+-- why the values of the options choose nothing: a delimiter of a table or of the result that is
+-- none, then what is chosen of the joined table; or memory ran out
+abbrev pub IsChosenFault : Form → (Text → Option Text) → Fault → Type 0
+IsChosenFault f word fault.BadDelimiter = are_delimiters_given word ≡ false
+IsChosenFault f word fault.Memory = Unit {0}
+IsChosenFault f word e = (are_delimiters_given word ≡ true) × IsChoiceFault f word e
+
 -- why the values of the options ask for nothing that can be done: a bad type list for both tables,
--- then one on the left, then one on the right, then too many NULL texts on the left, then on the right, then what is chosen of
--- the joined table; or memory ran out
+-- then one on the left, then one on the right, then too many NULL texts on the left, then on the
+-- right, then a delimiter that is none, then what is chosen of the joined table; or memory ran out
 abbrev pub IsRequestFault : Form → (Text → Option Text) → (Text → List Text) → Fault → Type 0
 IsRequestFault f word texts fault.BadSharedTypeList = GivesNoShared (word (codes "types"))
 IsRequestFault f word texts (fault.BadTypeList side.Left) = GiveShared word × GivesNoTypes (word (codes "left-types"))
@@ -175,7 +186,7 @@ IsRequestFault f word texts (fault.TooManyNulls side.Left) = GiveTypes f word ×
 IsRequestFault f word texts (fault.TooManyNulls side.Right) =
     GiveTypes f word × (length (texts (codes "left-null")) ≤ 4) × (4 < length (texts (codes "right-null")))
 IsRequestFault f word texts fault.Memory = Unit {0}
-IsRequestFault f word texts e = AreTablesGiven f word texts × IsChoiceFault f word e
+IsRequestFault f word texts e = AreTablesGiven f word texts × IsChosenFault f word e
 
 -- an error of `clap`: out of memory, or one of a kind that it may report of the words
 abbrev pub IsParseError : Form → List Text → Error → Type 0

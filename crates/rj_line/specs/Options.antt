@@ -79,13 +79,17 @@ own_rules form.Short =
     ∷ rule_for (codes "terse") None takes.Nothing
     ∷ []
 
--- the options of both forms, in order; 111 is o and 119 is w
+-- the options of both forms, in order; 100 is d, 111 is o and 119 is w
 abbrev pub common_rules : OptionWords → List Rule
 common_rules h =
     rule_for (codes "null") None takes.Text
     ∷ rule_for (codes "left-null") None takes.Texts
     ∷ rule_for (codes "right-null") None takes.Texts
     ∷ rule_for (codes "out-null") None takes.Text
+    ∷ rule_for (codes "delimiter") (Some 100) takes.Text
+    ∷ rule_for (codes "left-delimiter") None takes.Text
+    ∷ rule_for (codes "right-delimiter") None takes.Text
+    ∷ rule_for (codes "out-delimiter") None takes.Text
     ∷ word_or_none (codes "strict") None h.levels (codes "on")
     ∷ rule_for (codes "bits1") None (takes.Number 0 10)
     ∷ rule_for (codes "bits2") None (takes.Number 0 10)

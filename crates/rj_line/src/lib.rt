@@ -2,6 +2,7 @@
 #![tactic(auto)]
 
 mod choice;
+mod delimiters;
 mod expecting;
 mod flags;
 mod form;
@@ -12,6 +13,7 @@ mod options;
 mod request;
 mod types;
 
+pub use delimiters::delimiter_of;
 pub use form::{Form, default_explain, form_of};
 pub use line::{Line, read_line};
 pub use nulls::read_nulls;

@@ -2,11 +2,14 @@
 
 ghost use Rattle.std.specs.Prelude.{◌≡◌, ◌-◌, ◌^◌, ◌≤◌, ◌||◌, IfOk, IfErr, Some, codes, is_some, map, true};
 ghost use Rattle.clap.specs.Words.{first_value, found_of};
+ghost use Rattle.rj_line.specs.Choices.{IsChoiceOf, columns_name, order_name};
+ghost use Rattle.rj_line.specs.Delimiters.{AreDelimitersOf};
 ghost use Rattle.rj_line.specs.Forms.{default_explain, default_strictness};
 ghost use Rattle.rj_line.specs.Named.{IsNameOf, IsNamedOr, is_true};
-ghost use Rattle.rj_line.specs.Line.{AreNumbersIn, AreSettings, HasValues, IsFaultIn, IsLineFault, IsLineIn, IsLineOf, IsNumberIn, IsNumberOr, IsParseError, IsParseOf, IsRequestFault, IsRequestOf, IsStrictName, IsStrictness, hash_name, texts_found};
+ghost use Rattle.rj_line.specs.Line.{AreNumbersIn, AreSettings, HasValues, IsChosenFault, IsFaultIn, IsLineFault, IsLineIn, IsLineOf, IsNumberIn, IsNumberOr, IsParseError, IsParseOf, IsRequestFault, IsRequestOf, IsStrictName, IsStrictness, hash_name, texts_found};
 
 use crate::choice::choice_of;
+use crate::delimiters::{Delimiters, delimiters_of};
 use crate::expecting::{expectation_of, number_of};
 use crate::flags::is_given;
 use crate::form::{Form, default_explain, default_strictness, default_workers, form_of, is_short};
@@ -16,7 +19,7 @@ use crate::request::{Hash, Request, Strictness};
 use crate::types::{shared_types_of, types_of};
 use clap::{ArgMatches, Error};
 use rj_fault::{Fault, Side};
-use rj_settings::Settings;
+use rj_settings::{Choice, Settings};
 use std::alloc::Global;
 
 /// What the words of the command line say.
@@ -131,6 +134,27 @@ fn is_explained(matches: &ArgMatches<'_>, form: Form) -> bool
     is_given(matches, "explain") || default_explain(form, is_given(matches, "terse"))
 }
 
+// The delimiters of the tables and of the result, and what is chosen of the joined table.
+fn chosen_of<'a>(
+    alloc: Global,
+    matches: &ArgMatches<'a>,
+    form: Form,
+) -> Result<(Delimiters, Choice<'a>), Fault>
+    requires order { IsNameOf order_name (first_value (found_of matches.now) (codes "order")) }
+    requires columns { IsNameOf columns_name (first_value (found_of matches.now) (codes "columns")) }
+    ensures delimiters { IfOk result (λ c. AreDelimitersOf (first_value (found_of matches.now)) c.0) }
+    ensures choice { IfOk result (λ c. IsChoiceOf form (first_value (found_of matches.now)) c.1) }
+    ensures fault { IfErr result (IsChosenFault form (first_value (found_of matches.now))) }
+{
+    let Some(delimiters) = delimiters_of(matches) else {
+        return Err(Fault::BadDelimiter);
+    };
+    match choice_of(alloc, matches, form) {
+        Ok(choice) => Ok((delimiters, choice)),
+        Err(fault) => Err(fault),
+    }
+}
+
 // What the values of the options of a line of this form ask of two tables.
 fn request_of<'a>(
     alloc: Global,
@@ -155,8 +179,8 @@ fn request_of<'a>(
         Ok(nulls) => nulls,
         Err(fault) => return Err(fault),
     };
-    let choice = match choice_of(alloc, matches, form) {
-        Ok(choice) => choice,
+    let (delimiters, choice) = match chosen_of(alloc, matches, form) {
+        Ok(chosen) => chosen,
         Err(fault) => return Err(fault),
     };
     Ok(Request {
@@ -168,6 +192,9 @@ fn request_of<'a>(
         left_nulls,
         right_nulls,
         out_null: matches.get_str("out-null").unwrap_or(null),
+        left_delimiter: delimiters.left,
+        right_delimiter: delimiters.right,
+        out_delimiter: delimiters.out,
         strict: strictness_of(matches, form),
         clause: given(matches, "join"),
         short: is_short(form),
@@ -213,9 +240,9 @@ fn read_in_form<'a>(
 /// # Errors
 ///
 /// `CommandLine` for a line that `clap` refuses, or that asks for help or the version. Then come,
-/// in this order: a bad type list, that for both tables, the left one, the right one; more than four NULL texts on
-/// the left, and on the right; `ChosenTwice`; a bad list of kinds of rows; `MatchedLeftColumns`; and
-/// a bad suffix.
+/// in this order: a bad type list, that for both tables, the left one, the right one; more than
+/// four NULL texts on the left, and on the right; `BadDelimiter` if that of a table or of the result
+/// is none; `ChosenTwice`; a bad list of kinds of rows; `MatchedLeftColumns`; and a bad suffix.
 /// `Memory` comes only when memory ran out.
 pub fn read_line<'a>(
     alloc: Global,

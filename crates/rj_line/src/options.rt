@@ -117,7 +117,7 @@ const SHORT: [LineOption; 8] = [
 ];
 
 // The options of both forms.
-const COMMON: [LineOption; 28] = [
+const COMMON: [LineOption; 32] = [
     LineOption {
         name: "null",
         letter: None,
@@ -135,6 +135,26 @@ const COMMON: [LineOption; 28] = [
     },
     LineOption {
         name: "out-null",
+        letter: None,
+        takes: Takes::Text,
+    },
+    LineOption {
+        name: "delimiter",
+        letter: Some('d'),
+        takes: Takes::Text,
+    },
+    LineOption {
+        name: "left-delimiter",
+        letter: None,
+        takes: Takes::Text,
+    },
+    LineOption {
+        name: "right-delimiter",
+        letter: None,
+        takes: Takes::Text,
+    },
+    LineOption {
+        name: "out-delimiter",
         letter: None,
         takes: Takes::Text,
     },

@@ -1,6 +1,7 @@
 //! What a join is asked to do.
 
 use rj_settings::{Choice, Expectation, Settings};
+use rj_strict::Delimiter;
 use rj_types::TypeEntry;
 
 /// The hash of a row's key, whose bits choose the row's partition. No choice changes the rows of a
@@ -44,6 +45,12 @@ pub struct Request<'a> {
     pub right_nulls: Vec<&'a str>,
     /// The text that is written for NULL.
     pub out_null: &'a str,
+    /// The delimiter of the left table.
+    pub left_delimiter: Delimiter,
+    /// The delimiter of the right table.
+    pub right_delimiter: Delimiter,
+    /// The delimiter of the result.
+    pub out_delimiter: Delimiter,
     /// Whether their texts have to be of RFC 4180's grammar.
     pub strict: Strictness,
     /// The text of the join clause.

@@ -10,6 +10,7 @@ use lib.Pointwise.{pointwise_decides}
 use Rattle.std.proofs.lemmas.List.Concat.{flat_map-append}
 use Rattle.std.proofs.lemmas.List.Elements.{All-cons, All-nil, All-push, Contains-append_left, Contains-append_right}
 use Rattle.rj_csv_io.specs.Cuts.{records_in}
+use Rattle.rj_strict.specs.Grammar.{comma}
 use Rattle.rj_merge.specs.declared.columns.Columns.{Columns}
 use Rattle.rj_merge.specs.declared.copies.Copies.{Copies}
 use Rattle.rj_merge.specs.declared.copies.MergeInput.{MergeInput}
@@ -105,9 +106,9 @@ module _ {R : Type 0} (known : R → Option (List ℕ)) (how : MergeOptions) whe
     from_first = heard texts x left (subst (λ l. map (told_by known) l ≡ map Some texts) is tell)
 
     -- the first input was opened, or has a fault
-    pub opened-first : (names : List (List ℕ)) (s : TextSource R) → ((text : List ℕ) → told_by known x ≡ Some text → names ≡ first_record (records_in text))
-        → ((text : List ℕ) → told_by known x ≡ Some text → input_tells known s × (input_reading known s ≡ reading_of how (first_record (records_in text)) 1 text))
-        → ((text : List ℕ) → told_by known x ≡ Some text → header_fault_of (first_record (records_in text)) 1 text ≡ None)
+    pub opened-first : (names : List (List ℕ)) (s : TextSource R) → ((text : List ℕ) → told_by known x ≡ Some text → names ≡ first_record (records_in comma text))
+        → ((text : List ℕ) → told_by known x ≡ Some text → input_tells known s × (input_reading known s ≡ reading_of how (first_record (records_in comma text)) 1 text))
+        → ((text : List ℕ) → told_by known x ≡ Some text → header_fault_of (first_record (records_in comma text)) 1 text ≡ None)
         → HasOpened known how texts names (s ∷ []) 1 left
     unfolding readings_from header_fault_from
     opened-first names s header given headed = by_text from_first
@@ -116,7 +117,7 @@ module _ {R : Type 0} (known : R → Option (List ℕ)) (how : MergeOptions) whe
         by_text h =
             let named = header h.text h.here in
             let gives = given h.text h.here in
-            let of_first : first_header texts ≡ first_record (records_in h.text) = ap first_header h.texts_are in
+            let of_first : first_header texts ≡ first_record (records_in comma h.text) = ap first_header h.texts_are in
             record {
               rest = h.rest;
               tell = h.later;
@@ -124,12 +125,12 @@ module _ {R : Type 0} (known : R → Option (List ℕ)) (how : MergeOptions) whe
               given = ap (readings how) h.texts_are
                   ∙ (λ t. sym gives.1 t ∷ readings_from how (sym named t) 2 h.rest);
               headed = ap header_fault h.texts_are
-                  ∙ (ap (λ (o : Option MergeRefused). fault_or o (header_fault_from (first_record (records_in h.text)) 2 h.rest)) (headed h.text h.here)
+                  ∙ (ap (λ (o : Option MergeRefused). fault_or o (header_fault_from (first_record (records_in comma h.text)) 2 h.rest)) (headed h.text h.here)
                   ∙ ap (λ (l : List (List ℕ)). header_fault_from l 2 h.rest) (sym named));
               tells = All-cons (input_tells known) s [] gives.0 (All-nil (input_tells known));
             }
 
-    pub heads-first : (e : MergeRefused) → ((text : List ℕ) → told_by known x ≡ Some text → header_fault_of (first_record (records_in text)) 1 text ≡ Some e)
+    pub heads-first : (e : MergeRefused) → ((text : List ℕ) → told_by known x ≡ Some text → header_fault_of (first_record (records_in comma text)) 1 text ≡ Some e)
         → header_fault texts ≡ Some e
     unfolding header_fault_from
     heads-first e fault = by_text from_first
@@ -137,16 +138,16 @@ module _ {R : Type 0} (known : R → Option (List ℕ)) (how : MergeOptions) whe
         by_text : Heard texts x left → header_fault texts ≡ Some e
         by_text h =
             ap header_fault h.texts_are
-            ∙ ap (λ (o : Option MergeRefused). fault_or o (header_fault_from (first_record (records_in h.text)) 2 h.rest)) (fault h.text h.here)
+            ∙ ap (λ (o : Option MergeRefused). fault_or o (header_fault_from (first_record (records_in comma h.text)) 2 h.rest)) (fault h.text h.here)
 
-    pub fault-first : (e : MergeRefused) → ((text : List ℕ) → told_by known x ≡ Some text → (reading_of how (first_record (records_in text)) 1 text).fault ≡ Some e)
+    pub fault-first : (e : MergeRefused) → ((text : List ℕ) → told_by known x ≡ Some text → (reading_of how (first_record (records_in comma text)) 1 text).fault ≡ Some e)
         → Contains (faults_of_readings (readings how texts)) e
     unfolding readings_from
     fault-first e fault = by_text from_first
       where
         by_text : Heard texts x left → Contains (faults_of_readings (readings how texts)) e
         by_text h =
-            let names = first_record (records_in h.text) in
+            let names = first_record (records_in comma h.text) in
             subst (λ l. Contains (faults_of_readings (readings how l)) e) (sym h.texts_are) (first_fault (reading_of how names 1 h.text) (readings_from how names 2 h.rest) e (fault h.text h.here))
 
   module _ (texts : List (List ℕ)) (names : List (List ℕ)) (sources : List (TextSource R)) (input : ℕ) (left more : List (MergeInput R)) (x : MergeInput R) (h : HasOpened known how texts names sources input left) (is : left ≡ x ∷ more) where

@@ -3,8 +3,10 @@ use Rattle.std.proofs.Common.{◌≡◌, ℕ, Bool, List, [], ◌∷◌, ◌++�
 use Rattle.std.specs.Prelude.{◌≢◌, false, IfErr}
 use Rattle.std.proofs.lemmas.Bool.{false≢true}
 use Rattle.csv.specs.declared.writer.Writer.{Writer}
-use Rattle.csv.specs.Writing.{default_writer, row_text}
+use Rattle.csv.specs.Writing.{row_text}
+use Rattle.rj_csv_io.specs.Shown.{writer_of}
 use Rattle.rj_csv_io.specs.Written.{HasWritten}
+use Rattle.rj_strict.specs.Grammar.{comma}
 use Rattle.rj_merge.specs.declared.copies.Copies.{Copies}
 use Rattle.rj_merge.specs.declared.head.Head.{Head}
 use Rattle.rj_merge.specs.declared.input.TextSource.{TextSource}
@@ -51,7 +53,7 @@ pub record HasPut {S : Type 0} (telling : S → Type 0) (own : S → Copies) (gi
   pub rows : List (Placed (List (List ℕ)))
   pub tells : All telling sources → AllTell telling heads
   pub gave : All telling sources → GaveSoFar own gives sources rows (stage_of own gives passed heads)
-  pub shown : (text : List ℕ) → HasWritten begun text [] → IsTold start (text ++ records_text rows) block told
+  pub shown : (text : List ℕ) → HasWritten comma begun text [] → IsTold start (text ++ records_text rows) block told
 
 module _ {S : Type 0} (telling : S → Type 0) (own : S → Copies) (gives : S → Reading (List (List ℕ))) (sources : List S) (start : Option (List ℕ)) (begun : Writer (Vec ℕ Global)) where
   -- no row was put
@@ -63,7 +65,7 @@ module _ {S : Type 0} (telling : S → Type 0) (own : S → Copies) (gives : S �
     rows = [];
     tells = tells;
     gave = λ t. record { opened = stage_of own gives passed heads; passed = none; all = all t; faults = faults t; steps = refl };
-    shown = λ text h. told-none start (text ++ records_text []) begun (subst (λ t. HasWritten begun t []) (sym (ap (λ t. text ++ t) no_records ∙ append-nil text)) h);
+    shown = λ text h. told-none start (text ++ records_text []) begun (subst (λ t. HasWritten comma begun t []) (sym (ap (λ t. text ++ t) no_records ∙ append-nil text)) h);
   }
 
   module _ (passed : Option Place) (heads : List (Head (List (List ℕ)) S)) (block : Writer (Vec ℕ Global)) (told : Option (List ℕ)) (h : HasPut telling own gives sources passed heads start begun block told) where
@@ -71,7 +73,7 @@ module _ {S : Type 0} (telling : S → Type 0) (own : S → Copies) (gives : S �
     pub put-more : (next : Option Place) (row : Placed (List (List ℕ))) (left : List (Head (List (List ℕ)) S)) (new : Writer (Vec ℕ Global)) (tells : Option (List ℕ))
         → (AllTell telling heads → AllTell telling left)
         → (AllTell telling heads → IsStep (stage_of own gives passed heads) (Some row) (stage_of own gives next left))
-        → ((text : List ℕ) → IsTold start text block told → IsTold start (text ++ row_text default_writer row.row) new tells)
+        → ((text : List ℕ) → IsTold start text block told → IsTold start (text ++ row_text (writer_of comma) row.row) new tells)
         → HasPut telling own gives sources next left start begun new tells
     put-more next row left new tells keeps step write = record {
       rows = h.rows ++ row ∷ [];

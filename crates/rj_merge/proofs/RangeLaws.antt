@@ -14,6 +14,7 @@ use Rattle.std.proofs.lemmas.List.Folds.{flat_map-map}
 use Rattle.std.proofs.lemmas.List.Sorted.{IsPermutation-append_comm, IsPermutation-append_left, IsPermutation-append_right, IsPermutation-refl, IsPermutation-sym, IsPermutation-trans}
 use Rattle.rj_csv_io.specs.Cuts.{records_in}
 use Rattle.rj_csv_io.specs.Shown.{rows_text}
+use Rattle.rj_strict.specs.Grammar.{comma}
 use Rattle.rj_merge.specs.declared.columns.Columns.{Columns}
 use Rattle.rj_merge.specs.declared.copies.Copies.{Copies}
 use Rattle.rj_merge.specs.declared.options.MergeOptions.{MergeOptions}
@@ -60,7 +61,7 @@ raw_records how first input (header ∷ records) = if pointwise bytes_eq header 
 
 raws_from : MergeOptions → List (List ℕ) → ℕ → List (List ℕ) → List Rows
 raws_from how first input [] = []
-raws_from how first input (text ∷ texts) = raw_records how first input (records_in text) ∷ raws_from how first (input + 1) texts
+raws_from how first input (text ∷ texts) = raw_records how first input (records_in comma text) ∷ raws_from how first (input + 1) texts
 
 module _ (how : MergeOptions) (from to : Option Place) (first : List (List ℕ)) where
   fault_within : (e : MergeRefused) → only_fault e ≡ reading_within (between how from to) (only_fault e)
@@ -81,7 +82,7 @@ module _ (how : MergeOptions) (from to : Option Place) (first : List (List ℕ))
   readings_between : (input : ℕ) (texts : List (List ℕ)) → readings_from (between how from to) first input texts ≡ map (reading_within (between how from to)) (raws_from how first input texts)
   unfolding readings_from raws_from
   readings_between input [] = refl
-  readings_between input (text ∷ texts) = λ t. records_between input (records_in text) t ∷ readings_between (input + 1) texts t
+  readings_between input (text ∷ texts) = λ t. records_between input (records_in comma text) t ∷ readings_between (input + 1) texts t
 
 -- ---- the rows of a text rise
 
@@ -129,7 +130,7 @@ module _ (how : MergeOptions) (first : List (List ℕ)) where
   raws_rise : (input : ℕ) (texts : List (List ℕ)) → All (λ (r : Rows). RisesFrom None r.rows) (raws_from how first input texts)
   unfolding raws_from
   raws_rise input [] = All-nil (λ (r : Rows). RisesFrom None r.rows)
-  raws_rise input (text ∷ texts) = All-cons (λ (r : Rows). RisesFrom None r.rows) (raw_records how first input (records_in text)) (raws_from how first (input + 1) texts) (raw_rises input (records_in text)) (raws_rise (input + 1) texts)
+  raws_rise input (text ∷ texts) = All-cons (λ (r : Rows). RisesFrom None r.rows) (raw_records how first input (records_in comma text)) (raws_from how first (input + 1) texts) (raw_rises input (records_in comma text)) (raws_rise (input + 1) texts)
 
 -- ---- lists of two parts each
 
@@ -261,7 +262,7 @@ module _ (how : MergeOptions) (copies : List Copies) (texts : List (List ℕ)) w
           merge = joined m.rows n.rows m.merge n.merge;
           shown = (λ t. m.shown t ++ n.shown t)
               ∙ (sym (rows_text-append (head ++ map row m.rows) (map row n.rows))
-              ∙ ap rows_text (append_assoc head (map row m.rows) (map row n.rows) ∙ ap (λ l. head ++ l) (sym (map-append row m.rows n.rows))));
+              ∙ ap (rows_text comma) (append_assoc head (map row m.rows) (map row n.rows) ∙ ap (λ l. head ++ l) (sym (map-append row m.rows n.rows))));
         }
 
   -- all ranges from a place on

@@ -7,6 +7,7 @@ use Rattle.std.specs.Str.{bytes_eq}
 use Rattle.std.specs.declared.alloc.Global.{Global}
 use Rattle.rj_csv_io.specs.Cuts.{records_in}
 use Rattle.rj_csv_io.specs.Remaining.{IsBetween, records_remaining}
+use Rattle.rj_strict.specs.Grammar.{comma}
 use Rattle.rj_merge.specs.declared.columns.Columns.{Columns}
 use Rattle.rj_merge.specs.declared.copies.Copies.{Copies}
 use Rattle.rj_merge.specs.declared.copies.MergeInput.{MergeInput}
@@ -90,7 +91,7 @@ reading_of_records how first input (header ∷ records) =
 
 -- what a text gives, if this is the header of the first input
 abbrev pub reading_of : MergeOptions → List (List ℕ) → ℕ → List ℕ → Reading (List (List ℕ))
-reading_of how first input text = reading_of_records how first input (records_in text)
+reading_of how first input text = reading_of_records how first input (records_in comma text)
 
 -- what texts give, whose inputs count from this number on
 unfoldable pub readings_from : MergeOptions → List (List ℕ) → ℕ → List (List ℕ) → List (Reading (List (List ℕ)))
@@ -105,7 +106,7 @@ first_record (r ∷ records) = r
 -- the header of the first of texts
 abbrev pub first_header : List (List ℕ) → List (List ℕ)
 first_header [] = []
-first_header (text ∷ texts) = first_record (records_in text)
+first_header (text ∷ texts) = first_record (records_in comma text)
 
 -- what texts give, each as an input of its own, counted from 1
 abbrev pub readings : MergeOptions → List (List ℕ) → List (Reading (List (List ℕ)))
@@ -124,7 +125,7 @@ header_fault_in first input (header ∷ records) =
     if pointwise bytes_eq header first then place_fault input (place_columns first) else Some (refused.OtherHeader input)
 
 abbrev pub header_fault_of : List (List ℕ) → ℕ → List ℕ → Option MergeRefused
-header_fault_of first input text = header_fault_in first input (records_in text)
+header_fault_of first input text = header_fault_in first input (records_in comma text)
 
 -- an error, or if there is none a later one
 abbrev pub fault_or : Option MergeRefused → Option MergeRefused → Option MergeRefused

@@ -7,6 +7,7 @@ use Rattle.std.specs.declared.vec.Vec.{Vec}
 use Rattle.csv.specs.declared.writer.Writer.{Writer}
 use Rattle.rj_csv_io.specs.Shown.{rows_text}
 use Rattle.rj_csv_io.specs.Written.{HasWritten}
+use Rattle.rj_strict.specs.Grammar.{comma}
 use Rattle.rj_merge.specs.declared.columns.Columns.{Columns}
 use Rattle.rj_merge.specs.declared.copies.Copies.{Copies}
 use Rattle.rj_merge.specs.declared.options.MergeOptions.{MergeOptions}
@@ -26,7 +27,7 @@ use Rattle.rj_merge.specs.Wholes.{IsMergeOf}
 
 -- the records of rows, one after the other
 abbrev pub records_text : List (Placed (List (List ℕ))) → List ℕ
-records_text rows = rows_text (map (λ p. p.row) rows)
+records_text rows = rows_text comma (map (λ p. p.row) rows)
 
 -- the header is above rows whose range has no first place, and not above a later range
 abbrev pub head_rows : Option Place → List (List ℕ) → List (List (List ℕ))
@@ -44,7 +45,7 @@ pub record IsMergedText (how : MergeOptions) (copies : List Copies) (texts : Lis
   pub rows : List (Placed (List (List ℕ)))
   pub places : place_columns (first_header texts) ≡ Some columns
   pub merge : IsMergeOf (copied_rows (lists_of_texts how copies texts)) rows
-  pub shown : text ≡ rows_text (head_rows how.from (others columns (first_header texts)) ++ map (λ p. p.row) rows)
+  pub shown : text ≡ rows_text comma (head_rows how.from (others columns (first_header texts)) ++ map (λ p. p.row) rows)
 
 -- texts are those of the merges of the ranges between these cuts, the first from this place on, the last to the end
 abbrev pub AreRanges : MergeOptions → List Copies → List (List ℕ) → Option Place → List Place → List (List ℕ) → Type 0
@@ -86,4 +87,4 @@ pub record IsTold (start : Option (List ℕ)) (text : List ℕ) (block : Writer 
   pub kept : List ℕ
   pub whole : text ≡ put ++ kept
   pub got : Appends start told put
-  pub written : HasWritten block kept []
+  pub written : HasWritten comma block kept []

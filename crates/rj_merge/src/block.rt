@@ -2,8 +2,10 @@
 
 ghost use Rattle.std.specs.Prelude.{◌≡◌, ◌≢◌, ◌<◌, ◌+◌, ◌-◌, ◌^◌, ◌++◌, [], List, ℕ, Option, Err, IfErr, OnOk};
 ghost use Rattle.std.specs.Io.KnownBytes.{Appends};
-ghost use Rattle.csv.specs.Writing.{default_writer, row_text};
+ghost use Rattle.csv.specs.Writing.{row_text};
+ghost use Rattle.rj_csv_io.specs.Shown.{writer_of};
 ghost use Rattle.rj_csv_io.specs.Written.{HasWritten};
+ghost use Rattle.rj_strict.specs.Grammar.{comma};
 ghost use Rattle.rj_merge.specs.MergedTexts.{IsTold};
 
 use crate::fields::Fields;
@@ -18,7 +20,7 @@ const BLOCK: usize = 65536;
 
 /// A block with nothing in it.
 pub(crate) fn empty_block(alloc: Global) -> Writer<Vec<u8>>
-    ensures { HasWritten result [] [] }
+    ensures { HasWritten comma result [] [] }
 {
     WriterBuilder::new().from_writer(Vec::new(alloc))
 }
@@ -35,7 +37,7 @@ pub(crate) fn put_block<O: Output>(
 ) -> Result<(), MergeTextsRefused>
     requires { O.count output.old < 2 ^ 64 - 1 }
     ensures told { (start : Option (List ℕ)) → (text : List ℕ) → IsTold start text block.old (O.told output.old)
-        → OnOk result (Appends start (O.told output.new) text × HasWritten block.new [] []) }
+        → OnOk result (Appends start (O.told output.new) text × HasWritten comma block.new [] []) }
     ensures device { result ≡ Err MergeTextsRefused.WriteDevice → O.count output.new ≡ O.count output.old + 1 }
     ensures kept { result ≢ Err MergeTextsRefused.WriteDevice → O.count output.new ≡ O.count output.old }
     ensures fault { IfErr result (λ e. e ≢ MergeTextsRefused.WriteDevice → e ≡ MergeTextsRefused.Merge MergeRefused.Memory) }
@@ -63,7 +65,7 @@ pub(crate) fn add_row<O: Output>(
 ) -> Result<(), MergeTextsRefused>
     requires { O.count output.old < 2 ^ 64 - 1 }
     ensures told { (start : Option (List ℕ)) → (text : List ℕ) → IsTold start text block.old (O.told output.old)
-        → OnOk result (IsTold start (text ++ row_text default_writer row.now) block.new (O.told output.new)) }
+        → OnOk result (IsTold start (text ++ row_text (writer_of comma) row.now) block.new (O.told output.new)) }
     ensures device { result ≡ Err MergeTextsRefused.WriteDevice → O.count output.new ≡ O.count output.old + 1 }
     ensures kept { result ≢ Err MergeTextsRefused.WriteDevice → O.count output.new ≡ O.count output.old }
     ensures fault { IfErr result (λ e. e ≢ MergeTextsRefused.WriteDevice → e ≡ MergeTextsRefused.Merge MergeRefused.Memory) }

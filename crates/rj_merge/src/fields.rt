@@ -2,8 +2,10 @@
 
 ghost use Rattle.std.specs.Prelude.{◌≡◌, ◌<◌, ◌-◌, ◌^◌, ◌++◌, ◌∷◌, [], List, ℕ, OnOk, length};
 ghost use Rattle.csv.specs.Records.{fields_of};
-ghost use Rattle.csv.specs.Writing.{default_writer, row_text};
+ghost use Rattle.csv.specs.Writing.{row_text};
+ghost use Rattle.rj_csv_io.specs.Shown.{writer_of};
 ghost use Rattle.rj_csv_io.specs.Written.{HasWritten};
+ghost use Rattle.rj_strict.specs.Grammar.{comma};
 ghost use Rattle.rj_merge.specs.Texts.{others};
 
 use crate::columns::Columns;
@@ -37,8 +39,8 @@ impl Model for Fields {
 
 // Writes one more field of a record.
 fn write_field(writer: &mut Writer<Vec<u8>>, field: &[u8]) -> Result<(), AllocError>
-    ensures { (text : List ℕ) → (fields : List (List ℕ)) → length fields < 2 ^ 64 - 1 → HasWritten writer.old text fields
-        → OnOk result (HasWritten writer.new text (fields ++ field.now ∷ [])) }
+    ensures { (text : List ℕ) → (fields : List (List ℕ)) → length fields < 2 ^ 64 - 1 → HasWritten comma writer.old text fields
+        → OnOk result (HasWritten comma writer.new text (fields ++ field.now ∷ [])) }
 {
     if writer.write_field(field).is_err() {
         return Err(AllocError);
@@ -48,8 +50,8 @@ fn write_field(writer: &mut Writer<Vec<u8>>, field: &[u8]) -> Result<(), AllocEr
 
 // Ends a record.
 fn end_record(writer: &mut Writer<Vec<u8>>) -> Result<(), AllocError>
-    ensures { (text : List ℕ) → (fields : List (List ℕ)) → HasWritten writer.old text fields
-        → OnOk result (HasWritten writer.new (text ++ row_text default_writer fields) []) }
+    ensures { (text : List ℕ) → (fields : List (List ℕ)) → HasWritten comma writer.old text fields
+        → OnOk result (HasWritten comma writer.new (text ++ row_text (writer_of comma) fields) []) }
 {
     if writer.end_record().is_err() {
         return Err(AllocError);
@@ -73,7 +75,8 @@ impl Fields {
 
     /// Writes them as a record.
     pub(crate) fn write(&self, writer: &mut Writer<Vec<u8>>) -> Result<(), AllocError>
-        ensures { (text : List ℕ) → HasWritten writer.old text [] → OnOk result (HasWritten writer.new (text ++ row_text default_writer self.now) []) }
+        ensures { (text : List ℕ) → HasWritten comma writer.old text []
+            → OnOk result (HasWritten comma writer.new (text ++ row_text (writer_of comma) self.now) []) }
     {
         let whole = self.whole.as_ref();
         for i in 0..whole.fields.len() {

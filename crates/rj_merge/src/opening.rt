@@ -4,6 +4,7 @@ ghost use Rattle.std.specs.Prelude.{◌≡◌, ◌<◌, ◌^◌, ◌∷◌, [], 
 ghost use Rattle.csv.specs.Records.{fields_of};
 ghost use Rattle.rj_csv_io.specs.Cuts.{records_in};
 ghost use Rattle.rj_csv_io.specs.Remaining.{IsBetween, records_remaining};
+ghost use Rattle.rj_strict.specs.Grammar.{comma};
 ghost use Rattle.rj_merge.specs.Headers.{place_columns};
 ghost use Rattle.rj_merge.specs.Inputs.{ForTexts, copies_of, faults_of_readings, first_header, first_record, header_fault, header_fault_of, input_reading, input_tells, is_input, own_copies, own_number, reading_of, readings};
 ghost use Rattle.rj_merge.specs.Sources.{TellsAmong, TellsOf, is_outside};
@@ -20,7 +21,7 @@ use std::io::Read;
 // A reader of all records of a text.
 fn open_reader<R: Read>(alloc: Global, source: R) -> Reader<R>
     ensures { (text : List ℕ) → R.remaining source ≡ Some text
-        → IsBetween R.remaining result × (records_remaining R.remaining result ≡ records_in text) }
+        → IsBetween R.remaining result × (records_remaining R.remaining result ≡ records_in comma text) }
 {
     ReaderBuilder::new()
         .has_headers(false)
@@ -38,9 +39,9 @@ struct Begun<R: Read + Drop> {
 // Reads the header of a text.
 fn begin<R: Read + Drop>(alloc: Global, input: u32, source: R) -> Result<Begun<R>, MergeRefused>
     ensures header { IfOk result (λ b. (text : List ℕ) → R.remaining source ≡ Some text
-        → IsBetween R.remaining b.reader.value × (records_in text ≡ fields_of b.header ∷ records_remaining R.remaining b.reader.value)) }
+        → IsBetween R.remaining b.reader.value × (records_in comma text ≡ fields_of b.header ∷ records_remaining R.remaining b.reader.value)) }
     ensures fault { IfErr result (λ e. is_outside e ≡ false → (text : List ℕ) → R.remaining source ≡ Some text
-        → (e ≡ MergeRefused.NoHeader input) × (records_in text ≡ [])) }
+        → (e ≡ MergeRefused.NoHeader input) × (records_in comma text ≡ [])) }
     ensures input { IfErr result (TellsOf input) }
 {
     let mut reader = open_reader(alloc, source);
@@ -71,15 +72,16 @@ fn open_first<'n, R: Read + Drop>(
 ) -> Result<First<'n, R>, MergeRefused>
     ensures copies { IfOk result (λ f. f.source.copies ≡ first.copies) }
     ensures places { IfOk result (λ f. place_columns (fields_of f.header.names) ≡ Some f.header.columns) }
-    ensures header { IfOk result (λ f. (text : List ℕ) → R.remaining first.reader ≡ Some text → fields_of f.header.names ≡ first_record (records_in text)) }
+    ensures header { IfOk result (λ f. (text : List ℕ) → R.remaining first.reader ≡ Some text
+        → fields_of f.header.names ≡ first_record (records_in comma text)) }
     ensures input { IfOk result (λ f. (text : List ℕ) → R.remaining first.reader ≡ Some text → input_tells R.remaining f.source
-        × (input_reading R.remaining f.source ≡ reading_of how.entry (first_record (records_in text)) 1 text)) }
+        × (input_reading R.remaining f.source ≡ reading_of how.entry (first_record (records_in comma text)) 1 text)) }
     ensures fault { IfErr result (λ e. is_outside e ≡ false → (text : List ℕ) → R.remaining first.reader ≡ Some text
-        → (reading_of how.entry (first_record (records_in text)) 1 text).fault ≡ Some e) }
+        → (reading_of how.entry (first_record (records_in comma text)) 1 text).fault ≡ Some e) }
     ensures headed { IfOk result (λ _. (text : List ℕ) → R.remaining first.reader ≡ Some text
-        → header_fault_of (first_record (records_in text)) 1 text ≡ None) }
+        → header_fault_of (first_record (records_in comma text)) 1 text ≡ None) }
     ensures unheaded { IfErr result (λ e. is_outside e ≡ false → (text : List ℕ) → R.remaining first.reader ≡ Some text
-        → header_fault_of (first_record (records_in text)) 1 text ≡ Some e) }
+        → header_fault_of (first_record (records_in comma text)) 1 text ≡ Some e) }
     ensures number { IfOk result (λ f. f.source.input ≡ 1) }
     ensures told { IfErr result (TellsOf 1) }
 {

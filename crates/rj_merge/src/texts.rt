@@ -6,6 +6,7 @@ ghost use Rattle.std.specs.Io.KnownBytes.{Appends};
 ghost use Rattle.csv.specs.Records.{fields_of};
 ghost use Rattle.rj_csv_io.specs.Shown.{rows_text};
 ghost use Rattle.rj_csv_io.specs.Written.{HasWritten};
+ghost use Rattle.rj_strict.specs.Grammar.{comma};
 ghost use Rattle.rj_merge.specs.declared.place.Placed.{Placed};
 ghost use Rattle.rj_merge.specs.declared.refused.MergeRefused.{MergeRefused};
 ghost use Rattle.rj_merge.specs.Copies.{copied_rows};
@@ -59,7 +60,7 @@ fn put_rows<'n, R: Read + Drop, O: Output>(
     output: &mut O,
 ) -> Result<(), MergeTextsRefused>
     requires { O.count output.old < 2 ^ 64 - 1 }
-    ensures merge { OnOk result ((text : List ℕ) → HasWritten block text [] → All (boxed_tells R.remaining) sources.entry.items
+    ensures merge { OnOk result ((text : List ℕ) → HasWritten comma block text [] → All (boxed_tells R.remaining) sources.entry.items
         → (rows : List (Placed (List (List ℕ)))) × IsMergeOf (copied_rows (lists_of_inputs boxed_copies (boxed_reading R.remaining) sources.entry.items)) rows
         × Appends (O.told output.old) (O.told output.new) (text ++ records_text rows)) }
     ensures faults { OnOk result (All (boxed_tells R.remaining) sources.entry.items → faults_of_inputs (boxed_reading R.remaining) sources.entry.items ≡ []) }
@@ -96,7 +97,7 @@ fn begin_block(
     header: SharedHeader,
     from: Option<Place>,
 ) -> Result<Writer<Vec<u8>>, AllocError>
-    ensures { IfOk result (λ block. HasWritten block (rows_text (head_rows from (others header.columns (fields_of header.names)))) []) }
+    ensures { IfOk result (λ block. HasWritten comma block (rows_text comma (head_rows from (others header.columns (fields_of header.names)))) []) }
 {
     let mut block = empty_block(alloc);
     if from.is_some() {

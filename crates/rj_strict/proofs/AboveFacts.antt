@@ -6,12 +6,13 @@ use Rattle.std.proofs.lemmas.List.{at_drop_more, at_drop_all}
 use Rattle.std.proofs.Math.Seq.{take-append_seam}
 use Rattle.rj_strict.specs.Grammar.{Field, escaped, non-escaped, Line, fields_text, lines_text}
 use Rattle.rj_strict.specs.Faults.{AreAbove, HasFault, row_at}
-use Rattle.rj_strict.specs.Steps.{at_comma, at_cr, at_dquote, at_lf, at_textdata, end_empty, end_of, forbids_empty, initial_standing, step_of, verdict}
+use Rattle.rj_strict.specs.Steps.{at_delimiter, at_cr, at_dquote, at_lf, at_textdata, end_empty, end_of, forbids_empty, initial_standing, step_of, verdict}
 use Rattle.rj_strict.specs.declared.header.Header.{Header}
 use Rattle.rj_strict.specs.declared.header.Header.TheVariants.{First, Above}
 use Rattle.rj_strict.specs.declared.fault.StrictFault.{StrictFault}
 use Rattle.rj_strict.specs.declared.standing.Place.TheVariants as place
 use Rattle.rj_strict.specs.declared.standing.Standing.{Standing}
+use Rattle.rj_strict.proofs.Lawful.{Lawful}
 use Rattle.rj_strict.proofs.Parsing.{Part, within, opened, returned, Taken, nothing, part_text, taken_text, take_byte, untaken}
 use Rattle.rj_strict.proofs.Seen.{all_seen, initial-seen, byte-seen, place_of, seen}
 use Rattle.rj_strict.proofs.Sound.{Good, IsTaken, byte-good}
@@ -41,8 +42,8 @@ begins-lf s = elim s.place as (λ p. Begins s (at_lf (record s { place = p }))) 
   | place.Return ↦ inr refl
 ]
 
-begins-comma : (s : Standing) → Begins s (at_comma s)
-begins-comma s = elim s.place as (λ p. Begins s (at_comma (record s { place = p }))) [
+begins-delimiter : (s : Standing) → Begins s (at_delimiter s)
+begins-delimiter s = elim s.place as (λ p. Begins s (at_delimiter (record s { place = p }))) [
   | place.Start ↦ inl refl
   | place.Fresh ↦ inl refl
   | place.Inside ↦ inl refl
@@ -85,10 +86,10 @@ begins-textdata s = elim s.place as (λ p. Begins s (at_textdata (record s { pla
   | place.Return ↦ refl
 ]
 
-begins : (s : Standing) (c : ℕ) → Begins s (step_of s c)
-begins s c =
-    begins-if s (c == 44) _ _ (begins-comma s) (begins-if s (c == 10) _ _ (begins-lf s)
-    (begins-if s (c == 13) _ _ (begins-cr s) (begins-if s (c == 34) _ _ (begins-dquote s) (begins-textdata s))))
+begins : (d : ℕ) (s : Standing) (c : ℕ) → Begins s (step_of d s c)
+begins d s c =
+    begins-if s (c == 10) _ _ (begins-lf s) (begins-if s (c == 13) _ _ (begins-cr s)
+    (begins-if s (c == 34) _ _ (begins-dquote s) (begins-if s (c == d) _ _ (begins-delimiter s) (begins-textdata s))))
 
 abbrev Ends : Standing → Result (Unit {0}) StrictFault → Type 0
 Ends s (Ok u) = Unit {0}
@@ -131,14 +132,14 @@ starts-untaken [] (returned (escaped bytes)) e = cc e
 starts-untaken (g ∷ fields) (returned (escaped bytes)) e = cc e
 
 -- where the walk stands in a text that has its fault in a row: at that row's start, or before it
-pub record Stands (h : Header) (row : ℕ) (text : List ℕ) (at : ℕ) (s : Standing) : Type 0 where
+pub record Stands (d : ℕ) (h : Header) (row : ℕ) (text : List ℕ) (at : ℕ) (s : Standing) : Type 0 where
   pub full : Bool
   pub fault : StrictFault
   pub is_row : row_at fault ≡ row
-  pub told : verdict full s (drop at text) ≡ Err fault
+  pub told : verdict d full s (drop at text) ≡ Err fault
   pub taken : Taken
-  pub lawful : IsTaken h taken
-  pub spelled : text ≡ taken_text taken (drop at text)
+  pub lawful : IsTaken d h taken
+  pub spelled : text ≡ taken_text d taken (drop at text)
   pub sees : s ≡ seen h taken
   pub starts : s.row ≡ row → s.place ≡ place.Start
 
@@ -150,12 +151,12 @@ initial-start : (h : Header) → (initial_standing h).place ≡ place.Start
 initial-start First = refl
 initial-start (Above names) = refl
 
-pub stands-initial : (h : Header) (row : ℕ) (text : List ℕ) (s : Standing) → (full : Bool) × (f : StrictFault) × HasFault h full text f × (row_at f ≡ row) → s ≡ initial_standing h → Stands h row text 0 s
-stands-initial h row text s has is = record {
+pub stands-initial : (d : ℕ) (law : Lawful d) (h : Header) (row : ℕ) (text : List ℕ) (s : Standing) → (full : Bool) × (f : StrictFault) × HasFault d h full text f × (row_at f ≡ row) → s ≡ initial_standing h → Stands d h row text 0 s
+stands-initial d law h row text s has is = record {
   full = has.0;
   fault = has.1;
   is_row = has.3;
-  told = ap (λ (x : Standing). verdict has.0 x text) is ∙ says-err h has.0 text has.1 has.2;
+  told = ap (λ (x : Standing). verdict d has.0 x text) is ∙ says-err d h has.0 text law has.1 has.2;
   taken = untaken;
   lawful = record { lines = refl; fields = refl; part = refl };
   spelled = refl;
@@ -169,9 +170,9 @@ ok-standing s t e = cc
 err-fault : {T : Type 0} (e f : StrictFault) → ◌≡◌ {A = Result T StrictFault} (Err e) (Err f) → e ≡ f
 err-fault e f p = cc
 
-module _ (h : Header) (row : ℕ) (text : List ℕ) (at : ℕ) (s : Standing) (st : Stands h row text at s) where
-  stands-next : (s2 : Standing) (r : Result Taken StrictFault) → Ok s2 ≡ all_seen h r → Good h st.full text (drop (at + 1) text) r
-      → verdict st.full s2 (drop (at + 1) text) ≡ Err st.fault → (s2.row ≡ row → s2.place ≡ place.Start) → Stands h row text (at + 1) s2
+module _ (d : ℕ) (h : Header) (row : ℕ) (text : List ℕ) (at : ℕ) (s : Standing) (st : Stands d h row text at s) where
+  stands-next : (s2 : Standing) (r : Result Taken StrictFault) → Ok s2 ≡ all_seen h r → Good d h st.full text (drop (at + 1) text) r
+      → verdict d st.full s2 (drop (at + 1) text) ≡ Err st.fault → (s2.row ≡ row → s2.place ≡ place.Start) → Stands d h row text (at + 1) s2
   stands-next s2 (Ok t2) e g told starts = record {
     full = st.full;
     fault = st.fault;
@@ -186,48 +187,48 @@ module _ (h : Header) (row : ℕ) (text : List ℕ) (at : ℕ) (s : Standing) (s
   stands-next s2 (Err x) e g told starts = cc e
 
   -- a byte more, before the row begins
-  pub stands-more : (s2 : Standing) → at < length text → Ok s2 ≡ step_of s (get_or text at 0) → (s.row ≡ row → ⊥) → Stands h row text (at + 1) s2
+  pub stands-more : (s2 : Standing) → at < length text → Ok s2 ≡ step_of d s (get_or text at 0) → (s.row ≡ row → ⊥) → Stands d h row text (at + 1) s2
   stands-more s2 lt is not =
       let c = get_or text at 0 in
       let rest = drop (at + 1) text in
       let here : drop at text ≡ c ∷ rest = at_drop_more (λ (x : List ℕ). x) text at 0 lt in
-      let next : Ok s2 ≡ all_seen h (take_byte h st.taken c) = is ∙ (ap (λ (x : Standing). step_of x c) st.sees ∙ byte-seen h st.taken c) in
-      let good = byte-good h st.full text rest st.taken st.lawful c (st.spelled ∙ ap (λ (x : List ℕ). taken_text st.taken x) here) in
-      let told : verdict st.full s2 rest ≡ Err st.fault = sym (verdict-ok st.full s s2 c rest is) ∙ (ap (λ (x : List ℕ). verdict st.full s x) (sym here) ∙ st.told) in
-      let moved : (s2.row ≡ s.row) ⊎ (s2.place ≡ place.Start) = subst (λ (r : Result Standing StrictFault). Begins s r) (sym is) (begins s c) in
-      stands-next s2 (take_byte h st.taken c) next good told (λ on. elim moved [ inl same ↦ absurd (not (sym same ∙ on)) | inr start ↦ start ])
+      let next : Ok s2 ≡ all_seen h (take_byte d h st.taken c) = is ∙ (ap (λ (x : Standing). step_of d x c) st.sees ∙ byte-seen d h st.taken c) in
+      let good = byte-good d h st.full text rest st.taken st.lawful c (st.spelled ∙ ap (λ (x : List ℕ). taken_text d st.taken x) here) in
+      let told : verdict d st.full s2 rest ≡ Err st.fault = sym (verdict-ok d st.full s s2 c rest is) ∙ (ap (λ (x : List ℕ). verdict d st.full s x) (sym here) ∙ st.told) in
+      let moved : (s2.row ≡ s.row) ⊎ (s2.place ≡ place.Start) = subst (λ (r : Result Standing StrictFault). Begins s r) (sym is) (begins d s c) in
+      stands-next s2 (take_byte d h st.taken c) next good told (λ on. elim moved [ inl same ↦ absurd (not (sym same ∙ on)) | inr start ↦ start ])
 
   -- a byte that has a fault is in the row
-  pub fault-here : (e : StrictFault) → at < length text → Err e ≡ step_of s (get_or text at 0) → s.row ≡ row
+  pub fault-here : (e : StrictFault) → at < length text → Err e ≡ step_of d s (get_or text at 0) → s.row ≡ row
   fault-here e lt is =
       let c = get_or text at 0 in
       let rest = drop (at + 1) text in
       let here : drop at text ≡ c ∷ rest = at_drop_more (λ (x : List ℕ). x) text at 0 lt in
-      let same : e ≡ st.fault = err-fault {T = Unit {0}} e st.fault (sym (verdict-err st.full s e c rest is) ∙ (ap (λ (x : List ℕ). verdict st.full s x) (sym here) ∙ st.told)) in
-      let in_row : row_at e ≡ s.row = subst (λ (r : Result Standing StrictFault). Begins s r) (sym is) (begins s c) in
+      let same : e ≡ st.fault = err-fault {T = Unit {0}} e st.fault (sym (verdict-err d st.full s e c rest is) ∙ (ap (λ (x : List ℕ). verdict d st.full s x) (sym here) ∙ st.told)) in
+      let in_row : row_at e ≡ s.row = subst (λ (r : Result Standing StrictFault). Begins s r) (sym is) (begins d s c) in
       sym in_row ∙ (ap row_at same ∙ st.is_row)
 
   -- and so is the end of the text
   pub end-here : length text ≤ at → s.row ≡ row
   end-here all =
-      let told : end_of st.full s ≡ Err st.fault = sym (verdict-end st.full s) ∙ (sym (at_drop_all (verdict st.full s) text at all) ∙ st.told) in
+      let told : end_of st.full s ≡ Err st.fault = sym (verdict-end d st.full s) ∙ (sym (at_drop_all (verdict d st.full s) text at all) ∙ st.told) in
       let in_row : row_at st.fault ≡ s.row = subst (λ (r : Result (Unit {0}) StrictFault). Ends s r) told (ends st.full s) in
       sym in_row ∙ st.is_row
 
-  no-part : (fields : List Field) (p : Part) (rest : List ℕ) → IsUntaken fields p → fields_text fields ++ part_text p rest ≡ rest
-  no-part fields p rest none = rw (none.no-fields, none.no-part) refl
+  untaken-text : (fields : List Field) (p : Part) (rest : List ℕ) → IsUntaken fields p → fields_text d fields ++ part_text p rest ≡ rest
+  untaken-text fields p rest none = rw (none.no-fields, none.no-part) refl
 
   -- where the row begins, whole lines are behind
-  pub lines-here : at ≤ length text → s.row ≡ row → (lines : List Line) × AreAbove h text row lines × (take at text ≡ lines_text lines)
+  pub lines-here : at ≤ length text → s.row ≡ row → (lines : List Line) × AreAbove d h text row lines × (take at text ≡ lines_text d lines)
   lines-here le on =
       let t = st.taken in
       let left = drop at text in
       let start : place_of t.fields t.part ≡ place.Start = sym (ap (λ (x : Standing). x.place) st.sees) ∙ st.starts on in
-      let whole : text ≡ lines_text t.lines ++ left = st.spelled ∙ ap (λ (x : List ℕ). lines_text t.lines ++ x) (no-part t.fields t.part left (starts-untaken t.fields t.part start)) in
-      let sizes : length text ≡ length (lines_text t.lines) + length left = ap (λ (x : List ℕ). length x) whole ∙ length-append (lines_text t.lines) left in
+      let whole : text ≡ lines_text d t.lines ++ left = st.spelled ∙ ap (λ (x : List ℕ). lines_text d t.lines ++ x) (untaken-text t.fields t.part left (starts-untaken t.fields t.part start)) in
+      let sizes : length text ≡ length (lines_text d t.lines) + length left = ap (λ (x : List ℕ). length x) whole ∙ length-append (lines_text d t.lines) left in
       let size : length left ≡ length (drop at text) = refl in
       let dropped = length-drop at text in
-      let is_at : at ≡ length (lines_text t.lines) = omega (arith, sizes, dropped, le) in (
+      let is_at : at ≡ length (lines_text d t.lines) = omega (arith, sizes, dropped, le) in (
         t.lines,
         record {
           left = left;
@@ -235,5 +236,5 @@ module _ (h : Header) (row : ℕ) (text : List ℕ) (at : ℕ) (s : Standing) (s
           are_lines = st.lawful.lines;
           at_row = sym on ∙ ap (λ (x : Standing). x.row) st.sees;
         },
-        ap (λ (n : ℕ). take n text) is_at ∙ (ap (λ (x : List ℕ). take (length (lines_text t.lines)) x) whole ∙ take-append_seam (lines_text t.lines) left),
+        ap (λ (n : ℕ). take n text) is_at ∙ (ap (λ (x : List ℕ). take (length (lines_text d t.lines)) x) whole ∙ take-append_seam (lines_text d t.lines) left),
       )

@@ -6,32 +6,33 @@ use Rattle.rj_strict.specs.Faults.{HasFault}
 use Rattle.rj_strict.specs.Steps.{initial_standing, verdict}
 use Rattle.rj_strict.specs.declared.header.Header.{Header}
 use Rattle.rj_strict.specs.declared.fault.StrictFault.{StrictFault}
+use Rattle.rj_strict.proofs.Lawful.{Lawful}
 use Rattle.rj_strict.proofs.Parsing.{parse, untaken}
 use Rattle.rj_strict.proofs.Seen.{told, verdict-parse}
 use Rattle.rj_strict.proofs.Sound.{GoodEnd, sound}
 use Rattle.rj_strict.proofs.Complete.{derived, faulty}
 
-module _ (h : Header) (full : Bool) (text : List ℕ) where
-  from-ok : (r : Result (Unit {0}) StrictFault) (p : Result File StrictFault) → r ≡ told p → GoodEnd h full text p → OnOk r ((file : File) × Derives h full text file)
+module _ (d : ℕ) (h : Header) (full : Bool) (text : List ℕ) where
+  from-ok : (r : Result (Unit {0}) StrictFault) (p : Result File StrictFault) → r ≡ told p → GoodEnd d h full text p → OnOk r ((file : File) × Derives d h full text file)
   from-ok (Ok u) (Ok file) e g = (file, g)
   from-ok (Ok u) (Err f) e g = cc e
   from-ok (Err f) p e g = tt
 
-  from-err : (r : Result (Unit {0}) StrictFault) (p : Result File StrictFault) → r ≡ told p → GoodEnd h full text p → IfErr r (λ f. HasFault h full text f)
+  from-err : (r : Result (Unit {0}) StrictFault) (p : Result File StrictFault) → r ≡ told p → GoodEnd d h full text p → IfErr r (λ f. HasFault d h full text f)
   from-err (Ok u) p e g = tt
   from-err (Err f) (Ok file) e g = cc e
   from-err (Err f) (Err x) e g =
       let same : f ≡ x = cc e in
       rw same g
 
-  pub is-derived : (r : Result (Unit {0}) StrictFault) → r ≡ verdict full (initial_standing h) text → OnOk r ((file : File) × Derives h full text file)
-  is-derived r e = from-ok r (parse h full untaken text) (e ∙ verdict-parse h full text) (sound h full text)
+  pub is-derived : (r : Result (Unit {0}) StrictFault) → r ≡ verdict d full (initial_standing h) text → OnOk r ((file : File) × Derives d h full text file)
+  is-derived r e = from-ok r (parse d h full untaken text) (e ∙ verdict-parse d h full text) (sound d h full text)
 
-  pub has-fault : (r : Result (Unit {0}) StrictFault) → r ≡ verdict full (initial_standing h) text → IfErr r (λ f. HasFault h full text f)
-  has-fault r e = from-err r (parse h full untaken text) (e ∙ verdict-parse h full text) (sound h full text)
+  pub has-fault : (r : Result (Unit {0}) StrictFault) → r ≡ verdict d full (initial_standing h) text → IfErr r (λ f. HasFault d h full text f)
+  has-fault r e = from-err r (parse d h full untaken text) (e ∙ verdict-parse d h full text) (sound d h full text)
 
-  pub says-ok : (file : File) → Derives h full text file → verdict full (initial_standing h) text ≡ Ok tt
-  says-ok file d = verdict-parse h full text ∙ ap told (derived h full text file d)
+  pub says-ok : Lawful d → (file : File) → Derives d h full text file → verdict d full (initial_standing h) text ≡ Ok tt
+  says-ok law file derives = verdict-parse d h full text ∙ ap told (derived d law h full text file derives)
 
-  pub says-err : (f : StrictFault) → HasFault h full text f → verdict full (initial_standing h) text ≡ Err f
-  says-err f d = verdict-parse h full text ∙ ap told (faulty h full text f d)
+  pub says-err : Lawful d → (f : StrictFault) → HasFault d h full text f → verdict d full (initial_standing h) text ≡ Err f
+  says-err law f derives = verdict-parse d h full text ∙ ap told (faulty d law h full text f derives)

@@ -6,37 +6,38 @@ use Rattle.std.proofs.lemmas.Bool.{and_parts, and_from, or_right, lt-ltb}
 use Rattle.rj_strict.specs.Grammar.{Record, Line, File, is_record, is_blank, is_line, names_of, is_rest, Derives}
 use Rattle.rj_strict.specs.declared.header.Header.{Header}
 use Rattle.rj_strict.specs.declared.header.Header.TheVariants.{First, Above}
+use Rattle.rj_strict.proofs.Lawful.{Lawful}
 use Rattle.rj_strict.proofs.CsvFacts.{line-solid}
 use Rattle.rj_strict.proofs.Complete.{one}
 
-other-names : (names n : ℕ) (l : Line) → nat_lt 1 names ≡ true → is_line names l ≡ true → is_line n l ≡ true
-other-names names n l many e =
-    let parts = and_parts (is_record l.fields) (nat_le names 1 || not (is_blank l.fields)) e in
-    and_from (is_record l.fields) (nat_le n 1 || not (is_blank l.fields)) parts.0 (or_right (nat_le n 1) (not (is_blank l.fields)) (line-solid names l many e))
+other-names : (d names n : ℕ) (l : Line) → nat_lt 1 names ≡ true → is_line d names l ≡ true → is_line d n l ≡ true
+other-names d names n l many e =
+    let parts = and_parts (is_record d l.fields) (nat_le names 1 || not (is_blank l.fields)) e in
+    and_from (is_record d l.fields) (nat_le n 1 || not (is_blank l.fields)) parts.0 (or_right (nat_le n 1) (not (is_blank l.fields)) (line-solid d names l many e))
 
-all-names : (names n : ℕ) (lines : List Line) → nat_lt 1 names ≡ true → list_all (is_line names) lines ≡ true → list_all (is_line n) lines ≡ true
-all-names names n [] many e = refl
-all-names names n (l ∷ lines) many e =
-    let parts = and_parts (is_line names l) (list_all (is_line names) lines) e in
-    and_from (is_line n l) (list_all (is_line n) lines) (other-names names n l many parts.0) (all-names names n lines many parts.1)
+all-names : (d names n : ℕ) (lines : List Line) → nat_lt 1 names ≡ true → list_all (is_line d names) lines ≡ true → list_all (is_line d n) lines ≡ true
+all-names d names n [] many e = refl
+all-names d names n (l ∷ lines) many e =
+    let parts = and_parts (is_line d names l) (list_all (is_line d names) lines) e in
+    and_from (is_line d n l) (list_all (is_line d n) lines) (other-names d names n l many parts.0) (all-names d names n lines many parts.1)
 
 -- with no empty line the header may stand in the text
-pub with-header : (names : ℕ) (full : Bool) (text : List ℕ) (file : File) → 1 < names → Derives (Above names) full text file → Derives First full text file
-with-header names full text file many d = record {
-  spelled = d.spelled;
-  lines = all-names names (names_of First file.lines) file.lines (lt-ltb 1 names many) d.lines;
-  rest = d.rest;
+pub with-header : (d names : ℕ) (full : Bool) (text : List ℕ) (file : File) → 1 < names → Derives d (Above names) full text file → Derives d First full text file
+with-header d names full text file many derives = record {
+  spelled = derives.spelled;
+  lines = all-names d names (names_of First file.lines) file.lines (lt-ltb 1 names many) derives.lines;
+  rest = derives.rest;
 }
 
-open-rest : (full : Bool) (rest : Option Record) → is_rest full rest ≡ true → is_rest false rest ≡ true
-open-rest full None e = refl
-open-rest full (Some r) e =
-    let parts = and_parts (is_record r && not (is_blank r)) (not full) e in
-    and_from (is_record r && not (is_blank r)) true parts.0 refl
+open-rest : (d : ℕ) (full : Bool) (rest : Option Record) → is_rest d full rest ≡ true → is_rest d false rest ≡ true
+open-rest d full None e = refl
+open-rest d full (Some r) e =
+    let parts = and_parts (is_record d r && not (is_blank r)) (not full) e in
+    and_from (is_record d r && not (is_blank r)) true parts.0 refl
 
 -- the last line's end may be asked for or not
-not-full : (h : Header) (full : Bool) (text : List ℕ) (file : File) → Derives h full text file → Derives h false text file
-not-full h full text file d = record { spelled = d.spelled; lines = d.lines; rest = open-rest full file.rest d.rest }
+not-full : (d : ℕ) (h : Header) (full : Bool) (text : List ℕ) (file : File) → Derives d h full text file → Derives d h false text file
+not-full d h full text file derives = record { spelled = derives.spelled; lines = derives.lines; rest = open-rest d full file.rest derives.rest }
 
-pub same-file : (h : Header) (full other : Bool) (text : List ℕ) (file file2 : File) → Derives h full text file → Derives h other text file2 → file ≡ file2
-same-file h full other text file file2 d e = one h false text file file2 (not-full h full text file d) (not-full h other text file2 e)
+pub same-file : (d : ℕ) (law : Lawful d) (h : Header) (full other : Bool) (text : List ℕ) (file file2 : File) → Derives d h full text file → Derives d h other text file2 → file ≡ file2
+same-file d law h full other text file file2 derives e = one d law h false text file file2 (not-full d h full text file derives) (not-full d h other text file2 e)

@@ -16,31 +16,31 @@ all-both p (x ∷ xs) ys e f =
     and_from (p x) (list_all p (xs ++ ys)) parts.0 (all-both p xs ys parts.1 f)
 
 -- the lines of a full file are all that it has
-no-rest : (rest : Option Record) → is_rest true rest ≡ true → rest_text rest ≡ []
-no-rest None e = refl
-no-rest (Some r) e = absurd (false≢true (and_parts (is_record r && not (is_blank r)) false e).1)
+no-rest : (d : ℕ) (rest : Option Record) → is_rest d true rest ≡ true → rest_text d rest ≡ []
+no-rest d None e = refl
+no-rest d (Some r) e = absurd (false≢true (and_parts (is_record d r && not (is_blank r)) false e).1)
 
 same-names : (h : Header) (lines more : List Line) → 0 < length lines → names_of h (lines ++ more) ≡ names_of h lines
 same-names First [] more l = absurd (omega arith)
 same-names First (k ∷ lines) more l = refl
 same-names (Above names) lines more l = refl
 
-lines-both : (lines more : List Line) (text : List ℕ) → lines_text lines ++ (lines_text more ++ text) ≡ lines_text (lines ++ more) ++ text
-lines-both [] more text = refl
-lines-both (l ∷ lines) more text =
-    append_assoc (line_text l) (lines_text lines) (lines_text more ++ text)
-    ∙ ap (λ (t : List ℕ). line_text l ++ t) (lines-both lines more text)
-    ∙ sym (append_assoc (line_text l) (lines_text (lines ++ more)) text)
+lines-both : (d : ℕ) (lines more : List Line) (text : List ℕ) → lines_text d lines ++ (lines_text d more ++ text) ≡ lines_text d (lines ++ more) ++ text
+lines-both d [] more text = refl
+lines-both d (l ∷ lines) more text =
+    append_assoc (line_text d l) (lines_text d lines) (lines_text d more ++ text)
+    ∙ ap (λ (t : List ℕ). line_text d l ++ t) (lines-both d lines more text)
+    ∙ sym (append_assoc (line_text d l) (lines_text d (lines ++ more)) text)
 
-pub both : (h : Header) (full : Bool) (text more : List ℕ) (file other : File) → Derives h true text file → 0 < length file.lines
-    → Derives (Above (names_of h file.lines)) full more other → Derives h full (text ++ more) (joined file other)
-both h full text more file other d l e =
+pub both : (d : ℕ) (h : Header) (full : Bool) (text more : List ℕ) (file other : File) → Derives d h true text file → 0 < length file.lines
+    → Derives d (Above (names_of h file.lines)) full more other → Derives d h full (text ++ more) (joined file other)
+both d h full text more file other derives l e =
     let names = same-names h file.lines other.lines l in
-    let ended : text ≡ lines_text file.lines = d.spelled ∙ ap (λ (t : List ℕ). lines_text file.lines ++ t) (no-rest file.rest d.rest) ∙ append-nil (lines_text file.lines) in
-    let first : text ++ more ≡ lines_text file.lines ++ more = ap (λ (t : List ℕ). t ++ more) ended in
-    let second : lines_text file.lines ++ more ≡ lines_text file.lines ++ (lines_text other.lines ++ rest_text other.rest) = ap (λ (t : List ℕ). lines_text file.lines ++ t) e.spelled in
+    let ended : text ≡ lines_text d file.lines = derives.spelled ∙ ap (λ (t : List ℕ). lines_text d file.lines ++ t) (no-rest d file.rest derives.rest) ∙ append-nil (lines_text d file.lines) in
+    let first : text ++ more ≡ lines_text d file.lines ++ more = ap (λ (t : List ℕ). t ++ more) ended in
+    let second : lines_text d file.lines ++ more ≡ lines_text d file.lines ++ (lines_text d other.lines ++ rest_text d other.rest) = ap (λ (t : List ℕ). lines_text d file.lines ++ t) e.spelled in
     record {
-      spelled = first ∙ second ∙ lines-both file.lines other.lines (rest_text other.rest);
-      lines = ap (λ (n : ℕ). list_all (is_line n) (file.lines ++ other.lines)) names ∙ all-both (is_line (names_of h file.lines)) file.lines other.lines d.lines e.lines;
+      spelled = first ∙ second ∙ lines-both d file.lines other.lines (rest_text d other.rest);
+      lines = ap (λ (n : ℕ). list_all (is_line d n) (file.lines ++ other.lines)) names ∙ all-both (is_line d (names_of h file.lines)) file.lines other.lines derives.lines e.lines;
       rest = e.rest;
     }

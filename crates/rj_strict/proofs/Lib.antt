@@ -1,3 +1,4 @@
+pub mod Lawful
 pub mod StepFacts
 pub mod Parsing
 pub mod Seen

@@ -1,6 +1,6 @@
 -- A text taken apart into its derivation, byte by byte.
 use Rattle.std.specs.Prelude.{ℕ, ◌+◌, ◌==◌, ◌&&◌, nat_lt, if◌then◌else◌, Bool, List, [], ◌∷◌, ◌++◌, length, Some, None, Result, Ok, Err}
-use Rattle.rj_strict.specs.Grammar.{Field, escaped, non-escaped, Record, Line, LineEnd, LF, CRLF, File, comma, dquote, cr, lf, doubled, field_text, fields_text, lines_text, is_blank, names_of}
+use Rattle.rj_strict.specs.Grammar.{Field, escaped, non-escaped, Record, Line, LineEnd, LF, CRLF, File, dquote, cr, lf, doubled, field_text, fields_text, lines_text, is_blank, names_of}
 use Rattle.rj_strict.specs.Faults.{first_row}
 use Rattle.rj_strict.specs.declared.header.Header.{Header}
 use Rattle.rj_strict.specs.declared.fault.StrictFault.{StrictFault}
@@ -27,8 +27,8 @@ part_text (opened bytes) more = dquote ∷ (doubled bytes ++ more)
 part_text (returned f) more = field_text f ++ cr ∷ more
 
 -- the text of what is taken, and then what is left of it
-abbrev pub taken_text : Taken → List ℕ → List ℕ
-taken_text t more = lines_text t.lines ++ (fields_text t.fields ++ part_text t.part more)
+abbrev pub taken_text : ℕ → Taken → List ℕ → List ℕ
+taken_text d t more = lines_text d t.lines ++ (fields_text d t.fields ++ part_text t.part more)
 
 abbrev pub row_of : Header → Taken → ℕ
 row_of h t = first_row h + length t.lines
@@ -52,10 +52,10 @@ with_line t f e = record { lines = t.lines ++ record { fields = record_with t f;
 abbrev pub end_line : Header → Taken → Field → LineEnd → Result Taken StrictFault
 end_line h t f e = if is_blank (record_with t f) && nat_lt 1 (names_of h t.lines) then Err (fault.EmptyLine (row_of h t)) else Ok (with_line t f e)
 
-abbrev pub take_comma : Header → Taken → Part → ℕ → Result Taken StrictFault
-take_comma h t (within f) c = Ok (record { lines = t.lines; fields = t.fields ++ f ∷ []; part = nothing })
-take_comma h t (opened bytes) c = Ok (grown t (opened (bytes ++ c ∷ [])))
-take_comma h t (returned f) c = bare h t
+abbrev pub take_delimiter : Header → Taken → Part → ℕ → Result Taken StrictFault
+take_delimiter h t (within f) c = Ok (record { lines = t.lines; fields = t.fields ++ f ∷ []; part = nothing })
+take_delimiter h t (opened bytes) c = Ok (grown t (opened (bytes ++ c ∷ [])))
+take_delimiter h t (returned f) c = bare h t
 
 abbrev pub take_lf : Header → Taken → Part → ℕ → Result Taken StrictFault
 take_lf h t (within f) c = end_line h t f LF
@@ -80,12 +80,12 @@ take_textdata h t (within (escaped bytes)) c = Err (fault.AfterQuote (row_of h t
 take_textdata h t (opened bytes) c = Ok (grown t (opened (bytes ++ c ∷ [])))
 take_textdata h t (returned f) c = bare h t
 
-abbrev pub take_byte : Header → Taken → ℕ → Result Taken StrictFault
-take_byte h t c =
-    if c == comma then take_comma h t t.part c
-    else if c == lf then take_lf h t t.part c
+abbrev pub take_byte : ℕ → Header → Taken → ℕ → Result Taken StrictFault
+take_byte d h t c =
+    if c == lf then take_lf h t t.part c
     else if c == cr then take_cr h t t.part c
     else if c == dquote then take_dquote h t t.part c
+    else if c == d then take_delimiter h t t.part c
     else take_textdata h t t.part c
 
 -- the end of the text behind a field
@@ -106,9 +106,9 @@ taken_then (Ok t) more = more t
 taken_then (Err e) more = Err e
 
 -- the derivation of a text from here on, or its first fault
-unfoldable pub parse : Header → Bool → Taken → List ℕ → Result File StrictFault
-parse h full t [] = take_end h full t t.part
-parse h full t (c ∷ text) = taken_then (take_byte h t c) (λ t2. parse h full t2 text)
+unfoldable pub parse : ℕ → Header → Bool → Taken → List ℕ → Result File StrictFault
+parse d h full t [] = take_end h full t t.part
+parse d h full t (c ∷ text) = taken_then (take_byte d h t c) (λ t2. parse d h full t2 text)
 
 abbrev pub untaken : Taken
 untaken = record { lines = []; fields = []; part = nothing }

@@ -22,8 +22,8 @@ concat-cut texts text part more e =
     ap (λ (t : List ℕ). t ++ more) (concat-more texts part) ∙ append_assoc (concat texts) part more ∙ ap (λ (t : List ℕ). concat texts ++ t) (sym e)
 
 -- over one text more, where those before it end with a line
-pub over-text : (texts : List (List ℕ)) (i : ℕ) (q : Place) → i < length texts → walk place.Start (concat (take i texts)) ≡ Some place.Start
-    → walk place.Start (get_or texts i []) ≡ Some q → walk place.Start (concat (take (i + 1) texts)) ≡ Some q
-over-text texts i q h e f =
+pub over-text : (d : ℕ) (texts : List (List ℕ)) (i : ℕ) (q : Place) → i < length texts → walk d place.Start (concat (take i texts)) ≡ Some place.Start
+    → walk d place.Start (get_or texts i []) ≡ Some q → walk d place.Start (concat (take (i + 1) texts)) ≡ Some q
+over-text d texts i q h e f =
     let whole = ap concat (take_more texts i [] h) ∙ concat-more (take i texts) (get_or texts i []) in
-    over-part place.Start place.Start _ (concat (take i texts)) (get_or texts i []) whole e ∙ f
+    over-part d place.Start place.Start _ (concat (take i texts)) (get_or texts i []) whole e ∙ f

@@ -3,11 +3,12 @@ use Rattle.std.specs.Prelude.{ℕ, ◌+◌, ◌≡◌, nat_le, Bool, true, false
 use Rattle.std.specs.List.{list_all}
 use Rattle.std.proofs.Common.{refl, ap, ◌∙◌}
 use Rattle.std.proofs.lemmas.Bool.{and_parts, and_from, or_right, not_from_false, false≢true, cond_both, cond-true}
-use Rattle.csv.specs.Reading.{records, default_config}
+use Rattle.csv.specs.Reading.{records}
 use Rattle.rj_strict.specs.Grammar.{Field, escaped, non-escaped, Line, File, is_blank, is_line, names_of, width, file_text, Derives, value_of, records_of, rest_records}
-use Rattle.rj_strict.specs.Reading.{quoted_line, quoted}
+use Rattle.rj_strict.specs.Reading.{config_of, quoted_line, quoted}
 use Rattle.rj_strict.specs.declared.header.Header.{Header}
 use Rattle.rj_strict.specs.declared.header.Header.TheVariants.{First, Above}
+use Rattle.rj_strict.proofs.Lawful.{Lawful}
 use Rattle.rj_strict.proofs.CsvFacts.{solid, line_values, reads}
 
 blank-values : (fields : List Field) (f : Field) → is_blank (record { before = fields; last = f }) ≡ true → [] ∷ [] ≡ map value_of (fields ++ f ∷ [])
@@ -24,8 +25,8 @@ module _ (l : Line) where
   by-case : (P : Line → Type 0) → (is_blank l.fields ≡ true → P (record { fields = record { before = []; last = escaped [] }; ended = l.ended })) → (is_blank l.fields ≡ false → P l) → P (quoted_line l)
   by-case P p q = cond_both (is_blank l.fields) (record { fields = record { before = []; last = escaped [] }; ended = l.ended }) l P p q
 
-  is-line : (names : ℕ) → is_line names l ≡ true → is_line names (quoted_line l) ≡ true
-  is-line names e = by-case (λ (k : Line). is_line names k ≡ true) (λ b. or_right (nat_le names 1) true refl) (λ n. e)
+  is-line : (d names : ℕ) → is_line d names l ≡ true → is_line d names (quoted_line l) ≡ true
+  is-line d names e = by-case (λ (k : Line). is_line d names k ≡ true) (λ b. or_right (nat_le names 1) true refl) (λ n. e)
 
   is-solid : solid (quoted_line l) ≡ true
   is-solid = by-case (λ (k : Line). solid k ≡ true) (λ b. refl) (λ n. not_from_false (is_blank l.fields) n)
@@ -36,11 +37,11 @@ module _ (l : Line) where
   same-values : line_values (quoted_line l) ≡ line_values l
   same-values = by-case (λ (k : Line). line_values k ≡ line_values l) (λ b. blank-values l.fields.before l.fields.last b) (λ n. refl)
 
-all-lines : (names : ℕ) (lines : List Line) → list_all (is_line names) lines ≡ true → list_all (is_line names) (map quoted_line lines) ≡ true
-all-lines names [] e = refl
-all-lines names (l ∷ lines) e =
-    let parts = and_parts (is_line names l) (list_all (is_line names) lines) e in
-    and_from (is_line names (quoted_line l)) (list_all (is_line names) (map quoted_line lines)) (is-line l names parts.0) (all-lines names lines parts.1)
+all-lines : (d names : ℕ) (lines : List Line) → list_all (is_line d names) lines ≡ true → list_all (is_line d names) (map quoted_line lines) ≡ true
+all-lines d names [] e = refl
+all-lines d names (l ∷ lines) e =
+    let parts = and_parts (is_line d names l) (list_all (is_line d names) lines) e in
+    and_from (is_line d names (quoted_line l)) (list_all (is_line d names) (map quoted_line lines)) (is-line l d names parts.0) (all-lines d names lines parts.1)
 
 all-solid : (lines : List Line) → filter solid (map quoted_line lines) ≡ map quoted_line lines
 all-solid [] = refl
@@ -58,15 +59,15 @@ same-names First (l ∷ lines) = same-width l
 same-names (Above names) lines = refl
 
 -- it is derived
-pub quoted-derives : (h : Header) (full : Bool) (text : List ℕ) (file : File) → Derives h full text file → Derives h full (file_text (quoted file)) (quoted file)
-quoted-derives h full text file d = record {
+pub quoted-derives : (d : ℕ) (h : Header) (full : Bool) (text : List ℕ) (file : File) → Derives d h full text file → Derives d h full (file_text d (quoted file)) (quoted file)
+quoted-derives d h full text file derives = record {
   spelled = refl;
-  lines = ap (λ (names : ℕ). list_all (is_line names) (map quoted_line file.lines)) (same-names h file.lines) ∙ all-lines (names_of h file.lines) file.lines d.lines;
-  rest = d.rest;
+  lines = ap (λ (names : ℕ). list_all (is_line d names) (map quoted_line file.lines)) (same-names h file.lines) ∙ all-lines d (names_of h file.lines) file.lines derives.lines;
+  rest = derives.rest;
 }
 
-pub reads-quoted : (h : Header) (full : Bool) (text : List ℕ) (file : File) → Derives h full text file → records default_config (file_text (quoted file)) ≡ records_of file
-reads-quoted h full text file d =
-    reads h full (file_text (quoted file)) (quoted file) (quoted-derives h full text file d)
+pub reads-quoted : (d : ℕ) (law : Lawful d) (h : Header) (full : Bool) (text : List ℕ) (file : File) → Derives d h full text file → records (config_of d) (file_text d (quoted file)) ≡ records_of file
+reads-quoted d law h full text file derives =
+    reads d law h full (file_text d (quoted file)) (quoted file) (quoted-derives d h full text file derives)
     ∙ ap (λ (lines : List Line). map line_values lines ++ rest_records file.rest) (all-solid file.lines)
     ∙ ap (λ (x : List (List (List ℕ))). x ++ rest_records file.rest) (all-values file.lines)

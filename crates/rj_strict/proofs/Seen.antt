@@ -2,9 +2,9 @@
 use Rattle.std.specs.Prelude.{ℕ, ◌+◌, ◌==◌, ◌≡◌, nat_lt, if◌then◌else◌, Bool, true, false, List, [], ◌∷◌, ◌++◌, length, Result, Ok, Err}
 use Rattle.std.proofs.Common.{refl, sym, ap, arith, ◌∙◌}
 use Rattle.std.proofs.lemmas.List.{length_push}
-use Rattle.rj_strict.specs.Grammar.{Field, escaped, non-escaped, Line, LineEnd, LF, CRLF, File, comma, dquote, cr, lf, is_blank, names_of, width}
+use Rattle.rj_strict.specs.Grammar.{Field, escaped, non-escaped, Line, LineEnd, LF, CRLF, File, dquote, cr, lf, is_blank, names_of, width}
 use Rattle.rj_strict.specs.Faults.{first_row}
-use Rattle.rj_strict.specs.Steps.{initial_standing, header_below, forbids_empty, next_line, next_field, end_empty, at_comma, at_lf, at_cr, at_dquote, at_textdata, step_of, end_of, step_then, verdict}
+use Rattle.rj_strict.specs.Steps.{initial_standing, header_below, forbids_empty, next_line, next_field, end_empty, at_delimiter, at_lf, at_cr, at_dquote, at_textdata, step_of, end_of, step_then, verdict}
 use Rattle.rj_strict.specs.declared.header.Header.{Header}
 use Rattle.rj_strict.specs.declared.header.Header.TheVariants.{First, Above}
 use Rattle.rj_strict.specs.declared.fault.StrictFault.{StrictFault}
@@ -12,7 +12,7 @@ use Rattle.rj_strict.specs.declared.fault.StrictFault.TheVariants as fault
 use Rattle.rj_strict.specs.declared.standing.Place.{Place}
 use Rattle.rj_strict.specs.declared.standing.Place.TheVariants as place
 use Rattle.rj_strict.specs.declared.standing.Standing.{Standing}
-use Rattle.rj_strict.proofs.Parsing.{Part, within, opened, returned, Taken, nothing, row_of, column_of, with_line, end_line, take_comma, take_lf, take_cr, take_dquote, take_textdata, take_byte, take_end, taken_then, parse, untaken}
+use Rattle.rj_strict.proofs.Parsing.{Part, within, opened, returned, Taken, nothing, row_of, column_of, with_line, end_line, take_delimiter, take_lf, take_cr, take_dquote, take_textdata, take_byte, take_end, taken_then, parse, untaken}
 
 abbrev pub place_of : List Field → Part → Place
 place_of [] (within (non-escaped [])) = place.Start
@@ -97,22 +97,22 @@ module _ (h : Header) (lines : List Line) (fields : List Field) where
 
 -- what each kind of byte does, as the check sees it
 module _ (h : Header) (lines : List Line) where
-  comma-seen : (fields : List Field) (p : Part) (c : ℕ)
-      → at_comma (seen h (record { lines = lines; fields = fields; part = p })) ≡ all_seen h (take_comma h (record { lines = lines; fields = fields; part = p }) p c)
-  comma-seen [] (within (non-escaped [])) c = ap Ok (field-seen h lines [] (within (non-escaped [])) (non-escaped []))
-  comma-seen [] (within (non-escaped (b ∷ bytes))) c = ap Ok (field-seen h lines [] (within (non-escaped (b ∷ bytes))) (non-escaped (b ∷ bytes)))
-  comma-seen [] (within (escaped bytes)) c = ap Ok (field-seen h lines [] (within (escaped bytes)) (escaped bytes))
-  comma-seen (g ∷ fields) (within (non-escaped [])) c = ap Ok (field-seen h lines (g ∷ fields) (within (non-escaped [])) (non-escaped []))
-  comma-seen (g ∷ fields) (within (non-escaped (b ∷ bytes))) c = ap Ok (field-seen h lines (g ∷ fields) (within (non-escaped (b ∷ bytes))) (non-escaped (b ∷ bytes)))
-  comma-seen (g ∷ fields) (within (escaped bytes)) c = ap Ok (field-seen h lines (g ∷ fields) (within (escaped bytes)) (escaped bytes))
-  comma-seen [] (opened bytes) c = refl
-  comma-seen (g ∷ fields) (opened bytes) c = refl
-  comma-seen [] (returned (non-escaped [])) c = refl
-  comma-seen [] (returned (non-escaped (b ∷ bytes))) c = refl
-  comma-seen [] (returned (escaped bytes)) c = refl
-  comma-seen (g ∷ fields) (returned (non-escaped [])) c = refl
-  comma-seen (g ∷ fields) (returned (non-escaped (b ∷ bytes))) c = refl
-  comma-seen (g ∷ fields) (returned (escaped bytes)) c = refl
+  delimiter-seen : (fields : List Field) (p : Part) (c : ℕ)
+      → at_delimiter (seen h (record { lines = lines; fields = fields; part = p })) ≡ all_seen h (take_delimiter h (record { lines = lines; fields = fields; part = p }) p c)
+  delimiter-seen [] (within (non-escaped [])) c = ap Ok (field-seen h lines [] (within (non-escaped [])) (non-escaped []))
+  delimiter-seen [] (within (non-escaped (b ∷ bytes))) c = ap Ok (field-seen h lines [] (within (non-escaped (b ∷ bytes))) (non-escaped (b ∷ bytes)))
+  delimiter-seen [] (within (escaped bytes)) c = ap Ok (field-seen h lines [] (within (escaped bytes)) (escaped bytes))
+  delimiter-seen (g ∷ fields) (within (non-escaped [])) c = ap Ok (field-seen h lines (g ∷ fields) (within (non-escaped [])) (non-escaped []))
+  delimiter-seen (g ∷ fields) (within (non-escaped (b ∷ bytes))) c = ap Ok (field-seen h lines (g ∷ fields) (within (non-escaped (b ∷ bytes))) (non-escaped (b ∷ bytes)))
+  delimiter-seen (g ∷ fields) (within (escaped bytes)) c = ap Ok (field-seen h lines (g ∷ fields) (within (escaped bytes)) (escaped bytes))
+  delimiter-seen [] (opened bytes) c = refl
+  delimiter-seen (g ∷ fields) (opened bytes) c = refl
+  delimiter-seen [] (returned (non-escaped [])) c = refl
+  delimiter-seen [] (returned (non-escaped (b ∷ bytes))) c = refl
+  delimiter-seen [] (returned (escaped bytes)) c = refl
+  delimiter-seen (g ∷ fields) (returned (non-escaped [])) c = refl
+  delimiter-seen (g ∷ fields) (returned (non-escaped (b ∷ bytes))) c = refl
+  delimiter-seen (g ∷ fields) (returned (escaped bytes)) c = refl
 
   lf-seen : (fields : List Field) (p : Part) (c : ℕ)
       → at_lf (seen h (record { lines = lines; fields = fields; part = p })) ≡ all_seen h (take_lf h (record { lines = lines; fields = fields; part = p }) p c)
@@ -187,12 +187,12 @@ either : (h : Header) (b : Bool) (x y : Result Standing StrictFault) (u v : Resu
 either h true x y u v e f = e
 either h false x y u v e f = f
 
-pub byte-seen : (h : Header) (t : Taken) (c : ℕ) → step_of (seen h t) c ≡ all_seen h (take_byte h t c)
-byte-seen h t c =
-    either h (c == comma) _ _ _ _ (comma-seen h t.lines t.fields t.part c)
-    (either h (c == lf) _ _ _ _ (lf-seen h t.lines t.fields t.part c)
+pub byte-seen : (d : ℕ) (h : Header) (t : Taken) (c : ℕ) → step_of d (seen h t) c ≡ all_seen h (take_byte d h t c)
+byte-seen d h t c =
+    either h (c == lf) _ _ _ _ (lf-seen h t.lines t.fields t.part c)
     (either h (c == cr) _ _ _ _ (cr-seen h t.lines t.fields t.part c)
-    (either h (c == dquote) _ _ _ _ (dquote-seen h t.lines t.fields t.part c) (textdata-seen h t.lines t.fields t.part c))))
+    (either h (c == dquote) _ _ _ _ (dquote-seen h t.lines t.fields t.part c)
+    (either h (c == d) _ _ _ _ (delimiter-seen h t.lines t.fields t.part c) (textdata-seen h t.lines t.fields t.part c))))
 
 -- whether there is a derivation, or why there is none
 abbrev pub told : Result File StrictFault → Result (Unit {0}) StrictFault
@@ -220,15 +220,15 @@ end-seen h full lines (g ∷ fields) (returned (non-escaped [])) = refl
 end-seen h full lines (g ∷ fields) (returned (non-escaped (b ∷ bytes))) = refl
 end-seen h full lines (g ∷ fields) (returned (escaped bytes)) = refl
 
-pub verdict-seen : (h : Header) (full : Bool) (text : List ℕ) (t : Taken) → verdict full (seen h t) text ≡ told (parse h full t text)
+pub verdict-seen : (d : ℕ) (h : Header) (full : Bool) (text : List ℕ) (t : Taken) → verdict d full (seen h t) text ≡ told (parse d h full t text)
 unfolding verdict parse
-verdict-seen h full [] t = end-seen h full t.lines t.fields t.part
-verdict-seen h full (c ∷ text) t =
-    ap (λ (r : Result Standing StrictFault). step_then r (λ s2. verdict full s2 text)) (byte-seen h t c)
-    ∙ go (take_byte h t c) (λ t2. verdict-seen h full text t2)
+verdict-seen d h full [] t = end-seen h full t.lines t.fields t.part
+verdict-seen d h full (c ∷ text) t =
+    ap (λ (r : Result Standing StrictFault). step_then r (λ s2. verdict d full s2 text)) (byte-seen d h t c)
+    ∙ go (take_byte d h t c) (λ t2. verdict-seen d h full text t2)
   where
-    go : (r : Result Taken StrictFault) → ((t2 : Taken) → verdict full (seen h t2) text ≡ told (parse h full t2 text))
-        → step_then (all_seen h r) (λ s2. verdict full s2 text) ≡ told (taken_then r (λ t2. parse h full t2 text))
+    go : (r : Result Taken StrictFault) → ((t2 : Taken) → verdict d full (seen h t2) text ≡ told (parse d h full t2 text))
+        → step_then (all_seen h r) (λ s2. verdict d full s2 text) ≡ told (taken_then r (λ t2. parse d h full t2 text))
     go (Ok t2) more = more t2
     go (Err e) more = refl
 
@@ -237,5 +237,5 @@ initial-seen First = refl
 initial-seen (Above names) = refl
 
 -- what the check says of a text is whether it has a derivation
-pub verdict-parse : (h : Header) (full : Bool) (text : List ℕ) → verdict full (initial_standing h) text ≡ told (parse h full untaken text)
-verdict-parse h full text = ap (λ (s : Standing). verdict full s text) (initial-seen h) ∙ verdict-seen h full text untaken
+pub verdict-parse : (d : ℕ) (h : Header) (full : Bool) (text : List ℕ) → verdict d full (initial_standing h) text ≡ told (parse d h full untaken text)
+verdict-parse d h full text = ap (λ (s : Standing). verdict d full s text) (initial-seen h) ∙ verdict-seen d h full text untaken

@@ -1,7 +1,7 @@
 -- How far one byte leads.
 use Rattle.std.proofs.Common.{◌≡◌, ◌≤◌, ◌+◌, ◌∷◌, ℕ, Bool, true, false, List, [], Ok, Err, refl, sym, subst, arith}
 use Rattle.std.specs.Prelude.{◌==◌, Result, if◌then◌else◌}
-use Rattle.rj_strict.specs.Steps.{end_of, at_comma, at_lf, at_cr, at_dquote, at_textdata, step_of, end_empty, forbids_empty, next_line, next_field, verdict}
+use Rattle.rj_strict.specs.Steps.{end_of, at_delimiter, at_lf, at_cr, at_dquote, at_textdata, step_of, end_empty, forbids_empty, next_line, next_field, verdict}
 use Rattle.rj_strict.specs.declared.fault.StrictFault.{StrictFault}
 use Rattle.rj_strict.specs.declared.standing.Place.{Place}
 use Rattle.rj_strict.specs.declared.standing.Place.TheVariants as place
@@ -39,8 +39,8 @@ near-lf s = elim s.place as (λ p. Near s (at_lf (record s { place = p }))) [
   | place.Return ↦ near-line s
 ]
 
-near-comma : (s : Standing) → Near s (at_comma s)
-near-comma s = elim s.place as (λ p. Near s (at_comma (record s { place = p }))) [
+near-delimiter : (s : Standing) → Near s (at_delimiter s)
+near-delimiter s = elim s.place as (λ p. Near s (at_delimiter (record s { place = p }))) [
   | place.Start ↦ near-field s
   | place.Fresh ↦ near-field s
   | place.Inside ↦ near-field s
@@ -83,23 +83,23 @@ near-textdata s = elim s.place as (λ p. Near s (at_textdata (record s { place =
   | place.Return ↦ tt
 ]
 
-near-step : (s : Standing) (c : ℕ) → Near s (step_of s c)
-near-step s c =
-    near-if s (c == 44) _ _ (near-comma s) (near-if s (c == 10) _ _ (near-lf s)
-    (near-if s (c == 13) _ _ (near-cr s) (near-if s (c == 34) _ _ (near-dquote s) (near-textdata s))))
+near-step : (d : ℕ) (s : Standing) (c : ℕ) → Near s (step_of d s c)
+near-step d s c =
+    near-if s (c == 10) _ _ (near-lf s) (near-if s (c == 13) _ _ (near-cr s)
+    (near-if s (c == 34) _ _ (near-dquote s) (near-if s (c == d) _ _ (near-delimiter s) (near-textdata s))))
 
-pub step-near : (s s2 : Standing) (c : ℕ) → Ok s2 ≡ step_of s c → (s2.row ≤ s.row + 1) × (s2.column ≤ s.column + 1)
-step-near s s2 c e = subst (λ (r : Result Standing StrictFault). Near s r) (sym e) (near-step s c)
+pub step-near : (d : ℕ) (s s2 : Standing) (c : ℕ) → Ok s2 ≡ step_of d s c → (s2.row ≤ s.row + 1) × (s2.column ≤ s.column + 1)
+step-near d s s2 c e = subst (λ (r : Result Standing StrictFault). Near s r) (sym e) (near-step d s c)
 
 -- a byte that has no fault, and one that has
-pub verdict-ok : (full : Bool) (s s2 : Standing) (c : ℕ) (text : List ℕ) → Ok s2 ≡ step_of s c → verdict full s (c ∷ text) ≡ verdict full s2 text
+pub verdict-ok : (d : ℕ) (full : Bool) (s s2 : Standing) (c : ℕ) (text : List ℕ) → Ok s2 ≡ step_of d s c → verdict d full s (c ∷ text) ≡ verdict d full s2 text
 unfolding verdict
-verdict-ok full s s2 c text e = rw (sym e) refl
+verdict-ok d full s s2 c text e = rw (sym e) refl
 
-pub verdict-err : (full : Bool) (s : Standing) (f : StrictFault) (c : ℕ) (text : List ℕ) → Err f ≡ step_of s c → verdict full s (c ∷ text) ≡ Err f
+pub verdict-err : (d : ℕ) (full : Bool) (s : Standing) (f : StrictFault) (c : ℕ) (text : List ℕ) → Err f ≡ step_of d s c → verdict d full s (c ∷ text) ≡ Err f
 unfolding verdict
-verdict-err full s f c text e = rw (sym e) refl
+verdict-err d full s f c text e = rw (sym e) refl
 
-pub verdict-end : (full : Bool) (s : Standing) → verdict full s [] ≡ end_of full s
+pub verdict-end : (d : ℕ) (full : Bool) (s : Standing) → verdict d full s [] ≡ end_of full s
 unfolding verdict
-verdict-end full s = refl
+verdict-end d full s = refl

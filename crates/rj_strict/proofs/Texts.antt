@@ -4,7 +4,7 @@ use Rattle.std.specs.List.{list_all}
 use Rattle.std.proofs.Common.{refl, sym, ap, ◌∙◌, inl, inr, append_assoc}
 use Rattle.std.proofs.lemmas.List.{append-nil}
 use Rattle.std.proofs.lemmas.Bool.{cases_Bool, and_parts, and_from, and_cases, and_right, and_left, or_right, or_left, or_cases, or_parts, not-true, not_from_false, ltb-false, leb-true, le-leb, le-ltb, false≢true}
-use Rattle.rj_strict.specs.Grammar.{Field, escaped, non-escaped, Record, Line, dquote, comma, cr, lf, is_textdata, doubled, field_text, fields_text, record_text, is_record, is_blank, end_text, line_text, is_line, lines_text, names_of, width}
+use Rattle.rj_strict.specs.Grammar.{Field, escaped, non-escaped, Record, Line, dquote, cr, lf, is_textdata, doubled, field_text, fields_text, record_text, is_record, is_blank, end_text, line_text, is_line, lines_text, names_of, width}
 use Rattle.rj_strict.specs.declared.header.Header.{Header}
 use Rattle.rj_strict.specs.declared.header.Header.TheVariants.{First, Above}
 
@@ -15,25 +15,25 @@ all-more p (y ∷ xs) x e f =
     let parts = and_parts (p y) (list_all p xs) e in
     and_from (p y) (list_all p (xs ++ x ∷ [])) parts.0 (all-more p xs x parts.1 f)
 
-pub fields-more : (fields : List Field) (f : Field) (rest : List ℕ) → fields_text (fields ++ f ∷ []) ++ rest ≡ fields_text fields ++ (field_text f ++ comma ∷ rest)
-fields-more [] f rest = rw (append-nil (field_text f ++ comma ∷ [])) (append_assoc (field_text f) (comma ∷ []) rest)
-fields-more (g ∷ fields) f rest =
-    append_assoc (field_text g ++ comma ∷ []) (fields_text (fields ++ f ∷ [])) rest
-    ∙ (ap (λ (t : List ℕ). (field_text g ++ comma ∷ []) ++ t) (fields-more fields f rest)
-    ∙ sym (append_assoc (field_text g ++ comma ∷ []) (fields_text fields) (field_text f ++ comma ∷ rest)))
+pub fields-more : (d : ℕ) (fields : List Field) (f : Field) (rest : List ℕ) → fields_text d (fields ++ f ∷ []) ++ rest ≡ fields_text d fields ++ (field_text f ++ d ∷ rest)
+fields-more d [] f rest = rw (append-nil (field_text f ++ d ∷ [])) (append_assoc (field_text f) (d ∷ []) rest)
+fields-more d (g ∷ fields) f rest =
+    append_assoc (field_text g ++ d ∷ []) (fields_text d (fields ++ f ∷ [])) rest
+    ∙ (ap (λ (t : List ℕ). (field_text g ++ d ∷ []) ++ t) (fields-more d fields f rest)
+    ∙ sym (append_assoc (field_text g ++ d ∷ []) (fields_text d fields) (field_text f ++ d ∷ rest)))
 
-pub line-whole : (l : Line) (rest : List ℕ) → line_text l ++ rest ≡ fields_text l.fields.before ++ (field_text l.fields.last ++ (end_text l.ended ++ rest))
-line-whole l rest =
-    append_assoc (record_text l.fields) (end_text l.ended) rest
-    ∙ append_assoc (fields_text l.fields.before) (field_text l.fields.last) (end_text l.ended ++ rest)
+pub line-whole : (d : ℕ) (l : Line) (rest : List ℕ) → line_text d l ++ rest ≡ fields_text d l.fields.before ++ (field_text l.fields.last ++ (end_text l.ended ++ rest))
+line-whole d l rest =
+    append_assoc (record_text d l.fields) (end_text l.ended) rest
+    ∙ append_assoc (fields_text d l.fields.before) (field_text l.fields.last) (end_text l.ended ++ rest)
 
-pub lines-more : (lines : List Line) (l : Line) (rest : List ℕ)
-    → lines_text (lines ++ l ∷ []) ++ rest ≡ lines_text lines ++ (fields_text l.fields.before ++ (field_text l.fields.last ++ (end_text l.ended ++ rest)))
-lines-more [] l rest = rw (append-nil (line_text l)) (line-whole l rest)
-lines-more (k ∷ lines) l rest =
-    append_assoc (line_text k) (lines_text (lines ++ l ∷ [])) rest
-    ∙ (ap (λ (t : List ℕ). line_text k ++ t) (lines-more lines l rest)
-    ∙ sym (append_assoc (line_text k) (lines_text lines) (fields_text l.fields.before ++ (field_text l.fields.last ++ (end_text l.ended ++ rest)))))
+pub lines-more : (d : ℕ) (lines : List Line) (l : Line) (rest : List ℕ)
+    → lines_text d (lines ++ l ∷ []) ++ rest ≡ lines_text d lines ++ (fields_text d l.fields.before ++ (field_text l.fields.last ++ (end_text l.ended ++ rest)))
+lines-more d [] l rest = rw (append-nil (line_text d l)) (line-whole d l rest)
+lines-more d (k ∷ lines) l rest =
+    append_assoc (line_text d k) (lines_text d (lines ++ l ∷ [])) rest
+    ∙ (ap (λ (t : List ℕ). line_text d k ++ t) (lines-more d lines l rest)
+    ∙ sym (append_assoc (line_text d k) (lines_text d lines) (fields_text d l.fields.before ++ (field_text l.fields.last ++ (end_text l.ended ++ rest)))))
 
 -- a byte more between quotes, and a quote
 pub doubled-plain : (bytes : List ℕ) (c : ℕ) (rest : List ℕ) → (c == dquote) ≡ false → doubled (bytes ++ c ∷ []) ++ rest ≡ doubled bytes ++ c ∷ rest
@@ -57,22 +57,22 @@ doubled-dquote (b ∷ bytes) rest = go (b == dquote) (doubled-dquote bytes rest)
     go false same = ap (λ (t : List ℕ). b ∷ t) same
 
 -- the bytes of TEXTDATA
-pub is-textdata : (c : ℕ) → (c == comma) ≡ false → (c == dquote) ≡ false → (c == cr) ≡ false → (c == lf) ≡ false → is_textdata c ≡ true
-is-textdata c a q r n = rw (a, q, r, n) refl
+pub is-textdata : (d c : ℕ) → (c == d) ≡ false → (c == dquote) ≡ false → (c == cr) ≡ false → (c == lf) ≡ false → is_textdata d c ≡ true
+is-textdata d c a q r n = rw (a, q, r, n) refl
 
-pub record Plain (c : ℕ) : Type 0 where
-  pub no-comma : (c == 44) ≡ false
+pub record Plain (d c : ℕ) : Type 0 where
+  pub no-delimiter : (c == d) ≡ false
   pub no-dquote : (c == 34) ≡ false
   pub no-cr : (c == 13) ≡ false
   pub no-lf : (c == 10) ≡ false
 
-pub textdata-is : (c : ℕ) → is_textdata c ≡ true → Plain c
-textdata-is c e =
-    let all : ((c == comma) || (c == dquote) || (c == cr) || (c == lf)) ≡ false = not-true ((c == comma) || (c == dquote) || (c == cr) || (c == lf)) e in
-    let three = or_parts ((c == comma) || (c == dquote) || (c == cr)) (c == lf) all in
-    let two = or_parts ((c == comma) || (c == dquote)) (c == cr) three.0 in
-    let one = or_parts (c == comma) (c == dquote) two.0 in
-    record { no-comma = one.0; no-dquote = one.1; no-cr = two.1; no-lf = three.1 }
+pub textdata-is : (d c : ℕ) → is_textdata d c ≡ true → Plain d c
+textdata-is d c e =
+    let all : ((c == d) || (c == dquote) || (c == cr) || (c == lf)) ≡ false = not-true ((c == d) || (c == dquote) || (c == cr) || (c == lf)) e in
+    let three = or_parts ((c == d) || (c == dquote) || (c == cr)) (c == lf) all in
+    let two = or_parts ((c == d) || (c == dquote)) (c == cr) three.0 in
+    let one = or_parts (c == d) (c == dquote) two.0 in
+    record { no-delimiter = one.0; no-dquote = one.1; no-cr = two.1; no-lf = three.1 }
 
 -- nothing at all
 pub record IsNothing (fields : List Field) (f : Field) : Type 0 where
@@ -86,15 +86,15 @@ blank-is [] (escaped bytes) e = absurd (false≢true e)
 blank-is (g ∷ fields) f e = absurd (false≢true e)
 
 -- a line that is not empty under more than one name
-may-end : (names : ℕ) (l : Line) → is_record l.fields ≡ true → (is_blank l.fields && nat_lt 1 names) ≡ false → is_line names l ≡ true
-may-end names l e f = elim (and_cases (is_blank l.fields) (nat_lt 1 names) f) [
-  | inl full ↦ and_from (is_record l.fields) (nat_le names 1 || not (is_blank l.fields)) e (or_right (nat_le names 1) (not (is_blank l.fields)) (not_from_false (is_blank l.fields) full))
-  | inr few ↦ and_from (is_record l.fields) (nat_le names 1 || not (is_blank l.fields)) e (or_left (nat_le names 1) (not (is_blank l.fields)) (le-leb names 1 (ltb-false 1 names few)))
+may-end : (d names : ℕ) (l : Line) → is_record d l.fields ≡ true → (is_blank l.fields && nat_lt 1 names) ≡ false → is_line d names l ≡ true
+may-end d names l e f = elim (and_cases (is_blank l.fields) (nat_lt 1 names) f) [
+  | inl full ↦ and_from (is_record d l.fields) (nat_le names 1 || not (is_blank l.fields)) e (or_right (nat_le names 1) (not (is_blank l.fields)) (not_from_false (is_blank l.fields) full))
+  | inr few ↦ and_from (is_record d l.fields) (nat_le names 1 || not (is_blank l.fields)) e (or_left (nat_le names 1) (not (is_blank l.fields)) (le-leb names 1 (ltb-false 1 names few)))
 ]
 
-pub ends-so : (names : ℕ) (l : Line) → is_line names l ≡ true → (is_blank l.fields && nat_lt 1 names) ≡ false
-ends-so names l e =
-    let parts = and_parts (is_record l.fields) (nat_le names 1 || not (is_blank l.fields)) e in
+pub ends-so : (d names : ℕ) (l : Line) → is_line d names l ≡ true → (is_blank l.fields && nat_lt 1 names) ≡ false
+ends-so d names l e =
+    let parts = and_parts (is_record d l.fields) (nat_le names 1 || not (is_blank l.fields)) e in
     elim (or_cases (nat_le names 1) (not (is_blank l.fields)) parts.1) [
       | inl few ↦ and_right (is_blank l.fields) (nat_lt 1 names) (le-ltb 1 names (leb-true names 1 few))
       | inr full ↦ and_left (is_blank l.fields) (nat_lt 1 names) (not-true (is_blank l.fields) full)
@@ -110,15 +110,15 @@ blank-width r = elim (cases_Bool (is_blank r)) [
 ]
 
 -- a line more
-pub all-lines-more : (h : Header) (lines : List Line) (l : Line) → list_all (is_line (names_of h lines)) lines ≡ true → is_record l.fields ≡ true
-    → (is_blank l.fields && nat_lt 1 (names_of h lines)) ≡ false → list_all (is_line (names_of h (lines ++ l ∷ []))) (lines ++ l ∷ []) ≡ true
-all-lines-more First [] l e f g = and_from (is_line (width l.fields) l) true (may-end (width l.fields) l f (blank-width l.fields)) refl
-all-lines-more First (k ∷ lines) l e f g = all-more (is_line (width k.fields)) (k ∷ lines) l e (may-end (width k.fields) l f g)
-all-lines-more (Above names) lines l e f g = all-more (is_line names) lines l e (may-end names l f g)
+pub all-lines-more : (d : ℕ) (h : Header) (lines : List Line) (l : Line) → list_all (is_line d (names_of h lines)) lines ≡ true → is_record d l.fields ≡ true
+    → (is_blank l.fields && nat_lt 1 (names_of h lines)) ≡ false → list_all (is_line d (names_of h (lines ++ l ∷ []))) (lines ++ l ∷ []) ≡ true
+all-lines-more d First [] l e f g = and_from (is_line d (width l.fields) l) true (may-end d (width l.fields) l f (blank-width l.fields)) refl
+all-lines-more d First (k ∷ lines) l e f g = all-more (is_line d (width k.fields)) (k ∷ lines) l e (may-end d (width k.fields) l f g)
+all-lines-more d (Above names) lines l e f g = all-more (is_line d names) lines l e (may-end d names l f g)
 
 -- what a line among others may be
-pub line-among : (h : Header) (done : List Line) (l : Line) (more : List Line) → is_line (names_of h (done ++ l ∷ more)) l ≡ true
+pub line-among : (d : ℕ) (h : Header) (done : List Line) (l : Line) (more : List Line) → is_line d (names_of h (done ++ l ∷ more)) l ≡ true
     → (is_blank l.fields && nat_lt 1 (names_of h done)) ≡ false
-line-among First [] l more e = and_right (is_blank l.fields) false refl
-line-among First (k ∷ done) l more e = ends-so (width k.fields) l e
-line-among (Above names) done l more e = ends-so names l e
+line-among d First [] l more e = and_right (is_blank l.fields) false refl
+line-among d First (k ∷ done) l more e = ends-so d (width k.fields) l e
+line-among d (Above names) done l more e = ends-so d names l e

@@ -13,13 +13,13 @@ first_row First = 0
 first_row (Above names) = 1
 
 -- these bytes are what is left of the text at a field: after whole lines, and after whole fields
--- each with its comma
-pub record FieldAt (header : Header) (text : List ℕ) (row column : ℕ) (left : List ℕ) : Type 0 where
+-- each with its delimiter
+pub record FieldAt (d : ℕ) (header : Header) (text : List ℕ) (row column : ℕ) (left : List ℕ) : Type 0 where
   pub lines : List Line
   pub fields : List Field
-  pub spelled : text ≡ lines_text lines ++ (fields_text fields ++ left)
-  pub are_lines : IsTrue (list_all (is_line (names_of header lines)) lines)
-  pub are_fields : IsTrue (list_all is_field fields)
+  pub spelled : text ≡ lines_text d lines ++ (fields_text d fields ++ left)
+  pub are_lines : IsTrue (list_all (is_line d (names_of header lines)) lines)
+  pub are_fields : IsTrue (list_all (is_field d) fields)
   pub at_row : row ≡ first_row header + length lines
   pub at_column : column ≡ length fields + 1
 
@@ -33,10 +33,10 @@ row_at (fault.EmptyLine row) = row
 row_at (fault.CutShort row) = row
 
 -- these lines are in the text above a row
-pub record AreAbove (header : Header) (text : List ℕ) (row : ℕ) (lines : List Line) : Type 0 where
+pub record AreAbove (d : ℕ) (header : Header) (text : List ℕ) (row : ℕ) (lines : List Line) : Type 0 where
   pub left : List ℕ
-  pub spelled : text ≡ lines_text lines ++ left
-  pub are_lines : IsTrue (list_all (is_line (names_of header lines)) lines)
+  pub spelled : text ≡ lines_text d lines ++ left
+  pub are_lines : IsTrue (list_all (is_line d (names_of header lines)) lines)
   pub at_row : row ≡ first_row header + length lines
 
 abbrev pub starts_with_lf : List ℕ → Bool
@@ -44,26 +44,26 @@ starts_with_lf [] = false
 starts_with_lf (c ∷ bytes) = c == lf
 
 -- the text has this error
-abbrev pub HasFault : Header → Bool → List ℕ → StrictFault → Type 0
+abbrev pub HasFault : ℕ → Header → Bool → List ℕ → StrictFault → Type 0
 -- a quote opens the field, and no other one closes it
-HasFault header full text (fault.OpenQuote row column) =
-    (bytes : List ℕ) × FieldAt header text row column (dquote ∷ doubled bytes)
+HasFault d header full text (fault.OpenQuote row column) =
+    (bytes : List ℕ) × FieldAt d header text row column (dquote ∷ doubled bytes)
 -- TEXTDATA comes after an escaped field
-HasFault header full text (fault.AfterQuote row column) =
-    (bytes : List ℕ) × (c : ℕ) × (more : List ℕ) × IsTrue (is_textdata c)
-    × FieldAt header text row column (field_text (escaped bytes) ++ c ∷ more)
+HasFault d header full text (fault.AfterQuote row column) =
+    (bytes : List ℕ) × (c : ℕ) × (more : List ℕ) × IsTrue (is_textdata d c)
+    × FieldAt d header text row column (field_text (escaped bytes) ++ c ∷ more)
 -- a quote comes after TEXTDATA
-HasFault header full text (fault.BareQuote row column) =
-    (c : ℕ) × (bytes : List ℕ) × (more : List ℕ) × IsTrue (list_all is_textdata (c ∷ bytes))
-    × FieldAt header text row column ((c ∷ bytes) ++ dquote ∷ more)
+HasFault d header full text (fault.BareQuote row column) =
+    (c : ℕ) × (bytes : List ℕ) × (more : List ℕ) × IsTrue (list_all (is_textdata d) (c ∷ bytes))
+    × FieldAt d header text row column ((c ∷ bytes) ++ dquote ∷ more)
 -- a CR with no LF comes after a field
-HasFault header full text (fault.BareReturn row column) =
-    (f : Field) × (more : List ℕ) × IsTrue (is_field f) × (starts_with_lf more ≡ false)
-    × FieldAt header text row column (field_text f ++ cr ∷ more)
+HasFault d header full text (fault.BareReturn row column) =
+    (f : Field) × (more : List ℕ) × IsTrue (is_field d f) × (starts_with_lf more ≡ false)
+    × FieldAt d header text row column (field_text f ++ cr ∷ more)
 -- an empty line is under more than one name
-HasFault header full text (fault.EmptyLine row) =
-    (ended : LineEnd) × (more : List ℕ) × (at : FieldAt header text row 1 (end_text ended ++ more)) × (1 < names_of header at.lines)
+HasFault d header full text (fault.EmptyLine row) =
+    (ended : LineEnd) × (more : List ℕ) × (at : FieldAt d header text row 1 (end_text ended ++ more)) × (1 < names_of header at.lines)
 -- a full file has a last record without a line end
-HasFault header full text (fault.CutShort row) =
-    IsTrue full × (column : ℕ) × (last : Field) × IsTrue (is_field last)
-    × (at : FieldAt header text row column (field_text last)) × (is_blank (record { before = at.fields; last = last }) ≡ false)
+HasFault d header full text (fault.CutShort row) =
+    IsTrue full × (column : ℕ) × (last : Field) × IsTrue (is_field d last)
+    × (at : FieldAt d header text row column (field_text last)) × (is_blank (record { before = at.fields; last = last }) ≡ false)

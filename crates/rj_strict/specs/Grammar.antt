@@ -1,7 +1,8 @@
 -- RFC 4180's grammar (section 2): its derivations, each with the text that it derives and its
--- records. TEXTDATA is widened to all bytes but COMMA, DQUOTE, CR and LF, and a line may end in LF
--- alone.
-use Rattle.std.specs.Prelude.{ℕ, ◌+◌, ◌==◌, ◌≡◌, ◌||◌, ◌&&◌, not, nat_le, if◌then◌else◌, Bool, true, false, List, [], ◌∷◌, ◌++◌, map, flat_map, length, Option, Some, None, IsTrue}
+-- records. Another delimiter may stand for COMMA, TEXTDATA is widened to all bytes but the
+-- delimiter, DQUOTE, CR and LF, and a line may end in LF alone.
+use Rattle.std.specs.Prelude.{ℕ, ◌+◌, ◌==◌, ◌≡◌, ◌||◌, ◌&&◌, not, nat_le, nat_lt, if◌then◌else◌, Bool, true, false, List, [], ◌∷◌, ◌++◌, map, flat_map, length, Option, Some, None, IsTrue}
+use Rattle.std.specs.Char.{is_ascii_alphanumeric}
 use Rattle.std.specs.List.{list_all}
 use Rattle.rj_strict.specs.declared.header.Header.{Header}
 use Rattle.rj_strict.specs.declared.header.Header.TheVariants.{First, Above}
@@ -18,11 +19,15 @@ cr = 13
 abbrev pub lf : ℕ
 lf = 10
 
--- TEXTDATA = any byte but COMMA, DQUOTE, CR and LF
-abbrev pub is_textdata : ℕ → Bool
-is_textdata c = not ((c == comma) || (c == dquote) || (c == cr) || (c == lf))
+-- a byte that may be the delimiter: one of ASCII that is no letter, digit, DQUOTE, CR or LF
+abbrev pub may_delimit : ℕ → Bool
+may_delimit d = nat_lt d 128 && not (is_ascii_alphanumeric d) && not (d == dquote) && not (d == cr) && not (d == lf)
 
--- *(TEXTDATA / COMMA / CR / LF / 2DQUOTE), of the bytes that it stands for
+-- TEXTDATA = any byte but the delimiter, DQUOTE, CR and LF
+abbrev pub is_textdata : ℕ → ℕ → Bool
+is_textdata d c = not ((c == d) || (c == dquote) || (c == cr) || (c == lf))
+
+-- *(TEXTDATA / delimiter / CR / LF / 2DQUOTE), of the bytes that it stands for
 unfoldable pub doubled : List ℕ → List ℕ
 doubled [] = []
 doubled (c ∷ bytes) = if c == dquote then dquote ∷ dquote ∷ doubled bytes else c ∷ doubled bytes
@@ -32,29 +37,29 @@ pub data Field : Type 0 where
   escaped : List ℕ → Field
   non-escaped : List ℕ → Field
 
--- escaped = DQUOTE *(TEXTDATA / COMMA / CR / LF / 2DQUOTE) DQUOTE, and non-escaped = *TEXTDATA
+-- escaped = DQUOTE *(TEXTDATA / delimiter / CR / LF / 2DQUOTE) DQUOTE, and non-escaped = *TEXTDATA
 abbrev pub field_text : Field → List ℕ
 field_text (escaped bytes) = dquote ∷ (doubled bytes ++ dquote ∷ [])
 field_text (non-escaped bytes) = bytes
 
-abbrev pub is_field : Field → Bool
-is_field (escaped bytes) = true
-is_field (non-escaped bytes) = list_all is_textdata bytes
+abbrev pub is_field : ℕ → Field → Bool
+is_field d (escaped bytes) = true
+is_field d (non-escaped bytes) = list_all (is_textdata d) bytes
 
--- record = field *(COMMA field), which is *(field COMMA) field
+-- record = field *(delimiter field), which is *(field delimiter) field
 pub record Record : Type 0 where
   pub before : List Field
   pub last : Field
 
--- *(field COMMA)
-abbrev pub fields_text : List Field → List ℕ
-fields_text fields = flat_map (λ f. field_text f ++ comma ∷ []) fields
+-- *(field delimiter)
+abbrev pub fields_text : ℕ → List Field → List ℕ
+fields_text d fields = flat_map (λ f. field_text f ++ d ∷ []) fields
 
-abbrev pub record_text : Record → List ℕ
-record_text r = fields_text r.before ++ field_text r.last
+abbrev pub record_text : ℕ → Record → List ℕ
+record_text d r = fields_text d r.before ++ field_text r.last
 
-abbrev pub is_record : Record → Bool
-is_record r = list_all is_field r.before && is_field r.last
+abbrev pub is_record : ℕ → Record → Bool
+is_record d r = list_all (is_field d) r.before && is_field d r.last
 
 -- how many fields there are
 abbrev pub width : Record → ℕ
@@ -82,18 +87,18 @@ pub record Line : Type 0 where
   pub fields : Record
   pub ended : LineEnd
 
-abbrev pub line_text : Line → List ℕ
-line_text l = record_text l.fields ++ end_text l.ended
+abbrev pub line_text : ℕ → Line → List ℕ
+line_text d l = record_text d l.fields ++ end_text l.ended
 
 -- an empty line is a record where there is one name
-abbrev pub is_line : ℕ → Line → Bool
-is_line names l = is_record l.fields && (nat_le names 1 || not (is_blank l.fields))
+abbrev pub is_line : ℕ → ℕ → Line → Bool
+is_line d names l = is_record d l.fields && (nat_le names 1 || not (is_blank l.fields))
 
-abbrev pub lines_text : List Line → List ℕ
-lines_text lines = flat_map line_text lines
+abbrev pub lines_text : ℕ → List Line → List ℕ
+lines_text d lines = flat_map (line_text d) lines
 
--- how many names the header has: header = name *(COMMA name) is a record like any other, the first
--- one if it is in the text
+-- how many names the header has: header = name *(delimiter name) is a record like any other, the
+-- first one if it is in the text
 abbrev pub names_of : Header → List Line → ℕ
 names_of First [] = 1
 names_of First (l ∷ lines) = width l.fields
@@ -106,23 +111,23 @@ pub record File : Type 0 where
   pub lines : List Line
   pub rest : Option Record
 
-abbrev pub rest_text : Option Record → List ℕ
-rest_text None = []
-rest_text (Some r) = record_text r
+abbrev pub rest_text : ℕ → Option Record → List ℕ
+rest_text d None = []
+rest_text d (Some r) = record_text d r
 
-abbrev pub file_text : File → List ℕ
-file_text file = lines_text file.lines ++ rest_text file.rest
+abbrev pub file_text : ℕ → File → List ℕ
+file_text d file = lines_text d file.lines ++ rest_text d file.rest
 
 -- in a full file each record has its line end
-abbrev pub is_rest : Bool → Option Record → Bool
-is_rest full None = true
-is_rest full (Some r) = is_record r && not (is_blank r) && not full
+abbrev pub is_rest : ℕ → Bool → Option Record → Bool
+is_rest d full None = true
+is_rest d full (Some r) = is_record d r && not (is_blank r) && not full
 
--- this is a derivation of the text
-pub record Derives (header : Header) (full : Bool) (text : List ℕ) (file : File) : Type 0 where
-  pub spelled : text ≡ file_text file
-  pub lines : IsTrue (list_all (is_line (names_of header file.lines)) file.lines)
-  pub rest : IsTrue (is_rest full file.rest)
+-- this is a derivation of the text, with this delimiter
+pub record Derives (d : ℕ) (header : Header) (full : Bool) (text : List ℕ) (file : File) : Type 0 where
+  pub spelled : text ≡ file_text d file
+  pub lines : IsTrue (list_all (is_line d (names_of header file.lines)) file.lines)
+  pub rest : IsTrue (is_rest d full file.rest)
 
 -- the bytes that a field stands for
 abbrev pub value_of : Field → List ℕ

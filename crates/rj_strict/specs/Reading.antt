@@ -1,11 +1,16 @@
 -- What the library csv reads from a text: it reads no record from an empty line.
 use Rattle.std.specs.Prelude.{ℕ, ◌==◌, ◌||◌, not, Bool, false, if◌then◌else◌, List, [], ◌∷◌, map, filter}
-use Rattle.csv.specs.Reading.{is_bom, strip_bom}
+use Rattle.csv.specs.Reading.{default_config, is_bom, strip_bom}
+use Rattle.csv.specs.declared.parser.Config.{Config}
 use Rattle.rj_strict.specs.Grammar.{Line, File, cr, lf, escaped, is_blank}
 use Rattle.rj_strict.specs.declared.header.Header.{Header}
 use Rattle.rj_strict.specs.declared.header.Header.TheVariants.{First, Above}
 use Rattle.rj_strict.specs.declared.standing.Place.{Place}
 use Rattle.rj_strict.specs.declared.standing.Place.TheVariants as place
+
+-- how the library reads with this delimiter
+abbrev pub config_of : ℕ → Config
+config_of d = record default_config { delimiter = d }
 
 -- a text that begins with the header may begin with a byte order mark, which is no part of the file
 abbrev pub body_of : Header → List ℕ → List ℕ

@@ -1,6 +1,6 @@
 -- How the check goes over a text, byte by byte. Internal: no public contract uses it.
 use Rattle.std.specs.Prelude.{ℕ, ◌+◌, ◌==◌, nat_lt, if◌then◌else◌, Bool, false, List, [], ◌∷◌, Result, Ok, Err}
-use Rattle.rj_strict.specs.Grammar.{comma, dquote, cr, lf}
+use Rattle.rj_strict.specs.Grammar.{dquote, cr, lf}
 use Rattle.rj_strict.specs.Faults.{first_row}
 use Rattle.rj_strict.specs.declared.header.Header.{Header}
 use Rattle.rj_strict.specs.declared.header.Header.TheVariants.{First, Above}
@@ -46,8 +46,8 @@ at_lf s = from s.place
     from place.Blank = end_empty s
     from place.Return = Ok (next_line s)
 
-abbrev pub at_comma : Standing → Result Standing StrictFault
-at_comma s = from s.place
+abbrev pub at_delimiter : Standing → Result Standing StrictFault
+at_delimiter s = from s.place
   where
     from : Place → Result Standing StrictFault
     from place.Start = Ok (next_field s)
@@ -94,13 +94,13 @@ at_textdata s = from s.place
     from place.Blank = Err (fault.BareReturn s.row s.column)
     from place.Return = Err (fault.BareReturn s.row s.column)
 
--- what one byte does
-abbrev pub step_of : Standing → ℕ → Result Standing StrictFault
-step_of s c =
-    if c == comma then at_comma s
-    else if c == lf then at_lf s
+-- what one byte does, with this delimiter
+abbrev pub step_of : ℕ → Standing → ℕ → Result Standing StrictFault
+step_of d s c =
+    if c == lf then at_lf s
     else if c == cr then at_cr s
     else if c == dquote then at_dquote s
+    else if c == d then at_delimiter s
     else at_textdata s
 
 -- what the end of the text does
@@ -122,6 +122,6 @@ step_then (Ok s) more = more s
 step_then (Err e) more = Err e
 
 -- what the check says of a text from here on
-unfoldable pub verdict : Bool → Standing → List ℕ → Result (Unit {0}) StrictFault
-verdict full s [] = end_of full s
-verdict full s (c ∷ text) = step_then (step_of s c) (λ s2. verdict full s2 text)
+unfoldable pub verdict : ℕ → Bool → Standing → List ℕ → Result (Unit {0}) StrictFault
+verdict d full s [] = end_of full s
+verdict d full s (c ∷ text) = step_then (step_of d s c) (λ s2. verdict d full s2 text)

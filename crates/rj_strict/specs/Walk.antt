@@ -1,22 +1,22 @@
 -- Where a check is after bytes that have neither an error nor an empty line, whatever the header
 -- is. Internal: no public contract uses it.
 use Rattle.std.specs.Prelude.{ℕ, ◌==◌, ◌&&◌, ◌||◌, not, if◌then◌else◌, Bool, true, false, List, [], ◌∷◌, Option, Some, None, option_and_then, IfSome, slice_index_or, ◌<◌, ◌≡◌, length}
-use Rattle.rj_strict.specs.Grammar.{comma, dquote, cr, lf}
+use Rattle.rj_strict.specs.Grammar.{dquote, cr, lf}
 use Rattle.rj_strict.specs.declared.standing.Place.{Place}
 use Rattle.rj_strict.specs.declared.standing.Place.TheVariants as place
 
--- a choice by a byte: a comma, LF, CR, a quote and TEXTDATA
-abbrev pub by_byte : {X : Type 0} → ℕ → X → X → X → X → X → X
-by_byte c k n r q x = if c == comma then k else if c == lf then n else if c == cr then r else if c == dquote then q else x
+-- a choice by a byte: LF, CR, a quote, the delimiter and TEXTDATA
+abbrev pub by_byte : {X : Type 0} → ℕ → ℕ → X → X → X → X → X → X
+by_byte d c n r q k x = if c == lf then n else if c == cr then r else if c == dquote then q else if c == d then k else x
 
-abbrev pub walk_byte : Place → ℕ → Option Place
-walk_byte place.Start c = by_byte c (Some place.Fresh) None None (Some place.Open) (Some place.Inside)
-walk_byte place.Fresh c = by_byte c (Some place.Fresh) (Some place.Start) (Some place.Return) (Some place.Open) (Some place.Inside)
-walk_byte place.Inside c = by_byte c (Some place.Fresh) (Some place.Start) (Some place.Return) None (Some place.Inside)
-walk_byte place.Open c = by_byte c (Some place.Open) (Some place.Open) (Some place.Open) (Some place.Closed) (Some place.Open)
-walk_byte place.Closed c = by_byte c (Some place.Fresh) (Some place.Start) (Some place.Return) (Some place.Open) None
-walk_byte place.Blank c = None
-walk_byte place.Return c = by_byte c None (Some place.Start) None None None
+abbrev pub walk_byte : ℕ → Place → ℕ → Option Place
+walk_byte d place.Start c = by_byte d c None None (Some place.Open) (Some place.Fresh) (Some place.Inside)
+walk_byte d place.Fresh c = by_byte d c (Some place.Start) (Some place.Return) (Some place.Open) (Some place.Fresh) (Some place.Inside)
+walk_byte d place.Inside c = by_byte d c (Some place.Start) (Some place.Return) None (Some place.Fresh) (Some place.Inside)
+walk_byte d place.Open c = by_byte d c (Some place.Open) (Some place.Open) (Some place.Closed) (Some place.Open) (Some place.Open)
+walk_byte d place.Closed c = by_byte d c (Some place.Start) (Some place.Return) (Some place.Open) (Some place.Fresh) None
+walk_byte d place.Blank c = None
+walk_byte d place.Return c = by_byte d c (Some place.Start) None None None None
 
 -- the place after a quote
 abbrev pub over_quote : Place → Option Place
@@ -29,13 +29,13 @@ over_quote place.Blank = None
 over_quote place.Return = None
 
 -- the place after bytes
-unfoldable pub walk : Place → List ℕ → Option Place
-walk p [] = Some p
-walk p (c ∷ text) = option_and_then (λ q. walk q text) (walk_byte p c)
+unfoldable pub walk : ℕ → Place → List ℕ → Option Place
+walk d p [] = Some p
+walk d p (c ∷ text) = option_and_then (λ q. walk d q text) (walk_byte d p c)
 
 -- the place after a byte that is no quote, outside quotes
-abbrev pub place_after : ℕ → Place
-place_after c = if c == comma then place.Fresh else if c == lf then place.Start else if c == cr then place.Return else place.Inside
+abbrev pub place_after : ℕ → ℕ → Place
+place_after d c = if c == lf then place.Start else if c == cr then place.Return else if c == d then place.Fresh else place.Inside
 
 -- a byte may not follow another outside quotes: a quote, an empty line, and a CR with no LF
 abbrev pub may_not_follow : ℕ → ℕ → Bool
@@ -57,6 +57,6 @@ may_end full place.Blank = false
 may_end full place.Return = false
 
 -- each of these is the place after its text alone, where it is seen to have neither an error nor an empty line
-abbrev pub AreWalked : List (List ℕ) → List (Option Place) → Type 0
-AreWalked texts places = (i : ℕ) (d : Option Place) → i < length texts
-    → IfSome (slice_index_or places i d) (λ p. walk place.Start (slice_index_or texts i []) ≡ Some p)
+abbrev pub AreWalked : ℕ → List (List ℕ) → List (Option Place) → Type 0
+AreWalked d texts places = (i : ℕ) (none : Option Place) → i < length texts
+    → IfSome (slice_index_or places i none) (λ p. walk d place.Start (slice_index_or texts i []) ≡ Some p)

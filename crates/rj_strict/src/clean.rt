@@ -1,11 +1,13 @@
 //! A fast look at a text that has neither an error nor an empty line.
 
 ghost use Rattle.std.specs.Prelude.{◌≡◌, ◌<◌, ◌==◌, ℕ, true, false, Bool, Ok, Some, IfSome, length, slice_index};
+ghost use Rattle.rj_strict.specs.Grammar.{may_delimit};
 ghost use Rattle.rj_strict.specs.Steps.{initial_standing, verdict};
 ghost use Rattle.rj_strict.specs.Walk.{all_follow, may_end, may_not_follow, over_quote, place_after, walk};
 ghost use Rattle.rj_strict.specs.declared.header.Header.{Header as Heading};
 ghost use Rattle.rj_strict.specs.declared.standing.Place.TheVariants.{Start};
 
+use crate::delimiter::Delimiter;
 use crate::standing::Place;
 use memchr::memchr;
 
@@ -23,13 +25,13 @@ fn is_bad(before: u8, byte: u8) -> bool
 }
 
 // The place after a byte that is no quote, outside quotes.
-fn place_behind(byte: u8) -> Place
-    ensures { result ≡ place_after byte }
+fn place_behind(delimiter: u8, byte: u8) -> Place
+    ensures { result ≡ place_after delimiter byte }
 {
     match byte {
-        b',' => Place::Fresh,
         b'\n' => Place::Start,
         b'\r' => Place::Return,
+        _ if byte == delimiter => Place::Fresh,
         _ => Place::Inside,
     }
 }
@@ -76,35 +78,36 @@ fn follow_without_quotes(before: u8, text: &[u8]) -> bool
 }
 
 // The place after a text outside quotes that has none, after this byte.
-fn follow(before: u8, text: &[u8]) -> Option<Place>
+fn follow(delimiter: u8, before: u8, text: &[u8]) -> Option<Place>
     requires some { 0 < length text.now }
     requires quotes { (i : ℕ) → i < length text.now → (slice_index text.now i == 34) ≡ false }
-    ensures { IfSome result (λ p. walk (place_after before) text.now ≡ Some p) }
+    ensures { IfSome result (λ p. walk delimiter (place_after delimiter before) text.now ≡ Some p) }
 {
     if follow_without_quotes(before, text) {
-        return Some(place_behind(text[text.len() - 1]));
+        return Some(place_behind(delimiter, text[text.len() - 1]));
     }
     None
 }
 
 // The place after a text without a quote.
-fn stretch(place: Place, text: &[u8]) -> Option<Place>
-    requires { (i : ℕ) → i < length text.now → (slice_index text.now i == 34) ≡ false }
-    ensures { IfSome result (λ p. walk place text.now ≡ Some p) }
+fn stretch(delimiter: u8, place: Place, text: &[u8]) -> Option<Place>
+    requires lawful { may_delimit delimiter ≡ true }
+    requires quotes { (i : ℕ) → i < length text.now → (slice_index text.now i == 34) ≡ false }
+    ensures { IfSome result (λ p. walk delimiter place text.now ≡ Some p) }
 {
     if text.is_empty() {
         return Some(place);
     }
     match place {
         Place::Open => Some(Place::Open),
-        Place::Start => follow(b'\n', text),
-        Place::Fresh => follow(b',', text),
-        Place::Inside => follow(b'a', text),
-        Place::Return => follow(b'\r', text),
+        Place::Start => follow(delimiter, b'\n', text),
+        Place::Fresh => follow(delimiter, delimiter, text),
+        Place::Inside => follow(delimiter, b'a', text),
+        Place::Return => follow(delimiter, b'\r', text),
         Place::Closed => {
             let byte = text[0];
-            if (byte == b',') | (byte == b'\n') | (byte == b'\r') {
-                return follow(b'a', text);
+            if (byte == delimiter) | (byte == b'\n') | (byte == b'\r') {
+                return follow(delimiter, b'a', text);
             }
             None
         }
@@ -124,16 +127,17 @@ fn behind_quote(place: Place) -> Option<Place>
 }
 
 // The place after a text that has neither an error nor an empty line, from quote to quote.
-fn place_behind_text(start: Place, text: &[u8]) -> Option<Place>
-    ensures { IfSome result (λ p. walk start text.now ≡ Some p) }
+fn place_behind_text(delimiter: u8, start: Place, text: &[u8]) -> Option<Place>
+    requires { may_delimit delimiter ≡ true }
+    ensures { IfSome result (λ p. walk delimiter start text.now ≡ Some p) }
 {
     let mut place = start;
     let mut at = 0usize;
     for _turn in 0..text.len() {
         match memchr(b'"', &text[at..]) {
-            None => return stretch(place, &text[at..]),
+            None => return stretch(delimiter, place, &text[at..]),
             Some(k) => {
-                place = behind_quote(stretch(place, &text[at..at + k])?)?;
+                place = behind_quote(stretch(delimiter, place, &text[at..at + k])?)?;
                 at += k + 1;
             }
         }
@@ -143,12 +147,13 @@ fn place_behind_text(start: Place, text: &[u8]) -> Option<Place>
 
 /// The place after a text that has neither an error nor an empty line, if the fast look sees that
 /// it has none.
-pub(crate) fn place_at_end(text: &[u8]) -> Option<Place>
-    ensures { IfSome result (λ p. walk Start text.now ≡ Some p) }
+pub(crate) fn place_at_end(text: &[u8], delimiter: Delimiter) -> Option<Place>
+    ensures { IfSome result (λ p. walk delimiter Start text.now ≡ Some p) }
 {
+    let byte = delimiter.byte();
     let mut place = Place::Start;
     for part in text.chunks(NEAR) {
-        place = place_behind_text(place, part)?;
+        place = place_behind_text(byte, place, part)?;
     }
     Some(place)
 }
@@ -166,10 +171,10 @@ pub(crate) fn ends_well(place: Place, full: bool) -> bool
 
 /// Whether a text is derived whatever its header is, as far as a look can tell that is much faster
 /// than [`crate::check`] byte by byte. A text with an empty line isn't.
-pub(crate) fn is_clean(text: &[u8], full: bool) -> bool
-    ensures { result ≡ true → (h : Heading) → verdict full (initial_standing h) text.now ≡ Ok tt }
+pub(crate) fn is_clean(text: &[u8], delimiter: Delimiter, full: bool) -> bool
+    ensures { result ≡ true → (h : Heading) → verdict delimiter full (initial_standing h) text.now ≡ Ok tt }
 {
-    match place_at_end(text) {
+    match place_at_end(text, delimiter) {
         Some(place) => ends_well(place, full),
         None => false,
     }

@@ -10,7 +10,7 @@ ghost use Rattle.rj_strict.specs.Faults.{row_at};
 pub enum StrictFault {
     /// A quoted field isn't closed at the text's end.
     OpenQuote(u64, u64),
-    /// A byte other than a comma, a double quote, CR and LF follows a closing quote.
+    /// A byte other than the delimiter, a double quote, CR and LF follows a closing quote.
     AfterQuote(u64, u64),
     /// A double quote is in a field that doesn't begin with one.
     BareQuote(u64, u64),

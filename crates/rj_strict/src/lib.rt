@@ -2,11 +2,13 @@
 //!
 //! `Derives`, the grammar, and `HasFault` fix what [`check`] answers. The laws say that a text has
 //! one derivation, what the library `csv` reads from it, and that texts can be checked in parts.
+//! They hold for each [`Delimiter`]: the comma, or another byte in its place.
 #![tactic(auto)]
 
 mod above;
 mod checking;
 mod clean;
+mod delimiter;
 mod fault;
 mod header;
 mod laws;
@@ -17,6 +19,7 @@ mod standing;
 
 pub use above::above_fault;
 pub use checking::check;
+pub use delimiter::Delimiter;
 pub use fault::StrictFault;
 pub use header::Header;
 pub use laws::{

@@ -1,6 +1,6 @@
 //! The fast look at a text in parts, each by its own thread.
 
-ghost use Rattle.std.specs.Prelude.{◌≡◌, true, IfOk, IfSome, length, map};
+ghost use Rattle.std.specs.Prelude.{◌≡◌, ℕ, true, IfOk, IfSome, length, map};
 ghost use Rattle.std.specs.List.{concat};
 ghost use Rattle.rj_strict.specs.Grammar.{Derives, File};
 ghost use Rattle.rj_strict.specs.Walk.{AreWalked, walk};
@@ -8,6 +8,7 @@ ghost use Rattle.rj_strict.specs.declared.header.Header.{Header as Heading};
 ghost use Rattle.rj_strict.specs.declared.standing.Place.TheVariants.{Start};
 
 use crate::clean::{ends_well, place_at_end};
+use crate::delimiter::Delimiter;
 use crate::standing::Place;
 use memchr::memchr;
 use std::alloc::{AllocError, Global};
@@ -45,9 +46,8 @@ fn cut_at_lines<'a>(
 // The place after consecutive texts, from the places after each of them alone. All but the last
 // have to end with a line end.
 fn place_after_all(texts: &[&[u8]], places: &[Option<Place>]) -> Option<Place>
-    requires count { length places.now ≡ length texts.now }
-    requires walked { AreWalked (map (λ t. t.now) texts.now) places.now }
-    ensures { IfSome result (λ p. walk Start (concat (map (λ t. t.now) texts.now)) ≡ Some p) }
+    requires { length places.now ≡ length texts.now }
+    ensures { IfSome result (λ p. (d : ℕ) → AreWalked d (map (λ t. t.now) texts.now) places.now → walk d Start (concat (map (λ t. t.now) texts.now)) ≡ Some p) }
 {
     let mut place = Place::Start;
     for i in 0..texts.len() {
@@ -64,15 +64,21 @@ fn place_in_parts<R: Threads + Sync>(
     rt: &R,
     alloc: Global,
     text: &[u8],
+    delimiter: Delimiter,
     parts: usize,
 ) -> Option<Place>
-    ensures { IfSome result (λ p. walk Start text.now ≡ Some p) }
+    ensures { IfSome result (λ p. walk delimiter Start text.now ≡ Some p) }
 {
     let Ok(texts) = cut_at_lines(alloc, text, parts) else {
         return None;
     };
     let texts = texts.as_slice();
-    let looked = thread::map_indices(rt, alloc, texts.len(), &|i| place_at_end(texts[i]));
+    let looked = thread::map_indices(
+        rt,
+        alloc,
+        texts.len(),
+        &|i| place_at_end(texts[i], delimiter),
+    );
     let Ok(places) = looked else {
         return None;
     };
@@ -90,13 +96,14 @@ pub fn is_derived_in_parts<R: Threads + Sync>(
     rt: &R,
     alloc: Global,
     text: &[u8],
+    delimiter: Delimiter,
     full: bool,
     parts: usize,
 ) -> bool
-    ensures { result ≡ true → (header : Heading) → (file : File) × Derives header full text.now file }
+    ensures { result ≡ true → (header : Heading) → (file : File) × Derives delimiter header full text.now file }
 {
     let parts = parts.min(text.len() / LEAST_PART);
-    match place_in_parts(rt, alloc, text, parts) {
+    match place_in_parts(rt, alloc, text, delimiter, parts) {
         Some(place) => ends_well(place, full),
         None => false,
     }

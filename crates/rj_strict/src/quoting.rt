@@ -6,6 +6,7 @@ ghost use Rattle.rj_strict.specs.Grammar.{Derives, File, file_text};
 ghost use Rattle.rj_strict.specs.Reading.{begins_empty, body_of, quoted};
 ghost use Rattle.rj_strict.specs.declared.header.Header.TheVariants.{First};
 
+use crate::delimiter::Delimiter;
 use crate::header::Header;
 use crate::mark::body;
 use crate::standing::{Place, Standing, begin, step};
@@ -26,10 +27,16 @@ fn begins_empty_line(place: Place, byte: u8) -> bool
 ///
 /// # Errors
 /// It fails only when memory runs out.
-pub fn quote_empty_lines(alloc: Global, text: &[u8]) -> Result<Vec<u8>, AllocError>
-    requires { (full : Bool) × (file : File) × Derives First full (body_of First text.now) file }
-    ensures { IfOk result (λ v. (full : Bool) (file : File) → Derives First full (body_of First text.now) file → strip_bom v.items ≡ file_text (quoted file)) }
+pub fn quote_empty_lines(
+    alloc: Global,
+    text: &[u8],
+    delimiter: Delimiter,
+) -> Result<Vec<u8>, AllocError>
+    requires { (full : Bool) × (file : File) × Derives delimiter First full (body_of First text.now) file }
+    ensures { IfOk result (λ v. (full : Bool) (file : File) → Derives delimiter First full (body_of First text.now) file
+        → strip_bom v.items ≡ file_text delimiter (quoted file)) }
 {
+    let separator = delimiter.byte();
     let text = body(text, Header::First);
     let mut quoted = Vec::with_capacity(alloc, text.len())?;
     quoted.extend_from_slice(&[0xEF, 0xBB, 0xBF])?;
@@ -39,7 +46,7 @@ pub fn quote_empty_lines(alloc: Global, text: &[u8]) -> Result<Vec<u8>, AllocErr
             quoted.extend_from_slice(b"\"\"")?;
         }
         quoted.push(text[i])?;
-        match step(standing, text[i]) {
+        match step(standing, separator, text[i]) {
             Ok(next) => standing = next,
             Err(_) => return Ok(quoted), // not reached in a text that is derived
         }

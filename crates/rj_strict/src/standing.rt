@@ -1,7 +1,7 @@
 //! Where a check is in a text, and what a byte does there.
 
 ghost use Rattle.std.specs.Prelude.{◌≡◌, ◌<◌, ◌≤◌, ◌+◌, ◌^◌, ◌-◌, Err};
-ghost use Rattle.rj_strict.specs.Steps.{at_comma, at_cr, at_dquote, at_lf, at_textdata, end_empty, end_of, initial_standing, next_field, next_line, step_of};
+ghost use Rattle.rj_strict.specs.Steps.{at_cr, at_delimiter, at_dquote, at_lf, at_textdata, end_empty, end_of, initial_standing, next_field, next_line, step_of};
 
 use crate::fault::StrictFault;
 use crate::header::Header;
@@ -87,9 +87,9 @@ fn moved(mut standing: Standing, place: Place) -> Standing
     standing
 }
 
-fn on_comma(standing: Standing) -> Result<Standing, StrictFault>
+fn on_delimiter(standing: Standing) -> Result<Standing, StrictFault>
     requires { standing.column < 2 ^ 64 - 1 }
-    ensures { result ≡ at_comma standing }
+    ensures { result ≡ at_delimiter standing }
 {
     match standing.place {
         Place::Start | Place::Fresh | Place::Inside | Place::Closed => Ok(Standing {
@@ -148,16 +148,16 @@ fn on_textdata(standing: Standing) -> Result<Standing, StrictFault>
 }
 
 /// After one more byte, or its error.
-pub(crate) fn step(standing: Standing, byte: u8) -> Result<Standing, StrictFault>
+pub(crate) fn step(standing: Standing, delimiter: u8, byte: u8) -> Result<Standing, StrictFault>
     requires row { standing.row < 2 ^ 64 - 1 }
     requires column { standing.column < 2 ^ 64 - 1 }
-    ensures { result ≡ step_of standing byte }
+    ensures { result ≡ step_of delimiter standing byte }
 {
     match byte {
-        b',' => on_comma(standing),
         b'\n' => on_feed(standing),
         b'\r' => on_return(standing),
         b'"' => on_quote(standing),
+        _ if byte == delimiter => on_delimiter(standing),
         _ => on_textdata(standing),
     }
 }

@@ -6,7 +6,7 @@ use Rattle.std.specs.Str.{is_utf8}
 use Rattle.std.proofs.lemmas.Bool.{eqb-true, cases_Bool}
 use Rattle.std.proofs.lemmas.Bool.Decides.{nat_tests}
 use Rattle.std.proofs.lemmas.List.{append-nil, length-append, length-map}
-use Rattle.csv.specs.Reading.{default_config, records, strip_bom}
+use Rattle.csv.specs.Reading.{records, strip_bom}
 use Rattle.rj_columns.specs.Contents.{Content, nothing, word}
 use Rattle.rj_columns.specs.Names.{empty_table, name_fault}
 use Rattle.rj_columns.specs.Tables.{TableValue}
@@ -20,6 +20,7 @@ use Rattle.rj_csv_io.specs.Tables.{are_null_texts, of_begun, read_of, read_recor
 use Rattle.rj_csv_io.specs.Typed.{bad_cell, is_null_field, read_cell, read_cells, typed_cell}
 use Rattle.rj_csv_io.specs.declared.refused.ReadRefused.{ReadRefused}
 use Rattle.rj_csv_io.specs.declared.refused.ReadRefused.TheVariants as refused
+use Rattle.rj_strict.specs.Reading.{config_of}
 use Rattle.rj_suggest.specs.Suggested.{text_in, texts_for}
 
 -- the cells that fields read as
@@ -278,9 +279,9 @@ records-retyped nulls header rest kinds t e size h = by_header (empty_table head
     by_header (Ok b) is = by_rows b is (read_rows nulls (texts header) [] rest) refl
 
 -- a file that reads as texts reads with types, one for each column, that read each text of their columns
-pub file-retyped : (bytes : List ℕ) (nulls : List (List ℕ)) (kinds : List ColumnType) (t : TableValue) → read_of bytes (texts_for (records default_config (strip_bom bytes))) nulls ≡ Ok t
-    → length kinds ≡ length t.types → ReadColumns kinds t.rows → (u : TableValue) × (read_of bytes kinds nulls ≡ Ok u)
-file-retyped bytes nulls kinds t e size h = by_null (are_null_texts nulls) refl
+pub file-retyped : (d : ℕ) (bytes : List ℕ) (nulls : List (List ℕ)) (kinds : List ColumnType) (t : TableValue) → read_of d bytes (texts_for (records (config_of d) (strip_bom bytes))) nulls ≡ Ok t
+    → length kinds ≡ length t.types → ReadColumns kinds t.rows → (u : TableValue) × (read_of d bytes kinds nulls ≡ Ok u)
+file-retyped d bytes nulls kinds t e size h = by_null (are_null_texts nulls) refl
   where
     by_records : (rs : List (List (List ℕ))) → are_null_texts nulls ≡ true → records_read rs (texts_for rs) nulls ≡ Ok t → (u : TableValue) × (records_read rs kinds nulls ≡ Ok u)
     by_records [] lawful got = let no : Err refused.NoHeader ≡ Ok t = rw lawful at got in absurd cc
@@ -289,6 +290,6 @@ file-retyped bytes nulls kinds t e size h = by_null (are_null_texts nulls) refl
         let (u, is) = records-retyped nulls header rest kinds t read size h in
         (u, rw lawful is)
 
-    by_null : (b : Bool) → are_null_texts nulls ≡ b → (u : TableValue) × (read_of bytes kinds nulls ≡ Ok u)
+    by_null : (b : Bool) → are_null_texts nulls ≡ b → (u : TableValue) × (read_of d bytes kinds nulls ≡ Ok u)
     by_null false is = let no : Err refused.BadNull ≡ Ok t = rw is at e in absurd cc
-    by_null true is = by_records (records default_config (strip_bom bytes)) is e
+    by_null true is = by_records (records (config_of d) (strip_bom bytes)) is e

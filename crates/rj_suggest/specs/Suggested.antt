@@ -4,7 +4,7 @@ use Rattle.std.specs.Option.{IsSomeAnd}
 use Rattle.std.specs.List.{list_all, slice_get}
 use Rattle.std.specs.Char.{is_ascii_alphabetic}
 use Rattle.std.specs.Str.Parse.{without_leading_sign}
-use Rattle.csv.specs.Reading.{default_config, records, strip_bom}
+use Rattle.csv.specs.Reading.{records, strip_bom}
 use Rattle.rj_decimal.specs.Read.{after_point, before_point, is_unsigned_text}
 use Rattle.rj_columns.specs.declared.cell.ColumnType.{ColumnType}
 use Rattle.rj_columns.specs.declared.cell.ColumnType.TheVariants as kind
@@ -15,6 +15,7 @@ use Rattle.rj_csv_io.specs.Tables.{read_of}
 use Rattle.rj_csv_io.specs.Typed.{is_int_text}
 use Rattle.rj_csv_io.specs.declared.refused.ReadRefused.{ReadRefused}
 use Rattle.rj_fault.specs.Faults.{read_fault}
+use Rattle.rj_strict.specs.Reading.{config_of}
 use Rattle.rj_types.specs.Words.{begin_word, end_word}
 use Rattle.rj_types.specs.declared.entry.Label.TheVariants.{Name}
 use Rattle.rj_types.specs.declared.entry.TypeEntry.{TypeEntry}
@@ -30,9 +31,9 @@ abbrev pub texts_for : List (List (List ℕ)) → List ColumnType
 texts_for [] = []
 texts_for (header ∷ rest) = map (λ _. kind.Text) header
 
--- what a file's bytes denote if each column is of texts
-abbrev pub read_as_texts : List ℕ → List (List ℕ) → Result TableValue ReadRefused
-read_as_texts bytes nulls = read_of bytes (texts_for (records default_config (strip_bom bytes))) nulls
+-- what a file's bytes denote, by a delimiter, if each column is of texts
+abbrev pub read_as_texts : ℕ → List ℕ → List (List ℕ) → Result TableValue ReadRefused
+read_as_texts d bytes nulls = read_of d bytes (texts_for (records (config_of d) (strip_bom bytes))) nulls
 
 -- no zero comes before another digit
 abbrev pub has_no_leading_zero : List ℕ → Bool
@@ -149,14 +150,14 @@ entries_of (name ∷ names) (kind ∷ kinds) = entry_of name kind ∷ entries_of
 
 -- the lines of the types that are suggested for the columns of a file, which reads as texts, and
 -- reads with these types too
-pub record IsSuggestedList (bytes : List ℕ) (nulls : List (List ℕ)) (text : List ℕ) : Type 0 where
+pub record IsSuggestedList (d : ℕ) (bytes : List ℕ) (nulls : List (List ℕ)) (text : List ℕ) : Type 0 where
   pub table : TableValue
   pub kinds : List ColumnType
-  pub read : read_as_texts bytes nulls ≡ Ok table
+  pub read : read_as_texts d bytes nulls ≡ Ok table
   pub suggested : AreSuggested table kinds
-  pub typed : (typed_table : TableValue) × (read_of bytes kinds nulls ≡ Ok typed_table)
+  pub typed : (typed_table : TableValue) × (read_of d bytes kinds nulls ≡ Ok typed_table)
   pub lines : text ≡ column_lines table.names kinds
 
 -- the error of a file that doesn't read as texts
-abbrev pub IsSuggestFault : List ℕ → List (List ℕ) → Fault → Type 0
-IsSuggestFault bytes nulls f = (e : ReadRefused) × (read_as_texts bytes nulls ≡ Err e) × (f ≡ read_fault side.Left e)
+abbrev pub IsSuggestFault : ℕ → List ℕ → List (List ℕ) → Fault → Type 0
+IsSuggestFault d bytes nulls f = (e : ReadRefused) × (read_as_texts d bytes nulls ≡ Err e) × (f ≡ read_fault side.Left e)

@@ -3,8 +3,9 @@
 #![tactic(auto)]
 
 ghost use Rattle.std.specs.Prelude.{◌≡◌, ◌≢◌, IfOk, IfErr, replicate};
-ghost use Rattle.csv.specs.Reading.{default_config, records, strip_bom};
+ghost use Rattle.csv.specs.Reading.{records, strip_bom};
 ghost use Rattle.rj_csv_io.specs.Typed.{null_texts};
+ghost use Rattle.rj_strict.specs.Reading.{config_of};
 ghost use Rattle.rj_suggest.specs.Suggested.{IsSuggestFault, IsSuggestedList, texts_for};
 
 mod columns;
@@ -19,8 +20,9 @@ pub use crate::numeral::{are_digits, is_unsigned_text, place_of_point, without_s
 pub use crate::writing::lines_are_read_back;
 use crate::writing::lines_of;
 use rj_columns::ColumnType;
-use rj_csv_io::{Header, read_table, without_bom};
+use rj_csv_io::{Header, InputFormat, read_table, without_bom};
 use rj_fault::{Fault, Side, fault_of_read};
+use rj_strict::Delimiter;
 use std::alloc::{AllocError, Global};
 
 // The type of texts, this many times.
@@ -31,10 +33,14 @@ fn texts(alloc: Global, count: usize) -> Result<Vec<ColumnType>, AllocError>
 }
 
 // The type of texts for each column of a file; none if it has no header.
-fn texts_for(alloc: Global, bytes: &[u8]) -> Result<Vec<ColumnType>, AllocError>
-    ensures { IfOk result (λ types. types.items ≡ texts_for (records default_config (strip_bom bytes.now))) }
+fn texts_for(
+    alloc: Global,
+    bytes: &[u8],
+    delimiter: Delimiter,
+) -> Result<Vec<ColumnType>, AllocError>
+    ensures { IfOk result (λ types. types.items ≡ texts_for (records (config_of delimiter) (strip_bom bytes.now))) }
 {
-    match Header::of(alloc, without_bom(bytes))? {
+    match Header::of(alloc, without_bom(bytes), delimiter)? {
         Some(header) => texts(alloc, header.columns()),
         None => Ok(Vec::new(alloc)),
     }
@@ -51,19 +57,23 @@ fn texts_for(alloc: Global, bytes: &[u8]) -> Result<Vec<ColumnType>, AllocError>
 /// A number with a leading zero before other digits is a text. A name is between double quotes
 /// unless it is an identifier.
 ///
-/// The file is read as a join reads it if every column is of texts. It is a proposal: a join's
-/// types are declared.
+/// The file is read as a join reads it in this format if every column is of texts. It is a
+/// proposal: a join's types are declared.
 ///
 /// # Errors
 ///
 /// The first error of that reading, reported of the left table. `Memory` comes only when memory ran
 /// out.
-pub fn suggest_types(alloc: Global, bytes: &[u8], nulls: &[&str]) -> Result<Vec<u8>, Fault>
-    ensures list { IfOk result (λ list. IsSuggestedList bytes.now (null_texts nulls.now) list.items) }
-    ensures fault { IfErr result (λ f. f ≢ Fault.Memory → IsSuggestFault bytes.now (null_texts nulls.now) f) }
+pub fn suggest_types(
+    alloc: Global,
+    bytes: &[u8],
+    format: &InputFormat<'_>,
+) -> Result<Vec<u8>, Fault>
+    ensures list { IfOk result (λ list. IsSuggestedList format.now.delimiter bytes.now (null_texts format.now.nulls.now) list.items) }
+    ensures fault { IfErr result (λ f. f ≢ Fault.Memory → IsSuggestFault format.now.delimiter bytes.now (null_texts format.now.nulls.now) f) }
 {
-    let types = texts_for(alloc, bytes)?;
-    let table = match read_table(alloc, bytes, types.as_slice(), nulls) {
+    let types = texts_for(alloc, bytes, format.delimiter)?;
+    let table = match read_table(alloc, bytes, types.as_slice(), format) {
         Ok(table) => table,
         Err(refused) => return Err(fault_of_read(Side::Left, refused)),
     };

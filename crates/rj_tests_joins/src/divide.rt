@@ -7,6 +7,7 @@ ghost use Rattle.rj_columns.specs.Contents.{nothing};
 use rj_columns::{ColumnType, Table};
 use rj_csv_io::{Failed, Header, Input, Output, is_lawful_null};
 use rj_divide::{DivideRefused, Division, Route, divide, find_cuts};
+use rj_strict::Delimiter;
 use std::alloc::Global;
 
 const TYPES: [ColumnType; 2] = [ColumnType::Int, ColumnType::Text];
@@ -108,7 +109,7 @@ fn divided(
     step: usize,
     outputs: &mut [Sink],
 ) -> Result<u64, DivideRefused> {
-    let Ok(Some(header)) = Header::of(alloc, b"k,v\n") else {
+    let Ok(Some(header)) = Header::of(alloc, b"k,v\n", Delimiter::comma()) else {
         return Err(DivideRefused::Memory);
     };
     let division = Division {

@@ -214,6 +214,51 @@ fn joined_tables_are_written(rt: HostRuntime) {
     );
 }
 
+const DELIMITED: [&str; 8] = [
+    "--left=left",
+    "--left-types=int,text",
+    "--right=right",
+    "--right-types=int,text",
+    "--left-delimiter=;",
+    "--right-delimiter=tab",
+    "--out-delimiter=|",
+    "--join=JOIN USING (id)",
+];
+
+const LEFT: &[u8] = b"id;name\n1;ann\n2;\"b;o|b\"\n";
+
+const RIGHT: &[u8] = b"id\tcity\n2\t\"o\tslo, \"\n";
+
+const BARRED: &[u8] = b"id|name|city\n2|\"b;o|b\"|o\tslo, \n";
+
+// What a run writes whose tables and whose result have three delimiters.
+fn delimited<R: Threads + Wait + Clock + Sync>(rt: &R, alloc: Global) -> Result<Vec<u8>, Fault> {
+    let line = read_line(alloc, DELIMITED.as_slice(), 1)?;
+    let mut writer = CountedWriter::new(Vec::new(alloc));
+    run(
+        rt,
+        alloc,
+        LEFT,
+        RIGHT,
+        &line.request,
+        &Seen::nothing(),
+        &mut writer,
+    )?;
+    Ok(writer.into_inner())
+}
+
+fn is_barred<R: Threads + Wait + Clock + Sync>(rt: &R, alloc: Global) -> bool {
+    match delimited(rt, alloc) {
+        Ok(written) => written.as_slice() == BARRED,
+        Err(_) => false,
+    }
+}
+
+#[test]
+fn three_delimiters(rt: HostRuntime) {
+    assert!(rt; is_barred(&rt, rt.alloc()));
+}
+
 // Whether each of two workers scans a stripe; a parcel for each of six rows, and a close of each of four senders for each of two
 // partitions, are posted; each partition is drawn and built; and workers come to each piece that is counted.
 fn passes_each_place<R: Threads + Wait + Clock + Sync>(

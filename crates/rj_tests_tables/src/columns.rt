@@ -2,7 +2,7 @@
 
 ghost use Rattle.std.specs.Prelude.{◌≡◌, ◌∷◌, []};
 
-use crate::csv_io::repeated;
+use crate::csv_io::{by_comma, repeated};
 use rj_columns::{Cell, ColumnType, RowSource, Table, TableBuilder};
 use rj_csv_io::read_table_in_parts;
 use std::alloc::{AllocError, Global};
@@ -60,7 +60,7 @@ fn segments_of<R: Threads + Sync>(
     text: &[u8],
     parts: usize,
 ) -> Option<Vec<Table>> {
-    let Ok(table) = read_table_in_parts(rt, alloc, text, &TYPES, &[""], parts) else {
+    let Ok(table) = read_table_in_parts(rt, alloc, text, &TYPES, &by_comma(&[""]), parts) else {
         return None;
     };
     match table.into_segments(alloc) {

@@ -3,12 +3,16 @@
 
 mod devices;
 
+ghost use Rattle.std.specs.Prelude.{IsTrue};
+ghost use Rattle.rj_csv_io.specs.Tables.{is_null_text};
+
 use rj_columns::{ColumnType, NumericType, Table};
 use rj_csv_io::{
-    CountedWriter, Failed, Header, Output, ReadRefused, first_ambiguous, is_lawful_null,
-    read_table, read_table_in_parts, texts_of_rows, write_more_rows, write_rows,
+    CountedWriter, Failed, Header, InputFormat, Output, OutputFormat, ReadRefused, first_ambiguous,
+    is_lawful_null, read_table, read_table_in_parts, texts_of_rows, write_more_rows, write_rows,
     write_rows_in_parts, write_texts,
 };
+use rj_strict::Delimiter;
 use std::alloc::{AllocError, Global};
 use std::test::Fail;
 use std::thread::Threads;
@@ -22,23 +26,45 @@ const SHORT: ColumnType = ColumnType::Num(NumericType {
     scale: 1,
 });
 
+// How a file is read that has commas, and in which these texts stand for NULL.
+pub(crate) fn by_comma<'a>(nulls: &'a [&'a str]) -> InputFormat<'a> {
+    InputFormat {
+        delimiter: Delimiter::comma(),
+        nulls,
+    }
+}
+
+// How rows are written with this delimiter, and NULL as no bytes.
+pub(crate) fn with_delimiter(delimiter: Delimiter) -> OutputFormat<'static>
+    ensures { IsTrue (is_null_text result.null.now) }
+{
+    OutputFormat {
+        delimiter,
+        null: "",
+    }
+}
+
+// The same with commas.
+pub(crate) fn with_comma() -> OutputFormat<'static>
+    ensures { IsTrue (is_null_text result.null.now) }
+{
+    with_delimiter(Delimiter::comma())
+}
+
 // The rows of a file as they are written, without the header, or the file's error.
 type Reading<'a> = Result<&'a [u8], ReadRefused>;
 
 // Whether a table's rows are written as these.
 fn has_rows(alloc: Global, table: &Table, want: &[u8]) -> bool {
-    if !is_lawful_null("") {
-        return false;
-    }
     let mut output = CountedWriter::new(Vec::new(alloc));
-    match write_more_rows(alloc, &mut output, table, "") {
+    match write_more_rows(alloc, &mut output, table, &with_comma()) {
         Ok(()) => output.into_inner().as_slice() == want,
         Err(_) => false,
     }
 }
 
 fn reads_as(alloc: Global, file: &[u8], want: Reading<'_>) -> bool {
-    match read_table(alloc, file, &[INT, TEXT], &[""]) {
+    match read_table(alloc, file, &[INT, TEXT], &by_comma(&[""])) {
         Ok(table) => match want {
             Ok(want) => has_rows(alloc, &table, want),
             Err(_) => false,
@@ -125,7 +151,7 @@ const NO_NUMBERS: [(&[u8], u64); 15] = [
 ];
 
 fn is_no_number(alloc: Global, file: &[u8], column: u64) -> bool {
-    match read_table(alloc, file, &[INT, SHORT], &[""]) {
+    match read_table(alloc, file, &[INT, SHORT], &by_comma(&[""])) {
         Ok(_) => false,
         Err(e) => e == ReadRefused::BadInteger(1, column),
     }
@@ -192,7 +218,7 @@ fn rows_in_parts<R: Threads + Sync>(
     alloc: Global,
     text: &[u8],
 ) -> Result<u64, ReadRefused> {
-    match read_table_in_parts(rt, alloc, text, &[INT, TEXT], &[""], 2) {
+    match read_table_in_parts(rt, alloc, text, &[INT, TEXT], &by_comma(&[""]), 2) {
         Ok(table) => Ok(table.rows()),
         Err(e) => Err(e),
     }
@@ -244,7 +270,7 @@ fn sevens(alloc: Global, rows: usize) -> Option<Table> {
     let Ok(file) = repeated(alloc, b"k\n", b"7\n", rows, b"") else {
         return None;
     };
-    match read_table(alloc, &file, &[INT], &[""]) {
+    match read_table(alloc, &file, &[INT], &by_comma(&[""])) {
         Ok(table) => Some(table),
         Err(_) => None,
     }
@@ -257,11 +283,12 @@ fn calls_in_parts<R: Threads + Sync>(
     table: &Table,
     parts: usize,
 ) -> Option<u64> {
-    if table.columns() != 1 || !is_lawful_null("") {
+    if table.columns() != 1 {
         return None;
     }
+    let format = with_comma();
     let mut device = Calls { calls: 0 };
-    match write_rows_in_parts(rt, alloc, &mut device, &["k"], table, "", parts) {
+    match write_rows_in_parts(rt, alloc, &mut device, &["k"], table, &format, parts) {
         Ok(()) => Some(device.calls),
         Err(_) => None,
     }
@@ -269,11 +296,17 @@ fn calls_in_parts<R: Threads + Sync>(
 
 // The calls that write a header and the texts of a table's rows.
 fn calls_of_texts(alloc: Global, table: &Table) -> Option<u64> {
-    let Ok(texts) = texts_of_rows(alloc, table, "") else {
+    let Ok(texts) = texts_of_rows(alloc, table, &with_comma()) else {
         return None;
     };
     let mut device = Calls { calls: 0 };
-    match write_texts(alloc, &mut device, &["k"], texts.as_slice()) {
+    match write_texts(
+        alloc,
+        &mut device,
+        &["k"],
+        texts.as_slice(),
+        Delimiter::comma(),
+    ) {
         Ok(()) => Some(device.calls),
         Err(_) => None,
     }
@@ -323,11 +356,11 @@ fn few_rows_take_few_parts(rt: HostRuntime) {
 
 // What is written of a table of one column.
 fn text_of(alloc: Global, table: &Table) -> Option<Vec<u8>> {
-    if table.columns() != 1 || !is_lawful_null("") {
+    if table.columns() != 1 {
         return None;
     }
     let mut output = CountedWriter::new(Vec::new(alloc));
-    match write_rows(alloc, &mut output, &["a\"b"], table, "") {
+    match write_rows(alloc, &mut output, &["a\"b"], table, &with_comma()) {
         Ok(()) => Some(output.into_inner()),
         Err(_) => None,
     }
@@ -353,7 +386,7 @@ fn is_written(alloc: Global, table: &Table) -> bool {
 }
 
 fn is_read_and_written(alloc: Global) -> bool {
-    match read_table(alloc, QUOTED, &[TEXT], &[""]) {
+    match read_table(alloc, QUOTED, &[TEXT], &by_comma(&[""])) {
         Ok(table) => {
             is_written(alloc, &table) && cell_like_null(alloc, &table) == Ok(Some((5, 1)))
         }
@@ -369,7 +402,7 @@ fn texts_are_written(rt: HostRuntime) {
 
 // How many rows a piece has after a header of two names.
 fn rows_of_piece(alloc: Global, header: &Header, piece: &[u8]) -> Option<u64> {
-    match header.read_piece(alloc, piece, false, &[INT, TEXT], &[""]) {
+    match header.read_piece(alloc, piece, false, &[INT, TEXT], &by_comma(&[""])) {
         Ok(table) => Some(table.rows()),
         Err(_) => None,
     }
@@ -383,7 +416,7 @@ fn has_names(alloc: Global, header: &Header) -> bool {
 }
 
 fn is_piece_read(alloc: Global, start: &[u8], piece: &[u8], rows: u64) -> bool {
-    match Header::of(alloc, start) {
+    match Header::of(alloc, start, Delimiter::comma()) {
         Ok(Some(header)) => {
             has_names(alloc, &header) && rows_of_piece(alloc, &header, piece) == Some(rows)
         }
@@ -394,4 +427,75 @@ fn is_piece_read(alloc: Global, start: &[u8], piece: &[u8], rows: u64) -> bool {
 #[test]
 fn pieces_are_read(rt: HostRuntime) {
     assert!(rt; is_piece_read(rt.alloc(), b"k,v\n1,a\n", b"2,\"b\nc\"\n3,\n", 2));
+}
+
+// What is written of a table of two columns with this delimiter.
+fn text_with(alloc: Global, table: &Table, delimiter: Delimiter) -> Option<Vec<u8>> {
+    if table.columns() != 2 {
+        return None;
+    }
+    let format = with_delimiter(delimiter);
+    let mut output = CountedWriter::new(Vec::new(alloc));
+    match write_rows(alloc, &mut output, &["k", "a;b"], table, &format) {
+        Ok(()) => Some(output.into_inner()),
+        Err(_) => None,
+    }
+}
+
+// Whether a file that is read and written with this delimiter becomes another one.
+fn becomes(alloc: Global, file: &[u8], delimiter: Delimiter, want: &[u8]) -> bool {
+    let format = InputFormat {
+        delimiter,
+        nulls: &[""],
+    };
+    match read_table(alloc, file, &[INT, TEXT], &format) {
+        Ok(table) => match text_with(alloc, &table, delimiter) {
+            Some(text) => text.as_slice() == want,
+            None => false,
+        },
+        Err(_) => false,
+    }
+}
+
+// A delimiter, a file with it, and what is written of the file.
+type DelimitedCase<'a> = (u8, &'a [u8], &'a [u8]);
+
+const DELIMITED: [DelimitedCase<'static>; 2] = [
+    (
+        b';',
+        b"k;\"a;b\"\r\n1;\"x;y\"\r\n2;x,y\r\n;",
+        b"k;\"a;b\"\n1;\"x;y\"\n2;x,y\n;\n",
+    ),
+    (
+        b'\t',
+        b"\xEF\xBB\xBFk\ta;b\n\n1\t\"x\ty\"\n2\tx,y;z",
+        b"k\ta;b\n1\t\"x\ty\"\n2\tx,y;z\n",
+    ),
+];
+
+// Whether what is written of the file is this, and reads back as the same.
+fn is_delimited(alloc: Global, case: DelimitedCase<'_>) -> bool {
+    let (byte, file, want) = case;
+    match Delimiter::of(byte) {
+        Some(delimiter) => {
+            delimiter.byte() == byte
+                && becomes(alloc, file, delimiter, want)
+                && becomes(alloc, want, delimiter, want)
+        }
+        None => false,
+    }
+}
+
+fn wrong_delimited(alloc: Global, cases: &[DelimitedCase<'_>]) -> Option<usize> {
+    for (place, case) in cases.iter().enumerate() {
+        if !is_delimited(alloc, *case) {
+            return Some(place);
+        }
+    }
+    None
+}
+
+#[test]
+fn other_delimiters(rt: HostRuntime) {
+    assert_eq!(rt; wrong_delimited(rt.alloc(), DELIMITED.as_slice()), None);
 }

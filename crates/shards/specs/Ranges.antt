@@ -7,6 +7,7 @@ use Rattle.rj_columns.specs.declared.refused.BuildRefused.{BuildRefused}
 use Rattle.rj_command.specs.Sides.{strict_fault}
 use Rattle.rj_csv_io.specs.Pieces.{names_in, piece_records}
 use Rattle.rj_csv_io.specs.Typed.{null_texts}
+use Rattle.rj_strict.specs.Grammar.{comma}
 use Rattle.rj_divide.specs.Blocks.{IsRangeDivided, IsRangeFault}
 use Rattle.rj_divide.specs.Divisions.{Dividing, IsDivided}
 use Rattle.rj_divide.specs.Readings.{IsDivisionFault}
@@ -38,7 +39,7 @@ range_begun range = empty_table (names_in range.head.now.header) range.types.now
 
 -- the rows of a text are divided, so many, as strictly as is asked for
 abbrev pub IsDividedBy : Strictness → Bool → Dividing → List ℕ → List (Option (List ℕ)) → List (Option (List ℕ)) → ℕ → Type 0
-IsDividedBy strictness.Off is_first d text before after rows = IsDivided d (piece_records is_first text) before after rows
+IsDividedBy strictness.Off is_first d text before after rows = IsDivided d (piece_records comma is_first text) before after rows
 IsDividedBy strictness.On is_first d text before after rows = IsRangeDivided d false text before after rows
 IsDividedBy strictness.Full is_first d text before after rows = IsRangeDivided d true text before after rows
 

@@ -6,6 +6,7 @@ ghost use Rattle.rj_csv_io.specs.Devices.{read_failures_of};
 use crate::first_line::head_of_lines;
 use rj_command::{Fault, Side, Strictness, fault_of_read};
 use rj_csv_io::{CountedReader, Header, last_cut, read_up_to, without_bom};
+use rj_strict::Delimiter;
 use std::alloc::Global;
 use std::fs::{self, Files, OpenFile};
 use std::io::{ErrorKind, Read, Seek, SeekFrom, Take};
@@ -75,9 +76,13 @@ pub(crate) fn file_size<R: Files>(rt: &R, name: &str, side: Side) -> Result<u64,
 // The header of a text that may go on, if the text has a whole record.
 fn head_of(alloc: Global, bytes: &[u8], is_whole: bool, side: Side) -> Result<Option<Head>, Fault> {
     let text = without_bom(bytes);
-    let end = if is_whole { text.len() } else { last_cut(text) };
+    let end = if is_whole {
+        text.len()
+    } else {
+        last_cut(text, Delimiter::comma())
+    };
     let begin = bytes.len().saturating_sub(text.len()) as u64;
-    match Header::of(alloc, &text[..end]) {
+    match Header::of(alloc, &text[..end], Delimiter::comma()) {
         Ok(Some(header)) => Ok(Some(Head { header, begin })),
         Ok(None) => {
             if is_whole {

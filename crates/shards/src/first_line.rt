@@ -5,7 +5,7 @@ ghost use Rattle.std.specs.Prelude.{◌≤◌, IfSome, length};
 use crate::files::Head;
 use rj_command::{Fault, Side, fault_of_text};
 use rj_csv_io::{Header, without_bom};
-use rj_strict::check;
+use rj_strict::{Delimiter, check};
 use std::alloc::Global;
 
 // Where the first line of a text ends, if it does: after the first line feed outside quotes. Each
@@ -40,7 +40,7 @@ fn line_length(text: &[u8], is_whole: bool) -> Option<usize>
 fn header_of(alloc: Global, line: &[u8], side: Side) -> Result<Header, Fault> {
     let is_blank = !line.is_empty() && (line[0] == b'\n' || line[0] == b'\r');
     let named = if is_blank { b"\"\"".as_slice() } else { line };
-    match Header::of(alloc, named) {
+    match Header::of(alloc, named, Delimiter::comma()) {
         Ok(Some(header)) => Ok(header),
         Ok(None) => Err(Fault::NoHeader(side)),
         Err(_) => Err(Fault::Memory),
@@ -68,7 +68,8 @@ pub(crate) fn head_of_lines(
     };
     // (with its byte order mark, since another one after it is part of a name)
     let end = mark.saturating_add(length).min(bytes.len());
-    if let Err(fault) = check(&bytes[..end], rj_strict::Header::First, full) {
+    let delimiter = Delimiter::comma();
+    if let Err(fault) = check(&bytes[..end], delimiter, rj_strict::Header::First, full) {
         return Err(fault_of_text(side, fault));
     }
     let header = header_of(alloc, &text[..length], side)?;

@@ -5,6 +5,7 @@ ghost use Rattle.rj_csv_io.specs.Pieces.{names_in};
 ghost use Rattle.rj_command.specs.Operands.{header_table};
 ghost use Rattle.rj_command.specs.Sides.{has_lawful_nulls, side_records};
 
+use crate::join::nulls::delimiter_of;
 use crate::join::types::{types_of, types_of_header};
 use rj_columns::Table;
 use rj_csv_io::{Header, without_bom};
@@ -41,7 +42,7 @@ fn table_of_text(
     ensures table { IfOk result (λ t. header_table request.now side text.now ≡ Ok t) }
     ensures fault { IfErr result (λ f. f ≢ Fault.Memory → header_table request.now side text.now ≡ Err f) }
 {
-    match Header::of(alloc, without_bom(text)) {
+    match Header::of(alloc, without_bom(text), delimiter_of(request, side)) {
         Ok(Some(header)) => table_under(alloc, &header, request, side),
         Ok(None) => Err(Fault::NoHeader(side)),
         Err(_) => Err(Fault::Memory),

@@ -1,26 +1,35 @@
 //! Reading a table whose text has to be of RFC 4180's grammar.
 
 ghost use Rattle.std.specs.Prelude.{◌≡◌, ◌≢◌, ◌∷◌, Bool, Err, IfErr, IfOk, IsTrue, OnOk, true};
-ghost use Rattle.csv.specs.Reading.{default_config, records, strip_bom};
+ghost use Rattle.csv.specs.Reading.{records, strip_bom};
 ghost use Rattle.rj_csv_io.specs.Tables.{is_null_text};
 ghost use Rattle.rj_strict.specs.Grammar.{Derives, File, records_of};
-ghost use Rattle.rj_strict.specs.Reading.{body_of};
+ghost use Rattle.rj_strict.specs.Reading.{body_of, config_of};
 ghost use Rattle.rj_strict.specs.declared.header.Header.TheVariants.{Above, First};
-ghost use Rattle.rj_command.specs.Sides.{IsReading, IsStrictFault, IsStrictTable, fault_below, strict_fault};
+ghost use Rattle.rj_command.specs.Sides.{IsReading, IsStrictFault, IsStrictTable, delimiter_of, fault_below, strict_fault};
 ghost use Rattle.rj_command.specs.Sides as sides;
 
-use crate::join::nulls::{has_lawful_nulls, nulls_of};
+use crate::join::nulls::{delimiter_of, has_lawful_nulls, nulls_of};
 use crate::join::types::types_of_text;
 use rj_columns::Table;
-use rj_csv_io::{read_table_in_parts, without_bom};
+use rj_csv_io::{InputFormat, read_table_in_parts, without_bom};
 use rj_fault::{Fault, Side, fault_of_read};
 use rj_line::Request;
 use rj_strict::{
-    Header, StrictFault, above_fault, check, derived_with_header, is_derived_in_parts,
+    Delimiter, Header, StrictFault, above_fault, check, derived_with_header, is_derived_in_parts,
     one_derivation, quote_empty_lines, reads_all_records, reads_quoted_records,
 };
 use std::alloc::Global;
 use std::thread::Threads;
+
+// How a text is looked at: by this delimiter, in at most so many parts, and whether its last record
+// needs its line end.
+#[derive(Drop)]
+struct Look {
+    delimiter: Delimiter,
+    parts: usize,
+    full: bool,
+}
 
 /// The error of a side's file whose text isn't of the grammar.
 pub fn fault_of_text(side: Side, fault: StrictFault) -> Fault
@@ -61,7 +70,8 @@ fn first_fault(side: Side, fault: StrictFault, above: Result<Table, Fault>) -> F
     }
 }
 
-/// The table of one side, read by as many threads as the request has workers, as the library `csv` reads its text.
+/// The table of one side, read by as many threads as the request has workers, as the library `csv` reads its text by the
+/// side's delimiter.
 pub(crate) fn read_text<R: Threads + Sync>(
     rt: &R,
     alloc: Global,
@@ -69,7 +79,7 @@ pub(crate) fn read_text<R: Threads + Sync>(
     request: &Request<'_>,
     side: Side,
 ) -> Result<Table, Fault>
-    ensures reading { IsReading request.now side (records default_config (strip_bom text.now)) result }
+    ensures reading { IsReading request.now side (records (config_of (delimiter_of request.now side)) (strip_bom text.now)) result }
     ensures lawful { OnOk result (IsTrue (is_null_text request.now.out_null.now)) }
 {
     if !has_lawful_nulls(request) {
@@ -77,8 +87,11 @@ pub(crate) fn read_text<R: Threads + Sync>(
     }
     let types = types_of_text(alloc, text, request, side)?;
     let parts = request.settings.workers as usize;
-    let nulls = nulls_of(request, side);
-    match read_table_in_parts(rt, alloc, text, types.as_slice(), nulls, parts) {
+    let format = InputFormat {
+        delimiter: delimiter_of(request, side),
+        nulls: nulls_of(request, side),
+    };
+    match read_table_in_parts(rt, alloc, text, types.as_slice(), &format, parts) {
         Ok(table) => Ok(table),
         Err(refused) => Err(fault_of_read(side, refused)),
     }
@@ -93,33 +106,29 @@ fn read_quoted<R: Threads + Sync>(
     request: &Request<'_>,
     side: Side,
 ) -> Result<Table, Fault>
-    requires { (full : Bool) × (file : File) × Derives First full (body_of First text.now) file }
-    ensures reading { (full : Bool) (file : File) → Derives First full (body_of First text.now) file → IsReading request.now side (records_of file) result }
+    requires { (full : Bool) × (file : File) × Derives (delimiter_of request.now side) First full (body_of First text.now) file }
+    ensures reading { (full : Bool) (file : File) → Derives (delimiter_of request.now side) First full (body_of First text.now) file
+        → IsReading request.now side (records_of file) result }
     ensures lawful { OnOk result (IsTrue (is_null_text request.now.out_null.now)) }
 {
     reads_quoted_records();
-    let Ok(quoted) = quote_empty_lines(alloc, text) else {
+    let Ok(quoted) = quote_empty_lines(alloc, text, delimiter_of(request, side)) else {
         return Err(Fault::Memory);
     };
     read_text(rt, alloc, quoted.as_slice(), request, side)
 }
 
-// Whether a text is derived and has no empty line: by a fast look at as many parts as there are
-// workers, or, if that doesn't say so, by a check of the whole text.
-fn has_full_lines<R: Threads + Sync>(
-    rt: &R,
-    alloc: Global,
-    text: &[u8],
-    request: &Request<'_>,
-    full: bool,
-) -> bool
-    ensures { result ≡ true → (file : File) × Derives (Above 2) full (strip_bom text.now) file }
+// Whether a text is derived and has no empty line: by a fast look at its parts, or, if that doesn't
+// say so, by a check of the whole text.
+fn has_full_lines<R: Threads + Sync>(rt: &R, alloc: Global, text: &[u8], look: &Look) -> bool
+    ensures { result ≡ true → (file : File) × Derives look.now.delimiter (Above 2) look.now.full (strip_bom text.now) file }
 {
-    let (body, parts) = (without_bom(text), request.settings.workers as usize);
-    if parts > 1 && is_derived_in_parts(rt, alloc, body, full, parts) {
+    let body = without_bom(text);
+    let (delimiter, parts, full) = (look.delimiter, look.parts, look.full);
+    if parts > 1 && is_derived_in_parts(rt, alloc, body, delimiter, full, parts) {
         return true;
     }
-    check(body, Header::Above(2), full).is_ok()
+    check(body, delimiter, Header::Above(2), full).is_ok()
 }
 
 // The table of all records of a text of whole lines.
@@ -130,21 +139,27 @@ fn read_lines<R: Threads + Sync>(
     request: &Request<'_>,
     side: Side,
 ) -> Result<Table, Fault>
-    requires { (file : File) × Derives First true (body_of First text.now) file }
-    ensures { (file : File) → Derives First true (body_of First text.now) file → IsReading request.now side (records_of file) result }
+    requires { (file : File) × Derives (delimiter_of request.now side) First true (body_of First text.now) file }
+    ensures { (file : File) → Derives (delimiter_of request.now side) First true (body_of First text.now) file
+        → IsReading request.now side (records_of file) result }
 {
     one_derivation();
     reads_all_records();
     derived_with_header();
-    if has_full_lines(rt, alloc, text, request, true) {
+    let look = Look {
+        delimiter: delimiter_of(request, side),
+        parts: request.settings.workers as usize,
+        full: true,
+    };
+    if has_full_lines(rt, alloc, text, &look) {
         return read_text(rt, alloc, text, request, side);
     }
     read_quoted(rt, alloc, text, request, side)
 }
 
-/// The table of one side, whose text has to be of RFC 4180's grammar. It has exactly the records of
-/// the text's one derivation. If `full` is set, the last record needs its line end. It is read by
-/// as many threads as the request has workers.
+/// The table of one side, whose text has to be of RFC 4180's grammar, with the side's delimiter in
+/// place of the comma. It has exactly the records of the text's one derivation. If `full` is set,
+/// the last record needs its line end. It is read by as many threads as the request has workers.
 ///
 /// # Errors
 ///
@@ -165,13 +180,19 @@ pub fn read_strictly<R: Threads + Sync>(
 {
     reads_all_records();
     derived_with_header();
-    if has_full_lines(rt, alloc, text, request, full) {
+    let delimiter = delimiter_of(request, side);
+    let look = Look {
+        delimiter,
+        parts: request.settings.workers as usize,
+        full,
+    };
+    if has_full_lines(rt, alloc, text, &look) {
         return read_text(rt, alloc, text, request, side);
     }
-    match check(text, Header::First, full) {
+    match check(text, delimiter, Header::First, full) {
         Ok(()) => read_quoted(rt, alloc, text, request, side),
         Err(fault) => {
-            let above = above_fault(text, Header::First, fault);
+            let above = above_fault(text, delimiter, Header::First, fault);
             Err(first_fault(side, fault, read_lines(rt, alloc, above, request, side)))
         }
     }

@@ -12,7 +12,9 @@ ghost use Rattle.rj_command.specs.declared.join.texts.Share.{Share};
 ghost use Rattle.rj_command.specs.Texts.{AreCounted, AreRunTexts, AreShownOf, AreTextsOf, AreWithin, cells_text, no_table, shown_cells, text_in, whole_text};
 
 use rj_columns::Table;
-use rj_csv_io::{Output, WriteRefused, texts_of_rows, write_rows_in_parts, write_texts};
+use rj_csv_io::{
+    Output, OutputFormat, WriteRefused, texts_of_rows, write_rows_in_parts, write_texts,
+};
 use rj_engine::{Joined, Run, RunView, Shown, cut_runs};
 use rj_fault::texts_of;
 use std::alloc::{AllocError, Global};
@@ -26,15 +28,15 @@ const SHARE_ROWS: u64 = 98_304;
 type Texts = Vec<Vec<u8>>;
 
 /// What is written of a joined table, but for its left table: the rows that are shown of it, under
-/// these names and with this text for NULL. At most `workers` threads make their texts, the calling
-/// one among them.
+/// these names, with this delimiter and this text for NULL. At most `workers` threads make their
+/// texts, the calling one among them.
 #[derive(Drop)]
 pub(crate) struct Written<'a> {
     pub(crate) names: &'a [String],
     pub(crate) right: &'a Table,
     pub(crate) joined: &'a Joined,
     pub(crate) shown: &'a Shown,
-    pub(crate) null: &'a str,
+    pub(crate) format: OutputFormat<'a>,
     pub(crate) workers: usize,
 }
 
@@ -60,7 +62,7 @@ fn texts_of_segment(
     for run in runs {
         if run.segment() == number {
             let rows = RunView::open(segment, written.right, written.joined, written.shown, *run);
-            texts.push(texts_of_rows(alloc, &rows, written.null)?)?;
+            texts.push(texts_of_rows(alloc, &rows, &written.format)?)?;
         }
     }
     Ok(texts)
@@ -232,7 +234,7 @@ fn texts_of_joined<R: Threads + Sync>(
 ) -> Result<Texts, AllocError>
     requires workers { 0 < written.now.workers }
     requires shown { AreShownOf written.now left }
-    ensures { IfOk result (λ v. whole_text v ≡ cells_text written.now.null.now (shown_cells written.now left)) }
+    ensures { IfOk result (λ v. whole_text v ≡ cells_text written.now.format.delimiter written.now.format.null.now (shown_cells written.now left)) }
 {
     let _rows = left.rows();
     let segments = left.into_segments(alloc)?;
@@ -254,7 +256,7 @@ fn write_segments<R: Threads + Sync, O: Output>(
     requires shown { AreShownOf written.now left }
     requires failures { O.count writer.old < 2 ^ 64 - 1 }
     ensures ok { OnOk result (Appends (O.told writer.old) (O.told writer.new)
-        (table_text written.now.null.now (map (λ n. n.now) header.now) (shown_cells written.now left))) }
+        (table_text written.now.format.delimiter written.now.format.null.now (map (λ n. n.now) header.now) (shown_cells written.now left))) }
     ensures memory { result ≡ Err WriteRefused.Memory → writer.new ≡ writer.old }
     ensures device { result ≡ Err WriteRefused.WriteDevice → O.count writer.new ≡ O.count writer.old + 1 }
     ensures kept { result ≢ Err WriteRefused.WriteDevice → O.count writer.new ≡ O.count writer.old }
@@ -262,7 +264,13 @@ fn write_segments<R: Threads + Sync, O: Output>(
     let Ok(texts) = texts_of_joined(rt, alloc, left, written) else {
         return Err(WriteRefused::Memory);
     };
-    write_texts(alloc, writer, header, texts.as_slice())
+    write_texts(
+        alloc,
+        writer,
+        header,
+        texts.as_slice(),
+        written.format.delimiter,
+    )
 }
 
 // Writes the same with the rows divided evenly among the threads, and the left table whole.
@@ -276,17 +284,17 @@ fn write_whole<R: Threads + Sync, O: Output>(
 ) -> Result<(), WriteRefused>
     requires shown { AreShownOf written.now left.now }
     requires header { length header.now ≡ length written.now.shown.now.origins.items }
-    requires null { IsTrue (is_null_text written.now.null.now) }
+    requires null { IsTrue (is_null_text written.now.format.null.now) }
     requires failures { O.count writer.old < 2 ^ 64 - 1 }
     ensures ok { OnOk result (Appends (O.told writer.old) (O.told writer.new)
-        (table_text written.now.null.now (map (λ n. n.now) header.now) (shown_cells written.now left.now))) }
+        (table_text written.now.format.delimiter written.now.format.null.now (map (λ n. n.now) header.now) (shown_cells written.now left.now))) }
     ensures memory { result ≡ Err WriteRefused.Memory → writer.new ≡ writer.old }
     ensures device { result ≡ Err WriteRefused.WriteDevice → O.count writer.new ≡ O.count writer.old + 1 }
     ensures kept { result ≢ Err WriteRefused.WriteDevice → O.count writer.new ≡ O.count writer.old }
 {
     let rows = RunView::whole(left, written.right, written.joined, written.shown);
-    let (null, workers) = (written.null, written.workers);
-    write_rows_in_parts(rt, alloc, writer, header, &rows, null, workers)
+    let (format, workers) = (&written.format, written.workers);
+    write_rows_in_parts(rt, alloc, writer, header, &rows, format, workers)
 }
 
 /// Writes the names as a header, and then the rows that are shown of the joined table of two tables.
@@ -306,10 +314,10 @@ pub(crate) fn write_shown<R: Threads + Sync, O: Output>(
 ) -> Result<(), WriteRefused>
     requires shown { AreShownOf written.now left }
     requires names { length written.now.names.now ≡ length written.now.shown.now.origins.items }
-    requires null { IsTrue (is_null_text written.now.null.now) }
+    requires null { IsTrue (is_null_text written.now.format.null.now) }
     requires failures { O.count writer.old < 2 ^ 64 - 1 }
     ensures ok { OnOk result (Appends (O.told writer.old) (O.told writer.new)
-        (table_text written.now.null.now (map string_bytes written.now.names.now) (shown_cells written.now left))) }
+        (table_text written.now.format.delimiter written.now.format.null.now (map string_bytes written.now.names.now) (shown_cells written.now left))) }
     ensures memory { result ≡ Err WriteRefused.Memory → writer.new ≡ writer.old }
     ensures device { result ≡ Err WriteRefused.WriteDevice → O.count writer.new ≡ O.count writer.old + 1 }
     ensures kept { result ≢ Err WriteRefused.WriteDevice → O.count writer.new ≡ O.count writer.old }

@@ -6,8 +6,9 @@ ghost use Rattle.rj_columns.specs.declared.refused.BuildRefused.{BuildRefused};
 ghost use Rattle.rj_csv_io.specs.Pieces.{names_in};
 ghost use Rattle.rj_csv_io.specs.Tables.{of_begun, read_of};
 ghost use Rattle.rj_types.specs.Columns as columns;
-ghost use Rattle.rj_command.specs.Sides.{has_lawful_nulls, nulls_of, side_read, stands, told, type_fault, types_of};
+ghost use Rattle.rj_command.specs.Sides.{delimiter_of, has_lawful_nulls, nulls_of, side_read, stands, told, type_fault, types_of};
 
+use crate::join::nulls::delimiter_of;
 use rj_columns::ColumnType;
 use rj_condition::Word;
 use rj_csv_io::{Header, ReadRefused, without_bom};
@@ -99,10 +100,10 @@ pub(crate) fn types_of_text(
     side: Side,
 ) -> Result<Vec<ColumnType>, Fault>
     requires { IsTrue (has_lawful_nulls request.now) }
-    ensures types { IfOk result (λ v. side_read request.now side text.now ≡ told side (read_of text.now v.items (nulls_of request.now side))) }
+    ensures types { IfOk result (λ v. side_read request.now side text.now ≡ told side (read_of (delimiter_of request.now side) text.now v.items (nulls_of request.now side))) }
     ensures fault { IfErr result (λ f. f ≢ Fault.Memory → side_read request.now side text.now ≡ Err f) }
 {
-    match Header::of(alloc, without_bom(text)) {
+    match Header::of(alloc, without_bom(text), delimiter_of(request, side)) {
         Ok(Some(header)) => types_of_header(alloc, &header, types_of(request, side), side),
         Ok(None) => Ok(Vec::new(alloc)),
         Err(_) => Err(Fault::Memory),

@@ -10,18 +10,19 @@ use Rattle.rj_suggest.proofs.suggest_types.Goals as goal
 pub returns-clause-list : goal.returns-clause-list
 returns-clause-list c =
     let bytes = c.args.bytes.now in
-    let nulls = null_texts c.args.nulls.now in
+    let d = c.args.format.now.delimiter in
+    let nulls = null_texts c.args.format.now.nulls.now in
     let table = c.in-Ok.table in
     let kinds = c.in_ok-kinds.kinds.items in
     let types : c.as_slice.result.now ≡ c.in_ok-types.types.items = search rules in
     let shown : c.as_slice-2.result.now ≡ kinds = search rules in
-    let read = ap (λ (ts : List ColumnType). read_of bytes ts nulls) (sym (types ∙ c.in_ok-types.ensures)) ∙ c.in-Ok.ensures.table in
+    let read = ap (λ (ts : List ColumnType). read_of d bytes ts nulls) (sym (types ∙ c.in_ok-types.ensures)) ∙ c.in-Ok.ensures.table in
     let suggested = c.in_ok-kinds.ensures in
     record {
       table = table;
       kinds = kinds;
       read = read;
       suggested = suggested;
-      typed = file-retyped bytes nulls kinds table read suggested.count (suggested-read table kinds suggested);
+      typed = file-retyped d bytes nulls kinds table read suggested.count (suggested-read table kinds suggested);
       lines = c.in_ok-lines_of.ensures ∙ ap (column_lines table.names) shown;
     }

@@ -1,6 +1,6 @@
 //! Devices that fail, that give or take a byte at a time, or that signals interrupt.
 
-use crate::csv_io::INT;
+use crate::csv_io::{INT, by_comma, with_comma};
 use rj_columns::Table;
 use rj_csv_io::{
     CountedReader, CountedWriter, Failed, Input, Output, ReadRefused, WriteRefused, read_all,
@@ -44,14 +44,14 @@ fn is_told(alloc: Global, table: &Table, left: u64) -> bool {
         return false;
     }
     let mut device = CountedWriter::new(Tires { left });
-    match write_rows(alloc, &mut device, &["a"], table, "") {
+    match write_rows(alloc, &mut device, &["a"], table, &with_comma()) {
         Ok(()) => left >= 5 && device.failures() == 0,
         Err(e) => left < 5 && e == WriteRefused::WriteDevice && device.failures() == 1,
     }
 }
 
 fn is_row_told(alloc: Global, left: u64) -> bool {
-    match read_table(alloc, b"a\n1\n", &[INT], &[""]) {
+    match read_table(alloc, b"a\n1\n", &[INT], &by_comma(&[""])) {
         Ok(table) => is_told(alloc, &table, left),
         Err(_) => false,
     }

@@ -8,5 +8,5 @@ invariant-loop-k l = record {
   few : length l.parts.items < l._k;
   within : l._k ≤ max 1 l.count;
   unmarked : strip_bom l.rest ≡ l.rest;
-  records : records_in_all (map (λ p. p.now) l.parts.items) ++ records_in l.rest ≡ records_in l.fn.text;
+  records : records_in_all l.delimiter (map (λ p. p.now) l.parts.items) ++ records_in l.delimiter l.rest ≡ records_in l.delimiter l.fn.text;
 }

@@ -5,7 +5,7 @@ use Rattle.std.proofs.lemmas.List.{length-drop, take_rest}
 use Rattle.rj_csv_io.proofs.place.scan.Goals as goal
 
 pub loop-turn-init : goal.loop-turn-init
-loop-turn-init c = record { within = omega arith; turn = omega arith; end = refl; place = sym (place-none c.args.start) }
+loop-turn-init c = record { within = omega arith; turn = omega arith; end = refl; place = sym (place-none c.args.delimiter c.args.start) }
 
 pub run-requires-clause-plain : goal.run-requires-clause-plain
 run-requires-clause-plain c =
@@ -31,5 +31,5 @@ loop-turn-preserved c =
       turn = omega (arith, c.loop-turn.invariant.turn);
       end = refl;
       place = c.quoted-place.ensures ∙ ap after_quote run
-          ∙ sym (rw e (run-quote c.args.start c.args.text.now (c.loop-turn.at + c.in-Some.k) within found));
+          ∙ sym (rw e (run-quote c.args.delimiter c.args.start c.args.text.now (c.loop-turn.at + c.in-Some.k) within found));
     }

@@ -7,5 +7,5 @@ invariant-loop-turn l = record {
   within : l.at ≤ length l.text;
   turn : l._turn ≤ l.at;
   end : l._turn-end ≡ length l.text;
-  place : l.place ≡ place_after l.fn.start (take l.at l.text);
+  place : l.place ≡ place_after l.delimiter l.fn.start (take l.at l.text);
 }

@@ -5,7 +5,7 @@ use Rattle.rj_csv_io.proofs.range.add_blocks.Given as goal
 
 abbrev pub invariant-loop-row : goal.invariant-loop-row
 invariant-loop-row g l = record {
-  written : HasWritten l.writer (l.fn.text.items ++ range_text l.null (g.S.RowSource.contents l.source) l.from l.row) [];
+  written : HasWritten l.format.delimiter l.writer (l.fn.text.items ++ range_text l.format.delimiter l.format.null.now (g.S.RowSource.contents l.source) l.from l.row) [];
   low : l.from ≤ l.row;
   high : l.row ≤ l.to;
 }

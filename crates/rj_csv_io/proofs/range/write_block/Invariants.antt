@@ -5,6 +5,6 @@ use Rattle.rj_csv_io.proofs.range.write_block.Given as goal
 
 abbrev pub invariant-loop-row : goal.invariant-loop-row
 invariant-loop-row g l = record {
-  written : (text : List ℕ) → HasWritten l.fn.writer text [] → HasWritten l.writer (text ++ range_text l.null (g.S.RowSource.contents l.source) l.block.from l.row) [];
+  written : (d : ℕ) (text : List ℕ) → HasWritten d l.fn.writer text [] → HasWritten d l.writer (text ++ range_text d l.null (g.S.RowSource.contents l.source) l.block.from l.row) [];
   end : l.row-end ≡ l.block.to;
 }

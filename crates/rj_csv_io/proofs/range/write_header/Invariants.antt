@@ -4,6 +4,6 @@ use Rattle.rj_csv_io.proofs.range.write_header.Given as goal
 
 abbrev pub invariant-loop-i : goal.invariant-loop-i
 invariant-loop-i l = record {
-  written : (text : List ℕ) → HasWritten l.fn.writer text [] → HasWritten l.writer text (take l.i (map (λ n. n.now) l.header));
+  written : (d : ℕ) (text : List ℕ) → HasWritten d l.fn.writer text [] → HasWritten d l.writer text (take l.i (map (λ n. n.now) l.header));
   end : l.i-end ≡ length l.header;
 }

@@ -9,7 +9,7 @@ use Rattle.rj_csv_io.proofs.range.write_row.Goals as goal
 
 pub loop-col-init : goal.loop-col-init
 loop-col-init g c = record {
-  written = λ text h. h;
+  written = λ d text h. h;
   end = c.columns-col-end.ensures.count;
   base = sym (offset-none (c.args.block.now.to - c.args.block.now.from));
   wide = c.columns-col-end.ensures.wide c.args.row [] (omega (arith, c.requires.holds.inside, c.requires.to));
@@ -50,9 +50,9 @@ loop-col-preserved g c =
     let bound : c.loop-col._col < 2 ^ 64 - 1 = search rules in
     let room : length fields < 2 ^ 64 - 1 = omega arith in
     record {
-      written = λ text h.
-          let now = c.in_ok-write_cell.ensures text fields room (c.loop-col.invariant.written text h) in
-          subst (λ f. HasWritten c.write_cell.new.writer text f) (row-more c.args.null.now row c.loop-col._col fields _ (content_of c.index.result.now) at refl cell refl) now;
+      written = λ d text h.
+          let now = c.in_ok-write_cell.ensures d text fields room (c.loop-col.invariant.written d text h) in
+          subst (λ f. HasWritten d c.write_cell.new.writer text f) (row-more c.args.null.now row c.loop-col._col fields _ (content_of c.index.result.now) at refl cell refl) now;
       end = c.loop-col.invariant.end;
       base = ap (λ b. b + (c.args.block.now.to - c.args.block.now.from)) c.loop-col.invariant.base ∙ sym (offset-more (c.args.block.now.to - c.args.block.now.from) c.loop-col._col);
       wide = c.loop-col.invariant.wide;

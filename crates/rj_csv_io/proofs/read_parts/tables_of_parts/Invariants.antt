@@ -9,7 +9,7 @@ abbrev pub invariant-loop-i : goal.invariant-loop-i
 invariant-loop-i l = record {
   rest : l.parts.items ≡ drop l._i l.fn.parts.items;
   end : l._i-end ≡ length l.fn.parts.items;
-  read : AreTables (null_texts l.nulls) l.types (fields_of l.header) (under_header (take l._i (map (λ t. t.now) l.texts))) l.tables.items;
+  read : AreTables (null_texts l.format.nulls.now) l.types (fields_of l.header) (under_header l.format.delimiter (take l._i (map (λ t. t.now) l.texts))) l.tables.items;
   count : length l.tables.items ≡ l._i;
   rows : l.rows ≡ length (rows_of_all l.tables.items);
 }

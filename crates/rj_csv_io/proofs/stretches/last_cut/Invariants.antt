@@ -7,8 +7,8 @@ use Rattle.rj_csv_io.proofs.stretches.last_cut.Given as goal
 abbrev pub invariant-loop-at : goal.invariant-loop-at
 invariant-loop-at l = record {
   within : l.at ≤ length l.text;
-  place : l.place ≡ place_after place.Fresh (take l.at l.text);
-  last : IsLastEnd l.text l.at l.last;
+  place : l.place ≡ place_after l.byte place.Fresh (take l.at l.text);
+  last : IsLastEnd l.byte l.text l.at l.last;
 }
 
 abbrev pub decreases-loop-at : goal.decreases-loop-at

@@ -7,6 +7,6 @@ pub returns : goal.returns
 returns c =
     let said = c.end_record.ensures in
     let good : is_ok c.end_record.result ≡ true = search rules in
-    λ text fields h.
-    record-written c.args.writer.now c.end_record.new.self text fields h (ok-holds c.end_record.result good said.bytes) (ok-holds c.end_record.result good said.same) (ok-holds c.end_record.result good said.fields)
+    λ d text fields h.
+    record-written d c.args.writer.now c.end_record.new.self text fields h (ok-holds c.end_record.result good said.bytes) (ok-holds c.end_record.result good said.same) (ok-holds c.end_record.result good said.fields)
     (ok-holds c.end_record.result good said.wrote)

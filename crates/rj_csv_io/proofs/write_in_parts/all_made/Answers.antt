@@ -12,9 +12,9 @@ loop-part-init g c = record {
   end = search rules;
   done =
       let rows = g.S.RowSource.contents c.args.source.now in
-      let none : range_text c.args.null.now rows 0 (part_start (length rows) c.args.parts 0) ≡ range_text c.args.null.now rows 0 0 =
-      ap (λ n. range_text c.args.null.now rows 0 n) (start-none (length rows) c.args.parts c.requires.some) in
-      rw c.new-texts.ensures.items (sym (none ∙ range-none c.args.null.now rows 0));
+      let none : range_text c.args.format.now.delimiter c.args.format.now.null.now rows 0 (part_start (length rows) c.args.parts 0) ≡ range_text c.args.format.now.delimiter c.args.format.now.null.now rows 0 0 =
+      ap (λ n. range_text c.args.format.now.delimiter c.args.format.now.null.now rows 0 n) (start-none (length rows) c.args.parts c.requires.some) in
+      rw c.new-texts.ensures.items (sym (none ∙ range-none c.args.format.now.delimiter c.args.format.now.null.now rows 0));
 }
 
 pub loop-part-preserved : goal.loop-part-preserved
@@ -29,7 +29,7 @@ loop-part-preserved g c =
       left = c.in_ok-more.ensures.items ∙ (ap (λ l. drop 1 l) c.loop-part.invariant.left ∙ drop-drop 1 c.loop-part._part c.args.made.items);
       end = c.loop-part.invariant.end;
       done = rw (c.in_ok-append.ensures.items, more, c.loop-part.invariant.done, is)
-          (range-join c.args.null.now rows 0 (part_start (length rows) c.args.parts c.loop-part._part) (part_start (length rows) c.args.parts (c.loop-part._part + 1)) (omega arith) order);
+          (range-join c.args.format.now.delimiter c.args.format.now.null.now rows 0 (part_start (length rows) c.args.parts c.loop-part._part) (part_start (length rows) c.args.parts (c.loop-part._part + 1)) (omega arith) order);
     }
 
 pub returns : goal.returns
@@ -37,4 +37,4 @@ returns g c =
     let rows = g.S.RowSource.contents c.args.source.now in
     let last : c.args.parts ≤ c.loop-part._part = omega (arith, c.loop-part.invariant.end, c.loop-part-test.false, c.requires.enough) in
     let past = start-past (length rows) c.args.parts c.loop-part._part c.requires.some last in
-    c.loop-part.invariant.done ∙ range-all c.args.null.now rows (part_start (length rows) c.args.parts c.loop-part._part) past
+    c.loop-part.invariant.done ∙ range-all c.args.format.now.delimiter c.args.format.now.null.now rows (part_start (length rows) c.args.parts c.loop-part._part) past

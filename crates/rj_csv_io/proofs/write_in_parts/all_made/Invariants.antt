@@ -8,5 +8,5 @@ abbrev pub invariant-loop-part : goal.invariant-loop-part
 invariant-loop-part g l = record {
   left : l.made.items ≡ drop l._part l.fn.made.items;
   end : l._part-end ≡ length l.fn.made.items;
-  done : concat (map (λ t. t.items) l.texts.items) ≡ range_text l.null (g.S.RowSource.contents l.source) 0 (part_start (length (g.S.RowSource.contents l.source)) l.parts l._part);
+  done : concat (map (λ t. t.items) l.texts.items) ≡ range_text l.format.delimiter l.format.null.now (g.S.RowSource.contents l.source) 0 (part_start (length (g.S.RowSource.contents l.source)) l.parts l._part);
 }

@@ -1,7 +1,9 @@
 use Rattle.std.proofs.Common.{rules, ◌≡◌, ◌≤◌, ◌+◌, ◌^◌, inl, inr, true, length, refl, take, arith}
 use Rattle.std.specs.Result.{is_ok}
 use Rattle.std.proofs.lemmas.Bool.{cases_lt}
-use Rattle.csv.specs.Reading.{default_config, records}
+use Rattle.csv.specs.Reading.{records}
+use Rattle.rj_strict.specs.Grammar.{comma}
+use Rattle.rj_strict.specs.Reading.{config_of}
 use Rattle.rj_divide.specs.Underway.{SplitsAs}
 use Rattle.rj_divide.proofs.RangeFacts.{finish-cuts, pass, put, too-long}
 use Rattle.rj_divide.proofs.cuts.cut_next.Goals as goal
@@ -22,7 +24,7 @@ pub returns-else-not-is_first-clause-more : goal.returns-else-not-is_first-claus
 returns-else-not-is_first-clause-more g c = λ _ text n u.
     let end = c.in-Ok.piece.end in let ahead = c.in-Ok-is_header_ahead.is_first in
     let within : end ≤ length c.next_piece.new.bytes.items = search rules in
-    let law : SplitsAs c.args.cutting.now.is_first (records default_config (take end c.next_piece.new.bytes.items)) ahead = λ more. search (rules, c.in-Ok-is_header_ahead.ensures more) in
+    let law : SplitsAs c.args.cutting.now.is_first (records (config_of comma) (take end c.next_piece.new.bytes.items)) ahead = λ more. search (rules, c.in-Ok-is_header_ahead.ensures more) in
     pass c.args.size c.args.block text c.args.cutting.now c.next_piece.new.bytes.items (g.I.Input.tells c.args.input.now) (g.I.Input.tells c.next_piece.new.input) n u
     c.in-Ok.ensures.bytes end within (c.in-Ok.ensures.line c.if-piece.false) (c.in-Ok.ensures.rest c.if-piece.false) ahead law
     _ c.drop_front.ensures c.in-Some.ensures.1 refl refl refl (λ e. search rules)
@@ -31,7 +33,7 @@ pub returns-else-is_err-clause-more : goal.returns-else-is_err-clause-more
 returns-else-is_err-clause-more g c = λ _ text n u.
     let end = c.in-Ok.piece.end in let ahead = c.in-Ok-is_header_ahead.is_first in
     let within : end ≤ length c.next_piece.new.bytes.items = search rules in
-    let law : SplitsAs c.args.cutting.now.is_first (records default_config (take end c.next_piece.new.bytes.items)) ahead = λ more. search (rules, c.in-Ok-is_header_ahead.ensures more) in
+    let law : SplitsAs c.args.cutting.now.is_first (records (config_of comma) (take end c.next_piece.new.bytes.items)) ahead = λ more. search (rules, c.in-Ok-is_header_ahead.ensures more) in
     let ok : is_ok c.push.result ≡ true = search rules in
     put c.args.size c.args.block text c.args.cutting.now c.next_piece.new.bytes.items (g.I.Input.tells c.args.input.now) (g.I.Input.tells c.next_piece.new.input) n u
     c.in-Ok.ensures.bytes end within (c.in-Ok.ensures.line c.if-piece.false) (c.in-Ok.ensures.rest c.if-piece.false) ahead law

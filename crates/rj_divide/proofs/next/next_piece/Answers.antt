@@ -1,6 +1,7 @@
 use Rattle.std.specs.Prelude.{vec_len}
 use Rattle.std.proofs.Common.{rules, ◌≡◌, ◌<◌, ◌≤◌, ℕ, List, arith, length, refl, subst, inl, inr}
 use Rattle.rj_csv_io.specs.Pieces.{IsLastEnd, IsLineEnd}
+use Rattle.rj_strict.specs.Grammar.{comma}
 use Rattle.rj_divide.proofs.ShortFacts.{read-next, read-none, read-plain}
 use Rattle.rj_divide.proofs.UnderwayFacts.{last-records}
 use Rattle.rj_divide.proofs.next.next_piece.Goals as goal
@@ -35,16 +36,17 @@ returns-then-end-gt0-clause-read g c =
     read-next c.args.block c.args.bytes.now.items c.reading.bytes.items c.read_up_to.new.bytes.items c.reading.size r.0 r.1 c.in-Ok-false.ensures.front
     (λ h. let few = c.in-Ok-false.ensures.bound (omega (arith, h, old, now)) in omega (arith, few, now))
 
-line-at : (text : List ℕ) (end last : ℕ) → 0 < last → IsLastEnd text end last → IsLineEnd text last
+line-at : (text : List ℕ) (end last : ℕ) → 0 < last → IsLastEnd comma text end last → IsLineEnd comma text last
 line-at text end last some l = elim l.here [ inl none ↦ absurd (omega (arith, some, none)) | inr e ↦ e ]
 
 pub returns-then-end-gt0-clause-line : goal.returns-then-end-gt0-clause-line
 returns-then-end-gt0-clause-line g c = λ _.
-    rw c.as_slice.ensures.value at (line-at c.as_slice.result.now (length c.as_slice.result.now) c.last_cut-end.result (omega arith) c.last_cut-end.ensures.last)
+    let last = rw c.comma.ensures at c.last_cut-end.ensures.last in
+    rw c.as_slice.ensures.value at (line-at c.as_slice.result.now (length c.as_slice.result.now) c.last_cut-end.result (omega arith) last)
 
 pub returns-then-end-gt0-clause-rest : goal.returns-then-end-gt0-clause-rest
 returns-then-end-gt0-clause-rest g c = λ _ at low high e.
-    (rw c.as_slice.ensures.value at c.last_cut-end.ensures.last).none at low high e
+    (rw (c.comma.ensures, c.as_slice.ensures.value) at c.last_cut-end.ensures.last).none at low high e
 
 pub reading-preserved : goal.reading-preserved
 reading-preserved g c =
@@ -52,9 +54,9 @@ reading-preserved g c =
     let old : vec_len c.reading.bytes ≡ length c.reading.bytes.items = search rules in
     let now : vec_len c.read_up_to.new.bytes ≡ length c.read_up_to.new.bytes.items = search rules in
     let bytes = c.read_up_to.new.bytes.items in
-    let last = rw c.as_slice.ensures.value at c.last_cut-end.ensures.last in
+    let last = rw (c.comma.ensures, c.as_slice.ensures.value) at c.last_cut-end.ensures.last in
     let full : c.reading.size ≤ vec_len c.read_up_to.new.bytes = search rules in
-    let none : IsLastEnd bytes (length bytes) 0 = subst (λ n. IsLastEnd bytes (length bytes) n) (omega arith) last in
+    let none : IsLastEnd comma bytes (length bytes) 0 = subst (λ n. IsLastEnd comma bytes (length bytes) n) (omega arith) last in
     let all = read-plain c.args.block c.args.bytes.now.items c.reading.bytes.items bytes c.reading.size r.0 r.1 c.in-Ok-false.ensures.front
     (λ h. let few = c.in-Ok-false.ensures.bound (omega (arith, h, old, now)) in omega (arith, few, now)) none in
     record {

@@ -1,8 +1,9 @@
-use Rattle.std.proofs.Common.{◌≡◌, ◌∙◌, ◌++◌, ◌∷◌, [], List, ℕ, ap, drop, subst, sym, lit<}
+use Rattle.std.proofs.Common.{◌≡◌, ◌∙◌, ◌++◌, ◌∷◌, [], List, ℕ, ap, drop, refl, subst, sym, lit<}
 use Rattle.std.proofs.lemmas.Result.{IfOk-weaker}
-use Rattle.csv.specs.Reading.{default_config, records, strip_bom}
-use Rattle.rj_strict.specs.Grammar.{Derives}
+use Rattle.csv.specs.Reading.{records, strip_bom}
+use Rattle.rj_strict.specs.Grammar.{Derives, comma}
 use Rattle.rj_strict.specs.Joined.{joined}
+use Rattle.rj_strict.specs.Reading.{config_of}
 use Rattle.rj_strict.specs.declared.header.Header.TheVariants.{First}
 use Rattle.rj_divide.proofs.BlockFacts.{name-derived, name_file, under-one, unmarked}
 use Rattle.rj_divide.proofs.strict.quote_below_name.Goals as goal
@@ -13,16 +14,18 @@ quote_empty_lines-requires c =
     let is : c.as_slice.result.now ≡ 120 ∷ 10 ∷ text =
     c.as_slice.ensures.value ∙ (c.in_ok-extend_from_slice-2.ensures.items ∙ ap (λ (x : List ℕ). x ++ text) (c.in_ok-extend_from_slice.ensures.items ∙ ap (λ (x : List ℕ). x ++ (120 ∷ 10 ∷ [])) c.new-named.ensures.items)) in
     let d = c.requires in
-    let whole = c.joined_texts.ensures First d.1 (120 ∷ 10 ∷ []) text name_file d.2 name-derived (lit< tt) (under-one d.0 d.1 text d.2 d.3 d.4) in
-    (d.1, joined name_file d.2, subst (λ (x : List ℕ). Derives First d.1 x (joined name_file d.2)) (sym (ap strip_bom is ∙ unmarked text)) whole)
+    let whole = c.joined_texts.ensures comma First d.1 (120 ∷ 10 ∷ []) text name_file d.2 refl name-derived (lit< tt) (under-one d.0 d.1 text d.2 d.3 d.4) in
+    let named = subst (λ (x : List ℕ). Derives comma First d.1 x (joined name_file d.2)) (sym (ap strip_bom is ∙ unmarked text)) whole in
+    (d.1, joined name_file d.2, subst (λ (by : ℕ). Derives by First d.1 (strip_bom c.as_slice.result.now) (joined name_file d.2)) (sym c.comma.ensures) named)
 
 pub returns : goal.returns
 returns c =
     let text = c.args.text.now in
     let is : c.as_slice.result.now ≡ 120 ∷ 10 ∷ text =
     c.as_slice.ensures.value ∙ (c.in_ok-extend_from_slice-2.ensures.items ∙ ap (λ (x : List ℕ). x ++ text) (c.in_ok-extend_from_slice.ensures.items ∙ ap (λ (x : List ℕ). x ++ (120 ∷ 10 ∷ [])) c.new-named.ensures.items)) in
+    let tells = rw c.comma.ensures at c.quote_empty_lines.ensures in
     IfOk-weaker c.quote_empty_lines.result _ _ (λ v told names full file low d.
-    let whole = c.joined_texts.ensures First full (120 ∷ 10 ∷ []) text name_file file name-derived (lit< tt) (under-one names full text file low d) in
-    let quoted = told full (joined name_file file) (subst (λ (x : List ℕ). Derives First full x (joined name_file file)) (sym (ap strip_bom is ∙ unmarked text)) whole) in
-    ap (λ (x : List ℕ). drop 1 (records default_config x)) quoted ∙ ap (λ (x : List (List (List ℕ))). drop 1 x) (c.reads_quoted_records.ensures First full (120 ∷ 10 ∷ text) (joined name_file file) whole))
-    c.quote_empty_lines.ensures
+    let whole = c.joined_texts.ensures comma First full (120 ∷ 10 ∷ []) text name_file file refl name-derived (lit< tt) (under-one names full text file low d) in
+    let quoted = told full (joined name_file file) (subst (λ (x : List ℕ). Derives comma First full x (joined name_file file)) (sym (ap strip_bom is ∙ unmarked text)) whole) in
+    ap (λ (x : List ℕ). drop 1 (records (config_of comma) x)) quoted ∙ ap (λ (x : List (List (List ℕ))). drop 1 x) (c.reads_quoted_records.ensures comma First full (120 ∷ 10 ∷ text) (joined name_file file) refl whole))
+    tells

@@ -5,7 +5,7 @@ use Rattle.rj_line.specs.Line.{AreSettings, nulls_or, texts_found}
 use Rattle.rj_line.specs.Types.{AreTypesOf}
 use Rattle.rj_line.specs.declared.form.Form.{Form}
 use Rattle.rj_types.specs.declared.entry.TypeEntry.{TypeEntry}
-use Rattle.rj_line.proofs.LineFacts.{choice_fault, few_given, left_list_fault, left_nulls_fault, right_list_fault, right_nulls_fault, shared_list_fault}
+use Rattle.rj_line.proofs.LineFacts.{chosen_fault, few_given, left_list_fault, left_nulls_fault, right_list_fault, right_nulls_fault, shared_list_fault}
 use Rattle.rj_line.proofs.line.request_of.Goals as goal
 
 -- the value of an option, or its default
@@ -41,10 +41,13 @@ returns-clause-request c =
       right_nulls = c.in-Ok-read_nulls.ensures.texts ∙ ap (nulls_or _) null;
       few_nulls = (c.in-Ok.ensures.few, c.in-Ok-read_nulls.ensures.few);
       out_null = value-or _ c.get_str-2.result c.unwrap_or.result c.unwrap_or-null.result _ c.get_str-2.ensures c.unwrap_or.ensures null;
+      left_delimiter = c.in-Ok-chosen_of.ensures.delimiters.left;
+      right_delimiter = c.in-Ok-chosen_of.ensures.delimiters.right;
+      out_delimiter = c.in-Ok-chosen_of.ensures.delimiters.out;
       strict = c.strictness_of.ensures;
       settings = subst (λ n. AreSettings n (first_value (found_of c.args.matches.now)) c.settings_of.result) c.default_workers.ensures.workers c.settings_of.ensures;
       hash = c.hash_of.ensures;
-      choice = c.in-Ok-choice_of.ensures.choice;
+      choice = c.in-Ok-chosen_of.ensures.choice;
       expectation = c.expectation_of.ensures;
       report = c.is_given.ensures;
       tells_pieces = c.is_some.ensures ∙ same-given _ c.get_str-3.result c.get_str-3.ensures;
@@ -69,15 +72,15 @@ returns-in-Err-read_nulls-clause-fault c =
       (c.in_ok-right.ensures.types.listed, c.in_ok-right.ensures.types.given),
     ) (few_given own c.unwrap_or-null.result.now _ count c.in-Ok.ensures.few) c.in-Err-read_nulls.ensures.fault
 
-pub returns-in-Err-choice_of-clause-fault : goal.returns-in-Err-choice_of-clause-fault
-returns-in-Err-choice_of-clause-fault c =
+pub returns-in-Err-chosen_of-clause-fault : goal.returns-in-Err-chosen_of-clause-fault
+returns-in-Err-chosen_of-clause-fault c =
     let found = found_of c.args.matches.now in
     let null = c.unwrap_or-null.result.now in
     let lefts : length c.in-Ok.nulls.items ≡ length (nulls_or (texts_found found (codes "left-null")) null) =
     sym (length-map c.in-Ok.nulls.items (λ (n : Bor Text). n.now)) ∙ ap length c.in-Ok.ensures.texts in
     let rights : length c.in-Ok-read_nulls.nulls.items ≡ length (nulls_or (texts_found found (codes "right-null")) null) =
     sym (length-map c.in-Ok-read_nulls.nulls.items (λ (n : Bor Text). n.now)) ∙ ap length c.in-Ok-read_nulls.ensures.texts in
-    choice_fault c.args.form (first_value found) (texts_found found) c.in-Err-choice_of.fault (
+    chosen_fault c.args.form (first_value found) (texts_found found) c.in-Err-chosen_of.fault (
       (
         (c.in_ok-types.types.items, c.in_ok-types.ensures.types),
         (c.in_ok-left.ensures.types.listed, c.in_ok-left.ensures.types.given),
@@ -85,7 +88,7 @@ returns-in-Err-choice_of-clause-fault c =
       ),
       few_given _ null _ lefts c.in-Ok.ensures.few,
       few_given _ null _ rights c.in-Ok-read_nulls.ensures.few,
-    ) c.in-Err-choice_of.ensures.fault
+    ) c.in-Err-chosen_of.ensures.fault
 
 pub returns-in_err-types-clause-fault : goal.returns-in_err-types-clause-fault
 returns-in_err-types-clause-fault c =

@@ -2,6 +2,7 @@ use Rattle.std.proofs.Common.{◌++◌, ◌≡◌, refl, subst, vec_len}
 use Rattle.csv.specs.Records.{fields_of}
 use Rattle.rj_csv_io.specs.Shown.{rows_text}
 use Rattle.rj_csv_io.proofs.WriteFacts.{ok-holds}
+use Rattle.rj_strict.specs.Grammar.{comma}
 use Rattle.rj_merge.specs.declared.refused.MergeRefused.TheVariants as refused
 use Rattle.rj_merge.specs.Inputs.{boxed_copies, boxed_reading, copies_of, is_input}
 use Rattle.rj_merge.specs.MergedTexts.{head_rows, records_text}
@@ -21,7 +22,7 @@ returns-clause-merge g c =
     let boxed = c.in-Ok-on_heap.sources.items in
     let same = c.in-Ok-on_heap.ensures in
     let copies = copies_of c.args.inputs.items in
-    let head = rows_text (head_rows c.args.how.from (others header.columns (fields_of header.names))) in
+    let head = rows_text comma (head_rows c.args.how.from (others header.columns (fields_of header.names))) in
     ok-if c.put_rows.result (λ well. λ texts tell.
     let put = ok-holds c.put_rows.result well c.put_rows.ensures.merge head c.in-Ok-begin_block.ensures (tells-boxed known boxed sources same (opened.tells texts tell)) in record {
       text = head ++ records_text put.0;

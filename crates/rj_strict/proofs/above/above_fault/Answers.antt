@@ -1,6 +1,7 @@
-use Rattle.std.proofs.Common.{◌≤◌, ◌∙◌, ◌+◌, ◌-◌, ap, arith, length, subst, sym, take, List, ℕ}
+use Rattle.std.proofs.Common.{◌≡◌, ◌≤◌, ◌∙◌, ◌+◌, ◌-◌, ap, arith, length, subst, sym, take, List, ℕ}
 use Rattle.std.proofs.lemmas.List.{length-take-le}
 use Rattle.rj_strict.specs.Faults.{AreAbove, row_at}
+use Rattle.rj_strict.specs.Grammar.{Line, lines_text}
 use Rattle.rj_strict.specs.Reading.{body_of}
 use Rattle.rj_strict.proofs.MarkedParts.{body-short, body-start}
 use Rattle.rj_strict.proofs.above.above_fault.Goals as goal
@@ -21,11 +22,12 @@ returns c =
     let h = c.args.header in
     let start = c.start_of_row-start.result in
     let is = c.body-unmarked.ensures in
-    let found = c.start_of_row-start.ensures.lines in
+    let found = subst (λ (d : ℕ). (lines : List Line) × AreAbove d h c.body-unmarked.result.now c.row.result lines × (take start c.body-unmarked.result.now ≡ lines_text d lines))
+    c.byte.ensures.value c.start_of_row-start.ensures.lines in
     let size = ap (λ (x : List ℕ). length x) is in
     let within : start ≤ length (body_of h text) = omega (arith, size, c.start_of_row-start.ensures.within) in (
       found.0,
-      subst (λ (x : List ℕ). AreAbove h x (row_at c.args.fault) found.0) is (subst (λ (r : ℕ). AreAbove h c.body-unmarked.result.now r found.0) c.row.ensures found.1),
+      subst (λ (x : List ℕ). AreAbove c.args.delimiter h x (row_at c.args.fault) found.0) is (subst (λ (r : ℕ). AreAbove c.args.delimiter h c.body-unmarked.result.now r found.0) c.row.ensures found.1),
       ap (λ (x : List ℕ). body_of h (take (length text - length x + start) text)) is
           ∙ (body-start h text start within ∙ (ap (λ (x : List ℕ). take start x) (sym is) ∙ found.2)),
     )

@@ -6,5 +6,5 @@ abbrev pub invariant-loop-i : goal.invariant-loop-i
 invariant-loop-i l = record {
   row : l.standing.row ≤ l.i + 1;
   column : l.standing.column ≤ l.i + 1;
-  stands : Stands l.fn.header l.fn.row l.text l.i l.standing;
+  stands : Stands l.delimiter l.fn.header l.fn.row l.text l.i l.standing;
 }

@@ -6,5 +6,5 @@ abbrev pub invariant-loop-i : goal.invariant-loop-i
 invariant-loop-i l = record {
   row : l.standing.row ≤ l.i + 1;
   column : l.standing.column ≤ l.i + 1;
-  told : verdict l.full l.standing (drop l.i l.text) ≡ verdict l.full (initial_standing l.fn.header) l.text;
+  told : verdict l.delimiter l.full l.standing (drop l.i l.text) ≡ verdict l.delimiter l.full (initial_standing l.fn.header) l.text;
 }

@@ -3,4 +3,4 @@ use Rattle.rj_strict.proofs.WalkFacts.{clean}
 use Rattle.rj_strict.proofs.clean.is_clean.Goals as goal
 
 pub returns-in-Some : goal.returns-in-Some
-returns-in-Some c = λ e h. clean h c.args.full c.args.text.now c.in-Some.place c.in-Some.ensures (sym c.ends_well.ensures ∙ e)
+returns-in-Some c = λ e h. clean c.args.delimiter h c.args.full c.args.text.now c.in-Some.place c.in-Some.ensures (sym c.ends_well.ensures ∙ e)

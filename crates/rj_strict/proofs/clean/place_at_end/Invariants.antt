@@ -8,4 +8,4 @@ abbrev pub invariant-loop-part : goal.invariant-loop-part
 invariant-loop-part l =
     goal.iterator-loop-part.can_next l.part-iterator
     × goal.iterator-loop-part.is_finite l.part-iterator
-    × (walk l.place (chunks_rest l.part-iterator) ≡ walk place.Start l.text)
+    × (walk l.byte l.place (chunks_rest l.part-iterator) ≡ walk l.byte place.Start l.text)

@@ -7,5 +7,5 @@ invariant-loop-turn l = record {
   within : l.at ≤ length l.text;
   turn : l._turn ≤ l.at;
   end : l._turn-end ≡ length l.text;
-  walked : walk l.place (drop l.at l.text) ≡ walk l.fn.start l.text;
+  walked : walk l.delimiter l.place (drop l.at l.text) ≡ walk l.delimiter l.fn.start l.text;
 }

@@ -9,7 +9,7 @@ use Rattle.rj_strict.proofs.PartFacts.{over-text}
 use Rattle.rj_strict.proofs.parts.place_after_all.Goals as goal
 
 pub loop-i-init : goal.loop-i-init
-loop-i-init c = record { end = refl; walked = walk-none place.Start }
+loop-i-init c = record { end = refl; walked = λ d all. walk-none d place.Start }
 
 pub loop-i-preserved : goal.loop-i-preserved
 loop-i-preserved c =
@@ -18,8 +18,9 @@ loop-i-preserved c =
     let i = c.loop-i.i in
     let to = c.in_ok-place-in-Start.place in
     let within : i < length texts = omega (arith, size, c.loop-i-test.true) in
-    let here = some-is (get_or c.args.places.now i None) to (λ (q : Place). walk place.Start (get_or texts i []) ≡ Some q) c.in_ok-place-in-Start.was (c.requires.walked i None within) in
     record {
       end = refl;
-      walked = over-text texts i to within (c.loop-i.invariant.walked ∙ ap (λ (p : Place). Some p) c.in-Start.is) here;
+      walked = λ d all.
+          let here = some-is (get_or c.args.places.now i None) to (λ (q : Place). walk d place.Start (get_or texts i []) ≡ Some q) c.in_ok-place-in-Start.was (all i None within) in
+          over-text d texts i to within (c.loop-i.invariant.walked d all ∙ ap (λ (p : Place). Some p) c.in-Start.is) here;
     }

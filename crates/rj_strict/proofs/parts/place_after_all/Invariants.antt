@@ -1,11 +1,11 @@
-use Rattle.std.proofs.Common.{◌≡◌, length, map, take, Some}
+use Rattle.std.proofs.Common.{◌≡◌, ℕ, length, map, take, Some}
 use Rattle.std.specs.List.{concat}
-use Rattle.rj_strict.specs.Walk.{walk}
+use Rattle.rj_strict.specs.Walk.{AreWalked, walk}
 use Rattle.rj_strict.specs.declared.standing.Place.TheVariants as place
 use Rattle.rj_strict.proofs.parts.place_after_all.Given as goal
 
 abbrev pub invariant-loop-i : goal.invariant-loop-i
 invariant-loop-i l = record {
   end : l.i-end ≡ length l.texts;
-  walked : walk place.Start (concat (take l.i (map (λ t. t.now) l.texts))) ≡ Some l.place;
+  walked : (d : ℕ) → AreWalked d (map (λ t. t.now) l.texts) l.places → walk d place.Start (concat (take l.i (map (λ t. t.now) l.texts))) ≡ Some l.place;
 }

@@ -1,9 +1,11 @@
 use Rattle.std.proofs.Common.{◌≡◌, ◌<◌, ◌∙◌, ◌++◌, ◌∷◌, [], ap, arith, length, get_or, subst, sym, List, ℕ}
 use Rattle.std.specs.declared.alloc.Global.{Global}
 use Rattle.std.specs.declared.vec.Vec.{Vec}
-use Rattle.rj_strict.specs.Grammar.{Derives}
+use Rattle.rj_strict.specs.Grammar.{Derives, file_text}
+use Rattle.rj_strict.specs.Reading.{body_of, quoted}
 use Rattle.rj_strict.specs.declared.header.Header.TheVariants.{First}
 use Rattle.rj_strict.proofs.AboveFacts.{initial-near}
+use Rattle.rj_strict.proofs.Lawful.{lawful-is}
 use Rattle.rj_strict.proofs.QuotingFacts.{added, never, quotes-initial, quotes-end, quotes-more, wrote-byte, wrote-quotes}
 use Rattle.rj_strict.proofs.StepFacts.{step-near}
 use Rattle.rj_strict.proofs.quoting.quote_empty_lines.Goals as goal
@@ -12,20 +14,22 @@ use Rattle.rj_strict.proofs.quoting.quote_empty_lines.Goals.{then-begins_empty_l
 pub loop-i-init : goal.loop-i-init
 loop-i-init c =
     let near = initial-near First in
+    let d = c.byte-separator.result in
+    let same : c.args.delimiter ≡ d = sym c.byte-separator.ensures.value in
     let text = c.body-text.result.now in
     let empty : c.extend_from_slice.new.self.items ≡ 239 ∷ 187 ∷ 191 ∷ [] =
     c.in_ok-extend_from_slice.ensures.items ∙ ap (λ (x : List ℕ). x ++ (239 ∷ 187 ∷ 191 ∷ [])) c.in_ok-quoted.ensures.items in
     record {
       row = rw c.begin-standing.ensures near.0;
       column = rw c.begin-standing.ensures near.1;
-      quotes = quotes-initial text c.begin-standing.result c.extend_from_slice.new.self.items
-          (c.requires.0, c.requires.1, subst (λ (x : List ℕ). Derives First c.requires.0 x c.requires.1) (sym c.body-text.ensures) c.requires.2) c.begin-standing.ensures empty;
+      quotes = quotes-initial d (lawful-is d c.byte-separator.ensures.lawful) text c.begin-standing.result c.extend_from_slice.new.self.items
+          (c.requires.0, c.requires.1, subst (λ (x : List ℕ). Derives d First c.requires.0 x c.requires.1) (sym c.body-text.ensures) (subst (λ (x : ℕ). Derives x First c.requires.0 (body_of First c.args.text.now) c.requires.1) same c.requires.2)) c.begin-standing.ensures empty;
     }
 
 pub returns-in-Err : goal.returns-in-Err
 returns-in-Err c =
     let within : c.loop-i.i < length c.body-text.result.now = omega arith in
-    λ full file d. absurd (never c.body-text.result.now c.loop-i.i c.loop-i.standing c.loop-i.quoted.items c.loop-i.invariant.quotes c.in-Err.field-0 within c.in-Err.ensures)
+    λ full file is. absurd (never c.byte-separator.result c.body-text.result.now c.loop-i.i c.loop-i.standing c.loop-i.quoted.items c.loop-i.invariant.quotes c.in-Err.field-0 within c.in-Err.ensures)
 
 pub loop-i-preserved : goal.loop-i-preserved
 loop-i-preserved c =
@@ -33,7 +37,7 @@ loop-i-preserved c =
     let out = c.loop-i.quoted.items in
     let byte = get_or text c.loop-i.i 0 in
     let within : c.loop-i.i < length text = omega arith in
-    let near = step-near c.loop-i.standing c.in-Ok.next byte c.in-Ok.ensures in
+    let near = step-near c.byte-separator.result c.loop-i.standing c.in-Ok.next byte c.in-Ok.ensures in
     let wrote : (rest : List ℕ) → c.push.new.self.items ++ rest ≡ out ++ added c.loop-i.standing.place byte rest =
     λ rest. elim c.if-begins_empty_line.branch [
       | then-begins_empty_line+in_ok-extend_from_slice-2 w ↦
@@ -46,10 +50,13 @@ loop-i-preserved c =
     record {
       row = omega (arith, near.0, c.loop-i.invariant.row);
       column = omega (arith, near.1, c.loop-i.invariant.column);
-      quotes = quotes-more text c.loop-i.i c.loop-i.standing out c.loop-i.invariant.quotes c.in-Ok.next c.push.new.self.items within c.in-Ok.ensures wrote;
+      quotes = quotes-more c.byte-separator.result text c.loop-i.i c.loop-i.standing out c.loop-i.invariant.quotes c.in-Ok.next c.push.new.self.items within c.in-Ok.ensures wrote;
     }
 
 pub returns : goal.returns
 returns c =
-    λ full file d. quotes-end c.body-text.result.now c.loop-i.i c.loop-i.standing c.loop-i.quoted.items c.loop-i.invariant.quotes (omega arith) full file
-    (subst (λ (x : List ℕ). Derives First full x file) (sym c.body-text.ensures) d)
+    let d = c.byte-separator.result in
+    let same : c.args.delimiter ≡ d = sym c.byte-separator.ensures.value in
+    λ full file is. quotes-end d (lawful-is d c.byte-separator.ensures.lawful) c.body-text.result.now c.loop-i.i c.loop-i.standing c.loop-i.quoted.items c.loop-i.invariant.quotes (omega arith) full file
+    (subst (λ (x : List ℕ). Derives d First full x file) (sym c.body-text.ensures) (subst (λ (x : ℕ). Derives x First full (body_of First c.args.text.now) file) same is))
+    ∙ ap (λ (x : ℕ). file_text x (quoted file)) (sym same)

@@ -6,5 +6,5 @@ abbrev pub invariant-loop-i : goal.invariant-loop-i
 invariant-loop-i l = record {
   row : l.standing.row ≤ l.i + 1;
   column : l.standing.column ≤ l.i + 1;
-  quotes : Quotes l.text l.i l.standing l.quoted.items;
+  quotes : Quotes l.separator l.text l.i l.standing l.quoted.items;
 }

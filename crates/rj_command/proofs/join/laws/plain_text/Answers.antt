@@ -17,4 +17,4 @@ returns c = λ q join l r names plain kept are.
     let view = c.plain_choice.ensures.view q.choice join l r plain in
     let chosen = chosen_header q.choice join l r in
     let own = as_they_are chosen names (subst (λ (repeated : Repeated). written_names repeated chosen ≡ Ok names) kept are.written) ∙ header in
-    λ t. table_text q.out_null.now (own t) (view t).cells
+    λ t. table_text q.out_delimiter q.out_null.now (own t) (view t).cells

@@ -15,7 +15,7 @@ use Rattle.rj_command.proofs.BackFacts.{kept_or_not, rows-fit, rows-held}
 use Rattle.rj_command.proofs.join.laws.results_read_back.Goals as goal
 
 pub returns : goal.returns
-returns c = λ left right text q stats nulls j can.
+returns c = λ left right text q stats nulls j may can.
     let l = j.l in
     let r = j.r in
     let origins = chosen_columns q.choice j.join r in
@@ -38,6 +38,6 @@ returns c = λ left right text q stats nulls j can.
       held = rows-held l r of_left.1 of_right.1 origins rows;
       apart = can.apart;
     } in
-    let plain = c.mark_is_of_the_first_name.ensures q.out_null.now j.names table.rows can.unmarked in
-    let P : List ℕ → Type 0 = λ text. read_of text table.types nulls ≡ Ok table in
-    subst P (sym j.shown) (c.tables_read_back.ensures nulls q.out_null.now table can.null_texts can.among back plain)
+    let plain = c.mark_is_of_the_first_name.ensures q.out_delimiter q.out_null.now j.names table.rows may can.unmarked in
+    let P : List ℕ → Type 0 = λ text. read_of q.out_delimiter text table.types nulls ≡ Ok table in
+    subst P (sym j.shown) (c.tables_read_back.ensures q.out_delimiter nulls q.out_null.now table may can.null_texts can.among back plain)

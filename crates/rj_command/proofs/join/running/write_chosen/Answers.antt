@@ -20,11 +20,12 @@ write_shown-requires-clause-names g c κs within =
 
 pub returns-clause-ok : goal.returns-clause-ok
 returns-clause-ok g c =
+    let d = c.args.request.now.out_delimiter in
     let null = c.args.request.now.out_null.now in
     let names = map string_bytes c.args.chosen.names.items in
     let before = g.O.Output.told c.args.writer.now in
     let after = g.O.Output.told c.write_shown.new.writer in
     let cells = (shown_view c.args.chosen.shown c.args.operands.left c.args.operands.right c.args.chosen.joined.members).cells in
-    let header = ap (λ (ns : List (String Global)). table_text null (map string_bytes ns) cells) c.as_slice.ensures.value in
+    let header = ap (λ (ns : List (String Global)). table_text d null (map string_bytes ns) cells) c.as_slice.ensures.value in
     subst (λ (t : List ℕ). OnOk c.write_shown.result (Appends before after t))
-    (header ∙ ap (λ (v : ViewValue). table_text null names v.cells) c.requires.chosen.shown) c.write_shown.ensures.ok
+    (header ∙ ap (λ (v : ViewValue). table_text d null names v.cells) c.requires.chosen.shown) c.write_shown.ensures.ok

@@ -10,7 +10,8 @@ write_rows_in_parts-requires-clause-header g c κs within = c.requires.header �
 
 pub returns-clause-ok : goal.returns-clause-ok
 returns-clause-ok g c =
+    let format = c.args.written.now.format in
     let before = g.O.Output.told c.args.writer.now in
     let after = g.O.Output.told c.write_rows_in_parts.new.output in
     let header = map (λ (n : Bor (List ℕ)). n.now) c.args.header.now in
-    subst (λ (v : ViewValue). OnOk c.write_rows_in_parts.result (Appends before after (table_text c.args.written.now.null.now header v.cells))) c.whole-rows.ensures c.write_rows_in_parts.ensures.ok
+    subst (λ (v : ViewValue). OnOk c.write_rows_in_parts.result (Appends before after (table_text format.delimiter format.null.now header v.cells))) c.whole-rows.ensures c.write_rows_in_parts.ensures.ok
