@@ -7,7 +7,7 @@ use Rattle.rj_columns.specs.Contents.{Content}
 use Rattle.rj_strict.specs.Grammar.{may_delimit}
 use Rattle.rj_csv_io.specs.Cuts.{has_bom}
 use Rattle.rj_csv_io.specs.Shown.{rows_text, shown, table_text, writer_of}
-use Rattle.rj_csv_io.proofs.SwapFacts.{other-byte}
+use Rattle.rj_csv_io.proofs.DelimiterFacts.{delimiter-other}
 
 -- a byte of no mark
 record IsPlain (c : ℕ) : Type 0 where
@@ -16,7 +16,7 @@ record IsPlain (c : ℕ) : Type 0 where
   third : (c == 0xBF) ≡ false
 
 delimiter-plain : (d : ℕ) → may_delimit d ≡ true → IsPlain d
-delimiter-plain d lawful = record { first = other-byte d 0xEF lawful refl; second = other-byte d 0xBB lawful refl; third = other-byte d 0xBF lawful refl }
+delimiter-plain d lawful = record { first = delimiter-other d lawful 0xEF refl; second = delimiter-other d lawful 0xBB refl; third = delimiter-other d lawful 0xBF refl }
 
 quote-plain : IsPlain 34
 quote-plain = record { first = refl; second = refl; third = refl }

@@ -1,9 +1,9 @@
 -- Texts by a lawful delimiter are texts by the comma in which the two bytes are exchanged. So what
 -- is written by the delimiter is read back by it.
-use Rattle.std.proofs.Common.{◌≡◌, ◌≢◌, ◌∙◌, ℕ, List, [], ◌∷◌, ◌++◌, map, length, Bool, true, false, Option, Some, None, refl, sym, ap, subst, inl, inr}
+use Rattle.std.proofs.Common.{◌≡◌, ◌∙◌, ℕ, List, [], ◌∷◌, ◌++◌, map, length, Bool, true, false, Option, Some, None, refl, sym, ap, subst, inl, inr}
 use Rattle.std.specs.Prelude.{◌==◌, ◌||◌, if◌then◌else◌, option_map}
 use Rattle.std.specs.List.{list_any}
-use Rattle.std.proofs.lemmas.Bool.{cases_Bool, eq-eqb, eqb-false, eqb-true, false≢true, ne_eqb}
+use Rattle.std.proofs.lemmas.Bool.{cases_Bool, eq-eqb, eqb-false, eqb-true, ne_eqb}
 use Rattle.std.proofs.lemmas.List.{length-map, map-append}
 use Rattle.csv.specs.declared.parser.Action.{Action}
 use Rattle.csv.specs.declared.parser.Action.TheVariants as act
@@ -16,13 +16,7 @@ use Rattle.csv.proofs.RoundTrip.{read-write}
 use Rattle.rj_strict.specs.Grammar.{may_delimit}
 use Rattle.rj_strict.specs.Reading.{config_of}
 use Rattle.rj_csv_io.specs.Shown.{writer_of}
-
-other : (d k : ℕ) → may_delimit d ≡ true → may_delimit k ≡ false → d ≢ k
-other d k lawful unfit same = false≢true (sym unfit ∙ (ap may_delimit (sym same) ∙ lawful))
-
--- a lawful delimiter is no byte that may not be one
-pub other-byte : (d k : ℕ) → may_delimit d ≡ true → may_delimit k ≡ false → (d == k) ≡ false
-other-byte d k lawful unfit = ne_eqb d k (other d k lawful unfit)
+use Rattle.rj_csv_io.proofs.DelimiterFacts.{no-delimiter}
 
 module _ (d : ℕ) (lawful : may_delimit d ≡ true) where
   -- a byte, where the delimiter and the comma are exchanged
@@ -46,7 +40,7 @@ module _ (d : ℕ) (lawful : may_delimit d ≡ true) where
 
   -- no other mark of the format is exchanged
   swap-mark : (k : ℕ) → may_delimit k ≡ false → (k == 44) ≡ false → swap k ≡ k
-  swap-mark k unfit plain = swap-plain k (ne_eqb k d (λ same. other d k lawful unfit (sym same))) plain
+  swap-mark k unfit plain = swap-plain k (no-delimiter d lawful k unfit) plain
 
   swap-quote : swap 34 ≡ 34
   swap-quote = swap-mark 34 refl refl

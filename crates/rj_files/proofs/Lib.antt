@@ -1,1 +1,2 @@
 pub mod DraftFacts
+pub mod ListFacts

@@ -1,5 +1,6 @@
 -- The errors of a file, by whose file it is.
-use Rattle.std.specs.Prelude.{◌≡◌, ◌⊎◌, ℕ, List, Option, None, Some, codes, if◌then◌else◌}
+use Rattle.std.specs.Prelude.{◌≡◌, ◌⊎◌, ◌==◌, ◌++◌, ◌∷◌, [], ℕ, Bool, false, List, MatchOption, Option, None, Some, codes, if◌then◌else◌}
+use Rattle.std.specs.List.{after_first, before_first}
 use Rattle.std.specs.Str.{bytes_eq}
 use Rattle.rj_fault.specs.declared.fault.Fault.{Fault}
 use Rattle.rj_fault.specs.declared.fault.Fault.TheVariants as fault
@@ -31,6 +32,41 @@ IsUnreadOf l f = (f ≡ fault.Memory) ⊎ (f ≡ unread_fault l)
 abbrev pub IsListFault : FileLabel → Fault → Type 0
 IsListFault l f = IsUnreadOf l f ⊎ (f ≡ bad_list_fault l)
 
--- why the words of a line can't be had with the lists of files
-abbrev pub IsListsFault : Fault → Type 0
-IsListsFault f = (f ≡ fault.Memory) ⊎ ((l : FileLabel) × ((f ≡ unread_fault l) ⊎ (f ≡ bad_list_fault l)))
+-- a value that is `@` and the name of a file
+abbrev pub is_file : List ℕ → Bool
+is_file [] = false
+is_file (b ∷ name) = b == 64
+
+-- whose types are in the file that a word names, if it names one: behind the option of types that
+-- is the word before, or in one word with its option and `=`
+abbrev pub file_label : Option FileLabel → List ℕ → Option FileLabel
+file_label None word = if is_file (after_first (λ b. b == 61) word) then label_of (before_first (λ b. b == 61) word) else None
+file_label (Some l) word = if is_file word then Some l else None
+
+-- what stays of such a word before the list
+abbrev pub kept_of : Option FileLabel → List ℕ → List ℕ
+kept_of None word = before_first (λ b. b == 61) word ++ codes "="
+kept_of (Some l) word = []
+
+-- a word as it is read: a list stands in the place of `@FILE`
+abbrev pub IsReadWord : Option FileLabel → List ℕ → List ℕ → Type 0
+IsReadWord before word read = MatchOption (file_label before word) (read ≡ word) (λ _. (list : List ℕ) × (read ≡ kept_of before word ++ list))
+
+abbrev pub AreReadWords : Option FileLabel → List (List ℕ) → List (List ℕ) → Type 0
+AreReadWords before [] [] = Unit {0}
+AreReadWords before [] (r ∷ read) = ⊥
+AreReadWords before (w ∷ words) [] = ⊥
+AreReadWords before (w ∷ words) (r ∷ read) = IsReadWord before w r × AreReadWords (label_of w) words read
+
+-- one of these words names a file with types of these tables
+abbrev pub NameFile : Option FileLabel → List (List ℕ) → FileLabel → Type 0
+NameFile before [] l = ⊥
+NameFile before (w ∷ words) l = (file_label before w ≡ Some l) ⊎ NameFile (label_of w) words l
+
+-- why a word can't be had with the list of the file that it names
+abbrev pub IsWordFault : Option FileLabel → List ℕ → Fault → Type 0
+IsWordFault before word f = (f ≡ fault.Memory) ⊎ ((l : FileLabel) × (file_label before word ≡ Some l) × IsListFault l f)
+
+-- why the words of a line can't be had with the lists of the files that they name
+abbrev pub IsListsFault : List (List ℕ) → Fault → Type 0
+IsListsFault words f = (f ≡ fault.Memory) ⊎ ((l : FileLabel) × NameFile None words l × IsListFault l f)

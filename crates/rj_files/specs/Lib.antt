@@ -1,5 +1,6 @@
 pub mod Drafts
 pub mod Entries
+pub mod Identities
 pub mod Labels
 pub mod Outputs
 pub mod Readers

@@ -47,12 +47,13 @@ IsFaultOf line left right f =
     IsOfWriting f ⊎ (IsUnread side.Left f ⊎ (IsUnread side.Right f
     ⊎ ((l r : List ℕ) × AreBytesOf left l × AreBytesOf right r × IsAskedFault line l r f)))
 
--- a list of types that a stream's bytes suggest was written after what the writer already had
-abbrev pub WritesSuggested : List (List ℕ) → Option (List ℕ) → Option (List ℕ) → Option (List ℕ) → Type 0
-WritesSuggested nulls told before after =
-    (bytes list : List ℕ) × AreBytesOf told bytes × IsSuggestedList bytes nulls list × Appends before after list
+-- a list of types that a stream's bytes suggest, read by a delimiter, was written after what the
+-- writer already had
+abbrev pub WritesSuggested : ℕ → List (List ℕ) → Option (List ℕ) → Option (List ℕ) → Option (List ℕ) → Type 0
+WritesSuggested d nulls told before after =
+    (bytes list : List ℕ) × AreBytesOf told bytes × IsSuggestedList d bytes nulls list × Appends before after list
 
 -- why none is made: the stream can't be read, or the error of its bytes
-abbrev pub IsUnsuggested : List (List ℕ) → Option (List ℕ) → Fault → Type 0
-IsUnsuggested nulls told f =
-    IsUnread side.Left f ⊎ ((bytes : List ℕ) × AreBytesOf told bytes × (f ≢ fault.Memory → IsSuggestFault bytes nulls f))
+abbrev pub IsUnsuggested : ℕ → List (List ℕ) → Option (List ℕ) → Fault → Type 0
+IsUnsuggested d nulls told f =
+    IsUnread side.Left f ⊎ ((bytes : List ℕ) × AreBytesOf told bytes × (f ≢ fault.Memory → IsSuggestFault d bytes nulls f))

@@ -5,6 +5,8 @@ ghost use Rattle.std.specs.IoError.{error_kind};
 ghost use Rattle.std.specs.List.{list_any};
 ghost use Rattle.std.specs.Option.{IsSomeAnd};
 ghost use Rattle.std.specs.Str.{bytes_eq};
+ghost use Rattle.rj_command.specs.Sides.{delimiter_of, nulls_of};
+ghost use Rattle.rj_csv_io.specs.Typed.{null_texts};
 ghost use Rattle.rj_line.specs.Forms as forms;
 ghost use Rattle.rj_line.specs.Line.{IsLineFault, IsLineOf};
 ghost use Rattle.rj_files.specs.Entries.{entry_for, is_entry_for};
@@ -14,9 +16,10 @@ use crate::explained::ExplainedFault;
 use crate::named::told_by_system;
 use crate::outputs::output_of;
 use rj_command::{Line, OpenGate, UnkeptRows, Violation, first_violation, read_line};
+use rj_csv_io::InputFormat;
 use rj_explain::{Inputs, explain, explain_row, explain_words};
 use rj_fault::{Fault, Side};
-use rj_line::{default_explain, form_of};
+use rj_line::{Request, default_explain, form_of};
 use rj_suggest::suggest_types;
 use std::alloc::{AllocError, Global};
 use std::io::{self, ErrorKind};
@@ -137,6 +140,23 @@ fn entry_for<'t>(list: &'t str, name: &str) -> Option<&'t str>
         .find(|entry| is_entry_for(entry.as_bytes(), name.as_bytes()))
 }
 
+// How the file of a side's table is read.
+fn format_of<'a>(request: &'a Request<'_>, side: Side) -> InputFormat<'a>
+    ensures delimiter { result.delimiter ≡ delimiter_of request.now side }
+    ensures nulls { null_texts result.nulls.now ≡ nulls_of request.now side }
+{
+    match side {
+        Side::Left => InputFormat {
+            delimiter: request.left_delimiter,
+            nulls: request.left_nulls.as_slice(),
+        },
+        Side::Right => InputFormat {
+            delimiter: request.right_delimiter,
+            nulls: request.right_nulls.as_slice(),
+        },
+    }
+}
+
 // The line for a column whose type isn't declared: how it is, with the type that its cells suggest.
 fn undeclared_lines(
     alloc: Global,
@@ -144,11 +164,11 @@ fn undeclared_lines(
     name: &str,
     inputs: &Inputs<'_, '_>,
 ) -> Result<String, AllocError> {
-    let (file, nulls) = match side {
-        Side::Left => (inputs.left, inputs.request.left_nulls.as_slice()),
-        Side::Right => (inputs.right, inputs.request.right_nulls.as_slice()),
+    let file = match side {
+        Side::Left => inputs.left,
+        Side::Right => inputs.right,
     };
-    let Ok(list) = suggest_types(alloc, file, nulls) else {
+    let Ok(list) = suggest_types(alloc, file, &format_of(inputs.request, side)) else {
         return Ok(String::new(alloc));
     };
     let list = str::from_utf8(list.as_slice()).unwrap_or("");

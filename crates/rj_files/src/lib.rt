@@ -7,6 +7,7 @@
 mod draft;
 mod explained;
 mod explaining;
+mod identities;
 mod joining;
 mod lists;
 mod message;
@@ -22,6 +23,7 @@ mod watched;
 
 pub use explained::{ExplainedFault, tell_explained};
 pub use explaining::{processors, read_words_of_line};
+pub use identities::{Identities, Identity};
 pub use lists::read_lists;
 pub use named::{NamedStream, StreamReader};
 pub use outputs::{refuse_inputs, refuse_printed, write_output};

@@ -1,7 +1,8 @@
 //! Lists of types that are in files: `@FILE` in the place of a list.
 
-ghost use Rattle.std.specs.Prelude.{◌≡◌, IfErr};
-ghost use Rattle.rj_files.specs.Labels.{IsListFault, IsListsFault, IsUnreadOf, bad_list_fault, label_of};
+ghost use Rattle.std.specs.Prelude.{◌≡◌, ◌==◌, IfErr, IfOk, MatchOption, None, false, map, string_bytes, true};
+ghost use Rattle.std.specs.List.{after_first, before_first};
+ghost use Rattle.rj_files.specs.Labels.{AreReadWords, IsListFault, IsListsFault, IsReadWord, IsUnreadOf, IsWordFault, bad_list_fault, file_label, is_file, label_of};
 
 use crate::explained::ExplainedFault;
 use crate::explaining::ask_for_lines;
@@ -34,15 +35,34 @@ fn bad_list(label: FileLabel) -> Fault
     }
 }
 
+// The name of a file, if a value is `@` and such a name.
+fn file_in(value: &str) -> Option<&str>
+    ensures { MatchOption result (is_file value.now ≡ false) (λ _. is_file value.now ≡ true) }
+{
+    value.strip_prefix('@')
+}
+
+// An option and its value, if a word is both with `=` between.
+fn option_in(word: &str) -> Option<(&str, &str)>
+    ensures { MatchOption result (is_file (after_first (λ b. b == 61) word.now) ≡ false)
+        (λ pair. (pair.0.now ≡ before_first (λ b. b == 61) word.now) × (pair.1.now ≡ after_first (λ b. b == 61) word.now)) }
+{
+    word.split_once('=')
+}
+
 // An option with the list that a file has, if the word is such an option, `=` and `@FILE`.
 fn with_list<R: Files + AllocGlobal>(
     rt: &R,
     word: &str,
     explain: bool,
 ) -> Result<Option<String>, ExplainedFault>
-    ensures { IfErr result (λ e. IsListsFault e.fault) }
+    ensures list { IfOk result (λ o. MatchOption o (file_label None word.now ≡ None) (λ s. IsReadWord None word.now (string_bytes s))) }
+    ensures fault { IfErr result (λ e. IsWordFault None word.now e.fault) }
 {
-    let Some((option, file)) = word.split_once("=@") else {
+    let Some((option, value)) = option_in(word) else {
+        return Ok(None);
+    };
+    let Some(file) = file_in(value) else {
         return Ok(None);
     };
     let Some(label) = label_of(option) else {
@@ -124,15 +144,19 @@ fn with_its_list<R: Files + AllocGlobal>(
     label: Option<FileLabel>,
     explain: bool,
 ) -> Result<String, ExplainedFault>
-    ensures { IfErr result (λ e. IsListsFault e.fault) }
+    ensures read { IfOk result (λ s. IsReadWord label (string_bytes word) (string_bytes s)) }
+    ensures fault { IfErr result (λ e. IsWordFault label (string_bytes word) e.fault) }
 {
     if let Some(label) = label {
-        return match word.as_str().strip_prefix('@') {
+        return match file_in(word.as_str()) {
             Some(file) => list_of(rt, file, label, explain),
             None => Ok(word),
         };
     }
-    Ok(with_list(rt, word.as_str(), explain)?.unwrap_or(word))
+    match with_list(rt, word.as_str(), explain)? {
+        Some(read) => Ok(read),
+        None => Ok(word),
+    }
 }
 
 // Whether the words ask for explanations.
@@ -141,7 +165,8 @@ fn are_explained(alloc: Global, words: &[String]) -> Result<bool, AllocError> {
     Ok(ask_for_lines(texts.as_slice()))
 }
 
-/// The words of the command line, where each `@FILE` is replaced by the list of types in that file.
+/// The words of the command line, where each `@FILE` of an option of types is replaced by the list
+/// of types in that file. The other words stay as they are.
 ///
 /// # Errors
 ///
@@ -152,7 +177,8 @@ pub fn read_lists<R: Files + AllocGlobal>(
     rt: &R,
     words: Vec<String>,
 ) -> Result<Vec<String>, ExplainedFault>
-    ensures { IfErr result (λ e. IsListsFault e.fault) }
+    ensures read { IfOk result (λ v. AreReadWords None (map string_bytes words.items) (map string_bytes v.items)) }
+    ensures fault { IfErr result (λ e. IsListsFault (map string_bytes words.items) e.fault) }
 {
     let explain = are_explained(rt.alloc(), words.as_slice())?;
     let mut read = Vec::with_capacity(rt.alloc(), words.len())?;

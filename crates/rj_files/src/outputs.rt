@@ -1,12 +1,14 @@
 //! Where the result is written: to standard output, or to a file that is none of the tables.
 
-ghost use Rattle.std.specs.Prelude.{◌≡◌, IfOk, IfErr, option_map, unwrap_or};
-ghost use Rattle.rj_files.specs.Outputs.{AreStandard, IsInputFault, IsWrittenOver, file_of};
+ghost use Rattle.std.specs.Prelude.{◌≡◌, IfOk, IfErr, None, OnOk, option_map};
+ghost use Rattle.rj_files.specs.Identities.{are_one_file};
+ghost use Rattle.rj_files.specs.Outputs.{AreAccepted, AreStandard, IsInputFault, IsJudged, file_of, input_path, judged, output_path};
 ghost use Rattle.rj_files.specs.Streams.{IsFaultOf, IsWrittenOf};
 
 use crate::draft::{Draft, Unwritten};
 use crate::explained::ExplainedFault;
 use crate::explaining::unwritten;
+use crate::identities::{Identities, Identity};
 use crate::named::{is_standard_stream, told_by_system};
 use crate::progress::Progress;
 use crate::reading::Stream;
@@ -14,9 +16,8 @@ use crate::streams::write_streams;
 use rj_command::{Line, Stats};
 use rj_fault::{Fault, Side};
 use std::alloc::{AllocError, Global};
-use std::fs::{self, Files, Metadata};
-use std::io::{self, ErrorKind};
-use std::os::unix::fs::MetadataExt;
+use std::fs::Files;
+use std::io;
 use std::sync::Wait;
 use std::thread::Threads;
 use std::time::Clock;
@@ -37,40 +38,58 @@ pub(crate) fn output_of<'a>(line: &Line<'a>) -> Option<&'a str>
 }
 
 // The path by which the system shows where the result of a line is written.
-fn shown_output<'a>(line: &Line<'a>) -> &'a str
-    ensures { result.now ≡ unwrap_or (file_of (option_map (λ name. name.now) line.now.output)) STANDARD_OUTPUT.now }
+fn output_path<'a>(line: &Line<'a>) -> &'a str
+    ensures { result.now ≡ output_path (option_map (λ name. name.now) line.now.output) }
 {
     output_of(line).unwrap_or(STANDARD_OUTPUT)
 }
 
-// The system's metadata of a file, or none if there is none.
-fn told_of<R: Files>(rt: &R, name: &str) -> Result<Option<Metadata>, Fault>
-    ensures { IfErr result (λ f. f ≡ Fault.Memory) }
+// The path by which the system shows from where a table is read.
+fn input_path(name: &str) -> &str
+    ensures { result.now ≡ input_path name.now }
 {
-    match fs::metadata(rt, name) {
-        Ok(metadata) => Ok(Some(metadata)),
-        Err(error) if error.kind() == ErrorKind::OutOfMemory => Err(Fault::Memory),
-        Err(_) => Ok(None),
-    }
-}
-
-// Refuses a table whose file is the one that is written, as far as the system tells.
-fn refuse_input<R: Files>(rt: &R, output: &str, name: &str, side: Side) -> Result<(), Fault>
-    ensures { IfErr result (IsWrittenOver side) }
-{
-    let input = if is_standard_stream(name) {
+    if is_standard_stream(name) {
         STANDARD_INPUT
     } else {
         name
-    };
-    let (Some(output), Some(input)) = (told_of(rt, output)?, told_of(rt, input)?) else {
-        return Ok(());
-    };
-    if output.is_file() && output.dev() == input.dev() && output.ino() == input.ino() {
-        Err(Fault::OutputIsInput(side))
-    } else {
-        Ok(())
     }
+}
+
+// Whether two names lead to one regular file.
+fn are_one_file(output: Option<Identity>, input: Option<Identity>) -> bool
+    ensures { result ≡ are_one_file output input }
+{
+    match (output, input) {
+        (Some(output), Some(input)) => {
+            output.is_regular && output.device == input.device && output.number == input.number
+        }
+        _ => false,
+    }
+}
+
+// What becomes of a side's table, by the answers to the paths of the output and of the table.
+fn judged(
+    side: Side,
+    output: Result<Option<Identity>, AllocError>,
+    input: Result<Option<Identity>, AllocError>,
+) -> Result<(), Fault>
+    ensures { result ≡ judged side output input }
+{
+    if are_one_file(output?, input?) {
+        return Err(Fault::OutputIsInput(side));
+    }
+    Ok(())
+}
+
+// Refuses a table whose file is the one that is written, as far as the system tells.
+fn refuse_input<I: Identities>(files: &I, output: &str, name: &str, side: Side) -> Result<(), Fault>
+    ensures { IsJudged (I.answers files.now) side output.now (input_path name.now) result }
+{
+    judged(
+        side,
+        files.identity_of(output),
+        files.identity_of(input_path(name)),
+    )
 }
 
 /// Refuses two tables of a line that can't be read, before anything of them is read.
@@ -80,16 +99,17 @@ fn refuse_input<R: Files>(rt: &R, output: &str, name: &str, side: Side) -> Resul
 /// `TwoStandardInputs` if both are standard input. `OutputIsInput` of the side whose file is the
 /// one that is written, by whatever name, as far as the system tells. `Memory` comes only when the
 /// system has none.
-pub fn refuse_inputs<R: Files>(rt: &R, line: &Line<'_>) -> Result<(), Fault>
+pub fn refuse_inputs<I: Identities>(files: &I, line: &Line<'_>) -> Result<(), Fault>
     ensures standard { AreStandard line.now.left.now line.now.right.now → result ≡ Err Fault.TwoStandardInputs }
-    ensures fault { IfErr result (IsInputFault line.now.left.now line.now.right.now) }
+    ensures accepted { OnOk result (AreAccepted (I.answers files.now) (option_map (λ name. name.now) line.now.output) line.now.left.now line.now.right.now) }
+    ensures fault { IfErr result (IsInputFault (I.answers files.now) (option_map (λ name. name.now) line.now.output) line.now.left.now line.now.right.now) }
 {
     if is_standard_stream(line.left) && is_standard_stream(line.right) {
         return Err(Fault::TwoStandardInputs);
     }
-    let output = shown_output(line);
-    refuse_input(rt, output, line.left, Side::Left)?;
-    refuse_input(rt, output, line.right, Side::Right)
+    let output = output_path(line);
+    refuse_input(files, output, line.left, Side::Left)?;
+    refuse_input(files, output, line.right, Side::Right)
 }
 
 /// Refuses a table whose file is the one that standard output writes.
@@ -97,10 +117,10 @@ pub fn refuse_inputs<R: Files>(rt: &R, line: &Line<'_>) -> Result<(), Fault>
 /// # Errors
 ///
 /// `OutputIsInput` of the left side, as in [`refuse_inputs`].
-pub fn refuse_printed<R: Files>(rt: &R, name: &str) -> Result<(), Fault>
-    ensures { IfErr result (IsWrittenOver Side.Left) }
+pub fn refuse_printed<I: Identities>(files: &I, name: &str) -> Result<(), Fault>
+    ensures { IsJudged (I.answers files.now) Side.Left (output_path None) (input_path name.now) result }
 {
-    refuse_input(rt, STANDARD_OUTPUT, name, Side::Left)
+    refuse_input(files, STANDARD_OUTPUT, name, Side::Left)
 }
 
 // The error of an output that can't be made or put in its place, explained if that is asked for.

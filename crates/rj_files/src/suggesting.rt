@@ -7,7 +7,7 @@ ghost use Rattle.rj_suggest.specs.Suggested.{IsSuggestedList};
 
 use crate::progress::Progress;
 use crate::reading::{Stream, read_stream};
-use rj_csv_io::{CountedWriter, Output};
+use rj_csv_io::{CountedWriter, InputFormat, Output};
 use rj_fault::{Fault, Side};
 use rj_suggest::suggest_types;
 use std::io::Write;
@@ -17,20 +17,21 @@ use std::time::Clock;
 fn suggested<R: AllocGlobal + Eprint + Clock, S: Stream>(
     rt: &R,
     stream: &S,
-    nulls: &[&str],
+    format: &InputFormat<'_>,
 ) -> Result<Vec<u8>, Fault>
     ensures list { IfOk result (λ list. (bytes : List ℕ) × AreBytesOf (S.tells stream.now) bytes
-        × IsSuggestedList bytes (null_texts nulls.now) list.items) }
-    ensures fault { IfErr result (IsUnsuggested (null_texts nulls.now) (S.tells stream.now)) }
+        × IsSuggestedList format.now.delimiter bytes (null_texts format.now.nulls.now) list.items) }
+    ensures fault { IfErr result (IsUnsuggested format.now.delimiter (null_texts format.now.nulls.now) (S.tells stream.now)) }
 {
     match read_stream(rt.alloc(), stream, Side::Left, &Progress::hidden(rt)) {
-        Ok(bytes) => suggest_types(rt.alloc(), bytes.as_slice(), nulls),
+        Ok(bytes) => suggest_types(rt.alloc(), bytes.as_slice(), format),
         Err(fault) => Err(fault),
     }
 }
 
-/// Reads the table that a stream gives, to its end, and writes a list of the types that its cells
-/// suggest after what the writer already has, as [`suggest_types`] makes it. It returns the writer.
+/// Reads the table that a stream gives in this format, to its end, and writes a list of the types
+/// that its cells suggest after what the writer already has, as [`suggest_types`] makes it. It
+/// returns the writer.
 ///
 /// # Errors
 ///
@@ -40,18 +41,18 @@ fn suggested<R: AllocGlobal + Eprint + Clock, S: Stream>(
 pub fn write_suggested<R, S, W>(
     rt: &R,
     stream: &S,
-    nulls: &[&str],
+    format: &InputFormat<'_>,
     writer: W,
 ) -> (Result<(), Fault>, W)
 where
     R: AllocGlobal + Eprint + Clock,
     S: Stream,
     W: Write,
-    ensures written { OnOk result.0 (WritesSuggested (null_texts nulls.now) (S.tells stream.now) (W.contents writer) (W.contents result.1)) }
-    ensures fault { IfErr result.0 (λ f. f ≢ Fault.WriteDevice → IsUnsuggested (null_texts nulls.now) (S.tells stream.now) f) }
+    ensures written { OnOk result.0 (WritesSuggested format.now.delimiter (null_texts format.now.nulls.now) (S.tells stream.now) (W.contents writer) (W.contents result.1)) }
+    ensures fault { IfErr result.0 (λ f. f ≢ Fault.WriteDevice → IsUnsuggested format.now.delimiter (null_texts format.now.nulls.now) (S.tells stream.now) f) }
     ensures unchanged { IfErr result.0 (λ f. f ≢ Fault.WriteDevice → result.1 ≡ writer) }
 {
-    let list = match suggested(rt, stream, nulls) {
+    let list = match suggested(rt, stream, format) {
         Ok(list) => list,
         Err(fault) => return (Err(fault), writer),
     };

@@ -29,3 +29,13 @@ loop-row-preserved g c =
       low = omega (arith, c.loop-row.invariant.low, c.in_ok-next_block.ensures.to);
       high = c.in_ok-next_block.ensures.end;
     }
+
+pub returns : goal.returns
+returns g c =
+    let rows = g.S.RowSource.contents c.args.source.now in
+    let text = c.args.text.items in
+    let d = c.args.format.now.delimiter in
+    let null = c.args.format.now.null.now in
+    let all : c.loop-row.row ≡ c.args.to = omega (arith, c.loop-row.invariant.high, c.loop-row-test.false) in
+    let written = subst (λ to. HasWritten d c.loop-row.writer (text ++ range_text d null rows c.args.from to) []) all c.loop-row.invariant.written in
+    c.close_text.ensures d (text ++ range_text d null rows c.args.from c.args.to) written
