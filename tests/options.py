@@ -177,7 +177,8 @@ def bash_details(folder):
     """What bash completes in places of its own: after `=`, an option that was given, and a value that isn't completed."""
     yield "after --left=", ["left.csv"], completed_by_bash("radixjoin", ["--left", "=", "le"], folder)
     yield "right after --left=", ["left.csv"], completed_by_bash("radixjoin", ["--left", "="], folder)
-    yield "an option that was given", ["--left-types", "--left-null"], completed_by_bash("radixjoin", ["--left", "left.csv", "--lef"], folder)
+    yield "an option that was given", ["--left-types", "--left-delimiter", "--left-null"], completed_by_bash("radixjoin", ["--left", "left.csv", "--lef"], folder)
+    yield "a delimiter", ["tab"], completed_by_bash("radixjoin", ["-d", "t"], folder)
     yield "one that may be given again", ["--left-null"], completed_by_bash("radixjoin", ["--left-null", "a", "--left-n"], folder)
     yield "a file that is a word by itself", ["left.csv"], completed_by_bash("radixjoin", ["--count", "le"], folder)
     yield "a file for -o", ["left.csv"], completed_by_bash("radixjoin", ["-o", "le"], folder)

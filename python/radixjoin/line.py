@@ -25,7 +25,7 @@ LIMITS = (("parts", 1, 1024), ("processes", 1, 1024), ("ranges", 1, 100_000), ("
 # Stands for the text `--` of an option while the line is read: no word of a command line has this letter.
 DASHES = "\0"
 ABOUT = """Joins two CSV files that may be larger than one machine's memory, on this machine or in the processes of a Dask cluster. The
-bytes written are those that `radixjoin` would write.
+bytes written are those that `radixjoin` would write. Fields are separated by commas, in both files and in the result.
 
 Where --memory has room for both tables and the result, one run of `radixjoin` joins them. Where it has for the right table and a part of
 the left one, and no unmatched right rows are written, so many runs join such a part each, on a cluster side by side. Otherwise they are

@@ -17,7 +17,7 @@ import telling
 from faults import CLOSED, without
 
 import radixjoin
-from radixjoin import cluster
+from radixjoin import cluster, line
 
 LEFT = "id,name\n" + "".join(f"{number % 97},n{number}\n" for number in range(3_000))
 RIGHT = "id,city\n" + "".join(f"{number % 89},c{number}\n" for number in range(500))
@@ -254,11 +254,13 @@ def run_joins(where, join, programs):
 
 
 def arguments(folder):
-    """Of a client and a number of processes one alone can be given, and the latter in its limits."""
+    """Of a client and a number of processes one alone can be given, and the latter in its limits. No delimiter can be given."""
     cases = (
         ({"client": object(), "processes": 2}, TypeError("processes= is of this machine, and client= of a cluster")),
         ({"processes": 0}, ValueError("processes= is from 1 to 1024")),
         ({"processes": 1025}, ValueError("processes= is from 1 to 1024")),
+        *(({name: ";"}, TypeError(f"{name}=: {line.COMMAS_ALONE}")) for name in line.DELIMITERS),
+        ({"delimiter": ",", "left_delimiter": None, "out_delimiter": "tab"}, TypeError(f"out_delimiter=: {line.COMMAS_ALONE}")),
     )
     for named, wanted in cases:
         error = telling.raised(cluster.join, "left.csv", "right.csv", CLAUSE, output=folder / "out.csv", **named, **TYPES)
