@@ -1,7 +1,7 @@
 """Left runs that the processes of a Dask cluster join side by side with the whole right file, beside `radixjoin` alone: the random tables of
-tests/cluster_runs.py and the headers of that, also by tasks that run twice; programs that are killed, refuse, or are short of memory, and
-processes that are killed, once or each time; faults in the rows, of which the first one is told; a folder that is full; what is sent for
-it, and what is shown.
+tests/cluster_runs.py, and the headers and unmatched right rows of that, also by tasks that run twice; programs that are killed, refuse, or
+are short of memory, and processes that are killed, once or each time; faults in the rows, of which the first one is told; a folder that
+is full; what is sent for it, and what is shown.
 
 usage: cluster_broadcast.py [RUNS [FIRST]]
 
@@ -42,7 +42,13 @@ DIES = (
     ("runs.py", "join_part", 1, "join_part"),
     ("making.py", "append", 6, "put_parts"),
     ("runs.py", "put_parts", 1, "put_parts"),
+    ("making.py", "append", 1, "number_right"),
+    ("runs.py", "number_right", 1, "number_right"),
+    ("runs.py", "_list_right", 1, "join_part"),
+    ("runs.py", "_put_right", 1, "put_parts"),
 )
+# Of these steps those that a join without unmatched right rows has.
+WITHOUT_RIGHT = DIES[:5]
 
 
 # The memory of a process by which the large tables of tests/cluster_runs.py are cut into runs.
@@ -117,8 +123,7 @@ def run_one(does, seed, tally):
         ran, runs, are_shards = joined(on, words, folder, count)
         faults = harness.differences(ran, wanted.stdout, wanted.stderr, wanted.status)
         if wanted.status == 0:
-            are_runs = cluster_runs.is_by_runs(words)
-            faults += [] if (runs > 0, are_shards) == (are_runs, not are_runs) else [f"{runs} left runs, and shards: {are_shards}"]
+            faults += [] if (runs > 0, are_shards) == (True, False) else [f"{runs} left runs, and shards: {are_shards}"]
         tally.check(f"cluster_broadcast: {seed}: {words} by {count} runs, {on.tasks_at_once()} at a time", faults)
         return runs, wanted.status, are_shards
 
@@ -128,7 +133,7 @@ def run_random(does, seeds, tally):
     ran = harness.side_by_side(tally, [lambda own, seed=seed: run_one(does, seed, own) for seed in seeds])
     if len(ran) >= RUNS:
         many = sum(runs > 1 and not are_shards for runs, _, are_shards in ran)
-        faults = [] if many > len(ran) / 8 and {0, 3} <= {status for _, status, _ in ran} else [f"{many} of {len(ran)}: {ran}"]
+        faults = [] if many > len(ran) / 4 and {0, 3} <= {status for _, status, _ in ran} else [f"{many} of {len(ran)}: {ran}"]
         tally.check("cluster_broadcast: joins by runs", faults)
 
 
@@ -146,10 +151,65 @@ def run_table(does, name, left, right, more, tally):
 
 
 def run_tables(does, tally):
-    """Each of the tables as a LEFT join in the order of pairs, and in another way."""
-    ways = cluster_runs.WAYS
+    """Each of the tables as a LEFT join in the order of pairs, and in two other ways, by one of which unmatched right rows are written."""
+    ways, others = cluster_runs.WAYS, cluster_runs.RIGHT_WAYS
     cases = [(*table, ways[way % len(ways)]) for number, table in enumerate(cluster_runs.TABLES) for way in (0, number + 1)]
+    cases += [(*table, others[number % len(others)]) for number, table in enumerate(cluster_runs.TABLES)]
     harness.side_by_side(tally, [lambda own, it=it: run_table(does, *it, own) for it in cases])
+
+
+def run_unmatched(does, name, left, right, types_given, clause, more, are_wanted, tally):
+    """Tables with right rows that are in no match. (That a text is written as null is may be told of such a row of one run alone: shards
+    follow then too.)"""
+    with harness.folder() as place:
+        folder = pathlib.Path(place)
+        own = [word.partition("=")[0] for word in more]
+        words = [word.replace("int,text", types_given) for word in cluster_runs.write(folder, left, right) if word.partition("=")[0] not in own]
+        words += [f"--join={clause}", *more]
+        wanted = harness.run([harness.program("radixjoin"), *words], folder)
+        ran, runs, are_shards = joined(does(), words, folder, 3)
+        faults = harness.differences(ran, wanted.stdout, wanted.stderr, wanted.status)
+        may_be = are_wanted or name == "such a text in a match alone"
+        faults += [] if are_shards in (are_wanted, may_be) and (runs > 1 or are_wanted) else [f"{runs} left runs, and shards: {are_shards}"]
+        tally.check(f"cluster_broadcast: {name}", faults)
+
+
+def run_all_unmatched(does, tally):
+    harness.side_by_side(tally, [lambda own, it=it: run_unmatched(does, *it, own) for it in cluster_runs.UNMATCHED])
+
+
+# What a program does in the place of those that have to do with unmatched right rows, the program and a text in its words, how often, and
+# whether shards follow.
+NUMBERS, LISTS, MERGES = "--parts=1 --from=0", "--left-types=int,text,int", "--copies="
+RIGHT_ENDS = (
+    ("shards", NUMBERS, "is killed twice", cluster_ends.IS_KILLED_TWICE, False, False),
+    ("shards", NUMBERS, "is killed each time", cluster_ends.IS_KILLED, False, True),
+    ("shards", NUMBERS, "refuses", "echo 'radixjoin: E6 BadInteger right row 1 column 1' >&2; exit 3", True, True),
+    ("radixjoin", cluster_runs.FINDS, "is killed twice", cluster_ends.IS_KILLED_TWICE, False, False),
+    ("radixjoin", cluster_runs.FINDS, "is killed each time", cluster_ends.IS_KILLED, False, True),
+    ("radixjoin", cluster_runs.FINDS, "is short of memory", "echo 'radixjoin: E18 Memory' >&2; exit 5", True, True),
+    ("radixjoin", LISTS, "refuses", "echo 'radixjoin: E6 BadInteger left row 1 column 1' >&2; exit 3", True, True),
+    ("merges", MERGES, "is killed twice", cluster_ends.IS_KILLED_TWICE, False, False),
+    ("merges", MERGES, "is killed each time", cluster_ends.IS_KILLED, False, True),
+    ("merges", MERGES, "is short of memory", "echo 'merges: E18 Memory' >&2; exit 5", True, True),
+)
+
+
+def run_right_end(does, name, step, title, program_does, is_once, are_wanted, tally):
+    """A program that has to do with unmatched right rows does something else, once or each time."""
+    with harness.folder() as place:
+        folder = pathlib.Path(place)
+        words = cluster_runs.right_tables(folder)
+        wanted = harness.run([harness.program("radixjoin"), *words], folder)
+        programs = cluster_ends.programs_in(folder / "programs", name, program_does, is_once=is_once, step=step)
+        ran, _, are_shards = joined(does(), words, folder, 4, f"--programs={programs}")
+        faults = harness.differences(ran, wanted.stdout, wanted.stderr, wanted.status)
+        faults += [] if are_shards == are_wanted else [f"shards: {are_shards}"]
+        tally.check(f"cluster_broadcast: {name} {title} with {step}", faults)
+
+
+def run_right_ends(does, tally):
+    harness.side_by_side(tally, [lambda own, it=it: run_right_end(does, *it, own) for it in RIGHT_ENDS])
 
 
 def run_end(does, title, program_does, is_once, are_wanted, is_later, tally):
@@ -192,11 +252,13 @@ def run_faulty(does, left, last, right, behind, more, tally):
         folder = pathlib.Path(place)
         rows = "".join(f'{number % 7},"a\n{number}"\n' for number in range(20))
         words = cluster_runs.write(folder, f"k,a\n{rows}{left}{rows}{last}", f"k,b\n1,x\n{right}2,y\n{behind}")
-        words += ["--join=LEFT JOIN USING (k)", *more]
+        words += cluster_runs.with_join(more)
         wanted = harness.run([harness.program("radixjoin"), *words], folder)
         ran, runs, are_shards = joined(does(), words, folder, 4)
         faults = harness.differences(ran, wanted.stdout, wanted.stderr, wanted.status)
-        faults += [] if runs > 1 and are_shards and wanted.status == 3 else [f"{runs} left runs, and shards: {are_shards}"]
+        # (where unmatched right rows are written all right rows are looked at before a run begins)
+        are_begun = runs > 1 or cluster_runs.FULL_JOIN in more and bool(right)
+        faults += [] if are_begun and are_shards and wanted.status == 3 else [f"{runs} left runs, and shards: {are_shards}"]
         tally.check(f"cluster_broadcast: {left!r}, {last!r}, {right!r}, {behind!r} {more}", faults)
 
 
@@ -242,10 +304,9 @@ def run_full(tally):
 
 
 def large_tables(folder):
-    """Two small tables for several runs, with rows that are in no match, and the words that join them."""
+    """Two small tables for several runs, with rows that are in no match, and the words that name them."""
     left = "".join(f'{number % 60},"{number}\n"\n' for number in range(120))
-    words = cluster_runs.write(folder, f"k,a\n{left}", "k,b\n" + "".join(f"{number},b\n" for number in range(30)))
-    return [*words, "--join=LEFT JOIN USING (k)"]
+    return cluster_runs.write(folder, f"k,a\n{left}", "k,b\n" + "".join(f"{number},b\n" for number in range(30, 70)))
 
 
 class Dying(Noted, cluster_killed.Notes):
@@ -256,7 +317,8 @@ def run_dying(client, file, name, count, kind, tally):
     """A process is killed behind a call of a function, once."""
     with harness.folder() as place, harness.folder() as flags:
         folder, flag = pathlib.Path(place), pathlib.Path(flags, "flag")
-        words = large_tables(folder)
+        is_without = (file, name, count, kind) in WITHOUT_RIGHT
+        words = [*large_tables(folder), f"--join={'LEFT' if is_without else 'FULL'} JOIN USING (k)"]
         wanted = harness.run([harness.program("radixjoin"), *words], folder)
         with mock.patch.object(sending, "sources", functools.partial(cluster_killed.dying, file, name, count, flag)):
             on = Dying(client, flag)
@@ -270,7 +332,7 @@ def run_killed_each_time(client, tally):
     """The process of each left run is killed each time, until Dask bears it no more: shards follow."""
     with harness.folder() as place:
         folder = pathlib.Path(place)
-        words = large_tables(folder)
+        words = [*large_tables(folder), "--join=LEFT JOIN USING (k)"]
         wanted = harness.run([harness.program("radixjoin"), *words], folder)
         programs = cluster_ends.programs_in(folder / "programs", "radixjoin", cluster_ends.KILLS, is_once=False, step=STEP)
         ran, runs, are_shards = joined(Cluster(client, False), words, folder, 4, f"--programs={programs}")
@@ -301,18 +363,20 @@ def run_script(address, tally):
 
 
 def run_sent(client, tally):
-    """What is sent for a run, and to put all together, is small."""
+    """What is sent for a run, for all right rows, and to put all together, is small."""
     with harness.folder() as place:
         folder = pathlib.Path(place)
-        words = cluster_runs.write_large(folder)
-        wanted = harness.run([harness.program("radixjoin"), *words], folder)
-        on = cluster_sent.Cluster(client)
-        ran = shards.joined([*words, *LARGE], folder, 1, cluster=lambda _: on)
-        faults = harness.differences(ran, wanted.stdout, wanted.stderr, wanted.status)
-        faults += [] if {*on.kinds} == {"cuts_of", "join_part", "put_parts"} else [f"{[*on.kinds]}"]
-        faults += [f"{kind} has {size} bytes, {own} of its own words" for kind, sizes in on.kinds.items() for size, own in sizes if own > MOST or size - own > cluster_sent.MOST]
-        faults += [f"{kind} is shown as {names}" for kind, names in on.steps.items() if names != {tasks.STEPS[kind].replace(" ", "-")}]
-        tally.check("cluster_broadcast: what is sent", faults)
+        large = cluster_runs.write_large(folder)
+        for kind, further in (("LEFT", set()), ("FULL", {"number_right"})):
+            words = [word.replace("LEFT", kind) for word in large]
+            wanted = harness.run([harness.program("radixjoin"), *words], folder)
+            on = cluster_sent.Cluster(client)
+            ran = shards.joined([*words, *LARGE], folder, 1, cluster=lambda _, on=on: on)
+            faults = harness.differences(ran, wanted.stdout, wanted.stderr, wanted.status)
+            faults += [] if {*on.kinds} == {"cuts_of", "join_part", "put_parts", *further} else [f"{[*on.kinds]}"]
+            faults += [f"{kind} has {size} bytes, {own} of its own words" for kind, sizes in on.kinds.items() for size, own in sizes if own > MOST or size - own > cluster_sent.MOST]
+            faults += [f"{kind} is shown as {names}" for kind, names in on.steps.items() if names != {tasks.STEPS[kind].replace(" ", "-")}]
+            tally.check(f"cluster_broadcast: what is sent for a {kind} JOIN", faults)
 
 
 def run_here(tally):
@@ -321,6 +385,7 @@ def run_here(tally):
         for seeds, does in ((range(1_000, 1_030), lambda: Tasks(4)), (range(2_000, 2_010), lambda: Twice(3)), (range(3_000, 3_005), lambda: Tasks(1))):
             run_random(does, seeds, tally)
         run_tables(lambda: Twice(2), tally)
+        run_all_unmatched(lambda: Twice(3), tally)
         run_faults(lambda: Tasks(4), cluster_runs.FAULTY[::2], tally)
         run_given_up(tally)
         run_without_processes(tally)
@@ -333,6 +398,7 @@ def run_by(client, seeds, tally):
     with cluster_runs.patched(), mock.patch.object(sending, "sources", small):
         run_random(lambda: Cluster(client, False), seeds, tally)
         run_ends(lambda: Cluster(client, False), tally)
+        run_right_ends(lambda: Cluster(client, False), tally)
         run_faults(lambda: Cluster(client, False), cluster_runs.FAULTY[1::4], tally)
         for case in DIES:
             run_dying(client, *case, tally)

@@ -173,7 +173,7 @@ def run_all(tally):
     run_lines(tally)
     cases = [*AS_ALONE, *((options, contents, told) for options, contents, *told in ITS_OWN)]
     harness.side_by_side(tally, [lambda own, it=it: run_early(own, *it) for it in cases])
-    tally.check("cluster_manners: kinds of tasks", [] if {*tasks.STEPS} == {*cluster_sent.KINDS, "join_part", "join_run", "join_whole", "put_parts"} else [f"{sorted(tasks.STEPS)}"])
+    tally.check("cluster_manners: kinds of tasks", [] if {*tasks.STEPS} == {*cluster_sent.KINDS, "add_right", "join_part", "join_run", "join_whole", "number_right", "put_parts"} else [f"{sorted(tasks.STEPS)}"])
     with harness.folder() as programs:
         run_steps(cluster.Machine(programs), tally)
     python = harness.python_with_dask("cluster_manners")

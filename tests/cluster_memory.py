@@ -109,8 +109,8 @@ def asked(**given):
 LEFT_JOIN = {"join": "LEFT JOIN USING (k)"}
 PLANS = (
     ({}, 100 * MIB, On(1, 600 * MIB), (1, 16, 100 * MIB, 300 * MIB)),
-    ({}, 100 * MIB + 1, On(1, 600 * MIB), (0, 16, 100 * MIB, 300 * MIB)),
-    ({}, 100 * MIB, On(1, 600 * MIB, is_here=False), (0, 16, 100 * MIB, 300 * MIB)),
+    ({}, 104 * MIB, On(1, 600 * MIB), (0, 16, 100 * MIB, 300 * MIB)),
+    ({}, 104 * MIB, On(1, 600 * MIB, is_here=False), (0, 16, 100 * MIB, 300 * MIB)),
     ({"memory": 300 * MIB}, 100 * MIB, On(1), (1, 16, 100 * MIB, 300 * MIB)),
     ({"memory": 240 * MIB}, 10 * GIB, On(1), (0, 256, 80 * MIB, 240 * MIB)),
     ({"memory": 240 * MIB}, 10 * GIB, On(4), (0, 1_024, 20 * MIB, 240 * MIB)),
@@ -139,10 +139,14 @@ PLANS = (
     ({**LEFT_JOIN, "memory": 300 * MIB}, (121 * MIB, 40 * MIB), On(4, is_here=False), (0, 16, 25 * MIB, 300 * MIB)),
     ({**LEFT_JOIN, "memory": 300 * MIB, "ranges": 1}, (121 * MIB, 40 * MIB), On(1), (0, 16, 100 * MIB, 300 * MIB)),
     ({**LEFT_JOIN, "memory": 300 * MIB, "parts": 16}, (121 * MIB, 40 * MIB), On(1), (0, 16, None, None)),
-    ({"memory": 300 * MIB}, (121 * MIB, 40 * MIB), On(1), (0, 16, 100 * MIB, 300 * MIB)),
-    ({"memory": 300 * MIB, "rows": "lone-left,pairs"}, (121 * MIB, 40 * MIB), On(1), (3, 16, 100 * MIB, 300 * MIB)),
-    ({"join": "RIGHT JOIN USING (k)", "memory": 300 * MIB}, (121 * MIB, 40 * MIB), On(1), (0, 16, 100 * MIB, 300 * MIB)),
     ({"join": "JOIN USING (k)", "memory": 300 * MIB}, (121 * MIB, 40 * MIB), On(1), (3, 16, 100 * MIB, 300 * MIB)),
+    # the same where unmatched right rows are written: a run has as many bytes as the right file
+    ({"memory": 300 * MIB}, (121 * MIB, 40 * MIB), On(1), (3, 16, 100 * MIB, 300 * MIB)),
+    ({"join": "RIGHT JOIN USING (k)", "memory": 300 * MIB}, (121 * MIB, 50 * MIB), On(1), (3, 16, 100 * MIB, 300 * MIB)),
+    ({"join": "RIGHT JOIN USING (k)", "memory": 300 * MIB}, (121 * MIB, 51 * MIB), On(1), (0, 16, 100 * MIB, 300 * MIB)),
+    ({"memory": 300 * MIB, "rows": "lone-right"}, (121 * MIB, 51 * MIB), On(1), (0, 16, 100 * MIB, 300 * MIB)),
+    ({"memory": 300 * MIB, "rows": "lone-left,pairs"}, (121 * MIB, 51 * MIB), On(1), (3, 16, 100 * MIB, 300 * MIB)),
+    ({"memory": 3 * MIB}, (100_000 * MIB, 0), On(1), (100_000, 1_024, MIB, 3 * MIB)),
     # by the processes of a cluster: no fewer runs than these do at once, if such a run has half of the bytes of the right file
     ({**LEFT_JOIN, "memory": 300 * MIB}, (121 * MIB, 40 * MIB), on_cluster(1, 1), (3, 16, 100 * MIB, 300 * MIB)),
     ({**LEFT_JOIN, "memory": 300 * MIB}, (121 * MIB, 30 * MIB), on_cluster(1, 8), (8, 16, 100 * MIB, 300 * MIB)),
@@ -154,7 +158,11 @@ PLANS = (
     ({**LEFT_JOIN, "memory": 300 * MIB}, (7, 3 * MIB), on_cluster(1, 8), (0, 16, 100 * MIB, 300 * MIB)),
     ({**LEFT_JOIN, "memory": 300 * MIB}, (121 * MIB, 30 * MIB), on_cluster(1, 0), (0, 16, 100 * MIB, 300 * MIB)),
     ({**LEFT_JOIN, "memory": 300 * MIB, "ranges": 2}, (121 * MIB, 30 * MIB), on_cluster(1, 8), (0, 16, 100 * MIB, 300 * MIB)),
-    ({"join": "RIGHT JOIN USING (k)", "memory": 300 * MIB}, (121 * MIB, 30 * MIB), on_cluster(1, 8), (0, 16, 100 * MIB, 300 * MIB)),
+    ({"join": "RIGHT JOIN USING (k)", "memory": 300 * MIB}, (121 * MIB, 15 * MIB), on_cluster(1, 8), (8, 16, 100 * MIB, 300 * MIB)),
+    ({"join": "RIGHT JOIN USING (k)", "memory": 300 * MIB}, (121 * MIB, 16 * MIB), on_cluster(1, 8), (0, 16, 100 * MIB, 300 * MIB)),
+    ({**LEFT_JOIN, "memory": 3 * MIB}, (10_001 * MIB, 0), on_cluster(1, 8), (10_001, 1_024, MIB, 3 * MIB)),
+    ({"memory": 3 * MIB}, (10_001 * MIB, 0), on_cluster(1, 8), (0, 1_024, MIB, 3 * MIB)),
+    ({"memory": 3 * MIB}, (1_000 * MIB, 0), on_cluster(1, 8), (1_000, 1_024, MIB, 3 * MIB)),
 )
 
 
@@ -324,14 +332,14 @@ def run_full(tally):
 
 
 def run_by(tally):
-    """On a cluster a join with unmatched right rows is always done in shards, as many as the memory of each process needs; another one of
-    small tables by one run, unless memory is short for that."""
+    """On a cluster small tables are joined by one run, unless memory is short for that: then in shards, as many as the memory of each process
+    needs."""
     from distributed import Client, LocalCluster
 
     with LocalCluster(n_workers=2, threads_per_worker=2, memory_limit=3 * GIB, dashboard_address=":0", silence_logs=50) as processes, Client(processes) as client:
         got = sending.Cluster(client, False).free()
         tally.check("cluster_memory: free by processes", [] if got == 3 * GIB else [f"{got}"])
-        for more, least, wanted in (([], 16, 16), (["--memory", "60K"], 3, 14)):
+        for more, least, kind, wanted in (([], 16, "join_whole", 1), (["--memory", "60K"], 3, "join_shard", 14)):
             with harness.folder() as place, mock.patch.multiple(plans, LEAST_PARTS=least, LEAST_SPREAD=1):
                 folder = pathlib.Path(place)
                 words = cluster_ends.write_tables(folder, 2_000)
@@ -339,7 +347,7 @@ def run_by(tally):
                 alone = harness.run([harness.program("radixjoin"), *words], folder)
                 on = cluster_sent.Cluster(client)
                 ran = shards.joined([*words, *more], folder, 2, cluster=lambda _, on=on: on)
-                joins = len(on.kinds.get("join_shard", []))
+                joins = len(on.kinds.get(kind, []))
                 faults = harness.differences(ran, alone.stdout, alone.stderr, alone.status)
                 tally.check(f"cluster_memory: {size} bytes by processes {more}", faults + ([] if joins >= wanted else [f"{joins} joins"]))
 

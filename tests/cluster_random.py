@@ -14,7 +14,6 @@ import time
 from unittest import mock
 
 import cluster_pieces
-import cluster_runs
 import harness
 import shards
 
@@ -58,11 +57,11 @@ def sources(otherwise=sending.sources):
     return {**code, "placed.py": small}
 
 
-def faults_of_plan(on, words, memory, size, is_whole):
+def faults_of_plan(on, memory, size, is_whole):
     """How the joins that were made differ from those that this memory has to plan for files of so many bytes."""
     limit = max(1, memory // on.tasks_in_process() // plans.MEASURE)
     parts = min(plans.MOST_PARTS, max(1, -(-2 * size // limit)))
-    if plans.MEASURE * size <= memory and (on.is_here or cluster_runs.is_by_runs(words)):
+    if plans.MEASURE * size <= memory:
         return [] if (on.runs, on.joins) == (1, 0) else [f"{on.runs} runs and {on.joins} joins of shards, and not one run"]
     return [] if on.runs == 0 and (on.joins >= parts or not is_whole) else [f"{on.runs} runs and {on.joins} joins of {parts} shards"]
 
@@ -85,7 +84,7 @@ def run_one(does, seed, tally):
             given = [*given, f"--memory={memory}"] if memory else given
             ran = shards.joined([*words, *given], folder, ranges, cluster=lambda _, on=on: on)
             faults = harness.differences(ran, wanted.stdout, wanted.stderr, wanted.status)
-            faults += faults_of_plan(on, words, memory, size, wanted.status == 0) if memory else []
+            faults += faults_of_plan(on, memory, size, wanted.status == 0) if memory else []
             tally.check(f"cluster_random: {seed}: {words} {given} of {ranges} ranges", faults)
             further += 0 if memory else max(0, on.joins - parts)
         return further, wanted.status

@@ -1,6 +1,6 @@
-"""Joins by left runs, each with the whole right file, beside `radixjoin` alone: which joins are done so, and which are left to shards; random
-tables, with keys that many rows have, and what has to be quoted; headers of all kinds; faults in the rows, of which the first one is told;
-runs that are killed, refused, or short of memory; the script is told to end, and the disks are full; what is shown; and where the last
+"""Joins by left runs, each with the whole right file, beside `radixjoin` alone: random tables, with keys that many rows have, and what has to
+be quoted; headers of all kinds; right rows that are in no match; faults in the rows, of which the first one is told; runs that are killed,
+refused, or short of memory, where shards follow; the script is told to end, and the disks are full; what is shown; and where the last
 records of a text begin.
 
 usage: cluster_runs.py [RUNS [FIRST]]
@@ -11,7 +11,6 @@ import itertools
 import os
 import pathlib
 import random
-import re
 import signal
 import sys
 import tempfile
@@ -134,29 +133,30 @@ def run_kinds(tally):
         tally.check(f"cluster_runs: what is told of {clause!r} {rows}", [] if got == TOLD_OF[side] else [f"{got!r}, and not {TOLD_OF[side]!r}"])
 
 
+# Texts for null, of which some are those of cells.
+NULLS = ([], [], [], ["--null=plain"], ["--right-null=plain", "--right-null=", "--out-null=~"], ["--right-null=plain", "--right-null=x", "--out-null="])
+
+
 def random_words(pick, folder):
-    """Two random tables and the words that join them, with marks, ends of lines and a grammar that are looked at in all ways."""
+    """Two random tables and the words that join them, with marks, ends of lines and a grammar that are looked at in all ways. Names of keys
+    may be spelled in two ways."""
     if pick.random() < 0.3:
         words = cluster_pieces.words_of(pick, folder)
     else:
         end, mark = pick.choice(shards.ENDS), pick.choice(("\ufeff", "", ""))
-        sides = (f"{mark}k,n,a{end}", pick.randrange(60)), (f"{pick.choice(('', mark))}k,n,b{end}", pick.randrange(30))
+        sides = (f"{mark}k,n,a{end}", pick.randrange(60)), (f"{pick.choice(('', mark))}{pick.choice('kK')},n,b{end}", pick.randrange(30))
         words = write(folder, *(header + shards.random_rows(pick, rows, end) for header, rows in sides))
         words = [word.replace("-types=int,text", "-types=int,int,text") for word in words]
+        words[3] = pick.choice((words[3], "--right-types=num(9,2),int,text"))
         rows = [] if pick.random() < 0.6 else [f"--rows={','.join(pick.sample(cluster_pieces.ROWS, pick.randrange(1, 4)))}"]
-        kind, how = pick.choice(("JOIN", *["LEFT JOIN"] * 3, "RIGHT JOIN", "FULL JOIN")), pick.choice(cluster_pieces.CONDITIONS)
-        words += [f"--join={kind} {how}", *rows, *pick.choice(([], ["--order=left"])), *pick.choice(([], [], ["--strict"]))]
+        kind, how = pick.choice(("JOIN", *["LEFT JOIN"] * 3, "RIGHT JOIN", *["FULL JOIN"] * 3)), pick.choice(cluster_pieces.CONDITIONS)
+        words += [f"--join={pick.choice((f'NATURAL {kind}', *[f'{kind} {how}'] * 5))}", *rows, *pick.choice(NULLS)]
+        words += [*pick.choice(([], ["--order=left"])), *pick.choice(([], [], ["--strict"]))]
     if pick.random() < 0.3:
         with open(folder / "left.csv", "rb+") as left:
             # (the last line may lack its end)
             left.truncate(max(0, os.path.getsize(folder / "left.csv") - 1))
     return [*words, *pick.choice(([], ["--workers=2", "--bits1=1"], ["--strict=full"] if "--strict" not in words else []))]
-
-
-def is_by_runs(words):
-    """Whether a join is done by left runs: no unmatched right row is written."""
-    clause, rows = ([word.partition("=")[2] for word in words if word.startswith(f"--{name}=")] for name in ("join", "rows"))
-    return not re.search("RIGHT|FULL", clause[0]) or bool(rows) and "lone-right" not in rows[0]
 
 
 def run_one(seed, tally):
@@ -170,9 +170,8 @@ def run_one(seed, tally):
         ran, runs, are_shards = joined(words, folder, count)
         faults = harness.differences(ran, wanted.stdout, wanted.stderr, wanted.status)
         is_whole = plans.MEASURE * sum((folder / f"{side}.csv").stat().st_size for side in SCRIPT.SIDES) <= memory_for(folder, count)
-        are_runs = is_by_runs(words) and not is_whole
         if wanted.status == 0:
-            faults += [] if (runs > 0, are_shards) == (are_runs, not are_runs and not is_whole) else [f"{runs} left runs, and shards: {are_shards}"]
+            faults += [] if (runs > 0, are_shards) == (not is_whole, False) else [f"{runs} left runs, and shards: {are_shards}"]
         tally.check(f"cluster_runs: {seed}: {words} by {count} runs", faults)
         return runs, wanted.status, are_shards
 
@@ -205,6 +204,8 @@ TABLES = (
     ("no row in a match", "k,a\n" + "".join(f'{number},"{number}\n"\n' for number in range(30)), "k,b\n-1,x\n"),
 )
 WAYS = (["LEFT JOIN"], ["JOIN"], ["LEFT JOIN", "--order=left"], ["LEFT JOIN", "--rows=lone-left"], ["LEFT JOIN", "--rows=pairs"], ["FULL JOIN", "--rows=lone-left,pairs"], ["RIGHT JOIN", "--rows=pairs", "--strict"])
+# Those by which unmatched right rows are written.
+RIGHT_WAYS = (["FULL JOIN"], ["FULL JOIN", "--order=left"], ["FULL JOIN", "--rows=lone-right"], ["RIGHT JOIN"], ["FULL JOIN", "--rows=lone-left,lone-right"], ["RIGHT JOIN", "--rows=lone-right,pairs"])
 
 
 def clause_by(kind, *headers):
@@ -226,26 +227,97 @@ def run_table(name, left, right, more, count, tally):
 
 
 def run_tables(tally):
-    """Each of the tables in two ways, and as a LEFT join in the order of pairs."""
+    """Each of the tables in four ways, and as a LEFT join in the order of pairs."""
     with patched():
         cases = [(*table, WAYS[way % len(WAYS)], 2 + way % 3) for number, table in enumerate(TABLES) for way in (0, 3 * number + 1, 3 * number + 2)]
+        cases += [(*table, RIGHT_WAYS[way % len(RIGHT_WAYS)], 2 + way % 3) for number, table in enumerate(TABLES) for way in (number, number + 2)]
         harness.side_by_side(tally, [lambda own, it=it: run_table(*it, own) for it in cases])
 
 
+# The header of tables of one column, in which an empty line is a row where it is read strictly, their rows, and options.
+ONE_COLUMN = (
+    ("a\n", 'x\n""\ny\nx\n""\n', 'x\n""\nz\nz\n', []),
+    ("a\n", "x\n\ny\n\n\nx\n", "x\n\nz\n\n", ["--strict"]),
+    ('"a"\n', "x\n\ny\n\n", "\nz\nNA\n", ["--strict", "--null=NA"]),
+    ("a\n", "x\ny\nx\n", "z\n\n", ["--strict", "--right-null=-", "--right-null=", "--out-null="]),
+)
+
+
 def run_one_column(tally):
-    """A left table of one column, in which an empty line is a row where it is read strictly."""
-    for header, rows, more in (("a\n", 'x\n""\ny\nx\n""\n', []), ("a\n", "x\n\ny\n\n\nx\n", ["--strict"]), ('"a"\n', "x\n\ny\n\n", ["--strict", "--null=NA"])):
+    cases = [(*case, join) for case in ONE_COLUMN for join in ("LEFT JOIN ON L.a = R.a", "FULL JOIN ON L.a = R.a", "FULL JOIN USING (a)", "NATURAL RIGHT JOIN")]
+    for header, lefts, rights, more, join in cases:
         with harness.folder() as place, patched():
             folder = pathlib.Path(place)
-            words = [word.replace("int,text", "text") for word in write(folder, header + rows, f"{header}x\ny\n")]
-            words += [f"--join={clause_by('LEFT JOIN', header, header)}", *more]
+            words = [word.replace("int,text", "text") for word in write(folder, header + lefts, header + rights)]
+            words += [f"--join={join}", *more]
             wanted = harness.run([harness.program("radixjoin"), *words], folder)
             ran, runs, are_shards = joined(words, folder, 3)
             faults = harness.differences(ran, wanted.stdout, wanted.stderr, wanted.status)
-            tally.check(f"cluster_runs: one column {header!r} {more}", faults + ([] if runs > 1 and not are_shards else [f"{runs} left runs, and shards: {are_shards}"]))
+            tally.check(f"cluster_runs: one column {header!r} {more} {join}", faults + ([] if runs > 1 and not are_shards else [f"{runs} left runs, and shards: {are_shards}"]))
+
+
+def many_columns(count, length):
+    """A header of so many columns, with names of so many bytes."""
+    return ",".join(f"c{number:03}" + "x" * (length - 4) for number in range(count)) + "\n"
+
+
+def many_cells(count, rows):
+    """Rows of so many cells, each of which has the same text in all."""
+    return "".join(",".join([it] * count) + "\n" for it in rows)
+
+
+# Two tables, their types, the clause, further options, and whether shards follow.
+LEFTS = "1,x\n2,y\n3,z\n,w\n1,v\n6,\n"
+UNMATCHED = (
+    ("rows that are alike", f"k,a\n{LEFTS}", "k,b\n4,p\n1,q\n4,p\n1,q\n4,p\n5,p\n4,p\n", "int,text", "FULL JOIN USING (k)", [], False),
+    ("keys that are null", f"k,a\n{LEFTS}", "k,b\n,p\n2,q\n,p\n,\n", "int,text", "FULL JOIN ON L.k = R.k", [], False),
+    ("texts that are null and texts that aren't", f"k,a\n{LEFTS}", 'k,b\n7,\n7,-\n7,""\n7,NA\n-,-\n1,-\n', "int,text", "RIGHT JOIN USING (k)", ["--right-null=NA", "--right-null=-"], False),
+    ("an empty text that is null too", f"k,a\n{LEFTS}", 'k,b\n7,\n7,-\n7,""\n7,NA\n,-\n', "int,text", "FULL JOIN USING (k)", ["--right-null=-", "--right-null=", "--out-null=~"], False),
+    ("a text that is written as null is", f"k,a\n{LEFTS}", "k,b\n7,~\n1,q\n", "int,text", "FULL JOIN USING (k)", ["--out-null=~"], False),
+    ("a text that is written as null is, which is told", f"k,a\n{LEFTS}", "k,b\n7,p\n1,q\n7,~\n", "int,text", "FULL JOIN USING (k)", ["--out-null=~", "--strict"], True),
+    ("such a text in a match alone", f"k,a\n{LEFTS}", "k,b\n7,p\n1,~\n", "int,text", "FULL JOIN USING (k)", ["--out-null=~", "--strict", "--rows=lone-right"], False),
+    ("names in another spelling", f"Key,a\n{LEFTS}", "kEY,b\n4,p\n1,q\n", "int,text", "FULL JOIN USING (KEY)", [], False),
+    ("types by such names", f"Key,a\n{LEFTS}", "kEY,b\n4,p\n1,q\n", '"Key"=int,*=text', "NATURAL FULL JOIN", ['--right-types=b=text,"kEY"=int'], False),
+    ("several columns in another order", "x,y,a\n1,p,q\n2,p,q\n1,,r\n", "b,Y,X\ns,p,1\nt,p,3\nu,,1\nv,q,\n", "int,text,text", "NATURAL FULL JOIN", ["--right-types=text,text,int"], False),
+    ("a column in the scale of the other side", f"k,a\n{LEFTS}", "k,b\n4,p\n1,q\n005,p\n", "num(4,2),text", "FULL JOIN USING (k)", ["--right-types=int,text"], False),
+    ("numbers that are written in other ways", f"k,a\n{LEFTS}", "k,b\n+4,p\n1.0,q\n-0,p\n007.50,p\n", "num(6,2),text", "FULL JOIN ON L.k = R.k", [], False),
+    ("a condition beside the key", f"k,a\n{LEFTS}", "k,b\n1,w\n1,x\n2,\n3,a\n", "int,text", "FULL JOIN ON L.k = R.k AND (L.a < R.b OR R.b IS NULL)", [], False),
+    ("a row in a match of the last run alone", f"k,a\n{LEFTS}", "k,b\n6,p\n7,p\n", "int,text", "RIGHT JOIN USING (k)", [], False),
+    ("no row left behind the first run", f"k,a\n{LEFTS}", "k,b\n1,p\n1,p\n", "int,text", "FULL JOIN USING (k)", [], False),
+    ("no such row, and nothing else is written", f"k,a\n{LEFTS}", "k,b\n1,p\n1,p\n", "int,text", "FULL JOIN USING (k)", ["--rows=lone-right"], False),
+    ("a name that begins with a mark", f"k,a\n{LEFTS}", "\ufeff\ufeffk,b\n1,p\n7,p\n", "int,text", 'FULL JOIN ON L.k = R."\ufeffk"', [], False),
+    ("such a name of both sides", f"\ufeff\ufeffk,a\n{LEFTS}", "\ufeff\ufeffk,b\n1,p\n7,p\n", "int,text", "NATURAL FULL JOIN", [], False),
+    ("names that have to be quoted", f'"k "",\n",a\n{LEFTS}', '"k "",\n","b\n"\n1,p\n7,p\n', "int,text", "NATURAL RIGHT JOIN", [], False),
+    ("names that aren't ASCII", f"\u00e9,a\n{LEFTS}", "\u00e9,b\n1,p\n7,\u00e9\n", "int,text", 'FULL JOIN USING ("\u00e9")', [], False),
+    ("names that no command line can have", f"k\0,a\n{LEFTS}", "k\0,b\n1,p\n7,p\n", "int,text", "NATURAL FULL JOIN", [], True),
+    ("names that are too many", many_columns(250, 128) + many_cells(250, "12345"), many_columns(250, 128) + many_cells(250, "273"), "*=int", "NATURAL FULL JOIN", [], True),
+    ("names that are many", many_columns(200, 128) + many_cells(200, "12345"), many_columns(200, 128) + many_cells(200, "273"), "*=int", "NATURAL FULL JOIN", [], False),
+)
+
+
+def run_unmatched(name, left, right, types_given, clause, more, are_wanted, count, order, tally):
+    with harness.folder() as place:
+        folder = pathlib.Path(place)
+        own = [word.partition("=")[0] for word in more]
+        words = [word.replace("int,text", types_given) for word in write(folder, left, right) if word.partition("=")[0] not in own]
+        words += [f"--join={clause}", f"--order={order}", *more]
+        wanted = harness.run([harness.program("radixjoin"), *words], folder)
+        ran, runs, are_shards = joined(words, folder, count)
+        faults = harness.differences(ran, wanted.stdout, wanted.stderr, wanted.status)
+        # (where the clause can't be given to a program no run begins)
+        faults += [] if are_shards == are_wanted and (runs > 1 or are_wanted) else [f"{runs} left runs, and shards: {are_shards}"]
+        tally.check(f"cluster_runs: {name}, {order}, by {count} runs", faults)
+
+
+def run_all_unmatched(tally):
+    with patched():
+        cases = [(*it, count, order) for it in UNMATCHED for count, order in ((2, "pairs"), (4, "left"))]
+        harness.side_by_side(tally, [lambda own, it=it: run_unmatched(*it, own) for it in cases])
 
 
 # What stands in the middle and at the end of the left file, and of the right one, and options: what is told is the first of several faults.
+# (Where right rows alone are written, none is left that is unmatched before the last run.)
+FULL_JOIN = "--join=FULL JOIN USING (k)"
 FAULTY = (
     ("x,a\n", "", "", "", []),
     ("", "x,a\n", "", "", []),
@@ -263,7 +335,18 @@ FAULTY = (
     ("1,~\n", "x,a\n", "", "", ["--strict", "--out-null=~", "--rows=pairs"]),
     ("", "1,\udcff\n", "", "", []),
     ("9999999999999999999,a\n", "", "", "\udcff,b\n", []),
+    ("", "x,a\n", "", "", [FULL_JOIN]),
+    ("", "x,a\n", "", "", [FULL_JOIN, "--rows=lone-right"]),
+    ("x,a\n", "", "9,b\n", "x,b\n", [FULL_JOIN, "--rows=lone-right,pairs"]),
+    ("", "", "9,~\n", "", ["--join=RIGHT JOIN USING (k)", "--strict", "--out-null=~"]),
+    ("", "", "9,b\n", '9,"b\n', [FULL_JOIN, "--rows=lone-right", "--strict"]),
+    ("", "-1,~\n", "9,~\n", "", [FULL_JOIN, "--strict", "--out-null=~", "--order=left"]),
 )
+
+
+def with_join(more):
+    """The options with a LEFT join, where they have none."""
+    return more if any(word.startswith("--join=") for word in more) else ["--join=LEFT JOIN USING (k)", *more]
 
 
 def run_faulty(left, last, right, behind, more, is_explained, tally):
@@ -272,7 +355,7 @@ def run_faulty(left, last, right, behind, more, is_explained, tally):
         folder = pathlib.Path(place)
         rows = "".join(f'{number % 7},"a\n{number}"\n' for number in range(20))
         words = write(folder, f"k,a\n{rows}{left}{rows}{last}", f"k,b\n1,x\n{right}2,y\n{behind}")
-        words += ["--join=LEFT JOIN USING (k)", *more]
+        words += with_join(more)
         wanted = harness.run([harness.program("radixjoin"), *words], folder)
         ran, runs, are_shards = joined(words, folder, 4)
         faults = harness.differences(ran, wanted.stdout, wanted.stderr, wanted.status) + ([] if runs > 1 and are_shards and wanted.status == 3 else [f"{runs} left runs, and shards: {are_shards}"])
@@ -333,6 +416,50 @@ def run_ends(tally):
         harness.side_by_side(tally, [lambda own, it=it: run_end(*it, own) for it in ENDS])
 
 
+# What a program does in the place of those that leave of the right rows the unmatched ones, or of the one that writes these, how often, and
+# whether shards follow.
+FINDS, WRITES = "--columns=right", "--rows=lone-right --workers"
+RIGHT_ENDS = (
+    ("is killed twice", FINDS, cluster_ends.IS_KILLED_TWICE, False, False),
+    ("is killed each time", FINDS, cluster_ends.IS_KILLED, False, True),
+    ("writes half of it and is killed", FINDS, f"echo k,b; echo 1,b; {cluster_ends.IS_KILLED}", True, False),
+    ("is short of memory", FINDS, "echo 'radixjoin: E18 Memory' >&2; exit 5", True, True),
+    ("refuses", FINDS, "echo 'radixjoin: E6 BadInteger left row 1 column 1' >&2; exit 3", True, True),
+    ("is killed twice", WRITES, cluster_ends.IS_KILLED_TWICE, False, False),
+    ("is killed each time", WRITES, cluster_ends.IS_KILLED, False, True),
+    ("writes half of it and is killed", WRITES, f"echo k,a,b; echo 1,,b; {cluster_ends.IS_KILLED}", True, False),
+    ("is short of memory", WRITES, "echo 'radixjoin: E18 Memory' >&2; exit 5", True, True),
+    ("writes another header", WRITES, "echo k,a,c; exit", False, True),
+)
+
+
+def right_tables(folder):
+    """Two tables of which some right rows are in no match, and the words that join them."""
+    left, right = "".join(f'{number % 40},"{number}\n"\n' for number in range(90)), "".join(f"{number},b\n" for number in range(20, 60))
+    return [*write(folder, f"k,a\n{left}", f"k,b\n{right}"), "--join=FULL JOIN USING (k)"]
+
+
+def run_right_end(title, step, does, is_once, are_wanted, tally):
+    """A program does something in the place of others that have to do with the unmatched right rows."""
+    for more in ([], ["--order=left"], ["--rows=lone-right"]):
+        with harness.folder() as place:
+            folder = pathlib.Path(place)
+            words = [*right_tables(folder), *more]
+            wanted = harness.run([harness.program("radixjoin"), *words], folder)
+            programs = cluster_ends.programs_in(folder / "programs", "radixjoin", does, is_once=is_once, step=step)
+            ran, runs, are_shards = joined(words, folder, 3, f"--programs={programs}")
+            if step == WRITES and "header" in title and more == ["--rows=lone-right"]:
+                # (no rows stand before it that have another one)
+                continue
+            faults = harness.differences(ran, wanted.stdout, wanted.stderr, wanted.status) + ([] if (runs, are_shards) == (3, are_wanted) else [f"{runs} left runs, and shards: {are_shards}"])
+            tally.check(f"cluster_runs: a program {title} with {step}, {more}", faults)
+
+
+def run_right_ends(tally):
+    with patched():
+        harness.side_by_side(tally, [lambda own, it=it: run_right_end(*it, own) for it in RIGHT_ENDS])
+
+
 def write_large(folder):
     """Writes a left file that is cut into two runs in 6 MiB of memory, and a small right one, and gives the words that join them. The left
     header has one quote, within a name."""
@@ -347,11 +474,12 @@ def run_script(tally):
     """The script joins by runs, as `shards` cuts the file: it shows the plan and each run on a terminal."""
     with harness.folder() as place:
         folder = pathlib.Path(place)
-        words = write_large(folder)
-        wanted = harness.run([harness.program("radixjoin"), *words], folder)
+        large = write_large(folder)
         programs = cluster_memory.programs_of_one_run(folder / "programs", ":")
         known = {it.name for it in folder.iterdir()} | {"stdout"}
-        for more in ([], ["--processes", "2"]):
+        for kind, more in (("LEFT", []), ("LEFT", ["--processes", "2"]), ("FULL", [])):
+            words = [word.replace("LEFT", kind) for word in large]
+            wanted = harness.run([harness.program("radixjoin"), *words], folder)
             line = [sys.executable, cluster.SCRIPT, *words, "--programs", programs, "--out", "out.csv", "--progress", *LARGE, *more]
             shown = cluster_manners.on_terminal(line, folder)
             plan, rest = cluster_manners.plan_in(shown.stderr)
@@ -360,9 +488,10 @@ def run_script(tally):
             faults = [] if plan == f"2 left runs by {workers} workers, in about 5 of 6 MiB of memory" else [f"the plan is {plan}"]
             faults += cluster_manners.faults_of_lines(lines) + ([harness.shorten(last)] if last else [])
             faults += [] if b"radixjoin-cluster: joining, 1 of 2 tasks" in lines else [f"{lines}"]
+            faults += [] if (b"radixjoin-cluster: putting the result together, 0 of 1 tasks" in lines) == (kind == "FULL") else [f"{lines}"]
             faults += ["it is done in shards"] if (programs / "merges.ran").exists() else []
             ran = types.SimpleNamespace(returncode=shown.status, stderr=b"")
-            tally.check(f"cluster_runs: the script {more}", faults + cluster.faults_of_run(ran, folder, known, wanted))
+            tally.check(f"cluster_runs: the script, {kind} {more}", faults + cluster.faults_of_run(ran, folder, known, wanted))
             (folder / "out.csv").unlink(missing_ok=True)
 
 
@@ -420,6 +549,24 @@ def run_full(tally):
                 out.unlink(missing_ok=True)
 
 
+def run_full_of_right(tally):
+    """The file of unmatched right rows on a disk that is full, and not."""
+    with harness.folder() as name:
+        folder, place = pathlib.Path(name), pathlib.Path(name, "disk")
+        rows = [f"{number},{'x' * 30}\n" for number in range(9_000)]
+        words = [*write(folder, "k,a\n" + "".join(rows), "k,b\n" + "".join(f"-{it}" for it in rows[1::3])), "--join=RIGHT JOIN USING (k)"]
+        wanted = harness.run([harness.program("radixjoin"), *words], folder)
+        for size, is_full in ((64, True), (1_024, False)):
+            with harness.disk(place, size) as is_mounted, patched():
+                if not is_mounted:
+                    return
+                told = harness.Ran(6, b"", f'radixjoin-cluster: E20 WriteDevice "{place.resolve()}": {cluster_ends.NO_ROOM}\n'.encode()) if is_full else wanted
+                on = Machine(1)
+                ran = shards.joined([*words, f"--memory={memory_for(folder, 2)}", "--scratch", place], folder, 1, cluster=lambda _, on=on: on)
+                faults = harness.differences(ran, told.stdout, told.stderr, told.status) + (["it is done in shards"] if on.runs()[1] else [])
+                tally.check(f"cluster_runs: unmatched right rows on a disk of {size} KiB", faults + [f"{it} was left behind" for it in place.iterdir()])
+
+
 def run_last(tally):
     """Where the last records of a text begin, by all numbers of them, in pieces of several sizes."""
     pick = random.Random(11)
@@ -456,13 +603,16 @@ def run_all(tally):
     run_random(range(RUNS), tally)
     run_tables(tally)
     run_one_column(tally)
+    run_all_unmatched(tally)
     run_faults(tally)
     run_ends(tally)
+    run_right_ends(tally)
     run_script(tally)
     for number in (signal.SIGTERM, signal.SIGINT):
         run_told_to_end(number, tally)
     run_short(tally)
     run_full(tally)
+    run_full_of_right(tally)
 
 
 def main(words):

@@ -15,7 +15,8 @@ _NAME_ALONE = re.compile(r"\s*\w+\s*")
 _KIND = re.compile(r"[ \t\n\r]*(?:NATURAL[ \t\n\r]+)?(?:(INNER|LEFT|RIGHT|FULL)(?:[ \t\n\r]+OUTER)?[ \t\n\r]+|CROSS[ \t\n\r]+)?JOIN\b", re.ASCII | re.IGNORECASE)
 # The kinds of rows that an option may ask for: those of pairs, which every join keeps, and lone ones, with the words that keep them.
 _OF_PAIRS = ("pairs", "matched-left")
-_LONE = {"lone-left": ("LEFT", "FULL"), "lone-right": ("RIGHT", "FULL")}
+LONE_RIGHT = "lone-right"
+_LONE = {"lone-left": ("LEFT", "FULL"), LONE_RIGHT: ("RIGHT", "FULL")}
 # What `radixjoin` tells of unmatched rows of a side that are asked for and that a clause doesn't keep.
 _UNKEPT = "radixjoin: the join keeps no unmatched {} rows; a {} or FULL JOIN keeps them\n"
 
@@ -123,6 +124,15 @@ def partners(clause: str, left: Sequence[str], right: Sequence[str]) -> List[Tup
         return [(at, places[lower(name)]) for at, name in enumerate(left) if lower(name) in places]
     meant = [[[at for at, name in enumerate(side) if means(written, name)] for side in (left, right)] for written in names]
     return sorted((found[0][0], found[1][0]) for found in meant if found[0] and found[1])
+
+
+def by_condition(clause: str, left: Sequence[str], right: Sequence[str]) -> str:
+    """A clause that leaves the same right rows unmatched, of tables with columns of these names, and by which each right column stands in the
+    result as it is: one with ON in the place of NATURAL and USING."""
+    if join_names(clause) is None:
+        return clause
+    pairs = partners(clause, left, right)
+    return "RIGHT JOIN ON " + " AND ".join(f"L.{quoted(left[i])} = R.{quoted(right[j])}" for i, j in pairs)
 
 
 def needs_names(clause: str) -> bool:

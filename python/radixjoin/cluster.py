@@ -50,7 +50,7 @@ from .pipes import open_streams
 from .placed import LEFT, RIGHT, SAMPLES, Index, Place, Shard, cut_places, sampled
 from .plans import Plan, plan_of
 from .programs import ProgramNotFound, encoded, find_all
-from .runs import IS_SHORT, LONE, GivenUp, Joined, join_part, join_run, join_whole, put_parts
+from .runs import LONE, GivenUp, LeftRun, clause_beside, done_in_runs, join_in_turn, join_side_by_side, join_whole
 from .spread import TABLE, Join, are_many, joins_of, length_of, limit_of, most_tables, next_length, runs_of
 from .tables import PathTable
 from .tasks import Told, answer, first_fault, put, tell, unwritten
@@ -84,6 +84,7 @@ class Job:
         # The words for the texts that are null in the files, and the text that is written for null.
         self.null = [f"--null={null}", *(f"--{side}-null={text}" for side in SIDES for text in nulls[side])]
         self.out_null = null if asked.out_null is None else asked.out_null
+        self.right_null: str = (nulls["right"] or [null])[0]
         # Whether a cell that isn't null may be written as null is, which has to be told.
         self.is_apart = bool(asked.strict) and any(self.out_null not in (nulls[side] or [null]) for side in SIDES)
         self.strict = [f"--strict={asked.strict}"] if asked.strict else []
@@ -91,8 +92,9 @@ class Job:
         # (these are known when the join is planned)
         self.parts, self.spread = 1, asked.spread
         self.order = asked.order or "pairs"
-        # Whether unmatched left rows stand behind the matches of all left rows.
-        self.is_divided = self.order == "pairs" and {"pairs", "lone-left"} <= {*kinds_of(self.clause, asked.rows)}
+        # The kinds of rows that are written, and whether unmatched left ones stand behind the matches of all left rows.
+        self.kinds = [kind for kind in kinds_of(self.clause, asked.rows) if kind != "matched-left"]
+        self.is_divided = self.order == "pairs" and {"pairs", "lone-left"} <= {*self.kinds}
         self.one_join = [f"--{option}={getattr(asked, option)}" for option in OF_ONE_JOIN if getattr(asked, option) is not None]
         # The address space that each program may take.
         self.space: Optional[int] = asked.address_space
@@ -573,21 +575,6 @@ def cluster_by(client: Client, progress: bool) -> Cluster:
     return Cluster(client, progress)
 
 
-def done_in_runs(cluster: Any, tasks: Sequence[Tuple[Any, ...]]) -> None:
-    """Has tasks done that give why they can't be, or nothing.
-
-    Raises:
-        GivenUp: one of them can't, or ends the process of a cluster that does it, each time.
-    """
-    try:
-        found = cluster.answers(tasks)
-    except RuntimeError:
-        raise GivenUp(IS_SHORT) from None
-    first_fault(found)
-    if any(found):
-        raise GivenUp(next(filter(None, found)))
-
-
 def join_in_runs(job: Job, cluster: Any, plan: Plan) -> None:
     """Joins runs of left rows with the whole right file: one after another, or side by side on a cluster.
 
@@ -596,17 +583,12 @@ def join_in_runs(job: Job, cluster: Any, plan: Plan) -> None:
     """
     found = cluster.answers([(cuts_of, job, "left", plan.runs)])
     first_fault(found)
-    header = header_of(job, "left")
-    if cluster.is_here:
-        with result_of(job) as output, Joined(output, job.place(LONE) if job.is_divided else None, job.out) as joined:
-            first_fault(cluster.in_turn([(join_run, job, joined, plan, header, *it) for it in found[0]]))
-            joined.finish()
-        return
+    headers = [header_of(job, side) for side in SIDES]
+    runs, clause = [LeftRun(headers[0], *it) for it in found[0]], clause_beside(job, *headers)
     try:
-        done_in_runs(cluster, [(join_part, job, plan, header, number, *it) for number, it in enumerate(found[0])])
-        done_in_runs(cluster, [(put_parts, job, len(found[0]))])
+        (join_in_turn if cluster.is_here else join_side_by_side)(job, cluster, plan, clause, runs)
     finally:
-        job.clear("run-*")
+        job.clear("run-*", LONE)
 
 
 def why_not_by(job: Job, cluster: Any, plan: Plan) -> str:
@@ -680,9 +662,9 @@ def join(
 
     `memory`, a number of bytes or a text as "8G", decides how (half of what is free, where it isn't given): on this machine by one run of
     `radixjoin` where about three times the bytes of both files fit into it, by `processes` threads or, where that isn't given, as many as there are
-    processors; by several where three times the right file does with a part of the left one, and no unmatched right rows are written, one after
-    another, or on a cluster side by side where that fits into the memory of each process; else in shards, as many as it takes for those that
-    are joined at the same time to fit, on a cluster in each process. With `parts`, `spread`, `ranges` or `merges` it is done in shards.
+    processors; by several where three times the right file does with a part of the left one, one after another, or on a cluster side by side
+    where that fits into the memory of each process; else in shards, as many as it takes for those that are joined at the same time to fit, on
+    a cluster in each process. With `parts`, `spread`, `ranges` or `merges` it is done in shards.
 
     The arguments are the options of the command line `radixjoin-cluster` (docs/user/cluster.md): `left_null` and `right_null`, a text or
     up to four, and `out_null`, in place of `null`; `strict`, True or "full", has files refused that aren't of RFC 4180's grammar; with `explain`, a `Fault` has an `explanation`;

@@ -28,10 +28,10 @@ ABOUT = """Joins two CSV files that may be larger than one machine's memory, on 
 bytes written are those that `radixjoin` would write. Fields are separated by commas, in both files and in the result.
 
 Where --memory has room for both tables and the result, one run of `radixjoin` joins them. Where it has for the right table and a part of
-the left one, and no unmatched right rows are written, so many runs join such a part each, on a cluster side by side. Otherwise they are
-joined in shards: both files are divided by the hash of their rows' keys (the program `shards`, one task for each range of a file), the
-two parts of each shard are joined (`radixjoin`, one task a shard, or several where it is too large), and what these joins give is merged
-(`merges`, one task for each range of the joined table). With --parts, --spread, --ranges or --merges it is always done in shards.
+the left one, so many runs join such a part each, on a cluster side by side. Otherwise they are joined in shards: both files are divided
+by the hash of their rows' keys (the program `shards`, one task for each range of a file), the two parts of each shard are joined
+(`radixjoin`, one task a shard, or several where it is too large), and what these joins give is merged (`merges`, one task for each range
+of the joined table). With --parts, --spread, --ranges or --merges it is always done in shards.
 
 What is half made is removed at the end, whether it is a good one or not. With --scheduler it needs Dask (Debian's python3-dask and
 python3-distributed). docs/user/cluster.md says what of this is proved, and how to run it.

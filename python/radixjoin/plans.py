@@ -7,7 +7,8 @@ import argparse
 import os
 from typing import Any, NamedTuple, Optional, Tuple
 
-from .clauses import kinds_of
+from .clauses import LONE_RIGHT, kinds_of
+from .spread import most_tables
 
 # A run of `radixjoin` takes about so many times the bytes of its two tables (docs/user/speed.md).
 MEASURE = 3
@@ -15,9 +16,12 @@ MEASURE = 3
 LEAST_PARTS, MOST_PARTS = 16, 1024
 # The least bytes of both tables above which a shard is cut so that its joins take less memory: a program takes more by itself.
 LEAST_SPREAD = 1 << 20
-# The least bytes of a run of left rows, which are also no fewer than this part of the right file, since each run reads that anew; and how
-# many runs there may be, as `shards --cuts` has it.
-LEAST_RUN, PART_OF_RIGHT, MOST_RUNS = 1 << 20, 2, 100_000
+# The least bytes of a run of left rows, which are also no fewer than this part of the right file, since each run reads that anew, or than
+# twice as much where unmatched right rows are written, for which it does so twice.
+LEAST_RUN, PART_OF_RIGHT = 1 << 20, 2
+# How many runs there may be, as `shards --cuts` has it, and of those that list right rows side by side: `merges` gets all lists by one
+# command line.
+MOST_RUNS, MOST_LISTS = 100_000, 10_000
 # Who gives one of these wants shards.
 OF_SHARDS = ("parts", "spread", "ranges", "merges")
 MOST_WORKERS = 64
@@ -64,18 +68,18 @@ def _mebibytes(size: int) -> int:
     return -(-size >> 20)
 
 
-def _runs(left: int, right: int, room: int, is_cut: bool, on: Any) -> int:
+def _runs(left: int, right: int, room: int, has_lone_right: bool, on: Any) -> int:
     """By how many runs of `radixjoin` files of so many bytes are joined, if the two tables of each have room for so many: by one, or by
-    several if the left file may be cut; on a cluster, if it may, by no fewer than it does tasks at once, unless the least runs are fewer.
-    There is none where these would have too few left rows."""
+    several; on a cluster by no fewer than it does tasks at once, unless the least runs are fewer. There is none where these would have too
+    few left rows, or be too many."""
     if on.is_here and left + right <= room:
         return 1
     even: int = max(LEAST_RUN, -(-left // on.tasks_at_once()))
     length = room - right if on.is_here else min(room - right, even)
-    if not is_cut or length < max(LEAST_RUN, right // PART_OF_RIGHT):
+    if length < max(LEAST_RUN, (2 if has_lone_right else 1) * right // PART_OF_RIGHT):
         return 0
     count = max(1, -(-left // length))
-    return count if count <= MOST_RUNS else 0
+    return count if count <= (min(MOST_LISTS, most_tables(1)) if has_lone_right and not on.is_here else MOST_RUNS) else 0
 
 
 def plan_of(asked: argparse.Namespace, sizes: Tuple[int, int], on: Any) -> Plan:
@@ -92,7 +96,6 @@ def plan_of(asked: argparse.Namespace, sizes: Tuple[int, int], on: Any) -> Plan:
     sharing = 1 if on.is_here else on.tasks_in_process()
     # (of a cluster without processes it isn't known how much memory there will be)
     is_whole = all(getattr(asked, name) is None for name in OF_SHARDS) and (on.is_here or on.has_processes())
-    # (whether a right row is unmatched no run alone can tell)
-    is_cut = "lone-right" not in kinds_of(asked.join, asked.rows)
-    runs = _runs(*sizes, memory // sharing // MEASURE, is_cut, on) if is_whole else 0
+    has_lone_right = LONE_RIGHT in kinds_of(asked.join, asked.rows)
+    runs = _runs(*sizes, memory // sharing // MEASURE, has_lone_right, on) if is_whole else 0
     return Plan(runs, workers, parts, asked.spread or spread, memory, sharing)

@@ -18,6 +18,8 @@ STEPS = {
     "join_whole": "joining",
     "join_run": "joining",
     "join_part": "joining",
+    "add_right": "putting the result together",
+    "number_right": "dividing",
     "cuts_of": "looking for cuts",
     "divide": "dividing",
     "cut_side": "cutting large shards",
