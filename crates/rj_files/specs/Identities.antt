@@ -3,7 +3,8 @@ use Rattle.std.specs.Prelude.{◌≡◌, ◌&&◌, ◌==◌, Bool, false, Option
 use Rattle.std.specs.declared.alloc.AllocError.{AllocError}
 use Rattle.rj_files.specs.declared.identities.Identity.{Identity}
 
--- the answer to a name: the file to which it leads, if there is one, or that the system has no memory
+-- the answer to a name: the file to which it leads, if there is one, or that the system has no
+-- memory
 abbrev pub Answer : Type 0
 Answer = Result (Option Identity) AllocError
 
