@@ -11,10 +11,10 @@ accepted : (answers : List ℕ → Option Answer) (output : Option (List ℕ)) (
     → path ≡ output_path output → IsJudged answers side.Left path (input_path left) first → first ≡ Ok x
     → IsJudged answers side.Right path (input_path right) second → OnOk second (AreAccepted answers output left right)
 accepted answers output path left right first (Ok y) x is one ok two = (
-      subst (λ (r : Result (Unit {0}) Fault). IsJudged answers side.Left (output_path output) (input_path left) r) ok
+  subst (λ (r : Result (Unit {0}) Fault). IsJudged answers side.Left (output_path output) (input_path left) r) ok
       (subst (λ (p : List ℕ). IsJudged answers side.Left p (input_path left) first) is one),
-      subst (λ (p : List ℕ). IsJudged answers side.Right p (input_path right) (Ok y)) is two,
-    )
+  subst (λ (p : List ℕ). IsJudged answers side.Right p (input_path right) (Ok y)) is two,
+)
 accepted answers output path left right first (Err f) x is one ok two = tt
 
 pub returns-clause-accepted : goal.returns-clause-accepted
