@@ -1,5 +1,5 @@
 -- Which files names lead to, as the system tells.
-use Rattle.std.specs.Prelude.{◌≡◌, ◌&&◌, ◌==◌, Bool, false, Option, None, Some, IfSome, Result, Ok, Err}
+use Rattle.std.specs.Prelude.{◌≡◌, ◌&&◌, ◌==◌, Bool, false, Option, None, Some, IfSome, Result}
 use Rattle.std.specs.declared.alloc.AllocError.{AllocError}
 use Rattle.rj_files.specs.declared.identities.Identity.{Identity}
 
