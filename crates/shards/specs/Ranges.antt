@@ -7,7 +7,6 @@ use Rattle.rj_columns.specs.declared.refused.BuildRefused.{BuildRefused}
 use Rattle.rj_command.specs.Sides.{strict_fault}
 use Rattle.rj_csv_io.specs.Pieces.{names_in, piece_records}
 use Rattle.rj_csv_io.specs.Typed.{null_texts}
-use Rattle.rj_strict.specs.Grammar.{comma}
 use Rattle.rj_divide.specs.Blocks.{IsRangeDivided, IsRangeFault}
 use Rattle.rj_divide.specs.Divisions.{Dividing, IsDivided}
 use Rattle.rj_divide.specs.Readings.{IsDivisionFault}
@@ -22,6 +21,7 @@ use Rattle.rj_fault.specs.declared.fault.Side.{Side}
 use Rattle.rj_fault.specs.declared.fault.Side.TheVariants as side
 use Rattle.rj_line.specs.declared.request.Strictness.{Strictness}
 use Rattle.rj_line.specs.declared.request.Strictness.TheVariants as strictness
+use Rattle.rj_strict.specs.Grammar.{comma}
 use Rattle.shards.specs.declared.dividing.Range.{Range}
 
 -- the name of the column with the places of a side's rows
