@@ -20,8 +20,8 @@ use std::sync::Wait;
 use std::thread::Threads;
 use std::time::Clock;
 
-// How many bytes of the stack the program takes at its start: about twice what it needs with the most
-// workers.
+// How many bytes of the stack the program takes at its start: about twice what it needs with the
+// most workers.
 const STACK: usize = 1_048_576;
 
 // Writes into so many bytes of the stack, so that the system gives them while there is memory: if it
