@@ -12,7 +12,7 @@ LEFT, RIGHT = 600_000, 1_100
 KEYS = LEFT // 2
 STEP = 300
 # The address spaces that are tried, in MiB.
-LEAST, MOST, BY = 20, 180, 10
+LEAST, MOST, BY = 25, 185, 10
 
 
 def key_of(row):

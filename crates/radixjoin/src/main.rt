@@ -20,19 +20,6 @@ use std::sync::Wait;
 use std::thread::Threads;
 use std::time::Clock;
 
-// How many bytes of the stack the program takes at its start: about twice what it needs with the
-// most workers.
-const STACK: usize = 1_048_576;
-
-// Writes into so many bytes of the stack, so that the system gives them while there is memory: if it
-// refused a page of the stack later, it would end the program by a signal, and not by E18. The
-// answer depends on them, so that no compiler leaves them out.
-fn take_stack(at: usize) -> usize {
-    let mut bytes = [0u8; STACK];
-    bytes[at % STACK] = 1;
-    usize::from(bytes[at / 2 % STACK])
-}
-
 // Does what the words of a line ask for, and shows its progress meanwhile.
 fn write_watched<R: Files + Input + AllocGlobal + Print + Eprint + Threads + Wait + Clock + Sync>(
     rt: &R,
@@ -90,10 +77,9 @@ fn run<R: Env + Files + Input + AllocGlobal + Print + Eprint + Threads + Wait + 
     rt: &R,
     terminals: Terminals,
 ) -> Result<(), ExplainedFault> {
-    let Some(mut words) = read_words(rt)? else {
+    let Some(words) = read_words(rt)? else {
         return Err(ExplainedFault::from(Fault::NotText));
     };
-    words.reserve(take_stack(words.len()))?;
     if let Some(behind) = words_to_suggest(words.as_slice()) {
         let texts = texts_of(rt.alloc(), behind)?;
         suggest(rt, texts.as_slice())?;
