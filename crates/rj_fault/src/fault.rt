@@ -64,6 +64,15 @@ pub enum Fault {
     /// Matched left rows are to be written, but not only the columns of the left table.
     #[error("radixjoin: --rows matched-left needs --columns left")]
     MatchedLeftColumns,
+    /// A list of columns isn't of the form `L.id,name,R.city=town`.
+    #[error("radixjoin: bad list of columns")]
+    BadSelect,
+    /// `--select` is given with `--columns` or `--repeated`, in whose place it is.
+    #[error("radixjoin: --select excludes --columns and --repeated")]
+    SelectedTwice,
+    /// The rows are to be counted, and an option chooses some of them.
+    #[error("radixjoin: --count excludes --rows, --anti, --semi, --columns, --select and --order")]
+    CountedChoice,
     /// A text to be added to a repeated name has no byte, or more than 16.
     #[error("radixjoin: bad suffix of repeated names")]
     BadSuffix,
@@ -171,6 +180,10 @@ pub enum Fault {
     /// place. The column is that of the result, counted from 1.
     #[error("radixjoin: E31 NoFreeName column {0}")]
     NoFreeName(u64),
+    /// An entry of a list of columns means no column, or two, or is written under the name of an
+    /// earlier one. Entries count from 1.
+    #[error("radixjoin: E35 SelectedName column {0}")]
+    SelectedName(u64),
     /// Both tables are to be read from standard input.
     #[error("radixjoin: only one of --left and --right can be standard input")]
     TwoStandardInputs,
@@ -261,6 +274,9 @@ impl Fault {
             | Fault::BadRows
             | Fault::ChosenTwice
             | Fault::MatchedLeftColumns
+            | Fault::BadSelect
+            | Fault::SelectedTwice
+            | Fault::CountedChoice
             | Fault::BadSuffix
             | Fault::TwoStandardInputs => 2,
             Fault::NoHeader(_)
@@ -290,6 +306,7 @@ impl Fault {
             | Fault::TypeMismatch
             | Fault::UndeclaredType(_, _)
             | Fault::NoSuchRows(_)
+            | Fault::SelectedName(_)
             | Fault::RepeatedUsing
             | Fault::ClauseTooLong => 4,
             Fault::Memory => 5,

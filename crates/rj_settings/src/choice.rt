@@ -1,5 +1,7 @@
 //! What is written of a joined table: which of its rows, in which order, and which of its columns under which names.
 
+use rj_condition::Name;
+
 /// Which of the rows of a joined table are written.
 #[derive(Clone, Copy, Debug, PartialEq, Eq)]
 pub struct RowKinds {
@@ -22,8 +24,30 @@ pub enum RowOrder {
     LeftFirst,
 }
 
-/// Which columns of a joined table are written.
+/// Of which table an entry of a list of columns names a column.
 #[derive(Clone, Copy, Debug, PartialEq, Eq)]
+pub enum Source {
+    /// Of the joined table, in which a pair of join columns is one column.
+    Joined,
+    /// Of the left table.
+    Left,
+    /// Of the right table.
+    Right,
+}
+
+/// An entry of a list of columns: a column, and perhaps another name for it (SQL-92, 7.9).
+#[derive(Drop)]
+pub struct SelectedColumn {
+    /// Of which table it is.
+    pub source: Source,
+    /// Its name there.
+    pub name: Name,
+    /// The name under which it is written, if it isn't its own.
+    pub written: Option<Name>,
+}
+
+/// Which columns of a joined table are written.
+#[derive(Drop)]
 pub enum ColumnChoice {
     /// All of them.
     All,
@@ -31,6 +55,8 @@ pub enum ColumnChoice {
     Left,
     /// Those that come from the right table, with those that occur once for both tables.
     Right,
+    /// Those that a list names, in its order.
+    Selected(Vec<SelectedColumn>),
 }
 
 /// Under which names the columns of a joined table are written if the same name occurs twice,
@@ -46,7 +72,7 @@ pub enum Repeated<'a> {
 }
 
 /// What is written of a joined table.
-#[derive(Clone, Copy, Debug, PartialEq, Eq)]
+#[derive(Drop)]
 pub struct Choice<'a> {
     /// Which rows.
     pub rows: RowKinds,

@@ -16,6 +16,8 @@ pub enum Matching {
 pub struct Expectation {
     /// How rows may be matched; in any way if it is `None`.
     pub matching: Option<Matching>,
+    /// Whether each left row has to be in a match.
+    pub matched: bool,
     /// How many rows it may have at most; any number if it is `None`.
     pub most_rows: Option<u32>,
 }

@@ -5,6 +5,6 @@ mod choice;
 mod expectation;
 mod settings;
 
-pub use choice::{Choice, ColumnChoice, Repeated, RowKinds, RowOrder};
+pub use choice::{Choice, ColumnChoice, Repeated, RowKinds, RowOrder, SelectedColumn, Source};
 pub use expectation::{Expectation, Matching};
 pub use settings::Settings;
