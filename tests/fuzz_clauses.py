@@ -7,8 +7,8 @@ LITERALS = {
     "int": ["0", "1", "-1", "+2", "007", "9223372036854775807", "-9223372036854775808", "1.5", "-0.05", "2.0", "0.000000000000000001", "0.0000000000000000001", "1.0a"],
     "text": ["'x'", "''", "'it''s'", "'é'", "'1'", "'\"'"],
 }
-TOKENS = "AND BETWEEN CROSS FALSE FULL IN INNER IS JOIN LEFT NATURAL NOT NULL ON OR OUTER RIGHT TRUE UNKNOWN USING = <> < > <= >= ( ) , . ' \" '' \"\" 1 -1 9223372036854775808 -9223372036854775809 1a + - ! ; a L.a R.a SELECT 'x 'x''y' é \t \n 0x1 1.5 1. .5 _a a_ $ \\ /* -- NOT( IS( '\n'".split(" ")
-OPERATORS = ["=", "=", "<>", "<", ">", "<=", ">="]
+TOKENS = "AND BETWEEN CROSS FALSE FULL IN INNER IS JOIN LEFT NATURAL NOT NULL ON OR OUTER RIGHT TRUE UNKNOWN USING = <> != < > <= >= ( ) , . ' \" '' \"\" 1 -1 9223372036854775808 -9223372036854775809 1a + - ! ; a L.a R.a SELECT 'x 'x''y' é \t \n 0x1 1.5 1. .5 _a a_ $ \\ /* -- NOT( IS( '\n'".split(" ")
+OPERATORS = ["=", "=", "<>", "!=", "<", ">", "<=", ">="]
 
 
 class Clauses:
@@ -116,7 +116,7 @@ class Clauses:
         """A text with a few characters cut out, put in or doubled."""
         for _ in range(self.source.choice([1, 2, 4])):
             at = self.source.randrange(len(text) + 1)
-            piece = self.source.choice(["", "'", '"', "''", '""', "(", ")", " ", "\n", "é", "\u2028", ".", "-", "+", "1", "a", "_", "\x01", "<", "=", ">", "\xa0"])
+            piece = self.source.choice(["", "'", '"', "''", '""', "(", ")", " ", "\n", "é", "\u2028", ".", "-", "+", "1", "a", "_", "\x01", "<", "=", ">", "!", "\xa0"])
             text = text[:at] + piece + text[at + self.source.randrange(2) :]
         return text
 

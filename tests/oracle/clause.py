@@ -13,6 +13,7 @@ DEEPEST = 64
 MOST_DIGITS = 18
 KEYWORDS = set("AND BETWEEN CROSS FALSE FULL IN INNER IS JOIN LEFT NATURAL NOT NULL ON OR OUTER RIGHT TRUE UNKNOWN USING".split())
 OPERATORS = ("=", "<>", "<", ">", "<=", ">=")
+SECOND_SPELLINGS = {b"!=": "<>"}
 TRUTHS = {"FALSE": 0, "UNKNOWN": 1, "TRUE": 2}
 WHITE = re.compile(rb"[ \t\n\r]*")
 FORMS = [
@@ -21,7 +22,7 @@ FORMS = [
     ("decimal", re.compile(rb"[+-]?[0-9]+\.[0-9]+")),
     ("integer", re.compile(rb"[+-]?[0-9]+")),
     ("text", re.compile(rb"'(?:[^']|'')*'(?!')")),
-    ("sign", re.compile(rb"<>|<=|>=|[=<>(),.]")),
+    ("sign", re.compile(rb"<>|!=|<=|>=|[=<>(),.]")),
 ]
 
 
@@ -53,7 +54,7 @@ def named_token(form, spelled, text, at):
     if form == "text":
         return Token("text", spelled[1:-1].replace(b"''", b"'"), at)
     if form == "sign":
-        return Token(spelled.decode(), None, at)
+        return Token(SECOND_SPELLINGS.get(spelled, spelled.decode()), None, at)
     value = integer(spelled.replace(b".", b""))
     after = text[at + len(spelled) : at + len(spelled) + 1]
     is_decimal = form == "decimal"

@@ -14,11 +14,11 @@ use Rattle.rj_condition.specs.declared.token.Sign.{Sign}
 use Rattle.rj_condition.specs.declared.token.Sign.TheVariants as sign
 use Rattle.rj_condition.specs.declared.token.Token.{Token}
 use Rattle.rj_condition.specs.declared.token.Token.TheVariants as token
-use Rattle.rj_condition.specs.Tokens.{is_blank, is_name_byte, begins, begins_fraction, doubled, in_quotes, sign_text, IsIdentifier, IsNamed, IsDecimal, IsSpelled, EndsSign, Ends, IsToken}
+use Rattle.rj_condition.specs.Tokens.{is_blank, is_name_byte, begins, begins_fraction, doubled, in_quotes, sign_text, IsSign, IsIdentifier, IsNamed, IsDecimal, IsSpelled, EndsSign, Ends, IsToken}
 use Rattle.rj_condition.specs.Lexing.{Lexes, nothing, blank, next, unreadable}
 use Rattle.rj_condition.specs.Refusals.{BeginAt}
 use Rattle.rj_condition.specs.Refusals as refusals
-use Rattle.rj_condition.specs.Scanning.{quoted, text_at, delimited_at, word_at, named, number_len, is_sign_of_number, is_integer, judged, as_integer, decimal_parts, with_rest, judged_decimal, fraction_at, as_decimal, number_behind, number_at, less_at, greater_at, mark_of, sign_at, as_sign, begins_number, token_at}
+use Rattle.rj_condition.specs.Scanning.{quoted, text_at, delimited_at, word_at, named, number_len, is_sign_of_number, is_integer, judged, as_integer, decimal_parts, with_rest, judged_decimal, fraction_at, as_decimal, number_behind, number_at, less_at, greater_at, not_equal_at, mark_of, sign_at, as_sign, begins_number, token_at}
 use Rattle.rj_condition.proofs.Runs.{run_is}
 use Rattle.rj_condition.proofs.Words.{keyword_word, name_word, take_seam}
 use Rattle.rj_condition.proofs.Quotes.{some_same, quoted_complete}
@@ -210,6 +210,16 @@ sign_found sign.Close rest e = refl
 sign_found sign.Comma rest e = refl
 sign_found sign.Point rest e = refl
 
+not_equal_found : (rest : List ℕ) → token_at (33 ∷ 61 ∷ rest) ≡ Some (token.Sign sign.NotEqual, rest)
+unfolding token_at sign_at not_equal_at
+not_equal_found rest = refl
+
+written_found : (s : Sign) (w rest : List ℕ) → IsSign s w → EndsSign s rest → token_at (w ++ rest) ≡ Some (token.Sign s, rest)
+written_found s w rest k e = elim k [
+  | inl h ↦ ap (λ z. token_at (z ++ rest)) h ∙ sign_found s rest e
+  | inr h ↦ ap (λ z. token_at (z ++ rest)) h.1 ∙ not_equal_found rest ∙ ap (λ (z : Sign). Some (token.Sign z, rest)) (sym h.0)
+]
+
 -- each token
 name_found : (delimited : Bool) (text w rest : List ℕ) → IsNamed delimited text w → begins (cond delimited (λ b. b == 34) is_name_byte) rest ≡ false
     → token_at (w ++ rest) ≡ Some (named delimited text, rest)
@@ -222,7 +232,7 @@ spelled_found (token.Name n) w rest s e = name_found n.delimited n.text w rest s
 spelled_found (token.Integer z) w rest s e = integer_found w rest z s.0 s.1 s.2 e.0 e.1
 spelled_found (token.Decimal d) w rest s e = decimal_found d w rest s e
 spelled_found (token.Text t) w rest s e = ap (λ z. token_at (z ++ rest)) s ∙ literal_found t rest e
-spelled_found (token.Sign k) w rest s e = ap (λ z. token_at (z ++ rest)) s ∙ sign_found k rest e
+spelled_found (token.Sign k) w rest s e = written_found k w rest s e
 spelled_found token.Unreadable w rest s e = absurd s
 
 pub token_found : (bytes : List ℕ) (t : Token) (rest : List ℕ) → IsToken bytes t rest → token_at bytes ≡ Some (t, rest)
@@ -350,11 +360,17 @@ shorter rest more t e = let h = token_sound rest (t, more) e in spelled_shorter 
     sign_taken sign.Comma = omega arith
     sign_taken sign.Point = omega arith
 
+    written_taken : (s : Sign) (w : List ℕ) → IsSign s w → 0 < length w
+    written_taken s w k = elim k [
+      | inl h ↦ let P : List ℕ → Type 0 = λ z. 0 < length z in subst P (sym h) (sign_taken s)
+      | inr h ↦ omega (arith, ap length h.1)
+    ]
+
     spelled_shorter : (t : Token) (w : List ℕ) → IsSpelled t w → (rest more : List ℕ) → rest ≡ w ++ more → length more < length rest
     spelled_shorter (token.Keyword k) w s rest more e = taken w rest more (word_taken w s.0) e
     spelled_shorter (token.Name n) w s rest more e = taken w rest more (name_taken n.delimited n.text w s) e
     spelled_shorter (token.Integer z) w s rest more e = taken w rest more (number_taken w s.0) e
     spelled_shorter (token.Decimal d) w s rest more e = taken w rest more (decimal_taken w s.0 s.1 s.2) e
     spelled_shorter (token.Text l) w s rest more e = taken w rest more (quotes_taken 39 l w s) e
-    spelled_shorter (token.Sign k) w s rest more e = taken w rest more (let P : List ℕ → Type 0 = λ z. 0 < length z in subst P (sym s) (sign_taken k)) e
+    spelled_shorter (token.Sign k) w s rest more e = taken w rest more (written_taken k w s) e
     spelled_shorter token.Unreadable w s rest more e = absurd s

@@ -12,7 +12,7 @@ use Rattle.rj_condition.specs.declared.token.Sign.TheVariants as sign
 use Rattle.rj_condition.specs.declared.token.Token.{Token}
 use Rattle.rj_condition.specs.declared.token.Token.TheVariants as token
 use Rattle.rj_condition.specs.Tokens.{is_name_byte, begins, begins_fraction, doubled, in_quotes, sign_text, EndsSign, IsToken}
-use Rattle.rj_condition.specs.Scanning.{quoted, text_at, delimited_at, number_len, is_integer, judged, as_integer, decimal_parts, with_rest, fraction_at, as_decimal, number_at, less_at, greater_at, mark_of, as_mark, sign_at, as_sign, begins_number, token_at}
+use Rattle.rj_condition.specs.Scanning.{quoted, text_at, delimited_at, number_len, is_integer, judged, as_integer, decimal_parts, with_rest, fraction_at, as_decimal, number_at, less_at, greater_at, not_equal_at, mark_of, as_mark, sign_at, as_sign, begins_number, token_at}
 use Rattle.rj_condition.proofs.Runs.{len_in}
 use Rattle.rj_condition.proofs.Words.{word_token}
 use Rattle.rj_condition.proofs.Quotes.{some_same, quoted_sound}
@@ -81,24 +81,43 @@ as_mark_some : (o : Option Sign) (bs : List ℕ) (p : Sign × List ℕ) → as_m
 as_mark_some (Some s) bs p e = (s, refl, some_same _ _ e)
 as_mark_some None bs p e = cc
 
-sign_sound : (bytes : List ℕ) (p : Sign × List ℕ) → sign_at bytes ≡ Some p → IsSignAt bytes p
-unfolding sign_at
-sign_sound [] p e = cc
-sign_sound (b ∷ bs) p e = elim (chosen (b == 60) _ _ p e) [
-  | inl h ↦ subst (IsSignAt (b ∷ bs)) (some_same _ _ h.1) (subst (λ (z : ℕ). IsSignAt (z ∷ bs) (less_at bs)) (sym (eqb-true b 60 h.0)) (less_sound bs))
-  | inr h ↦ elim (chosen (b == 62) _ _ p h.1) [
-    | inl h ↦ subst (IsSignAt (b ∷ bs)) (some_same _ _ h.1) (subst (λ (z : ℕ). IsSignAt (z ∷ bs) (greater_at bs)) (sym (eqb-true b 62 h.0)) (greater_sound bs))
-    | inr h ↦ let m = as_mark_some (mark_of b) bs p h.1 in subst (IsSignAt (b ∷ bs)) m.2 (mark_sound b bs m.0 m.1)
-  ]
-]
-
 -- one token of each kind
 abbrev TokenAt : List ℕ → Token × List ℕ → Type 0
 TokenAt bytes p = IsToken bytes p.0 p.1
 
+abbrev IsSignToken : List ℕ → Sign × List ℕ → Type 0
+IsSignToken bytes p = IsToken bytes (token.Sign p.0) p.1
+
+not_equal_sound : (bs : List ℕ) (p : Sign × List ℕ) → not_equal_at bs ≡ Some p → IsSignToken (33 ∷ bs) p
+unfolding not_equal_at
+not_equal_sound [] p e = cc
+not_equal_sound (b ∷ bs) p e = elim (chosen (b == 61) _ _ p e) [
+  | inl h ↦ subst (IsSignToken (33 ∷ b ∷ bs)) (some_same _ _ h.1) (33 ∷ 61 ∷ [], ap (λ z. 33 ∷ z ∷ bs) (eqb-true b 61 h.0), inr (refl, refl), tt)
+  | inr h ↦ let e = h.1 in cc
+]
+
+by_text : (bytes : List ℕ) (p : Sign × List ℕ) → IsSignAt bytes p → IsSignToken bytes p
+by_text bytes p h = (sign_text p.0, h.0, inl refl, h.1)
+
+sign_sound : (bytes : List ℕ) (p : Sign × List ℕ) → sign_at bytes ≡ Some p → IsSignToken bytes p
+unfolding sign_at
+sign_sound [] p e = cc
+sign_sound (b ∷ bs) p e = elim (chosen (b == 60) _ _ p e) [
+  | inl h ↦ by_text (b ∷ bs) p
+      (subst (IsSignAt (b ∷ bs)) (some_same _ _ h.1) (subst (λ (z : ℕ). IsSignAt (z ∷ bs) (less_at bs)) (sym (eqb-true b 60 h.0)) (less_sound bs)))
+  | inr h ↦ elim (chosen (b == 62) _ _ p h.1) [
+    | inl h ↦ by_text (b ∷ bs) p
+        (subst (IsSignAt (b ∷ bs)) (some_same _ _ h.1) (subst (λ (z : ℕ). IsSignAt (z ∷ bs) (greater_at bs)) (sym (eqb-true b 62 h.0)) (greater_sound bs)))
+    | inr h ↦ elim (chosen (b == 33) _ _ p h.1) [
+      | inl h ↦ subst (λ (z : ℕ). IsSignToken (z ∷ bs) p) (sym (eqb-true b 33 h.0)) (not_equal_sound bs p h.1)
+      | inr h ↦ let m = as_mark_some (mark_of b) bs p h.1 in by_text (b ∷ bs) p (subst (IsSignAt (b ∷ bs)) m.2 (mark_sound b bs m.0 m.1))
+    ]
+  ]
+]
+
 as_sign_token : (bytes : List ℕ) (o : Option (Sign × List ℕ)) (p : Token × List ℕ) → sign_at bytes ≡ o → as_sign o ≡ Some p → TokenAt bytes p
 as_sign_token bytes None p e f = cc
-as_sign_token bytes (Some s) p e f = let k = sign_sound bytes s e in subst (TokenAt bytes) (some_same _ _ f) (sign_text s.0, k.0, refl, k.1)
+as_sign_token bytes (Some s) p e f = subst (TokenAt bytes) (some_same _ _ f) (sign_sound bytes s e)
 
 literal_token : (bs : List ℕ) (o : Option (List ℕ × List ℕ)) (p : Token × List ℕ) → quoted 39 bs ≡ o → text_at o ≡ Some p → TokenAt (39 ∷ bs) p
 literal_token bs None p q e = cc

@@ -127,6 +127,11 @@ unfoldable pub greater_at : List ℕ → Sign × List ℕ
 greater_at [] = (sign.Greater, [])
 greater_at (b ∷ bs) = if b == 61 then (sign.GreaterOrEqual, bs) else (sign.Greater, b ∷ bs)
 
+-- the sign that comes after `!`: no sign is `!` alone
+unfoldable pub not_equal_at : List ℕ → Option (Sign × List ℕ)
+not_equal_at [] = None
+not_equal_at (b ∷ bs) = if b == 61 then Some (sign.NotEqual, bs) else None
+
 -- a sign of one byte that no longer sign begins with
 unfoldable pub mark_of : ℕ → Option Sign
 mark_of b =
@@ -144,7 +149,11 @@ as_mark None rest = None
 -- the sign that the bytes begin with
 unfoldable pub sign_at : List ℕ → Option (Sign × List ℕ)
 sign_at [] = None
-sign_at (b ∷ bs) = if b == 60 then Some (less_at bs) else if b == 62 then Some (greater_at bs) else as_mark (mark_of b) bs
+sign_at (b ∷ bs) =
+    if b == 60 then Some (less_at bs)
+    else if b == 62 then Some (greater_at bs)
+    else if b == 33 then not_equal_at bs
+    else as_mark (mark_of b) bs
 
 abbrev pub as_sign : Option (Sign × List ℕ) → Option (Token × List ℕ)
 as_sign (Some p) = Some (token.Sign p.0, p.1)

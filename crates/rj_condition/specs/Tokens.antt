@@ -1,5 +1,5 @@
 -- The form of each token (SQL-92, 5.2 to 5.4).
-use Rattle.std.specs.Prelude.{◌≡◌, ◌≢◌, ℕ, ◌==◌, ◌||◌, ◌&&◌, ◌+◌, ◌≤◌, length, Bool, true, false, List, [], ◌∷◌, ◌++◌, codes, if◌then◌else◌, FitsSigned}
+use Rattle.std.specs.Prelude.{◌≡◌, ◌≢◌, ◌⊎◌, ℕ, ◌==◌, ◌||◌, ◌&&◌, ◌+◌, ◌≤◌, length, Bool, true, false, List, [], ◌∷◌, ◌++◌, codes, if◌then◌else◌, FitsSigned}
 use Rattle.std.specs.Int.{w64}
 use Rattle.std.specs.Char.{is_ascii_alphabetic, is_ascii_alphanumeric, is_ascii_digit}
 use Rattle.std.specs.List.{list_all}
@@ -48,6 +48,10 @@ sign_text sign.Close = codes ")"
 sign_text sign.Comma = codes ","
 sign_text sign.Point = codes "."
 
+-- a sign is written as its text, and `<>` is also written `!=`
+abbrev pub IsSign : Sign → List ℕ → Type 0
+IsSign s w = (w ≡ sign_text s) ⊎ ((s ≡ sign.NotEqual) × (w ≡ codes "!="))
+
 -- space, tab, LF and CR
 abbrev pub is_blank : ℕ → Bool
 is_blank b = b == 32 || b == 9 || b == 10 || b == 13
@@ -94,7 +98,7 @@ IsSpelled (token.Name n) w = IsNamed n.delimited n.text w
 IsSpelled (token.Integer z) w = IsNumeral 10 (without_leading_sign w) × FitsSigned w64 z × (z ≡ signed_digits_value 10 w)
 IsSpelled (token.Decimal d) w = IsDecimal d w
 IsSpelled (token.Text t) w = w ≡ in_quotes 39 t
-IsSpelled (token.Sign s) w = w ≡ sign_text s
+IsSpelled (token.Sign s) w = IsSign s w
 IsSpelled token.Unreadable w = ⊥
 
 abbrev pub begins : (ℕ → Bool) → List ℕ → Bool

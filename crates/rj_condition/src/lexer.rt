@@ -305,6 +305,17 @@ fn greater(text: &str) -> (Sign, &str)
     }
 }
 
+// The sign that comes after `!`, which is none alone.
+#[tactic(auto, unfolding(crate::specs::Scanning::not_equal_at))]
+fn not_equal(text: &str) -> Option<(Sign, &str)>
+    ensures { scanning.view result ≡ scanning.not_equal_at text.now }
+{
+    match text.as_bytes() {
+        [b'=', ..] => Some((Sign::NotEqual, tail(text))),
+        _ => None,
+    }
+}
+
 // The sign of one byte that begins no longer sign.
 #[tactic(auto, unfolding(crate::specs::Scanning::mark_of))]
 fn mark_of(byte: u8) -> Option<Sign>
@@ -359,6 +370,7 @@ fn sign(text: &str) -> Option<(Sign, &str)>
         [] => None,
         [b'<', ..] => Some(less(tail(text))),
         [b'>', ..] => Some(greater(tail(text))),
+        [b'!', ..] => not_equal(tail(text)),
         [first, ..] => match mark_of(*first) {
             Some(mark) => Some((mark, tail(text))),
             None => None,

@@ -66,6 +66,7 @@ impl Keyword {
 #[derive(Clone, Copy, PartialEq, Eq)]
 pub enum Sign {
     Equal,
+    /// `<>` or `!=`.
     NotEqual,
     Less,
     Greater,

@@ -121,7 +121,7 @@ fn quoted_len(alloc: Global, quote: u8, text: &str) -> Result<usize, AllocError>
 // begins no token.
 fn long_token_len(alloc: Global, text: &str) -> Result<usize, AllocError> {
     Ok(match text.as_bytes() {
-        [b'<', b'>' | b'=', ..] | [b'>', b'=', ..] => 2,
+        [b'<', b'>' | b'=', ..] | [b'>' | b'!', b'=', ..] => 2,
         [b'+' | b'-', rest @ ..] if rest.first().is_some_and(u8::is_ascii_digit) => {
             number_len(rest).saturating_add(1)
         }

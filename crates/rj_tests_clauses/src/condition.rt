@@ -28,11 +28,12 @@ fn parsed_otherwise<'a>(alloc: Global, cases: &[(&'a str, Option<u64>)]) -> &'a 
 }
 
 // Clauses, and a syntax error from each place where the parser can stop.
-const TEXTS: [(&str, Option<u64>); 45] = [
+const TEXTS: [(&str, Option<u64>); 49] = [
     ("NATURAL FULL OUTER JOIN", None),
     ("inner Join using (id, \"ID\", \"a\"\"b\")", None),
     ("RIGHT OUTER JOIN USING (id)", None),
     ("JOIN ON a<>b AND\tc<=d\r\nOR e>=-5", None),
+    ("JOIN ON a!=b OR a != -5", None),
     ("JOIN ON NOT a IS NOT NULL", None),
     ("JOIN ON a NOT BETWEEN 1 AND +9223372036854775807", None),
     ("JOIN ON a IN (-9223372036854775808, 'it''s', '')", None),
@@ -54,6 +55,9 @@ const TEXTS: [(&str, Option<u64>); 45] = [
     ("JOIN ON a", Some(9)),
     ("JOIN ON = 1", Some(8)),
     ("JOIN ON a. = 1", Some(11)),
+    ("JOIN ON a !", Some(10)),
+    ("JOIN ON a ! = 1", Some(10)),
+    ("JOIN ON a !== 1", Some(12)),
     ("JOIN ON a NOT = 1", Some(14)),
     ("JOIN ON a BETWEEN 1 OR 2", Some(20)),
     ("JOIN ON a BETWEEN 1 AND", Some(23)),
