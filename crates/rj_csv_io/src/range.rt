@@ -12,6 +12,7 @@ use crate::format::OutputFormat;
 use crate::text::{close_text, end_record, open_text, write_cell, write_field};
 use csv::Writer;
 use rj_columns::RowSource;
+use rj_decimal::DecimalBuffer;
 use rj_strict::Delimiter;
 use std::alloc::{AllocError, Global};
 
@@ -58,6 +59,7 @@ fn write_row<S: RowSource>(
     source: &S,
     row: u64,
     null: &str,
+    decimal: &mut DecimalBuffer,
 ) -> Result<(), AllocError>
     requires holds { Holds (S.contents source.now) (S.width source.now) block.now }
     requires from { block.now.from ≤ row }
@@ -69,7 +71,7 @@ fn write_row<S: RowSource>(
     let at = (row - block.from) as usize;
     let mut base = 0usize;
     for _col in 0..source.columns() {
-        write_cell(writer, block.cells[base + at], null)?;
+        write_cell(writer, block.cells[base + at], null, decimal)?;
         base += step;
     }
     end_record(writer)?;
@@ -82,13 +84,14 @@ fn write_block<S: RowSource>(
     block: &RowBlock<'_>,
     source: &S,
     null: &str,
+    decimal: &mut DecimalBuffer,
 ) -> Result<(), AllocError>
     requires { Holds (S.contents source.now) (S.width source.now) block.now }
     ensures { (d : ℕ) (text : List ℕ) → HasWritten d writer.old text []
         → OnOk result (HasWritten d writer.new (text ++ range_text d null.now (S.contents source.now) block.now.from block.now.to) []) }
 {
     for row in block.from..block.to {
-        write_row(writer, block, source, row, null)?;
+        write_row(writer, block, source, row, null, decimal)?;
     }
     Ok(())
 }
@@ -108,10 +111,11 @@ fn add_blocks<S: RowSource>(
 {
     let mut writer = open_text(text, format.delimiter);
     let mut block = no_rows(alloc);
+    let mut decimal = DecimalBuffer::new();
     let mut row = from;
     while row < to {
         next_block(&mut block, source, row, to)?;
-        write_block(&mut writer, &block, source, format.null)?;
+        write_block(&mut writer, &block, source, format.null, &mut decimal)?;
         row = block.to;
     }
     close_text(writer)

@@ -33,11 +33,12 @@ pub(crate) fn write_field(writer: &mut Writer<Vec<u8>>, field: &[u8]) -> Result<
     Ok(())
 }
 
-/// Writes a cell's text as one more field of a record.
+/// Writes a cell's text as one more field of a record. A decimal's text is made in `decimal`.
 pub(crate) fn write_cell(
     writer: &mut Writer<Vec<u8>>,
     cell: Cell<'_>,
     null: &str,
+    decimal: &mut DecimalBuffer,
 ) -> Result<(), AllocError>
     ensures { (d : ℕ) (text : List ℕ) → (fields : List (List ℕ)) → length fields < 2 ^ 64 - 1 → HasWritten d writer.old text fields
         → OnOk result (HasWritten d writer.new text (fields ++ shown null.now (content_of cell.entry) ∷ [])) }
@@ -49,10 +50,7 @@ pub(crate) fn write_cell(
             let mut digits = Buffer::new();
             write_field(writer, digits.format(n).as_bytes())
         }
-        Cell::Num { units, scale } => {
-            let mut text = DecimalBuffer::new();
-            write_field(writer, text.format(units, scale))
-        }
+        Cell::Num { units, scale } => write_field(writer, decimal.format(units, scale)),
     }
 }
 

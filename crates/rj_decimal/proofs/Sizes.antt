@@ -1,15 +1,16 @@
 -- The size that the digits before and after a point write.
-use Rattle.std.proofs.Common.{◌≡◌, ℕ, zero, suc, Bool, true, false, ◌*◌, ◌-◌, ◌^◌, ◌<◌, ◌≤◌, min, List, [], ◌∷◌, ◌++◌, take, drop, length, Option, None, Some, SomeIff, IfSome, refl, sym, ap, ◌∙◌, arith}
+use Rattle.std.proofs.Common.{◌≡◌, ℕ, zero, suc, Bool, true, false, ◌+◌, ◌*◌, ◌-◌, ◌^◌, ◌<◌, ◌≤◌, min, List, [], ◌∷◌, ◌++◌, take, drop, length, get_or, Option, None, Some, SomeIff, IfSome, refl, sym, ap, ◌∙◌, arith}
 use Rattle.std.specs.Prelude.{◌==◌, ◌&&◌, nat_lt, if◌then◌else◌}
-use Rattle.std.specs.Char.{is_ascii_digit}
+use Rattle.std.specs.Char.{digit_value, is_ascii_digit}
 use Rattle.std.specs.Str.{all_ascii_digits}
 use Rattle.std.specs.Str.Parse.{digits_value, digits_value_after}
 use Rattle.std.proofs.lemmas.Bool.Decides.{nat_tests}
-use Rattle.std.proofs.lemmas.List.{take_min, take-append-drop, drop_all}
-use Rattle.std.proofs.Math.Nat.{mul-suc, pow-le-pow_right}
+use Rattle.std.proofs.lemmas.List.{length-append, take_min, take-append-drop, drop_all}
+use Rattle.std.proofs.Math.Nat.{mul-le-mul_right, mul-suc, pow-le-pow_right}
+use Rattle.std.proofs.lemmas.Nat.{pow-add}
 use Rattle.rj_decimal.specs.Read.{after_point, are_digits, are_zeros, before_point, has_point, is_unsigned_text, size_at, IsSize}
 use Rattle.rj_decimal.proofs.Shifts.{ten_pow_pos}
-use Rattle.rj_decimal.proofs.Digits.{value_after-ge, value_after-append}
+use Rattle.rj_decimal.proofs.Digits.{value_after-append, value_after-below, value_after-least}
 
 pub SomeIff-same : (r : Option ℕ) (P Q : Type 0) (v w : ℕ) → (P → Q) → (Q → P) → v ≡ w → SomeIff r P v → SomeIff r Q w
 SomeIff-same None P Q v w to from e h = λ q. h (from q)
@@ -37,28 +38,56 @@ zeros-digits (x ∷ xs) e =
     let b = both (x == 48) (are_zeros xs) e in
     and (is_ascii_digit x) (all_ascii_digits xs) (zero-digit x b.0) (zeros-digits xs b.1)
 
--- digits, and digits that follow them
-pub together-none : (xs ys : List ℕ) → ((all_ascii_digits xs ≡ true) × (digits_value_after 10 0 xs < 10 ^ 18) → ⊥) → (all_ascii_digits (xs ++ ys) ≡ true) × (digits_value 10 (xs ++ ys) < 10 ^ 18) → ⊥
-together-none xs ys none h =
-    let b = both (all_ascii_digits xs) (all_ascii_digits ys) (sym (digits-append xs ys) ∙ h.0) in
-    none (b.0, omega (arith, h.1, value_after-append 0 xs ys, value_after-ge (digits_value_after 10 0 xs) ys))
-
-pub together : (xs ys : List ℕ) (v : ℕ) (r : Option ℕ) → all_ascii_digits xs ≡ true → v ≡ digits_value_after 10 0 xs
-    → SomeIff r ((all_ascii_digits ys ≡ true) × (digits_value_after 10 v ys < 10 ^ 18)) (digits_value_after 10 v ys)
-    → SomeIff r ((all_ascii_digits (xs ++ ys) ≡ true) × (digits_value 10 (xs ++ ys) < 10 ^ 18)) (digits_value 10 (xs ++ ys))
-together xs ys v r d e h =
-    let value : digits_value_after 10 v ys ≡ digits_value 10 (xs ++ ys) = ap (λ n. digits_value_after 10 n ys) e ∙ sym (value_after-append 0 xs ys) in
-    SomeIff-same r _ _ _ _
-    (λ p. (digits-append xs ys ∙ and (all_ascii_digits xs) (all_ascii_digits ys) d p.0, omega (arith, p.1, value)))
-    (λ q. ((both (all_ascii_digits xs) (all_ascii_digits ys) (sym (digits-append xs ys) ∙ q.0)).1, omega (arith, q.1, value)))
-    value h
-
 pub pow-le : (p : ℕ) → p ≤ 18 → 10 ^ p ≤ 10 ^ 18
 pow-le p h = pow-le-pow_right (omega arith) h
 
-times-ge : (n m : ℕ) → 0 < m → n ≤ n * m
+pub times-ge : (n m : ℕ) → 0 < m → n ≤ n * m
 times-ge n zero p = absurd (omega arith)
 times-ge n (suc m) p = omega (arith, mul-suc n m)
+
+-- digits, and digits that follow them: xs, of which zs is what follows its leading zeros, and ys
+pub together-none : (xs zs ys : List ℕ) → all_ascii_digits xs ≡ all_ascii_digits zs → (all_ascii_digits zs ≡ true → ⊥)
+    → (all_ascii_digits (xs ++ ys) ≡ true) × (digits_value 10 (xs ++ ys) < 10 ^ 18) → ⊥
+together-none xs zs ys d none h = none (sym d ∙ (both (all_ascii_digits xs) (all_ascii_digits ys) (sym (digits-append xs ys) ∙ h.0)).0)
+
+some-digit : (c : ℕ) → is_ascii_digit c ≡ true → (c ≡ 48 → ⊥) → 1 ≤ digit_value c
+some-digit c e ne = grind (arith, nat_tests)
+
+-- more than 18 digits, of which the first one isn't 0
+pub together-long : (xs zs ys : List ℕ) → all_ascii_digits xs ≡ all_ascii_digits zs → digits_value 10 xs ≡ digits_value 10 zs → (0 < length zs → get_or zs 0 0 ≡ 48 → ⊥)
+    → length ys ≤ 18 → 18 < length zs + length ys → (all_ascii_digits (xs ++ ys) ≡ true) × (digits_value 10 (xs ++ ys) < 10 ^ 18) → ⊥
+together-long xs [] ys d e first few long h = omega arith
+together-long xs (z ∷ zs) ys d e first few long h =
+    let all = both (all_ascii_digits xs) (all_ascii_digits ys) (sym (digits-append xs ys) ∙ h.0) in
+    let digits = both (is_ascii_digit z) (all_ascii_digits zs) (sym d ∙ all.0) in
+    let n = 0 * 10 + digit_value z in
+    let some : 1 ≤ n = omega (arith, some-digit z digits.0 (first (omega arith))) in
+    let value : digits_value 10 (xs ++ ys) ≡ digits_value_after 10 n (zs ++ ys) =
+    value_after-append 0 xs ys ∙ (ap (λ m. digits_value_after 10 m ys) e ∙ sym (value_after-append n zs ys)) in
+    let long_enough : 18 ≤ length (zs ++ ys) = omega (arith, length-append zs ys) in
+    let power : 10 ^ 18 ≤ 10 ^ length (zs ++ ys) = pow-le-pow_right (omega arith) long_enough in
+    let product : 1 * 10 ^ length (zs ++ ys) ≤ n * 10 ^ length (zs ++ ys) = mul-le-mul_right (10 ^ length (zs ++ ys)) some in
+    omega (arith, h.1, value, power, product, value_after-least n (zs ++ ys))
+
+-- at most 18 digits
+pub first-room : (zs : List ℕ) → length zs ≤ 18 → (0 + 1) * 10 ^ length zs ≤ 10 ^ 18
+first-room zs few = omega (arith, pow-le (length zs) few)
+
+pub second-room : (zs ys : List ℕ) (v : ℕ) → all_ascii_digits zs ≡ true → v ≡ digits_value_after 10 0 zs → length zs + length ys ≤ 18 → (v + 1) * 10 ^ length ys ≤ 10 ^ 18
+second-room zs ys v d e few =
+    let low : v + 1 ≤ 10 ^ length zs = omega (arith, value_after-below 0 zs d, e) in
+    let product : (v + 1) * 10 ^ length ys ≤ 10 ^ length zs * 10 ^ length ys = mul-le-mul_right (10 ^ length ys) low in
+    omega (arith, product, pow-add 10 (length zs) (length ys), pow-le (length zs + length ys) few)
+
+pub together : (xs zs ys : List ℕ) (v : ℕ) (r : Option ℕ) → all_ascii_digits xs ≡ all_ascii_digits zs → digits_value 10 xs ≡ digits_value 10 zs → all_ascii_digits zs ≡ true
+    → v ≡ digits_value_after 10 0 zs → (v + 1) * 10 ^ length ys ≤ 10 ^ 18 → SomeIff r (all_ascii_digits ys ≡ true) (digits_value_after 10 v ys)
+    → SomeIff r ((all_ascii_digits (xs ++ ys) ≡ true) × (digits_value 10 (xs ++ ys) < 10 ^ 18)) (digits_value 10 (xs ++ ys))
+together xs zs ys v r d e all n room h =
+    let value : digits_value_after 10 v ys ≡ digits_value 10 (xs ++ ys) = ap (λ m. digits_value_after 10 m ys) (n ∙ sym e) ∙ sym (value_after-append 0 xs ys) in
+    SomeIff-same r _ _ _ _
+    (λ p. (digits-append xs ys ∙ and (all_ascii_digits xs) (all_ascii_digits ys) (d ∙ all) p, omega (arith, value, room, value_after-below v ys p)))
+    (λ q. (both (all_ascii_digits xs) (all_ascii_digits ys) (sym (digits-append xs ys) ∙ q.0)).1)
+    value h
 
 pub below : (a b : ℕ) → nat_lt a b ≡ true → a < b
 below a b e = grind (arith, nat_tests)

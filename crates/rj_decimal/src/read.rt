@@ -1,6 +1,6 @@
 //! The reading of a text as a value of a numeric type.
 
-ghost use Rattle.std.specs.Prelude.{◌≡◌, ◌<◌, ◌≤◌, ◌^◌, ◌-◌, ◌++◌, ◌∷◌, true, false, SomeIff, IfSome, option_map, length, take, drop, nat_lt, unsigned_abs, ◌+◌, ◌*◌};
+ghost use Rattle.std.specs.Prelude.{◌≡◌, ◌≢◌, ◌<◌, ◌≤◌, ◌^◌, ◌-◌, ◌++◌, ◌∷◌, true, false, SomeIff, IfSome, option_map, length, take, drop, nat_lt, unsigned_abs, ◌+◌, ◌*◌, slice_index};
 ghost use Rattle.std.specs.Str.{all_ascii_digits};
 ghost use Rattle.std.specs.Str.Parse.{digits_value, digits_value_after, without_leading_sign};
 ghost use Rattle.rj_decimal.specs.Numbers.{number_of};
@@ -10,6 +10,9 @@ ghost use Rattle.rj_decimal.specs.Read.{AreSmallDigits, IsSize, IsUnsigned, afte
 use crate::decimal::Decimal;
 use crate::numeric::NumericType;
 use crate::powers::power_of_ten;
+
+// The most digits of a value, whatever its type.
+const MOST_DIGITS: usize = 18;
 
 // A text without its sign.
 fn without_sign(text: &[u8]) -> &[u8]
@@ -49,10 +52,26 @@ fn is_zeros(text: &[u8]) -> bool
     true
 }
 
-// The number that a text's digits write when they follow those of another number, if it is below 10^18.
+// A text without its leading zeros.
+fn without_zeros(text: &[u8]) -> &[u8]
+    ensures digits { all_ascii_digits text.now ≡ all_ascii_digits result.now }
+    ensures value { digits_value 10 text.now ≡ digits_value 10 result.now }
+    ensures first { 0 < length result.now → slice_index result.now 0 ≢ 48 }
+    ensures len { length result.now ≤ length text.now }
+{
+    for i in 0..text.len() {
+        if text[i] != b'0' {
+            return &text[i..];
+        }
+    }
+    &text[text.len()..]
+}
+
+// The number that a text's digits write when they follow those of another number, where there is
+// room for them below 10^18.
 fn digits_after(number: u64, text: &[u8]) -> Option<u64>
-    requires { number < 10 ^ 18 }
-    ensures { SomeIff result ((all_ascii_digits text.now ≡ true) × (digits_value_after 10 number text.now < 10 ^ 18)) (digits_value_after 10 number text.now) }
+    requires { (number + 1) * 10 ^ length text.now ≤ 10 ^ 18 }
+    ensures { SomeIff result (all_ascii_digits text.now ≡ true) (digits_value_after 10 number text.now) }
 {
     let mut value = number;
     for i in 0..text.len() {
@@ -61,18 +80,21 @@ fn digits_after(number: u64, text: &[u8]) -> Option<u64>
             return None;
         }
         value = value * 10 + u64::from(byte - b'0');
-        if value >= 1_000_000_000_000_000_000 {
-            return None;
-        }
     }
     Some(value)
 }
 
-// The number that two texts of digits write one after the other, if it is below 10^18.
+// The number that two texts of digits write one after the other, if it is below 10^18: if it has at
+// most 18 digits without its leading zeros. The second text has at most 18.
 fn digits_together(before: &[u8], after: &[u8]) -> Option<u64>
+    requires { length after.now ≤ 18 }
     ensures { SomeIff result (AreSmallDigits (before.now ++ after.now)) (digits_value 10 (before.now ++ after.now)) }
 {
-    let Some(value) = digits_after(0, before) else {
+    let first = without_zeros(before);
+    if first.len() > MOST_DIGITS - after.len() {
+        return None;
+    }
+    let Some(value) = digits_after(0, first) else {
         return None;
     };
     digits_after(value, after)

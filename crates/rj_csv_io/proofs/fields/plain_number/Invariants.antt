@@ -1,4 +1,4 @@
-use Rattle.std.proofs.Common.{◌≡◌, drop, length, take}
+use Rattle.std.proofs.Common.{◌≡◌, ◌<◌, ◌^◌, drop, length, take}
 use Rattle.std.specs.Str.{all_ascii_digits}
 use Rattle.std.specs.Str.Parse.{digits_value}
 use Rattle.rj_csv_io.proofs.fields.plain_number.Given as goal
@@ -7,5 +7,6 @@ abbrev pub invariant-loop-i : goal.invariant-loop-i
 invariant-loop-i l = record {
   value : l.value ≡ digits_value 10 (take l.i l.field);
   digits : all_ascii_digits l.field ≡ all_ascii_digits (drop l.i l.field);
+  small : l.value < 10 ^ l.i;
   end : l.i-end ≡ length l.field;
 }
