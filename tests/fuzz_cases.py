@@ -208,7 +208,7 @@ class Cases:
             words += source.choice([[], [b"--left-types=int"], [b"--right-types", b"int", b"--left-types=int"], [b"--types=int"], [b"--lenient"], [b"--repeated=keep"]])
         else:
             words = [b"--left", b"left", b"--right", b"right", b"--left-types", b"int", b"--right-types=int", b"--join", source.choice([b"CROSS JOIN", b"FULL JOIN USING (a)", b"RIGHT JOIN ON L.a <> R.a"])]
-        words += source.choice([[], [b"--stats"], [b"--bits1", b"3"], [b"--bits2=2"], [b"--hash", b"mixed"], [b"--piece", b"3"], [b"--version"], [b"--workers=2"], [b"--lanes", b"2"], [b"--block=65536", b"--capacity=1"], [b"--null=x"], [b"--gaps"], [b"--help"], [b"--count"], [b"--report"], [b"--expect=many-to-one"], [b"--expect=one-to-one"], [b"--max-rows=2"], [b"--anti"], [b"--semi"], [b"-d", b";"], [b"--delimiter=ab", b"--out-delimiter=tab"], [b"--out-delimiter=;"], *([b"--rows=" + source.choice(ROWS)] for _ in range(4))])
+        words += source.choice([[], [b"--stats"], [b"--bits1", b"3"], [b"--bits2=2"], [b"--hash", b"mixed"], [b"--piece", b"3"], [b"--version"], [b"--workers=2"], [b"--lanes", b"2"], [b"--block=65536", b"--capacity=1"], [b"--null=x"], [b"--gaps"], [b"--help"], [b"--count"], [b"--report"], [b"--expect=many-to-one"], [b"--expect=one-to-one"], [b"--max-rows=2"], [b"--expect=matched"], [b"--select=id"], [b"--select=L.a=b,R.a"], [b"-q"], [b"--anti"], [b"--semi"], [b"-d", b";"], [b"--delimiter=ab", b"--out-delimiter=tab"], [b"--out-delimiter=;"], *([b"--rows=" + source.choice(ROWS)] for _ in range(4))])
         for _ in range(source.choice([0, 1, 1, 2, 3])):
             at = source.randrange(len(words))
             how = source.randrange(6)

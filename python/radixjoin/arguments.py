@@ -22,7 +22,7 @@ _OPTIONS = ("rows", "order", "columns", "repeated", "expect", "max_rows", "worke
 _WORDS: Mapping[str, Tuple[Any, ...]] = {
     "how": ("inner", "left", "right", "outer", "full", "cross", "semi", "anti"),
     "order": ("pairs", "left", None),
-    "expect": ("one-to-one", "one-to-many", "many-to-one", None),
+    "expect": ("one-to-one", "one-to-many", "many-to-one", "matched", "one-to-one,matched", "one-to-many,matched", "many-to-one,matched", None),
     "hash": ("plain", "mixed", None),
     "strict": (True, False, "full"),
     "validate": ("one_to_one", "1:1", "one_to_many", "1:m", "many_to_one", "m:1", "many_to_many", "m:m", None),

@@ -1,13 +1,13 @@
 """The words of both command lines: "The order" and "Errors and statuses" of docs/user/specification.md.
 
 Options are long ones, used at most once but for those of a side's null texts; `--name value` and `--name=value` mean the same, and a value that begins
-with `-` is given by `=` (but `-` alone is a value). `-o`, `-w` and `-d` are letters of three of them. In the short form three words are no
+with `-` is given by `=` (but `-` alone is a value). `-o`, `-w`, `-d` and `-q` are letters of four of them. In the short form three words are no
 options."""
 import math
 import re
 
 from .faults import BadLine, Fault, Help
-from . import joining, ledger, reading
+from . import joining, ledger, reading, selecting
 
 # What an option takes: any text that has to be given, any text, any text at each use, a number of a range, or nothing.
 TEXT, NEEDED_TEXT, TEXTS, FLAG = "text", "needed text", "texts", "flag"
@@ -17,6 +17,12 @@ KINDS = ("pairs", "lone-left", "lone-right", "matched-left")
 
 # What stands for a kind of rows with the left columns.
 LOOKED_FOR = {"anti": "lone-left", "semi": "matched-left"}
+
+# What may be expected of the matches of each row.
+EXPECTED = tuple(word for once in ("one-to-one", "many-to-one", "one-to-many") for word in (once, f"{once},matched")) + ("matched",)
+
+# The options with which rows aren't counted.
+CHOOSING = {"rows", "anti", "semi", "columns", "select", "order"}
 
 # The most bytes that are added to a repeated name at once.
 LONGEST_SUFFIX = 16
@@ -50,7 +56,7 @@ class WordOrNone(Word):
 PLACES = ("left", "right", "join")
 
 # The options of which one letter is enough.
-LETTERS = {"o": "output", "w": "workers", "d": "delimiter"}
+LETTERS = {"o": "output", "w": "workers", "d": "delimiter", "q": "quiet"}
 
 OPTIONS_OF = {
     "radixjoin": {
@@ -83,7 +89,7 @@ OPTIONS_OF = {
         "order": Word(("pairs", "left"), "pairs"),
         "rows": TEXT,
         "repeated": TEXT,
-        "expect": Word(("one-to-one", "many-to-one", "one-to-many"), None),
+        "expect": Word(EXPECTED, None),
         "max-rows": Number(0, 4_294_967_295, math.inf),
         "count": FLAG,
         "report": FLAG,
@@ -91,6 +97,8 @@ OPTIONS_OF = {
         "columns": Word(("all", "left", "right"), "all"),
         "anti": FLAG,
         "semi": FLAG,
+        "select": TEXT,
+        "quiet": FLAG,
     },
     "arrivals": {"partition": Number(0, 1023), "senders": Number(1, 128), "block": Number(1, 65536), "gaps": FLAG},
 }
@@ -109,7 +117,7 @@ def is_short(words):
 def explains(words):
     """Whether a line of radixjoin asks for explanations by being of the short form."""
     words = [word.decode(errors="replace") for word in words]
-    return is_short(words) and "--terse" not in words
+    return is_short(words) and not {"--terse", "--quiet", "-q"} & {*words}
 
 
 def number(value, of):
@@ -164,6 +172,11 @@ def take_letter(found, options, word, waiting):
     if waiting is not None:
         end_waiting(found, options, waiting)
     name, value = LETTERS[word[1]], word[2:]
+    if options[name] == FLAG:
+        if value:
+            raise BadLine
+        put(found, options, name, "")
+        return None
     if not value:
         return name
     put(found, options, name, value[1:] if value.startswith("=") else value)
@@ -243,10 +256,16 @@ class Request:
         self.tells_pieces = "piece" in found
         self.stats = "stats" in found
         self.order = found.get("order", options["order"].default)
+        self.is_quiet, given = "quiet" in found, {*found}
         found = self.looked_for(found, bad)
+        if "select" in found and {"columns", "repeated"} & given:
+            raise bad("--select excludes --columns and --repeated")
         self.columns = found.get("columns", options["columns"].default)
         self.rows = self.rows_of(found, bad)
-        if "matched-left" in self.rows and self.columns != "left":
+        self.selected = selecting.entries(found["select"]) if "select" in found else None
+        if "select" in found and self.selected is None:
+            raise bad("bad list of columns")
+        if "matched-left" in self.rows and (self.columns != "left" or self.selected):
             raise bad("--rows matched-left needs --columns left")
         self.expect = found.get("expect")
         self.most_rows = found.get("max-rows", options["max-rows"].default)
@@ -255,6 +274,10 @@ class Request:
         self.repeated = found.get("repeated", "qualify" if found["is short"] else "keep")
         if self.repeated not in ("keep", "qualify") and not 1 <= len(self.repeated.encode()) <= LONGEST_SUFFIX:
             raise bad("bad suffix of repeated names")
+        if self.is_quiet and {"explain", "progress"} & given:
+            raise bad("--quiet excludes --explain and --progress")
+        if self.counts and CHOOSING & given:
+            raise bad("--count excludes --rows, --anti, --semi, --columns, --select and --order")
 
     @staticmethod
     def delimiter_of(found, of):
@@ -327,4 +350,4 @@ def joined(request, files):
         if getattr(request, side) not in files:
             raise Fault(19, "ReadDevice", side)
     text, statistics, report, note = joining.run(files[request.left], files[request.right], request)
-    return Ended(0, text, (statistics if request.stats else b"") + (report if request.report else b"") + note)
+    return Ended(0, text, (statistics if request.stats else b"") + (report if request.report else b"") + (b"" if request.is_quiet else note))

@@ -1,7 +1,7 @@
 """The faults that end a run: their lines and statuses."""
 
 # The status of each fault by its number, as the table of docs/user/specification.md has it.
-STATUS_OF = {**{n: 3 for n in range(1, 11)}, **{n: 4 for n in range(11, 18)}, 18: 5, 19: 6, 20: 6, **{n: 3 for n in range(21, 29)}, 30: 7, 31: 3, 32: 4, 33: 4, 34: 2}
+STATUS_OF = {**{n: 3 for n in range(1, 11)}, **{n: 4 for n in range(11, 18)}, 18: 5, 19: 6, 20: 6, **{n: 3 for n in range(21, 29)}, 30: 7, 31: 3, 32: 4, 33: 4, 34: 2, 35: 4}
 
 
 class Fault(Exception):
