@@ -164,6 +164,8 @@ struct Rest {
     bytes: Vec<u8>,
     // How many rows were divided.
     rows: u64,
+    // Whether the last record needs its line end.
+    full: bool,
 }
 
 // Divides the next block of a range. The answer is whether it was the last one.
@@ -171,7 +173,6 @@ fn divide_next<I: Input, W: Route, O: Output>(
     alloc: Global,
     input: &mut I,
     division: &Division<'_, W>,
-    full: bool,
     block: usize,
     rest: &mut Rest,
     outputs: &mut [O],
@@ -187,13 +188,14 @@ fn divide_next<I: Input, W: Route, O: Output>(
         → read begin (I.tells input.new) rest.new (map O.told outputs.new) (blocks + 1) }
     ensures last { let d = dividing W.part division.now in result ≡ Ok true → (begin : Beginning) (blocks : ℕ)
         → IsReadTo d begin (I.tells input.old) rest.old (map O.told outputs.old) blocks
-        → IsRangeDivided d full begin.text begin.told (map O.told outputs.new) rest.new.rows }
+        → IsRangeDivided d rest.old.full begin.text begin.told (map O.told outputs.new) rest.new.rows }
+    ensures full { rest.new.full ≡ rest.old.full }
     ensures end { result ≡ Ok true → IsAtEnd (I.tells input.new) }
     ensures reads { I.count input.new ≡ block_reads result (I.count input.old) }
     ensures writes { map O.count outputs.new ≡ block_counts result (map O.count outputs.old) }
     ensures fault { let d = dividing W.part division.now in IfErr result (λ e. (t : TableValue) (begin : Beginning) (blocks : ℕ)
         → table_begun division.now ≡ Ok t → IsReadTo d begin (I.tells input.old) rest.old (map O.told outputs.old) blocks
-        → IsRangeFault d block full begin.text (length outputs.old) e) }
+        → IsRangeFault d block rest.old.full begin.text (length outputs.old) e) }
     ensures begins { OnOk result ((t : TableValue) × (table_begun division.now ≡ Ok t)) }
     ensures refusal { IfErr result (λ e. (b : BuildRefused) → table_begun division.now ≡ Err b → rest.old.rows ≡ 0 → IsBlockRefusal b e) }
     ensures untouched { (b : BuildRefused) → table_begun division.now ≡ Err b → outputs.new ≡ outputs.old }
@@ -205,7 +207,7 @@ fn divide_next<I: Input, W: Route, O: Output>(
         Err(refused) => return Err(BlockRefused::Divided(refused)),
     };
     // (a block that isn't the last one ends after a line end)
-    let whole = full | !piece.is_last;
+    let whole = rest.full | !piece.is_last;
     let text = &rest.bytes[..piece.end];
     let rows = match divide_block(alloc, division, text, whole, rest.rows, outputs) {
         Ok(rows) => rows,
@@ -261,9 +263,10 @@ pub fn divide_strictly<I: Input, W: Route, O: Output>(
     let mut rest = Rest {
         bytes: Vec::new(alloc),
         rows: 0,
+        full,
     };
     for _turn in 0..u64::MAX {
-        match divide_next(alloc, input, division, full, block, &mut rest, outputs) {
+        match divide_next(alloc, input, division, block, &mut rest, outputs) {
             Ok(true) => return Ok(rest.rows),
             Ok(false) => {}
             Err(refused) => return Err(refused),
