@@ -1,6 +1,6 @@
 # Completion of merges for bash: options that were not given yet, files, and the words of --order.
 _merges() {
-    local options="--null --order --from --to --copies --help --version"
+    local options="--null --order --from --to --copies --out-delimiter --help --version"
     local word=${COMP_WORDS[COMP_CWORD]} before=${COMP_WORDS[COMP_CWORD - 1]}
     # `--null=a` is three words here: --null, = and a.
     if [[ $word == = ]]; then
@@ -11,6 +11,8 @@ _merges() {
     COMPREPLY=()
     if [[ $before == --null || $before == --from || $before == --to || $before == --copies ]]; then
         return
+    elif [[ $before == --out-delimiter ]]; then
+        mapfile -t COMPREPLY < <(compgen -W "tab" -- "$word")
     elif [[ $before == --order ]]; then
         mapfile -t COMPREPLY < <(compgen -W "pairs left" -- "$word")
     elif [[ $word == -* ]]; then

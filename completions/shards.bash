@@ -1,7 +1,7 @@
 # Completion of shards for bash: options that were not given yet, files, and the words of --side and --strict.
 _shards() {
-    local options="--side --left --right --left-types --right-types --join --null --left-null --right-null --strict --explain --parts --from
-        --to --out --cuts --help --version"
+    local options="--side --left --right --left-types --right-types --join --delimiter --left-delimiter --right-delimiter --null --left-null
+        --right-null --strict --explain --parts --from --to --out --cuts --help --version"
     local word=${COMP_WORDS[COMP_CWORD]} before=${COMP_WORDS[COMP_CWORD - 1]}
     # `--left=a` is three words here: --left, = and a.
     if [[ $word == = ]]; then
@@ -25,6 +25,9 @@ _shards() {
             ;;
         --side)
             mapfile -t COMPREPLY < <(compgen -W "left right" -- "$word")
+            ;;
+        --delimiter | -d | --left-delimiter | --right-delimiter)
+            mapfile -t COMPREPLY < <(compgen -W "tab" -- "$word")
             ;;
         --strict)
             mapfile -t COMPREPLY < <(compgen -W "on full" -- "$word")

@@ -15,7 +15,7 @@ import harness
 import progress
 import shards
 
-from radixjoin import line, tasks
+from radixjoin import tasks
 
 # Two files, and the options that join them.
 FILES = {"left.csv": b"k,a\n1,x\n", "right.csv": b"k,b\n1,y\n", "wide.csv": b",".join(b"c%d" % number for number in range(256)), "taken.csv": b"k,Left_Place\n"}
@@ -39,11 +39,9 @@ LINES = (
     (GOOD, ["--address-space=0"], "--address-space is from 1 to 1152921504606846976"),
     (GOOD, ["--output=out.csv"], "--output can be given once"),
     (GOOD, ["--out=other.csv"], "--out is --output, which can be given once"),
-    (GOOD, ["--delimiter=;"], f"--delimiter: {line.COMMAS_ALONE}"),
-    (GOOD, ["-d", "tab"], f"--delimiter: {line.COMMAS_ALONE}"),
-    (GOOD, ["--left-delimiter", ";"], f"--left-delimiter: {line.COMMAS_ALONE}"),
-    (GOOD, ["--right-delimiter=\\t", "--left-delimiter=,"], f"--right-delimiter: {line.COMMAS_ALONE}"),
-    (GOOD, ["--out-delimiter="], f"--out-delimiter: {line.COMMAS_ALONE}"),
+    (GOOD, ["-d", "tab", "--delimiter=;"], "--delimiter can be given once"),
+    (GOOD, ["-d;", "-d;"], "--delimiter can be given once"),
+    (GOOD, ["--out-delimiter=;", "--out-delimiter", ";"], "--out-delimiter can be given once"),
     ({**GOOD, "output": "-"}, [], "--output: the result can't be standard output, give a file"),
 )
 # What is told as `radixjoin` tells it: options, and the content of a file.
@@ -60,6 +58,11 @@ AS_ALONE = (
     ({"right": "none.csv"}, {"left.csv": b"k,k\n"}),
     ({"strict": ""}, {"right.csv": b'k,"b"x\n1,y\n'}),
     ({}, {"right.csv": b""}),
+    ({"delimiter": "ab"}, {}),
+    ({"left-delimiter": "7", "delimiter": ";", "left": "none.csv", "explain": ""}, {}),
+    ({"out-delimiter": '"', "explain": ""}, {}),
+    ({"explain": ""}, {"left.csv": b"k;a\n1;x\n"}),
+    ({"right-delimiter": "tab", "explain": ""}, {}),
 )
 # What the script tells itself, or before what `radixjoin` tells of the rows: options, the content of a file, the status and the line.
 ITS_OWN = (

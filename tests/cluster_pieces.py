@@ -122,7 +122,8 @@ def words_of(pick, folder):
     rows = [] if pick.random() < 0.5 else [f"--rows={','.join(pick.sample(ROWS, pick.randrange(1, 4)))}"]
     order, strict = pick.choice(([], ["--order=left"])), pick.choice(([], [], ["--strict"]))
     nulls = pick.choice(([], [], ["--null=-"], ["--left-null=-", "--left-null=", "--out-null=~"]))
-    return [*words, f"--join={pick.choice((f'NATURAL {kind}', *[f'{kind} {condition}'] * 5))}", *rows, *order, *strict, *nulls]
+    words += [f"--join={pick.choice((f'NATURAL {kind}', *[f'{kind} {condition}'] * 5))}", *rows, *order, *strict, *nulls]
+    return words if pick.random() < 0.6 else shards.delimited(pick, words, folder)
 
 
 def run_random(seed, tally):

@@ -152,6 +152,7 @@ def random_words(pick, folder):
         kind, how = pick.choice(("JOIN", *["LEFT JOIN"] * 3, "RIGHT JOIN", *["FULL JOIN"] * 3)), pick.choice(cluster_pieces.CONDITIONS)
         words += [f"--join={pick.choice((f'NATURAL {kind}', *[f'{kind} {how}'] * 5))}", *rows, *pick.choice(NULLS)]
         words += [*pick.choice(([], ["--order=left"])), *pick.choice(([], [], ["--strict"]))]
+        words = words if pick.random() < 0.5 else shards.delimited(pick, words, folder)
     if pick.random() < 0.3:
         with open(folder / "left.csv", "rb+") as left:
             # (the last line may lack its end)

@@ -1,6 +1,6 @@
 """Divides, joins and merges as cluster/radixjoin-cluster does, one task after another and without Dask, and compares with what
-`radixjoin` writes: on the examples that have a key, on random tables in several numbers of parts and ranges, and with faults.
-It also looks at what `shards` tells of its own faults."""
+`radixjoin` writes: on the examples that have a key, on random tables in several numbers of parts and ranges and by several
+delimiters, and with faults. It also looks at what `shards` tells of its own faults."""
 import contextlib
 import csv
 import io
@@ -97,14 +97,14 @@ def faults_of(words, folder, parts, ranges, wanted):
 
 def is_example(case):
     """Whether an example is a join whose output is looked at, by options that the script takes and gives to `radixjoin` as they are
-    (`-1` isn't: Python takes it for a value; nor are options of one letter and the short form, which are the program's alone), and leaves
-    room for a column of places."""
+    (`-1` isn't: Python takes it for a value; nor are `-o`, `-w` and the short form, which are the program's alone), and leaves room for
+    a column of places."""
     options = case.get("options", [])
-    if case.get("short") or any(word.startswith(("-o", "-w", "-d")) for word in options):
+    if case.get("short") or any(word.startswith(("-o", "-w")) for word in options):
         return False
     if case["name"] == "hostile_inputs, 256 columns" or case["name"].endswith(" twice") or "-1" in options:
         return "null texts" in case["name"]
-    names = [*SCRIPT.OF_ONE_JOIN, "null", "left-null", "right-null", "out-null", "strict"]
+    names = [*SCRIPT.OF_ONE_JOIN, "null", "left-null", "right-null", "out-null", "delimiter", "left-delimiter", "right-delimiter", "out-delimiter", "strict"]
     is_known = all(word.partition("=")[0][2:] in names for word in options if word.startswith("--"))
     return "left" in case and "right" in case and case.get("output", "read") == "read" and is_known
 
@@ -135,6 +135,21 @@ CLAUSES = (
     "LEFT JOIN ON L.a = R.b",
 )
 ENDS = ("\n", "\r\n")
+# Signs that stand between fields, each with the word that names it.
+SIGNS = {",": ",", ";": ";", "\t": "tab", "|": "|", ":": ":", "_": "_"}
+
+
+def delimited(pick, words, folder):
+    """The words with others that name random delimiters, of which each file's own one and the comma are exchanged in it."""
+    signs = {of: pick.choice([*SIGNS]) for of in (*SCRIPT.SIDES, "out")}
+    if pick.random() < 0.3:
+        signs = dict.fromkeys(signs, signs["out"])
+    for side in SCRIPT.SIDES:
+        file, both = folder / f"{side}.csv", f",{signs[side]}".encode()
+        file.write_bytes(file.read_bytes().translate(bytes.maketrans(both, both[::-1])))
+    if len({*signs.values()}) == 1:
+        return [*words, *pick.choice(([f"--delimiter={SIGNS[signs['out']]}"], ["-d", SIGNS[signs["out"]]]))]
+    return [*words, *(f"--{of}-delimiter={SIGNS[sign]}" for of, sign in signs.items() if sign != "," or pick.random() < 0.5)]
 
 
 def random_rows(pick, rows, end):
@@ -161,9 +176,11 @@ def run_random(seed, tally):
         types = ["--left-types", "int,int,text", "--right-types", "num(9,2),int,text"]
         words = ["--left", "left.csv", "--right", "right.csv", *types, "--join", pick.choice(CLAUSES), *pick.choice(([], ["--order=left"]))]
         words = placed_in(words, folder)
+        if seed % 3 == 0:
+            words = delimited(pick, words, folder)
         wanted = harness.run([harness.program("radixjoin"), *words], folder)
         for parts, ranges in ((1, 1), (2, 5), (7, 3), (64, 40)):
-            tally.check(f"shards: random tables {seed}, {parts} parts of {ranges} ranges", faults_of(words, folder, parts, ranges, wanted))
+            tally.check(f"shards: random tables {seed}, {words[12:]}, {parts} parts of {ranges} ranges", faults_of(words, folder, parts, ranges, wanted))
 
 
 def run_cuts(tally):
@@ -185,6 +202,9 @@ def run_cuts(tally):
         if not 3 <= len(ranges) <= 5 or max(map(len, ranges)) > len(text) / 5 + (1 << 17):
             faults.append(f"{len(ranges)} ranges of {[len(it) for it in ranges]} characters")
         tally.check("shards: cuts", faults)
+        (folder / "left.csv").write_bytes(text.translate(str.maketrans(",;", ";,")).encode())
+        wanted, ran = ran, harness.run([harness.program("shards"), *words, "--left-delimiter=;"], folder)
+        tally.check("shards: cuts by semicolons", harness.differences(ran, wanted.stdout))
 
 
 def run_fault(row, tally):
@@ -231,6 +251,10 @@ LINES = (
     ({"left": "none.csv", "null": "no null"}, 6, b"radixjoin: E19 ReadDevice left\n"),
     ({"right-null": "no null", "left-types": "int,int"}, 3, b"radixjoin: E10 BadNull\n"),
     ({"side": "right", "left-null": "1", "right-types": "int"}, 3, b"radixjoin: E10 BadNull\n"),
+    ({"delimiter": "ab"}, 2, b"radixjoin: E34 BadDelimiter\n"),
+    ({"left-delimiter": ",", "delimiter": "7"}, 2, b"radixjoin: E34 BadDelimiter\n"),
+    ({"right-delimiter": "", "left": "none.csv", "null": "1"}, 2, b"radixjoin: E34 BadDelimiter\n"),
+    ({"left-delimiter": ";"}, 3, b"radixjoin: E4 TypeCount left\n"),
 )
 
 # What is told with `--explain`: the words that are others, the status, and all that is told.
@@ -246,6 +270,8 @@ EXPLAINED = (
     ({"left-types": "int,int"}, 3, b"radixjoin: E6 BadInteger left row 1 column 2\n"),
     ({"join": "CROSS JOIN"}, 4, NO_KEY.encode() + b"\n"),
     ({"left": "none.csv"}, 6, b"radixjoin: E19 ReadDevice left\n"),
+    ({"right-delimiter": "a"}, 2, b"radixjoin: E34 BadDelimiter\n  a delimiter is one ASCII character that is no letter, digit or double quote, or the word tab\n"),
+    ({"left-delimiter": ";"}, 3, b"radixjoin: E4 TypeCount left\n  1 names, 2 types\n  the left file seems to be separated by commas: is --left-delimiter ',' meant?\n"),
 )
 
 
@@ -273,6 +299,31 @@ def run_shards_alone(tally):
 def parts_in(folder):
     """The text of each part, by its name."""
     return {it.name: it.read_text() for it in sorted((folder / "parts").glob("*"))}
+
+
+# Words that name delimiters, with the signs of the left and the right file.
+DELIMITED = (
+    (["--left-delimiter=;"], ";", ","),
+    (["--delimiter=;"], ";", ";"),
+    (["-d", "tab", "--strict"], "\t", "\t"),
+    (["--left-delimiter", "|", "-d\\t", "--strict=full"], "|", "\t"),
+    (["--right-delimiter=_"], ",", "_"),
+    (["--left-delimiter=,", "-d_"], ",", "_"),
+)
+
+
+def run_delimited(tally):
+    """The parts of files by other delimiters are those of files by commas."""
+    for words, *signs in DELIMITED:
+        with harness.folder() as name:
+            folder = pathlib.Path(name)
+            division_words = division(folder)
+            for side, sign in zip(SCRIPT.SIDES, signs):
+                file = folder / f"{side}.csv"
+                file.write_text(file.read_text().replace(",", sign))
+            ran = harness.run([harness.program("shards"), *division_words, *words], folder)
+            got = parts_in(folder)
+            tally.check(f"shards: {words}", harness.differences(ran, b"rows 4 header 15\n") + ([] if got == PARTS else [f"{got}, and not {PARTS}"]))
 
 
 def run_over_others(tally):
@@ -335,6 +386,7 @@ def run_all(tally):
     for row in (1, 3, 50_000):
         run_fault(row, tally)
     run_shards_alone(tally)
+    run_delimited(tally)
     run_over_others(tally)
     run_places(tally)
     run_in_bounds(tally)

@@ -35,26 +35,27 @@ from typing import TYPE_CHECKING, Any, Dict, Iterator, List, Mapping, Optional, 
 from .arguments import refuse_values
 from .clauses import clause_of, given, kinds_of, refuse_rows, told_of_rows
 from .columns import Types
+from .delimiters import Delimiters
 from .explained import of_cell, of_row, of_unread
 from .faults import Fault, fault_of
 from .feeding import FILES_OF_INPUT, Input, bytes_of, run_program
-from .line import COMMAS_ALONE, DELIMITERS, MOST_MERGES, OF_ONE_JOIN, SIDES, beyond, read_line
+from .line import MOST_MERGES, OF_ONE_JOIN, SIDES, beyond, read_line
 from .lists import lower, with_place
 from .local import Machine
 from .making import append, beginning, folder_beside, made, remove, result_of
 from .memory import size_in
 from .nulls import Texts, texts_of
 from .outputs import refuse_input
-from .packed import Run, give_back, header_of_table, pack, part_in, rows_of_part, rows_of_run, sizes_of, told_of
+from .packed import Run, give_back, pack, part_in, rows_of_part, rows_of_run, sizes_of, told_of
 from .pipes import open_streams
 from .placed import LEFT, RIGHT, SAMPLES, Index, Place, Shard, cut_places, sampled
 from .plans import Plan, plan_of
 from .programs import ProgramNotFound, encoded, find_all
 from .runs import LONE, GivenUp, LeftRun, clause_beside, done_in_runs, join_in_turn, join_side_by_side, join_whole
 from .spread import TABLE, Join, are_many, joins_of, length_of, limit_of, most_tables, next_length, runs_of
-from .tables import PathTable
+from .tables import SIGN, PathTable, sign_of
 from .tasks import Told, answer, first_fault, put, tell, unwritten
-from .text import header_in
+from .text import header, header_in, split_header
 
 if TYPE_CHECKING:
     from distributed import Client
@@ -87,6 +88,9 @@ class Job:
         self.right_null: str = (nulls["right"] or [null])[0]
         # Whether a cell that isn't null may be written as null is, which has to be told.
         self.is_apart = bool(asked.strict) and any(self.out_null not in (nulls[side] or [null]) for side in SIDES)
+        delimiters = Delimiters(asked.delimiter, asked.left_delimiter, asked.right_delimiter, asked.out_delimiter)
+        # Those of the files, and of the one that is written (`out`).
+        self.delimiters = {what: delimiters.of(what) for what in (*SIDES, "out")}
         self.strict = [f"--strict={asked.strict}"] if asked.strict else []
         self.explain = ["--explain"] if asked.explain else []
         # (these are known when the join is planned)
@@ -131,14 +135,18 @@ class Job:
         """The folder that was given for what is half made."""
         return os.path.dirname(self.scratch)
 
+    def separated(self, *files: str) -> List[str]:
+        """The words that name the delimiters of these files, where they aren't commas."""
+        return [f"--{what}-delimiter={self.delimiters[what]}" for what in files if self.delimiters[what] != SIGN]
+
     def joining(self, types: Dict[str, str]) -> List[str]:
-        """The words for `radixjoin` that join two tables of these types, but for those that name the tables."""
+        """The words for `radixjoin` that join two tables of these types, but for those that name the tables and their delimiters."""
         words = [f"--{side}-types={types[side]}" for side in SIDES]
         return [*words, f"--join={self.clause}", *self.null, f"--out-null={self.out_null}", *self.one_join]
 
     def joining_files(self, workers: int) -> List[str]:
         """The words for `radixjoin` that join the two files themselves, but for those that name the left one."""
-        words = [f"--right={self.files['right']}", *self.joining(self.types), *self.strict, *self.explain]
+        words = [f"--right={self.files['right']}", *self.joining(self.types), *self.separated(*SIDES, "out"), *self.strict, *self.explain]
         return words if any(word.startswith("--workers=") for word in words) else [*words, f"--workers={workers}"]
 
     def limited(self, plan: Plan) -> Job:
@@ -150,7 +158,7 @@ class Job:
     def division(self, side: str, parts: int) -> List[str]:
         """The words for `shards` that don't depend on the range, for so many parts."""
         tables = [word for it in SIDES for word in (f"--{it}={self.files[it]}", f"--{it}-types={self.types[it]}")]
-        return [f"--side={side}", *tables, f"--join={self.clause}", *self.null, *self.strict, *self.explain, f"--parts={parts}"]
+        return [f"--side={side}", *tables, f"--join={self.clause}", *self.null, *self.separated(*SIDES), *self.strict, *self.explain, f"--parts={parts}"]
 
     def place(self, name: str) -> str:
         """The path of something that is made in the scratch folder."""
@@ -340,7 +348,7 @@ def cut_tables(job: Job, joins: Sequence[Join], cuts: Sequence[Place]) -> List[L
 def merging(job: Job, joins: Sequence[Join]) -> List[str]:
     """The words for `merges` that merge these joined tables."""
     copies = [one.copies() for one in joins]
-    return [f"--null={job.out_null}", f"--order={job.order}", *([f"--copies={','.join(copies)}"] if {*copies} != {"1"} else [])]
+    return [f"--null={job.out_null}", *job.separated("out"), f"--order={job.order}", *([f"--copies={','.join(copies)}"] if {*copies} != {"1"} else [])]
 
 
 def merge_shards(job: Job, joins: Sequence[Join]) -> None:
@@ -379,21 +387,21 @@ def first_fault_of_file(job: Job, side: str, ranges: Sequence[Tuple[int, Optiona
     before = 0
     for it, (start, end) in zip(answers, ranges):
         if isinstance(it, Told):
-            more = of_row(it.line, names_in(job.files[side]), start, end) if job.explain and not it.more else it.more
+            more = of_row(it.line, names_in(job, side), start, end) if job.explain and not it.more else it.more
             raise Told(counted_on(it.line, before), it.status, more)
         before += it[0]
 
 
-def names_in(file: str) -> List[str]:
-    """The names of a file's columns."""
-    with open(file, "rb") as opened:
-        return header_in(opened.read(1 << 20))
+def names_in(job: Job, side: str) -> List[str]:
+    """The names of the columns of a side's file."""
+    with open(job.files[side], "rb") as opened:
+        return header_in(opened.read(1 << 20), sign_of(job.delimiters[side]))
 
 
 def refuse_taken_names(job: Job) -> None:
     """Refuses files of which a column has the name of a column of places."""
     for side in SIDES:
-        for name in names_in(job.files[side]):
+        for name in names_in(job, side):
             if lower(name) in PLACES.values():
                 raise Told(f"radixjoin-cluster: the {side} file has a column {name}, which is the name of a column of places: rename it", 3)
 
@@ -402,7 +410,7 @@ def refuse_line(job: Job) -> Optional[Told]:
     """Tells what `radixjoin` does of the command line, by a run on empty files. A null text that isn't lawful is given back:
     files that can't be read are told before it."""
     try:
-        job.run("radixjoin", [*(f"--{side}={os.devnull}" for side in SIDES), *job.joining(job.types), *job.strict, *job.explain])
+        job.run("radixjoin", [*(f"--{side}={os.devnull}" for side in SIDES), *job.joining(job.types), *job.separated(*SIDES, "out"), *job.strict, *job.explain])
     except Told as told:
         if told.status != 3:
             raise
@@ -416,18 +424,18 @@ def refuse_files(job: Job) -> None:
         try:
             if stat.S_ISFIFO(os.stat(job.files[side]).st_mode):
                 raise Told(f"radixjoin-cluster: the {side} file is a pipe, which can't be divided: give a file", 2)
-            names_in(job.files[side])
+            names_in(job, side)
         except OSError:
             raise job.unread(side) from None
 
 
-def header_of(job: Job, side: str) -> bytes:
-    """The header of a side's file, as a program writes it. It is that of a part, without the name of the places behind its own ones, and
-    no byte of the file is divided for it."""
+def names_read(job: Job, side: str) -> List[str]:
+    """The names of the columns of a side's file, as a program reads them. They are those of a part, without the name of the places behind
+    its own ones, and no byte of the file is divided for it."""
     job.run("shards", [*job.division(side, 1), "--from=1", "--to=1", "--out=."])
-    names = Path(part_in(job.scratch, 0)).read_bytes().removesuffix(f",{PLACES[side]}\n".encode())
+    names, _ = split_header(Path(part_in(job.scratch, 0)).read_bytes())
     job.clear("*.csv")
-    return header_of_table(names + b"\n")
+    return names[:-1]
 
 
 def refuse(job: Job) -> None:
@@ -438,10 +446,10 @@ def refuse(job: Job) -> None:
     first_fault([bad_null])
     try:
         for side in SIDES:
-            header_of(job, side)
+            names_read(job, side)
     except Told as told:
         repeated = re.fullmatch(r"radixjoin: E3 RepeatedName (left|right) column (\d+)", told.line)
-        if repeated and int(repeated[2]) > len(names_in(job.files[repeated[1]])):
+        if repeated and int(repeated[2]) > len(names_in(job, repeated[1])):
             # (the column of places, which stands behind all of the file)
             refuse_taken_names(job)
         if job.explain:
@@ -583,8 +591,9 @@ def join_in_runs(job: Job, cluster: Any, plan: Plan) -> None:
     """
     found = cluster.answers([(cuts_of, job, "left", plan.runs)])
     first_fault(found)
-    headers = [header_of(job, side) for side in SIDES]
-    runs, clause = [LeftRun(headers[0], *it) for it in found[0]], clause_beside(job, *headers)
+    names = [names_read(job, side) for side in SIDES]
+    above = header(names[0], sign_of(job.delimiters["left"]))
+    runs, clause = [LeftRun(above, *it) for it in found[0]], clause_beside(job, *names)
     try:
         (join_in_turn if cluster.is_here else join_side_by_side)(job, cluster, plan, clause, runs)
     finally:
@@ -644,6 +653,10 @@ def join(
     left_null: Texts = None,
     right_null: Texts = None,
     out_null: Optional[str] = None,
+    delimiter: Optional[str] = None,
+    left_delimiter: Optional[str] = None,
+    right_delimiter: Optional[str] = None,
+    out_delimiter: Optional[str] = None,
     strict: Union[bool, str] = False,
     parts: Optional[int] = None,
     ranges: Optional[int] = None,
@@ -667,7 +680,8 @@ def join(
     a cluster in each process. With `parts`, `spread`, `ranges` or `merges` it is done in shards.
 
     The arguments are the options of the command line `radixjoin-cluster` (docs/user/cluster.md): `left_null` and `right_null`, a text or
-    up to four, and `out_null`, in place of `null`; `strict`, True or "full", has files refused that aren't of RFC 4180's grammar; with `explain`, a `Fault` has an `explanation`;
+    up to four, and `out_null`, in place of `null`; `delimiter`, what stands between the fields of both files and of the result, or
+    `left_delimiter`, `right_delimiter` and `out_delimiter` in its place; `strict`, True or "full", has files refused that aren't of RFC 4180's grammar; with `explain`, a `Fault` has an `explanation`;
     `parts` that the tables are divided into (1 to 1,024), `ranges` of a file that are divided side by side, `spread`, the bytes of
     both tables above which a shard is joined in pieces, `merges`, the ranges of the joined table that are merged side by side, `address_space` that each program may take, as `memory`; `workers` and other options of each join go to `radixjoin`. Types are a list, a text as the program
     has it (`"int,text"`, `"id=int,*=text"`, `"@FILE"`), or a mapping by name, in which `*` stands for all other columns.
@@ -682,9 +696,6 @@ def join(
     """
     if client is not None and processes is not None:
         raise TypeError("processes= is of this machine, and client= of a cluster")
-    delimiter = next((name for name in DELIMITERS if of_one_join.pop(name, None) not in (None, ",")), None)
-    if delimiter is not None:
-        raise TypeError(f"{delimiter}=: {COMMAS_ALONE}")
     unknown = next((name for name in of_one_join if name not in OF_ONE_JOIN), None)
     if unknown is not None:
         raise TypeError(f"{unknown}= is no option of the join of a shard")
@@ -694,13 +705,15 @@ def join(
     each = {name: None if of_one_join.get(name) is None else str(of_one_join[name]) for name in OF_ONE_JOIN}
     files = {"left": os.fsdecode(left), "right": os.fsdecode(right), "out": os.fsdecode(output)}
     folders = {"scratch": scratch and os.fsdecode(scratch), "programs": programs and os.fsdecode(programs)}
-    types = {f"{side}_types": _types(side, files[side], declared) for side, declared in zip(SIDES, (left_types, right_types))}
+    delimiters = {"delimiter": delimiter, "left_delimiter": left_delimiter, "right_delimiter": right_delimiter, "out_delimiter": out_delimiter}
+    signs = Delimiters(*delimiters.values())
+    types = {f"{side}_types": _types(side, files[side], declared, signs.of(side)) for side, declared in zip(SIDES, (left_types, right_types))}
     nulls = {"null": null, "left_null": texts_of("left_null", left_null), "right_null": texts_of("right_null", right_null), "out_null": out_null}
     if strict and strict not in (True, "full"):
         raise ValueError(f"strict={strict!r} is none of True, False and 'full'")
     sizes = {"memory": _size("memory", memory), "address_space": _size("address_space", address_space)}
     how = {"strict": "full" if strict == "full" else "on" if strict else None, "parts": parts, "ranges": ranges, "spread": spread, "merges": merges, "progress": progress, "explain": explain}
-    asked = argparse.Namespace(join=os.fsdecode(encoded(given(clause))), processes=processes, **how, **sizes, **files, **folders, **types, **nulls, **each)
+    asked = argparse.Namespace(join=os.fsdecode(encoded(given(clause))), processes=processes, **how, **sizes, **files, **folders, **types, **nulls, **delimiters, **each)
     for name, least, most in beyond(asked):
         raise ValueError(f"{name}= is from {least} to {most}")
     try:
@@ -718,11 +731,11 @@ def _size(name: str, given: Union[int, str, None]) -> Optional[int]:
         raise type(error)(f"{name}={error}") from None
 
 
-def _types(side: str, path: str, types: Types) -> str:
-    """Types as an option has them. Of a mapping they are those of the columns of the file, whose names are read for that; what is no
-    file is told later."""
+def _types(side: str, path: str, types: Types, delimiter: str) -> str:
+    """Types as an option has them. Of a mapping they are those of the columns of the file with this delimiter, whose names are read for
+    that; what is no file is told later."""
     is_unread = isinstance(types, Mapping) and not os.path.isfile(path)
-    return PathTable(side, path, "text" if is_unread else types).types_given()
+    return PathTable(side, path, "text" if is_unread else types, delimiter).types_given()
 
 
 def ended_by(number: int, _: Any) -> None:

@@ -13,9 +13,6 @@ OF_ONE_JOIN = ("workers", "bits1", "bits2", "hash", "block", "capacity", "lanes"
 # The options of `radixjoin` that a join in shards has no other value of than this one: the merge goes by the places of the rows of
 # both sides, whose columns have to stand in the joined shards.
 OF_WHOLE_TABLES = {"columns": "all"}
-# The options of `radixjoin` that say how the fields of a file are separated: shards and the merge of their joins know the comma alone.
-DELIMITERS = ("delimiter", "left_delimiter", "right_delimiter", "out_delimiter")
-COMMAS_ALONE = "a join in shards reads and writes commas alone, so convert the files first (docs/user/recipes.md)"
 # The options that may be given again.
 SEVERAL = ("--left-null", "--right-null")
 # The most ranges of a merge.
@@ -25,7 +22,7 @@ LIMITS = (("parts", 1, 1024), ("processes", 1, 1024), ("ranges", 1, 100_000), ("
 # Stands for the text `--` of an option while the line is read: no word of a command line has this letter.
 DASHES = "\0"
 ABOUT = """Joins two CSV files that may be larger than one machine's memory, on this machine or in the processes of a Dask cluster. The
-bytes written are those that `radixjoin` would write. Fields are separated by commas, in both files and in the result.
+bytes written are those that `radixjoin` would write.
 
 Where --memory has room for both tables and the result, one run of `radixjoin` joins them. Where it has for the right table and a part of
 the left one, so many runs join such a part each, on a cluster side by side. Otherwise they are joined in shards: both files are divided
@@ -68,6 +65,10 @@ def parser() -> Parser:
     for side in SIDES:
         line.add_argument(f"--{side}-null", action="append", metavar="TEXT", help=f"text of a {side} field that is null; up to four by giving it again [default: as --null]")
     line.add_argument("--out-null", metavar="TEXT", help="text that is written for null [default: as --null]")
+    line.add_argument("-d", "--delimiter", metavar="CHAR", help="delimiter of both files and of the result, or tab [default: a comma]")
+    for side in SIDES:
+        line.add_argument(f"--{side}-delimiter", metavar="CHAR", help=f"delimiter of the {side} file [default: as --delimiter]")
+    line.add_argument("--out-delimiter", metavar="CHAR", help="delimiter of the result [default: as --delimiter]")
     line.add_argument("--strict", nargs="?", const="on", choices=("on", "full"), help="refuse files that aren't of RFC 4180's grammar; full: also those whose last line has no end")
     line.add_argument("--output", "--out", dest="out", required=True, metavar="FILE", help="file of the joined table; it is there when the whole table is")
     line.add_argument("--memory", type=size, metavar="SIZE", help="bytes of memory to plan for, as 500M or 8G: on this machine of all programs together, on a cluster of those of each process [default: half of what is free]")
@@ -87,8 +88,6 @@ def parser() -> Parser:
         line.add_argument(f"--{option}", metavar="X", help=f"as radixjoin's --{option}, for each join")
     for option in OF_WHOLE_TABLES:
         line.add_argument(f"--{option}", help=argparse.SUPPRESS)
-    for option in DELIMITERS:
-        line.add_argument(*(["-d"] if option == "delimiter" else []), f"--{option.replace('_', '-')}", help=argparse.SUPPRESS)
     return line
 
 
@@ -96,7 +95,7 @@ def read_line(words: Sequence[str]) -> argparse.Namespace:
     """What the words of the command line ask for."""
     line = parser()
     asked = shown(line.parse_args(hidden(with_lists(words))))
-    given = [word.partition("=")[0] for word in words if word.startswith("--")]
+    given = ["--delimiter" if word.startswith("-d") else word.partition("=")[0] for word in words if word.startswith(("--", "-d"))]
     for option in given:
         if given.count(option) > 1 and option not in SEVERAL:
             line.error(f"{option} can be given once")
@@ -112,9 +111,6 @@ def read_line(words: Sequence[str]) -> argparse.Namespace:
     for option, only in OF_WHOLE_TABLES.items():
         if getattr(asked, option) not in (None, only):
             line.error(f"--{option}: a join in shards writes all columns, so leave those out of the files that aren't wanted")
-    for option in DELIMITERS:
-        if getattr(asked, option) not in (None, ","):
-            line.error(f"--{option.replace('_', '-')}: {COMMAS_ALONE}")
     if "matched-left" in (asked.rows or "").split(","):
         line.error("--rows: a join in shards has no matched-left, so join by USING with a right file of the keys alone, each once")
     return asked

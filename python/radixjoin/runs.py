@@ -28,8 +28,9 @@ from .making import append, folder_beside, made, result_of
 from .packed import part_in
 from .placed import LEFT, RIGHT
 from .spread import TABLE
+from .tables import SIGN, sign_of
 from .tasks import AGAIN, DEVICE, OUT_OF_MEMORY, Told, first_fault
-from .text import begin_of_last, end_of_record, split_header
+from .text import begin_of_last, end_of_record
 
 if TYPE_CHECKING:
     from .cluster import Job
@@ -222,17 +223,16 @@ def join_whole(job: Job, plan: Plan) -> str:
     return ""
 
 
-def clause_beside(job: Job, left: bytes, right: bytes) -> str:
-    """The clause by which the right rows are found that are unmatched beside a run, of files with these headers; none where no such rows are
-    written.
+def clause_beside(job: Job, left: Sequence[str], right: Sequence[str]) -> str:
+    """The clause by which the right rows are found that are unmatched beside a run, of files with columns of these names; none where no
+    such rows are written.
 
     Raises:
         GivenUp: no program can be given it.
     """
     if LONE_RIGHT not in job.kinds:
         return ""
-    names = [split_header(header.removeprefix(BOM_UTF8))[0] for header in (left, right)]
-    text = given(by_condition(os.fsencode(job.clause).decode(), *names))
+    text = given(by_condition(os.fsencode(job.clause).decode(), left, right))
     if b"\0" in text:
         raise GivenUp(IS_REFUSED)
     return os.fsdecode(text)
@@ -253,10 +253,11 @@ def _of_right(job: Job, right: str) -> Job:
 
 
 def _left_over(job: Job, right: str, clause: str) -> Job:
-    """The same where they are written as a right table again: with its own columns, and with a text for null that is read as null, and that
-    no other cell has, since that would have been read so."""
+    """The same where they are written as a right table again: with its own columns and delimiter, and with a text for null that is read as
+    null, and that no other cell has, since that would have been read so."""
     it = _of_right(job, right)
     it.clause, it.out_null = clause, job.right_null
+    it.delimiters = {**job.delimiters, "out": job.delimiters["right"]}
     it.one_join.append("--columns=right")
     return it
 
@@ -337,12 +338,16 @@ def _list_right(job: Job, plan: Plan, clause: str, run: LeftRun, folder: str) ->
     """Writes the right rows that are unmatched beside a run into its folder, as rows of the joined table with their places."""
     left, right = with_place(job.types["left"], LEFT), with_place(job.types["right"], RIGHT)
     rows = os.path.join(folder, _RIGHT)
-    of_run = _left_over(job, job.place(_RIGHT), clause)
+    # (what `shards` writes and `merges` reads has commas)
+    listing = copy.copy(job)
+    listing.delimiters = {**job.delimiters, "right": SIGN, "out": SIGN}
+    of_run = _left_over(listing, job.place(_RIGHT), clause)
     of_run.types = {"left": job.types["left"], "right": right}
     _write(of_run, plan, run, rows)
-    of_whole = _of_right(job, rows)
+    of_whole = _of_right(listing, rows)
     of_whole.types = {"left": left, "right": right}
-    _write(of_whole, plan, LeftRun(run.header[:-1] + f",{LEFT}\n".encode(), 1, 1), os.path.join(folder, _LISTED))
+    header = run.header[:-1] + f'{sign_of(job.delimiters["left"])}"{LEFT}"\n'.encode()
+    _write(of_whole, plan, LeftRun(header, 1, 1), os.path.join(folder, _LISTED))
     os.remove(rows)
 
 
@@ -388,7 +393,7 @@ def _put_right(job: Job, folders: Sequence[str], is_first: bool, output: BinaryI
     """Puts the right rows that all runs listed behind them, or first behind a header. (No row stands before left row 0, and so `--from=0`
     leaves out the header alone.)"""
     output.flush()
-    words = [f"--null={job.out_null}", f"--copies={','.join([f'1x{len(folders)}'] * len(folders))}", *([] if is_first else ["--from=0"])]
+    words = [f"--null={job.out_null}", *job.separated("out"), f"--copies={','.join([f'1x{len(folders)}'] * len(folders))}", *([] if is_first else ["--from=0"])]
     job.run("merges", [*words, *(os.path.join(os.path.basename(it), _LISTED) for it in folders)], output, job.out)
 
 

@@ -21,6 +21,11 @@ _TABS = ("tab", "\\t")
 _OWN = ("/dev/stdin", "/dev/fd/", "/proc/self/")
 
 
+def sign_of(delimiter: str) -> str:
+    """The sign that a delimiter's word means."""
+    return "\t" if delimiter in _TABS else delimiter
+
+
 class Table(ABC):
     """One side of a join."""
 
@@ -80,7 +85,7 @@ class _Given(Table):
         if types is None:
             raise ValueError(f"{side}_types has to be given: of a file types are declared, never guessed (radixjoin --suggest-types FILE prints a list to look at)")
         self.side = side
-        self.delimiter = "\t" if delimiter in _TABS else delimiter
+        self.delimiter = sign_of(delimiter)
         # The types by Python's own names of columns, or the program's list of them.
         self.by_name = types if isinstance(types, Mapping) else {}
         self.list = None if isinstance(types, Mapping) else text_of(side, types)

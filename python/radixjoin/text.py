@@ -52,9 +52,9 @@ def fields_of(cells: List[str]) -> List[str]:
     return cells
 
 
-def header(names: Sequence[str]) -> bytes:
+def header(names: Sequence[str], delimiter: str = ",") -> bytes:
     """A header. Each name is quoted: so one that begins with a byte order mark keeps it."""
-    return encoded([",".join(_quoted(_SURROGATE.sub("\ud800", name)) for name in names)])
+    return encoded([delimiter.join(_quoted(_SURROGATE.sub("\ud800", name)) for name in names)])
 
 
 def records(columns: Sequence[Sequence[str]]) -> List[str]:

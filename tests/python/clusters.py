@@ -17,7 +17,7 @@ import telling
 from faults import CLOSED, without
 
 import radixjoin
-from radixjoin import cluster, line
+from radixjoin import cluster
 
 LEFT = "id,name\n" + "".join(f"{number % 97},n{number}\n" for number in range(3_000))
 RIGHT = "id,city\n" + "".join(f"{number % 89},c{number}\n" for number in range(500))
@@ -87,6 +87,22 @@ def by_side(join, programs, folder):
     yield from telling.differs("files", sorted(os.listdir(folder)), ["alone.csv", "left.csv", "left.types", "right.csv"])
 
 
+def by_delimiter(join, programs, folder):
+    """Files by other delimiters in shards, by left runs and by one run, with types by Python's own names and by the program's."""
+    left, right, out = folder / "left.csv", folder / "right.csv", folder / "out.csv"
+    left.write_text(LEFT.replace(",", ";"))
+    right.write_text(RIGHT.replace(",", "\t"))
+    named = {"left_delimiter": ";", "right_delimiter": "tab", "out_delimiter": "|", "left_types": {"id": int, "name": str}, "right_types": "id=int,*=text"}
+    alone = radixjoin.join(left, right, CLAUSE, output=folder / "alone.csv", strict=False, program=programs / "radixjoin", **named)
+    for planned in ({"parts": 3, "ranges": 2}, {"memory": "1G"}, {"memory": 170_000}, {"memory": 1_000}):
+        join(left, right, CLAUSE, output=out, programs=programs, **planned, **named)
+        yield from telling.differs(f"the bytes, {planned}", out.read_bytes() == alone.read_bytes(), True)
+        out.unlink()
+    error = telling.raised(join, left, right, CLAUSE, output=out, programs=programs, **{**named, "out_delimiter": "ab"})
+    yield from telling.differs("no delimiter", (type(error), str(error)), (radixjoin.LineFault, "radixjoin: E34 BadDelimiter"))
+    yield from telling.differs("files", sorted(os.listdir(folder)), ["alone.csv", "left.csv", "right.csv"])
+
+
 def faulty_calls(folder):
     """Arguments of a join of two files that `radixjoin.join` refuses too, or tells a fault of: what they are in place of those of a good
     one, and whether both tell it by the same words."""
@@ -105,6 +121,7 @@ def faulty_calls(folder):
     yield from (({"clause": clause, "rows": rows}, True) for clause, rows in (("JOIN USING (id)", "lone-left"), ("LEFT JOIN USING (id)", "lone-right"), (CLAUSE, "nonsense")))
     yield from (({name: it}, True) for name, it in (("null", "a b"), ("null", "x" * 20), ("left_null", list("abcde")), ("right_null", []), ("right_null", [1]), ("out_null", "a b")))
     yield {"out_null": "c8", "strict": True}, True
+    yield from (({name: it}, True) for name, it in (("delimiter", "ab"), ("delimiter", ";"), ("left_delimiter", "7"), ("out_delimiter", "")))
     yield from (({name: it}, True) for name, it in (("workers", 0), ("workers", "x"), ("bits1", 11), ("order", "x"), ("hash", "x")))
     yield {"explain": True, "clause": "LEFT JOIN USING (di)"}, True
     yield from (({"output": it}, False) for it in (folder, folder / "none" / "out.csv", "/dev/full"))
@@ -240,6 +257,7 @@ def command_without_streams(programs, folder):
 TESTS = {
     "joins": joins,
     "null texts by side and types by name": by_side,
+    "delimiters": by_delimiter,
     "as join does": as_join_does,
     "by variable": by_variable,
     "a result in the file of a table": over_inputs,
@@ -254,13 +272,11 @@ def run_joins(where, join, programs):
 
 
 def arguments(folder):
-    """Of a client and a number of processes one alone can be given, and the latter in its limits. No delimiter can be given."""
+    """Of a client and a number of processes one alone can be given, and the latter in its limits."""
     cases = (
         ({"client": object(), "processes": 2}, TypeError("processes= is of this machine, and client= of a cluster")),
         ({"processes": 0}, ValueError("processes= is from 1 to 1024")),
         ({"processes": 1025}, ValueError("processes= is from 1 to 1024")),
-        *(({name: ";"}, TypeError(f"{name}=: {line.COMMAS_ALONE}")) for name in line.DELIMITERS),
-        ({"delimiter": ",", "left_delimiter": None, "out_delimiter": "tab"}, TypeError(f"out_delimiter=: {line.COMMAS_ALONE}")),
     )
     for named, wanted in cases:
         error = telling.raised(cluster.join, "left.csv", "right.csv", CLAUSE, output=folder / "out.csv", **named, **TYPES)

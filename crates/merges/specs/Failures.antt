@@ -12,6 +12,7 @@ exit_of (failure.CommandLine e) = refused_status (kind_of e)
 exit_of failure.NotText = 2
 exit_of failure.FileCount = 2
 exit_of failure.BadCopies = 2
+exit_of failure.BadDelimiter = 2
 exit_of (failure.NoHeader name) = 3
 exit_of (failure.RaggedRow name row) = 3
 exit_of failure.BadNull = 3

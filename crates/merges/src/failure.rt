@@ -45,6 +45,8 @@ pub enum Failure {
     ReadDevice(String),
     #[error("merges: E20 WriteDevice")]
     WriteDevice,
+    #[error("merges: E34 BadDelimiter")]
+    BadDelimiter,
     #[error("merges: E41 NoPlaces {0}")]
     NoPlaces(String),
     #[error("merges: E42 OtherHeader {0}")]
@@ -86,7 +88,7 @@ impl ExitReason for Failure {
     fn status(&self) -> u8 {
         match self {
             Failure::CommandLine(error) => { if error.use_stderr() { 2 } else { 0 } }
-            Failure::NotText | Failure::FileCount | Failure::BadCopies => 2,
+            Failure::NotText | Failure::FileCount | Failure::BadCopies | Failure::BadDelimiter => 2,
             Failure::Memory => 5,
             Failure::ReadDevice(_) | Failure::WriteDevice => 6,
             _ => 3,

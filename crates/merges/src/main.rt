@@ -12,6 +12,7 @@ use crate::failure::Failure;
 use clap::{Arg, ArgAction, ArgMatches, Command, value_parser};
 use rj_csv_io::{CountedWriter, is_lawful_null};
 use rj_fault::{VERSION, read_words, tell, texts_of};
+use rj_line::delimiter_of;
 use rj_merge::{Copies, MergeOptions, Opener, Place, RowOrder, merge_named};
 use std::alloc::{AllocError, Global};
 use std::env::Env;
@@ -26,16 +27,17 @@ Merges joined shards into one CSV text, without the places of their rows
 Usage: merges [OPTIONS] <FILE>...
 
 Files:
-  <FILE>...        Joined shards, whose rows have the columns left_place and right_place
+  <FILE>...               Joined shards, whose rows have the columns left_place and right_place
 
 Options:
-  --null <TEXT>    Text for NULL [default: an empty field]
-  --order <ORDER>  pairs: matches first; left: each left row at its place [default: pairs]
-  --from <PLACE>   First left place to write, without the header [default: the beginning]
-  --to <PLACE>     Left place to end before [default: the end]
-  --copies <LIST>  How many files have each file's unmatched rows, as 1,3x2 (1 to 1,048,576)
-  -h, --help       Print this help
-  -V, --version    Print the version
+  --null <TEXT>           Text for NULL [default: an empty field]
+  --order <ORDER>         pairs: matches first; left: each left row at its place [default: pairs]
+  --from <PLACE>          First left place to write, without the header [default: the beginning]
+  --to <PLACE>            Left place to end before [default: the end]
+  --copies <LIST>         How many files have each file's unmatched rows, as 1,3x2 (1 to 1,048,576)
+  --out-delimiter <CHAR>  Delimiter of the result, or tab [default: a comma]
+  -h, --help              Print this help
+  -V, --version           Print the version
 ";
 
 // An option that takes the place of a left row.
@@ -63,6 +65,10 @@ fn line_command<'a>(alloc: Global) -> Result<Command<'a>, AllocError> {
         .long("copies")
         .value_name("LIST")
         .action(ArgAction::Set);
+    let delimiter = Arg::new(alloc, "out-delimiter")
+        .long("out-delimiter")
+        .value_name("CHAR")
+        .action(ArgAction::Set);
     let files = Arg::new(alloc, "files")
         .value_name("FILE")
         .num_args(1..)
@@ -76,6 +82,7 @@ fn line_command<'a>(alloc: Global) -> Result<Command<'a>, AllocError> {
         .arg(from)?
         .arg(to)?
         .arg(copies)?
+        .arg(delimiter)?
         .arg(files)
 }
 
@@ -95,13 +102,17 @@ fn bound_of(matches: &ArgMatches<'_>, name: &str) -> Option<Place> {
     }
 }
 
-// How the files are merged.
-fn options_of<'n>(matches: &ArgMatches<'_>, null: &'n str) -> MergeOptions<'n> {
-    MergeOptions {
-        null: null.as_bytes(),
-        order: order_of(matches),
-        from: bound_of(matches, "from"),
-        to: bound_of(matches, "to"),
+// How the files are merged, if the text that is to delimit the result may do so.
+fn options_of<'n>(matches: &ArgMatches<'_>, null: &'n str) -> Option<MergeOptions<'n>> {
+    match delimiter_of(matches.get_str("out-delimiter").unwrap_or(",")) {
+        Some(delimiter) => Some(MergeOptions {
+            delimiter,
+            null: null.as_bytes(),
+            order: order_of(matches),
+            from: bound_of(matches, "from"),
+            to: bound_of(matches, "to"),
+        }),
+        None => None,
     }
 }
 
@@ -123,7 +134,7 @@ impl<'r, R: Files> Opener for Disk<'r, R> {
 fn merge_files<R: Files + AllocGlobal + Print>(
     rt: &R,
     null: &str,
-    how: MergeOptions<'_>,
+    how: &MergeOptions<'_>,
     files: &[&str],
     copies: &[Copies],
 ) -> Result<(), Failure>
@@ -155,13 +166,10 @@ fn read_and_merge<R: Files + AllocGlobal + Print>(rt: &R, words: &[&str]) -> Res
     let null = matches.get_str("null").unwrap_or("");
     let files = matches.get_strs("files").unwrap_or(&[]);
     let copies = read_copies(rt.alloc(), matches.get_str("copies"), files.len())?;
-    merge_files(
-        rt,
-        null,
-        options_of(&matches, null),
-        files,
-        copies.as_slice(),
-    )
+    let Some(how) = options_of(&matches, null) else {
+        return Err(Failure::BadDelimiter);
+    };
+    merge_files(rt, null, &how, files, copies.as_slice())
 }
 
 // Reads the command line, and merges.

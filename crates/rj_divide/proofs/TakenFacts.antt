@@ -3,14 +3,13 @@ use Rattle.std.proofs.Common.{◌≡◌, ◌<◌, ◌≤◌, ◌+◌, ◌⊎◌,
 use Rattle.std.specs.Io.KnownBytes.{Consumes, IsAtEnd}
 use Rattle.std.proofs.lemmas.List.{length-append, length-drop, length-take-le, take-append-drop}
 use Rattle.rj_csv_io.specs.Pieces.{IsLineEnd}
-use Rattle.rj_strict.specs.Grammar.{comma}
 use Rattle.rj_divide.specs.Ranges.{IsPiece, IsReadFor}
 use Rattle.rj_divide.specs.Taken.{IsTaken}
 use Rattle.rj_divide.proofs.ShortFacts.{line-back, line-rest, read-bound}
 
 -- nothing is taken away yet
-abbrev pub taken-none : (text bytes : List ℕ) (tells : Option (List ℕ)) → tells ≡ Some text → bytes ≡ [] → IsTaken text tells bytes 0
-taken-none text bytes tells told none =
+abbrev pub taken-none : (d : ℕ) (text bytes : List ℕ) (tells : Option (List ℕ)) → tells ≡ Some text → bytes ≡ [] → IsTaken d text tells bytes 0
+taken-none d text bytes tells told none =
     let all : bytes ++ text ≡ text = ap (λ l. l ++ text) none in
     record {
       left = text;
@@ -27,7 +26,7 @@ pub record Told (bytes left now : List ℕ) (tells : Option (List ℕ)) : Type 0
   pub told : tells ≡ Some more
   pub same : bytes ++ left ≡ now ++ more
 
-module _ (text old bytes : List ℕ) (before tells : Option (List ℕ)) (pieces : ℕ) (u : IsTaken text before old pieces)
+module _ (d : ℕ) (text old bytes : List ℕ) (before tells : Option (List ℕ)) (pieces : ℕ) (u : IsTaken d text before old pieces)
     (reads : (start : Option (List ℕ)) → Consumes start before old → Consumes start tells bytes) where
   pub told-now : Told old u.left bytes tells
   told-now = go tells refl (reads (Some (old ++ u.left)) (rw u.told refl))
@@ -52,9 +51,9 @@ module _ (text old bytes : List ℕ) (before tells : Option (List ℕ)) (pieces 
       order-now ∙ ap (λ l. u.taken ++ l) (ap (λ l. l ++ more) (sym (take-append-drop end bytes)) ∙ append_assoc (take end bytes) (drop end bytes) more)
 
   -- the bytes up to a line end, or all of them, are a piece of the text
-  pub piece-read : (block end : ℕ) → IsReadFor block old bytes → end ≤ length bytes → (end ≡ length bytes) ⊎ IsLineEnd comma bytes end → IsPiece block text (take end bytes)
+  pub piece-read : (block end : ℕ) → IsReadFor d block old bytes → end ≤ length bytes → (end ≡ length bytes) ⊎ IsLineEnd d bytes end → IsPiece d block text (take end bytes)
   piece-read block end read within stops =
-      let found = read-bound block old bytes read u.none end stops in
+      let found = read-bound d block old bytes read u.none end stops in
       let size = length-take-le end bytes within in
       record {
         above = u.taken;
@@ -62,13 +61,13 @@ module _ (text old bytes : List ℕ) (before tells : Option (List ℕ)) (pieces 
         order = order-cut end;
         plain = found.0;
         within = omega (arith, found.1, size);
-        none = λ at low line. found.2 at low (line-back bytes end at (omega (arith, low, found.1)) line);
+        none = λ at low line. found.2 at low (line-back d bytes end at (omega (arith, low, found.1)) line);
         most = omega (arith, size, within, found.3);
       }
 
   -- one piece more is taken away
-  abbrev pub taken-more : (end : ℕ) → end ≤ length bytes → IsLineEnd comma bytes end → ((at : ℕ) → end < at → at ≤ length bytes → IsLineEnd comma bytes at → ⊥)
-      → (next : List ℕ) → next ≡ drop end bytes → IsTaken text tells next (pieces + 1)
+  abbrev pub taken-more : (end : ℕ) → end ≤ length bytes → IsLineEnd d bytes end → ((at : ℕ) → end < at → at ≤ length bytes → IsLineEnd d bytes at → ⊥)
+      → (next : List ℕ) → next ≡ drop end bytes → IsTaken d text tells next (pieces + 1)
   taken-more end within line rest next is = record {
     left = more;
     told = told-now.told;
@@ -76,7 +75,7 @@ module _ (text old bytes : List ℕ) (before tells : Option (List ℕ)) (pieces 
     order = order-cut end ∙ (sym (append_assoc u.taken (take end bytes) (drop end bytes ++ more)) ∙ ap (λ l. (u.taken ++ take end bytes) ++ (l ++ more)) (sym is));
     none = λ at h e.
         let few = ap length is in
-        line-rest bytes end within line rest at (omega (arith, few, h)) (subst (λ l. IsLineEnd comma l at) is e);
+        line-rest d bytes end within line rest at (omega (arith, few, h)) (subst (λ l. IsLineEnd d l at) is e);
     shorter =
         let a = ap length told-now.same in let b = length-append bytes more in let c = length-append next more in let d = length-drop end bytes in let e = ap length is in
         omega (arith, u.shorter, a, b, c, d, e, line.behind, within);

@@ -8,7 +8,6 @@ use Rattle.csv.specs.Reading.{records, records_from}
 use Rattle.rj_columns.specs.declared.cell.ColumnType.{ColumnType}
 use Rattle.rj_csv_io.specs.declared.refused.ReadRefused.{ReadRefused}
 use Rattle.rj_csv_io.specs.Pieces.{IsLineEnd, piece_records}
-use Rattle.rj_strict.specs.Grammar.{comma}
 use Rattle.rj_strict.specs.Reading.{config_of}
 use Rattle.rj_divide.specs.declared.whole.Rest.{Rest}
 use Rattle.rj_divide.specs.declared.refused.DivideRefused.{DivideRefused}
@@ -22,31 +21,31 @@ use Rattle.rj_divide.proofs.ReadingFacts.{first-behind, rows-many}
 use Rattle.rj_divide.proofs.TakenFacts.{none-more, piece-read, taken-more, taken-none, told-now}
 
 -- no bytes have no records
-pub records-none : records (config_of comma) [] ≡ []
+pub records-none : (d : ℕ) → records (config_of d) [] ≡ []
 unfolding records_from next_record
-records-none = refl
+records-none d = refl
 
 -- the last piece is all that is left
-pub last-records : (bytes more : List ℕ) (end : ℕ) → end ≡ length bytes → more ≡ []
-    → records (config_of comma) (bytes ++ more) ≡ records (config_of comma) (take end bytes) ++ records (config_of comma) (drop end bytes ++ more)
-last-records bytes more end e none =
+pub last-records : (d : ℕ) (bytes more : List ℕ) (end : ℕ) → end ≡ length bytes → more ≡ []
+    → records (config_of d) (bytes ++ more) ≡ records (config_of d) (take end bytes) ++ records (config_of d) (drop end bytes ++ more)
+last-records d bytes more end e none =
     let all : take end bytes ≡ bytes = take_all end bytes (omega (arith, e)) in
     let rest : drop end bytes ≡ [] = drop_all end bytes (omega (arith, e)) in
-    rw (none, all, rest, append-nil, records-none, append-nil) refl
+    rw (none, all, rest, append-nil, records-none d, append-nil) refl
 
-piece-as : (is_first : Bool) (text : List ℕ) → piece_records comma is_first text ≡ behind_header is_first (records (config_of comma) text)
-piece-as true text = refl
-piece-as false text = refl
+piece-as : (d : ℕ) (is_first : Bool) (text : List ℕ) → piece_records d is_first text ≡ behind_header is_first (records (config_of d) text)
+piece-as d true text = refl
+piece-as d false text = refl
 
 -- the records of a first piece and of the bytes behind it
-pub piece-split : (is_first ahead : Bool) (bytes left : List ℕ) (end : ℕ)
-    → records (config_of comma) (bytes ++ left) ≡ records (config_of comma) (take end bytes) ++ records (config_of comma) (drop end bytes ++ left)
-    → SplitsAs is_first (records (config_of comma) (take end bytes)) ahead
-    → piece_records comma is_first (bytes ++ left) ≡ piece_records comma is_first (take end bytes) ++ piece_records comma ahead (drop end bytes ++ left)
-piece-split is_first ahead bytes left end cut header =
-    let more = records (config_of comma) (drop end bytes ++ left) in
-    piece-as is_first (bytes ++ left) ∙ (ap (behind_header is_first) cut ∙ (header more
-    ∙ (λ i. sym (piece-as is_first (take end bytes)) i ++ sym (piece-as ahead (drop end bytes ++ left)) i)))
+pub piece-split : (d : ℕ) (is_first ahead : Bool) (bytes left : List ℕ) (end : ℕ)
+    → records (config_of d) (bytes ++ left) ≡ records (config_of d) (take end bytes) ++ records (config_of d) (drop end bytes ++ left)
+    → SplitsAs is_first (records (config_of d) (take end bytes)) ahead
+    → piece_records d is_first (bytes ++ left) ≡ piece_records d is_first (take end bytes) ++ piece_records d ahead (drop end bytes ++ left)
+piece-split d is_first ahead bytes left end cut header =
+    let more = records (config_of d) (drop end bytes ++ left) in
+    piece-as d is_first (bytes ++ left) ∙ (ap (behind_header is_first) cut ∙ (header more
+    ∙ (λ i. sym (piece-as d is_first (take end bytes)) i ++ sym (piece-as d ahead (drop end bytes ++ left)) i)))
 
 -- a division's record of whatever a device tells
 pub if-some : (o : Option (List ℕ)) (P : List ℕ → Type 0) → ((x : List ℕ) → o ≡ Some x → P x) → IfSome o P
@@ -75,7 +74,7 @@ module _ (d : Dividing) (is_first : Bool) (begin : Beginning) where
   pub start : (rest : Rest) (tells : Option (List ℕ)) → tells ≡ Some begin.text → rest.bytes.items ≡ [] → rest.rows ≡ 0 → rest.is_first ≡ is_first
       → IsUnderway d is_first begin tells rest begin.told 0
   start rest tells told none zero same = record {
-    front = taken-none begin.text rest.bytes.items tells told none;
+    front = taken-none d.delimiter begin.text rest.bytes.items tells told none;
     done = [];
     split = rw (none, same) refl;
     divided = rw zero (divided-none d begin.told);
@@ -85,21 +84,21 @@ module _ (d : Dividing) (is_first : Bool) (begin : Beginning) where
   module _ (rest : Rest) (bytes : List ℕ) (old tells : Option (List ℕ)) (now : List (Option (List ℕ))) (pieces end : ℕ) (last : Bool) (u : IsUnderway d is_first begin old rest now pieces)
       (reads : (start : Option (List ℕ)) → Consumes start old rest.bytes.items → Consumes start tells bytes)
       (ends : last ≡ true → IsAtEnd tells)
-      (cut : (more : List ℕ) → (last ≡ true → more ≡ []) → records (config_of comma) (bytes ++ more) ≡ records (config_of comma) (take end bytes) ++ records (config_of comma) (drop end bytes ++ more)) where
+      (cut : (more : List ℕ) → (last ≡ true → more ≡ []) → records (config_of d.delimiter) (bytes ++ more) ≡ records (config_of d.delimiter) (take end bytes) ++ records (config_of d.delimiter) (drop end bytes ++ more)) where
     -- what is told behind the bytes that were read
     abbrev left : List ℕ
-    left = (told-now begin.text rest.bytes.items bytes old tells pieces u.front reads).more
+    left = (told-now d.delimiter begin.text rest.bytes.items bytes old tells pieces u.front reads).more
 
     abbrev piece : List (List (List ℕ))
-    piece = piece_records comma rest.is_first (take end bytes)
+    piece = piece_records d.delimiter rest.is_first (take end bytes)
 
-    split-more : piece_records comma is_first begin.text ≡ u.done ++ piece_records comma rest.is_first (bytes ++ left)
-    split-more = u.split ∙ ap (λ l. u.done ++ piece_records comma rest.is_first l) (told-now begin.text rest.bytes.items bytes old tells pieces u.front reads).same
+    split-more : piece_records d.delimiter is_first begin.text ≡ u.done ++ piece_records d.delimiter rest.is_first (bytes ++ left)
+    split-more = u.split ∙ ap (λ l. u.done ++ piece_records d.delimiter rest.is_first l) (told-now d.delimiter begin.text rest.bytes.items bytes old tells pieces u.front reads).same
 
     none-left : last ≡ true → left ≡ []
-    none-left e = none-more begin.text rest.bytes.items bytes old tells pieces u.front reads (ends e)
+    none-left e = none-more d.delimiter begin.text rest.bytes.items bytes old tells pieces u.front reads (ends e)
 
-    cut-more : records (config_of comma) (bytes ++ left) ≡ records (config_of comma) (take end bytes) ++ records (config_of comma) (drop end bytes ++ left)
+    cut-more : records (config_of d.delimiter) (bytes ++ left) ≡ records (config_of d.delimiter) (take end bytes) ++ records (config_of d.delimiter) (drop end bytes ++ left)
     cut-more = cut left none-left
 
     module _ (after : List (Option (List ℕ))) (n : ℕ) (divided : IsDivided (after_rows rest.rows d) piece now after n) where
@@ -107,35 +106,35 @@ module _ (d : Dividing) (is_first : Bool) (begin : Beginning) where
       divided-on = divided-more d u.done piece begin.told now after rest.rows n u.outputs u.divided divided
 
       -- one piece more
-      pub go-on : (next : Rest) → length after ≡ length now → end ≤ length bytes → IsLineEnd comma bytes end → ((at : ℕ) → end < at → at ≤ length bytes → IsLineEnd comma bytes at → ⊥)
-          → SplitsAs rest.is_first (records (config_of comma) (take end bytes)) next.is_first → next.bytes.items ≡ drop end bytes → next.rows ≡ rest.rows + n
+      pub go-on : (next : Rest) → length after ≡ length now → end ≤ length bytes → IsLineEnd d.delimiter bytes end → ((at : ℕ) → end < at → at ≤ length bytes → IsLineEnd d.delimiter bytes at → ⊥)
+          → SplitsAs rest.is_first (records (config_of d.delimiter) (take end bytes)) next.is_first → next.bytes.items ≡ drop end bytes → next.rows ≡ rest.rows + n
           → IsUnderway d is_first begin tells next after (pieces + 1)
       go-on next many within line behind header cut-off rows = record {
-        front = taken-more begin.text rest.bytes.items bytes old tells pieces u.front reads end within line behind next.bytes.items cut-off;
+        front = taken-more d.delimiter begin.text rest.bytes.items bytes old tells pieces u.front reads end within line behind next.bytes.items cut-off;
         done = u.done ++ piece;
         split = split-more
-            ∙ (ap (λ l. u.done ++ l) (piece-split rest.is_first next.is_first bytes left end cut-more header ∙ ap (λ l. piece ++ piece_records comma next.is_first (l ++ left)) (sym cut-off))
-            ∙ sym (append_assoc u.done piece (piece_records comma next.is_first (next.bytes.items ++ left))));
+            ∙ (ap (λ l. u.done ++ l) (piece-split d.delimiter rest.is_first next.is_first bytes left end cut-more header ∙ ap (λ l. piece ++ piece_records d.delimiter next.is_first (l ++ left)) (sym cut-off))
+            ∙ sym (append_assoc u.done piece (piece_records d.delimiter next.is_first (next.bytes.items ++ left))));
         divided = rw rows divided-on;
         outputs = many ∙ u.outputs;
       }
 
       -- the last piece
-      pub finish : (rows : ℕ) → last ≡ true → end ≡ length bytes → rows ≡ rest.rows + n → IsDivided d (piece_records comma is_first begin.text) begin.told after rows
+      pub finish : (rows : ℕ) → last ≡ true → end ≡ length bytes → rows ≡ rest.rows + n → IsDivided d (piece_records d.delimiter is_first begin.text) begin.told after rows
       finish rows is whole many =
           let all : bytes ++ left ≡ take end bytes = ap (λ l. bytes ++ l) (none-left is) ∙ (append-nil bytes ∙ sym (take_all end bytes (omega (arith, whole)))) in
           rw (many, split-more, all) divided-on
 
     -- a piece that is not divided
-    pub fault-in : (block outputs : ℕ) (e : DivideRefused) → IsReadFor block rest.bytes.items bytes → end ≤ length bytes → (end ≡ length bytes) ⊎ IsLineEnd comma bytes end
+    pub fault-in : (block outputs : ℕ) (e : DivideRefused) → IsReadFor d.delimiter block rest.bytes.items bytes → end ≤ length bytes → (end ≡ length bytes) ⊎ IsLineEnd d.delimiter bytes end
         → IsFaultBehind d rest.rows outputs piece e → IsDivisionFault d block is_first begin.text outputs e
     fault-in block outputs e read within stops h =
-        let more = header-prefix rest.is_first (records (config_of comma) (take end bytes)) (records (config_of comma) (drop end bytes ++ left)) in
-        let all : piece_records comma is_first begin.text ≡ u.done ++ (piece ++ more.0) =
-        split-more ∙ ap (λ l. u.done ++ l) (piece-as rest.is_first (bytes ++ left) ∙ (ap (behind_header rest.is_first) cut-more ∙ (more.1 ∙ ap (λ l. l ++ more.0) (sym (piece-as rest.is_first (take end bytes)))))) in
+        let more = header-prefix rest.is_first (records (config_of d.delimiter) (take end bytes)) (records (config_of d.delimiter) (drop end bytes ++ left)) in
+        let all : piece_records d.delimiter is_first begin.text ≡ u.done ++ (piece ++ more.0) =
+        split-more ∙ ap (λ l. u.done ++ l) (piece-as d.delimiter rest.is_first (bytes ++ left) ∙ (ap (behind_header rest.is_first) cut-more ∙ (more.1 ∙ ap (λ l. l ++ more.0) (sym (piece-as d.delimiter rest.is_first (take end bytes)))))) in
         go e more.0 all h
       where
-        go : (x : DivideRefused) (tail : List (List (List ℕ))) → piece_records comma is_first begin.text ≡ u.done ++ (piece ++ tail)
+        go : (x : DivideRefused) (tail : List (List (List ℕ))) → piece_records d.delimiter is_first begin.text ≡ u.done ++ (piece ++ tail)
             → IsFaultBehind d rest.rows outputs piece x → IsDivisionFault d block is_first begin.text outputs x
         go (refused.Read f) tail all h =
             rw all (first-behind d.nulls d.types u.done (piece ++ tail) u.divided.rows rest.rows f u.divided.read u.divided.many (more-fault d.nulls d.types rest.rows piece tail f h))
@@ -147,7 +146,7 @@ module _ (d : Dividing) (is_first : Bool) (begin : Beginning) where
               after = tail;
               among = all;
               piece = take end bytes;
-              is_piece = piece-read begin.text rest.bytes.items bytes old tells pieces u.front reads block end read within stops;
+              is_piece = piece-read d.delimiter begin.text rest.bytes.items bytes old tells pieces u.front reads block end read within stops;
               ahead = rest.is_first;
               of_piece = refl;
             },

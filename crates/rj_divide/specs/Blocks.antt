@@ -8,7 +8,7 @@ use Rattle.rj_divide.specs.Divisions.{Dividing, IsDivided, counts_after}
 use Rattle.rj_divide.specs.Ranges.{IsPiece}
 use Rattle.rj_divide.specs.Readings.{IsAfterReading, IsFaultBehind, IsFirstFault, IsHeaderRefusal, reads_after}
 use Rattle.rj_strict.specs.Faults.{AreAbove, HasFault, row_at}
-use Rattle.rj_strict.specs.Grammar.{Derives, File, Line, comma, records_of}
+use Rattle.rj_strict.specs.Grammar.{Derives, File, Line, records_of}
 use Rattle.rj_strict.specs.declared.header.Header.TheVariants.{Above}
 use Rattle.rj_strict.specs.declared.fault.StrictFault.{StrictFault}
 use Rattle.rj_strict.specs.declared.fault.StrictFault.TheVariants as fault
@@ -30,17 +30,17 @@ abbrev pub records_in : List Line → List (List (List ℕ))
 records_in lines = records_of (record { lines = lines; rest = None })
 
 -- the records of a block's derivation, or those above the place where it stops being derived
-pub data StandIn (names : ℕ) (full : Bool) (text : List ℕ) : List (List (List ℕ)) → Type 0 where
-  in_all : (file : File) → Derives comma (Above names) full text file → StandIn names full text (records_of file)
-  above : (f : StrictFault) (lines : List Line) → HasFault comma (Above names) full text f → AreAbove comma (Above names) text (row_at f) lines
-      → StandIn names full text (records_in lines)
+pub data StandIn (delimiter names : ℕ) (full : Bool) (text : List ℕ) : List (List (List ℕ)) → Type 0 where
+  in_all : (file : File) → Derives delimiter (Above names) full text file → StandIn delimiter names full text (records_of file)
+  above : (f : StrictFault) (lines : List Line) → HasFault delimiter (Above names) full text f → AreAbove delimiter (Above names) text (row_at f) lines
+      → StandIn delimiter names full text (records_in lines)
 
 -- the place where a block stops being derived, below records that are all rows
 pub record IsBrokenAt (d : Dividing) (full : Bool) (text : List ℕ) (before : ℕ) (told : StrictFault) : Type 0 where
   pub at : StrictFault
-  pub has : HasFault comma (Above (length d.types)) full text at
+  pub has : HasFault d.delimiter (Above (length d.types)) full text at
   pub lines : List Line
-  pub above : AreAbove comma (Above (length d.types)) text (row_at at) lines
+  pub above : AreAbove d.delimiter (Above (length d.types)) text (row_at at) lines
   pub rows : List (List Content)
   pub read : AreRows d.nulls d.types (records_in lines) rows
   pub is : told ≡ strict_behind before at
@@ -49,7 +49,7 @@ pub record IsBrokenAt (d : Dividing) (full : Bool) (text : List ℕ) (before : �
 abbrev pub IsBlockFault : Dividing → Bool → List ℕ → ℕ → ℕ → BlockRefused → Type 0
 IsBlockFault d full text before outputs (refused.Broken f) = IsBrokenAt d full text before f
 IsBlockFault d full text before outputs (refused.Divided e) =
-    (records : List (List (List ℕ))) × StandIn (length d.types) full text records × IsFaultBehind d before outputs records e
+    (records : List (List (List ℕ))) × StandIn d.delimiter (length d.types) full text records × IsFaultBehind d before outputs records e
 
 -- the counts of the outputs' failures: one more for the output that failed, if one did
 abbrev pub block_counts : {T : Type 0} → Result T BlockRefused → List ℕ → List ℕ
@@ -77,30 +77,30 @@ IsBlockRefusal b (refused.Divided e) = IsHeaderRefusal b e
 -- header's names
 abbrev pub IsRangeDivided : Dividing → Bool → List ℕ → List (Option (List ℕ)) → List (Option (List ℕ)) → ℕ → Type 0
 IsRangeDivided d full text before after rows =
-    (file : File) × Derives comma (Above (length d.types)) full text file × IsDivided d (records_of file) before after rows
+    (file : File) × Derives d.delimiter (Above (length d.types)) full text file × IsDivided d (records_of file) before after rows
 
 -- the first records of the lines of a range, or all its records, as the grammar derives them below
 -- this many names
-pub data BeginIn (names : ℕ) (full : Bool) (text : List ℕ) : List (List (List ℕ)) → Type 0 where
-  in_text : (file : File) → Derives comma (Above names) full text file → BeginIn names full text (records_of file)
-  in_lines : (row : ℕ) (lines : List Line) → AreAbove comma (Above names) text row lines → BeginIn names full text (records_in lines)
+pub data BeginIn (delimiter names : ℕ) (full : Bool) (text : List ℕ) : List (List (List ℕ)) → Type 0 where
+  in_text : (file : File) → Derives delimiter (Above names) full text file → BeginIn delimiter names full text (records_of file)
+  in_lines : (row : ℕ) (lines : List Line) → AreAbove delimiter (Above names) text row lines → BeginIn delimiter names full text (records_in lines)
 
 -- records of a range, below this many names, that are those of one piece of it: the range begins
 -- with some others and these
-pub record StandInBlock (names block : ℕ) (full : Bool) (text : List ℕ) (records : List (List (List ℕ))) : Type 0 where
+pub record StandInBlock (delimiter names block : ℕ) (full : Bool) (text : List ℕ) (records : List (List (List ℕ))) : Type 0 where
   pub before : List (List (List ℕ))
-  pub begin : BeginIn names full text (before ++ records)
+  pub begin : BeginIn delimiter names full text (before ++ records)
   pub piece : List ℕ
-  pub is_piece : IsPiece block text piece
+  pub is_piece : IsPiece delimiter block text piece
   pub whole : Bool
-  pub of_piece : StandIn names whole piece records
+  pub of_piece : StandIn delimiter names whole piece records
 
 -- a range that is read in such blocks has 2^31 rows or more in one piece or 2^61 in all, or 2^64 -
 -- 1 bytes or more
-abbrev pub IsRangeTooLong : ℕ → ℕ → Bool → List ℕ → Type 0
-IsRangeTooLong names block full text =
-    ((records : List (List (List ℕ))) × StandInBlock names block full text records × (2 ^ 31 ≤ length records))
-    ⊎ (((records : List (List (List ℕ))) × BeginIn names full text records × (2 ^ 61 ≤ length records)) ⊎ (2 ^ 64 - 1 ≤ length text))
+abbrev pub IsRangeTooLong : ℕ → ℕ → ℕ → Bool → List ℕ → Type 0
+IsRangeTooLong delimiter names block full text =
+    ((records : List (List (List ℕ))) × StandInBlock delimiter names block full text records × (2 ^ 31 ≤ length records))
+    ⊎ (((records : List (List (List ℕ))) × BeginIn delimiter names full text records × (2 ^ 61 ≤ length records)) ⊎ (2 ^ 64 - 1 ≤ length text))
 
 -- why a range that is read in such blocks is not divided among this many outputs: the place where
 -- its text stops being derived, below records that are all rows; the first error of its first
@@ -108,8 +108,8 @@ IsRangeTooLong names block full text =
 abbrev pub IsRangeFault : Dividing → ℕ → Bool → List ℕ → ℕ → BlockRefused → Type 0
 IsRangeFault d block full text outputs (refused.Broken f) = IsBrokenAt d full text 0 f
 IsRangeFault d block full text outputs (refused.Divided (divide.Read f)) =
-    (records : List (List (List ℕ))) × BeginIn (length d.types) full text records × IsFirstFault d.nulls d.types 0 records f
-IsRangeFault d block full text outputs (refused.Divided divide.TooLong) = IsRangeTooLong (length d.types) block full text
+    (records : List (List (List ℕ))) × BeginIn d.delimiter (length d.types) full text records × IsFirstFault d.nulls d.types 0 records f
+IsRangeFault d block full text outputs (refused.Divided divide.TooLong) = IsRangeTooLong d.delimiter (length d.types) block full text
 IsRangeFault d block full text outputs (refused.Divided divide.ReadDevice) = Unit {0}
 IsRangeFault d block full text outputs (refused.Divided (divide.WriteDevice p)) = p < outputs
 IsRangeFault d block full text outputs (refused.Divided divide.Memory) = Unit {0}

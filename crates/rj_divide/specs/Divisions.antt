@@ -15,7 +15,7 @@ use Rattle.rj_divide.specs.declared.piece.Division.{Division}
 use Rattle.rj_divide.specs.declared.refused.DivideRefused.{DivideRefused}
 use Rattle.rj_divide.specs.declared.refused.DivideRefused.TheVariants as refused
 
--- the text of the rows of one part
+-- the text of the rows of one part, with commas
 abbrev pub part_text : List ℕ → (List Content → ℕ) → ℕ → ℕ → List (List Content) → List ℕ
 part_text null part p first rows = rows_text comma (map (map (shown null)) (part_rows part p first rows))
 
@@ -29,8 +29,10 @@ AreAppended null part first rows before after = (p : ℕ) → p < length before
 abbrev pub written_null : List (List ℕ) → List ℕ
 written_null nulls = slice_index_or nulls 0 []
 
--- how rows are divided: the texts that stand for NULL, the types of the columns, the part of a row, and the place of the first one
+-- how rows are divided: the delimiter of their text, the texts that stand for NULL, the types of the columns, the part of a row, and the
+-- place of the first one
 pub record Dividing : Type 0 where
+  pub delimiter : ℕ
   pub nulls : List (List ℕ)
   pub types : List ColumnType
   pub part : List Content → ℕ
@@ -38,7 +40,7 @@ pub record Dividing : Type 0 where
 
 -- the parameters of a division whose route chooses these parts
 abbrev pub dividing : {R : Type 0} → (R → List Content → ℕ) → Division R → Dividing
-dividing part division = record { nulls = null_texts division.nulls.now; types = division.types.now; part = part division.route.now; first = division.first }
+dividing part division = record { delimiter = division.delimiter; nulls = null_texts division.nulls.now; types = division.types.now; part = part division.route.now; first = division.first }
 
 -- the same after this many rows
 abbrev pub after_rows : ℕ → Dividing → Dividing

@@ -9,7 +9,6 @@ use Rattle.rj_csv_io.specs.declared.refused.ReadRefused.TheVariants as read
 use Rattle.rj_csv_io.specs.Pieces.{AreRows, piece_records}
 use Rattle.rj_csv_io.specs.Tables.{of_begun}
 use Rattle.rj_csv_io.specs.Typed.{read_cells}
-use Rattle.rj_strict.specs.Grammar.{comma}
 use Rattle.rj_divide.specs.declared.refused.DivideRefused.{DivideRefused}
 use Rattle.rj_divide.specs.declared.refused.DivideRefused.TheVariants as refused
 use Rattle.rj_divide.specs.Divisions.{Dividing}
@@ -95,28 +94,28 @@ reads_after (Err refused.ReadDevice) count = count + 1
 reads_after (Err (refused.WriteDevice p)) count = count
 reads_after (Err refused.Memory) count = count
 
--- records of rows of a text that are those of one piece of it
-pub record StandInPiece (block : ℕ) (is_first : Bool) (text : List ℕ) (records : List (List (List ℕ))) : Type 0 where
+-- records of rows of a text that are those of one piece of it, by this delimiter
+pub record StandInPiece (d block : ℕ) (is_first : Bool) (text : List ℕ) (records : List (List (List ℕ))) : Type 0 where
   pub before : List (List (List ℕ))
   pub after : List (List (List ℕ))
-  pub among : piece_records comma is_first text ≡ before ++ (records ++ after)
+  pub among : piece_records d is_first text ≡ before ++ (records ++ after)
   pub piece : List ℕ
-  pub is_piece : IsPiece block text piece
+  pub is_piece : IsPiece d block text piece
   pub ahead : Bool
-  pub of_piece : records ≡ piece_records comma ahead piece
+  pub of_piece : records ≡ piece_records d ahead piece
 
 -- a text that is read in such blocks has 2^31 rows or more in one piece or 2^61 in all, or 2^64 - 1
 -- bytes or more
-abbrev pub IsTooLong : ℕ → Bool → List ℕ → Type 0
-IsTooLong block is_first text =
-    ((records : List (List (List ℕ))) × StandInPiece block is_first text records × (2 ^ 31 ≤ length records))
-    ⊎ ((2 ^ 61 ≤ length (piece_records comma is_first text)) ⊎ (2 ^ 64 - 1 ≤ length text))
+abbrev pub IsTooLong : ℕ → ℕ → Bool → List ℕ → Type 0
+IsTooLong d block is_first text =
+    ((records : List (List (List ℕ))) × StandInPiece d block is_first text records × (2 ^ 31 ≤ length records))
+    ⊎ ((2 ^ 61 ≤ length (piece_records d is_first text)) ⊎ (2 ^ 64 - 1 ≤ length text))
 
 -- why a text that is read in such blocks is not divided among this many outputs: an error of a
 -- record or of a device, or its length
 abbrev pub IsDivisionFault : Dividing → ℕ → Bool → List ℕ → ℕ → DivideRefused → Type 0
-IsDivisionFault d block is_first text outputs (refused.Read f) = IsFirstFault d.nulls d.types 0 (piece_records comma is_first text) f
-IsDivisionFault d block is_first text outputs refused.TooLong = IsTooLong block is_first text
+IsDivisionFault d block is_first text outputs (refused.Read f) = IsFirstFault d.nulls d.types 0 (piece_records d.delimiter is_first text) f
+IsDivisionFault d block is_first text outputs refused.TooLong = IsTooLong d.delimiter block is_first text
 IsDivisionFault d block is_first text outputs refused.ReadDevice = Unit {0}
 IsDivisionFault d block is_first text outputs (refused.WriteDevice p) = p < outputs
 IsDivisionFault d block is_first text outputs refused.Memory = Unit {0}

@@ -6,7 +6,7 @@ use Rattle.rj_divide.specs.declared.whole.Rest.{Rest}
 use Rattle.rj_divide.specs.Blocks.{records_in}
 use Rattle.rj_divide.specs.Divisions.{Dividing, IsDivided}
 use Rattle.rj_divide.specs.Taken.{IsTaken}
-use Rattle.rj_strict.specs.Grammar.{Derives, Line, comma}
+use Rattle.rj_strict.specs.Grammar.{Derives, Line}
 use Rattle.rj_strict.specs.declared.header.Header.TheVariants.{Above}
 
 -- the records of rows among these: all, or all but the first one if that is the header
@@ -29,17 +29,17 @@ pub record Beginning : Type 0 where
 -- were removed
 pub record IsUnderway (d : Dividing) (is_first : Bool) (begin : Beginning) (tells : Option (List ℕ)) (rest : Rest) (now : List (Option (List ℕ)))
     (pieces : ℕ) : Type 0 where
-  pub front : IsTaken begin.text tells rest.bytes.items pieces
+  pub front : IsTaken d.delimiter begin.text tells rest.bytes.items pieces
   pub done : List (List (List ℕ))
-  pub split : piece_records comma is_first begin.text ≡ done ++ piece_records comma rest.is_first (rest.bytes.items ++ front.left)
+  pub split : piece_records d.delimiter is_first begin.text ≡ done ++ piece_records d.delimiter rest.is_first (rest.bytes.items ++ front.left)
   pub divided : IsDivided d done begin.told now rest.rows
   pub outputs : length now ≡ length begin.told
 
 -- a range whose first rows are divided: those of the bytes that were removed, which are lines below
 -- the header's names
 pub record IsReadTo (d : Dividing) (begin : Beginning) (tells : Option (List ℕ)) (rest : strict.Rest) (now : List (Option (List ℕ))) (blocks : ℕ) : Type 0 where
-  pub front : IsTaken begin.text tells rest.bytes.items blocks
+  pub front : IsTaken d.delimiter begin.text tells rest.bytes.items blocks
   pub lines : List Line
-  pub derived : Derives comma (Above (length d.types)) true front.taken (record { lines = lines; rest = None })
+  pub derived : Derives d.delimiter (Above (length d.types)) true front.taken (record { lines = lines; rest = None })
   pub divided : IsDivided d (records_in lines) begin.told now rest.rows
   pub outputs : length now ≡ length begin.told

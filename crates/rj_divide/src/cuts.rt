@@ -9,6 +9,7 @@ use crate::next::{drop_front, next_piece};
 use crate::refused::DivideRefused;
 use crate::whole::is_header_ahead;
 use rj_csv_io::Input;
+use rj_strict::Delimiter;
 use std::alloc::Global;
 
 /// How far a text was looked at.
@@ -31,27 +32,33 @@ pub(crate) struct Cutting {
 fn cut_next<I: Input>(
     alloc: Global,
     input: &mut I,
+    delimiter: Delimiter,
     size: u64,
     block: usize,
     cutting: &mut Cutting,
 ) -> Result<bool, DivideRefused>
     requires { I.count input.old < 2 ^ 64 - 1 }
-    ensures more { result ≡ Ok false → (text : List ℕ) (n : ℕ) → IsCutting size block text (I.tells input.old) cutting.old n
-        → IsCutting size block text (I.tells input.new) cutting.new (n + 1) }
-    ensures last { result ≡ Ok true → (text : List ℕ) (n : ℕ) → IsCutting size block text (I.tells input.old) cutting.old n
-        → AreCuts size block text cutting.new.cuts.items }
+    ensures more { result ≡ Ok false → (text : List ℕ) (n : ℕ) → IsCutting delimiter size block text (I.tells input.old) cutting.old n
+        → IsCutting delimiter size block text (I.tells input.new) cutting.new (n + 1) }
+    ensures last { result ≡ Ok true → (text : List ℕ) (n : ℕ) → IsCutting delimiter size block text (I.tells input.old) cutting.old n
+        → AreCuts delimiter size block text cutting.new.cuts.items }
     ensures end { result ≡ Ok true → IsAtEnd (I.tells input.new) }
     ensures reads { I.count input.new ≡ reads_after result (I.count input.old) }
-    ensures fault { IfErr result (λ e. (text : List ℕ) (n : ℕ) → IsCutting size block text (I.tells input.old) cutting.old n → IsCutFault text e) }
+    ensures fault { IfErr result (λ e. (text : List ℕ) (n : ℕ) → IsCutting delimiter size block text (I.tells input.old) cutting.old n → IsCutFault text e) }
 {
-    let piece = match next_piece(input, &mut cutting.bytes, block) {
+    let piece = match next_piece(input, &mut cutting.bytes, delimiter, block) {
         Ok(piece) => piece,
         Err(e) => return Err(e),
     };
     if piece.is_last {
         return Ok(true);
     }
-    let Ok(is_first) = is_header_ahead(alloc, &cutting.bytes[..piece.end], cutting.is_first) else {
+    let Ok(is_first) = is_header_ahead(
+        alloc,
+        &cutting.bytes[..piece.end],
+        delimiter,
+        cutting.is_first,
+    ) else {
         return Err(DivideRefused::Memory);
     };
     let place = match cutting.place.checked_add(piece.end as u64) {
@@ -71,7 +78,7 @@ fn cut_next<I: Input>(
 }
 
 /// Finds places where a text with a header can be cut into ranges, so that the records of the
-/// ranges are those of the text. Each place is after a line feed that ends a record, and at least
+/// ranges are those of the text, by this delimiter. Each place is after a line feed that ends a record, and at least
 /// `size` bytes after the one before. The first is after the header. The text's own byte order mark
 /// was left out already.
 ///
@@ -86,11 +93,12 @@ fn cut_next<I: Input>(
 pub fn find_cuts<I: Input>(
     alloc: Global,
     input: &mut I,
+    delimiter: Delimiter,
     size: u64,
     block: usize,
 ) -> Result<Vec<u64>, DivideRefused>
     requires { I.count input.old < 2 ^ 64 - 1 }
-    ensures cuts { IfOk result (λ v. IfSome (I.tells input.old) (λ text. AreCuts size block text v.items)) }
+    ensures cuts { IfOk result (λ v. IfSome (I.tells input.old) (λ text. AreCuts delimiter size block text v.items)) }
     ensures end { OnOk result (IsAtEnd (I.tells input.new)) }
     ensures reads { I.count input.new ≡ reads_after result (I.count input.old) }
     ensures fault { IfErr result (λ e. IfSome (I.tells input.old) (λ text. IsCutFault text e)) }
@@ -103,7 +111,7 @@ pub fn find_cuts<I: Input>(
         last: 0,
     };
     for _turn in 0..u64::MAX {
-        match cut_next(alloc, input, size, block, &mut cutting) {
+        match cut_next(alloc, input, delimiter, size, block, &mut cutting) {
             Ok(true) => return Ok(cutting.cuts),
             Ok(false) => {}
             Err(e) => return Err(e),

@@ -1,5 +1,5 @@
 //! The rows of a text, divided among parts: each row goes to the output of its part, in order, with
-//! its place. The text and the outputs have commas.
+//! its place. The text has any delimiter, and the outputs have commas.
 #![tactic(auto)]
 
 mod cuts;

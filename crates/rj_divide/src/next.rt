@@ -4,7 +4,6 @@ ghost use Rattle.std.specs.Prelude.{◌≡◌, ◌<◌, ◌≤◌, ◌+◌, ◌-
 ghost use Rattle.std.specs.Io.KnownBytes.{Consumes, IsAtEnd};
 ghost use Rattle.csv.specs.Reading.{records};
 ghost use Rattle.rj_csv_io.specs.Pieces.{IsLineEnd};
-ghost use Rattle.rj_strict.specs.Grammar.{comma};
 ghost use Rattle.rj_strict.specs.Reading.{config_of};
 ghost use Rattle.rj_divide.specs.Ranges.{IsReadFor};
 ghost use Rattle.rj_divide.specs.Readings.{IsInputFault, reads_after};
@@ -22,10 +21,11 @@ pub struct Piece {
     pub is_last: bool,
 }
 
-/// Reads the next bytes of a device and appends them, until there is a line feed that ends a record
-/// or the device is at its end. The answer is the piece up to the last such line feed, or all bytes
-/// if the device is at its end. It reads at least a block. If no record ends in that, it reads up
-/// to twice as many bytes as it had, and so on. It reads less than 64 KiB more than needed.
+/// Reads the next bytes of a device and appends them, until there is a line feed that ends a record,
+/// by this delimiter, or the device is at its end. The answer is the piece up to the last such line
+/// feed, or all bytes if the device is at its end. It reads at least a block. If no record ends in
+/// that, it reads up to twice as many bytes as it had, and so on. It reads less than 64 KiB more
+/// than needed.
 ///
 /// # Errors
 ///
@@ -34,20 +34,21 @@ pub struct Piece {
 pub fn next_piece<I: Input>(
     input: &mut I,
     bytes: &mut Vec<u8>,
+    delimiter: Delimiter,
     block: usize,
 ) -> Result<Piece, DivideRefused>
     requires { I.count input.old < 2 ^ 64 - 1 }
     ensures bytes { OnOk result ((start : Option (List ℕ)) → Consumes start (I.tells input.old) bytes.old.items
         → Consumes start (I.tells input.new) bytes.new.items) }
     ensures within { IfOk result (λ p. p.end ≤ vec_len bytes.new) }
-    ensures read { OnOk result (IsReadFor block bytes.old.items bytes.new.items) }
+    ensures read { OnOk result (IsReadFor delimiter block bytes.old.items bytes.new.items) }
     ensures block { IfOk result (λ p. p.is_last ≡ false → block ≤ vec_len bytes.new) }
     ensures last { IfOk result (λ p. p.is_last ≡ true → (p.end ≡ vec_len bytes.new) × IsAtEnd (I.tells input.new)) }
-    ensures records { IfOk result (λ p. (more : List ℕ) → (p.is_last ≡ true → more ≡ []) → records (config_of comma) (bytes.new.items ++ more)
-        ≡ records (config_of comma) (take p.end bytes.new.items) ++ records (config_of comma) (drop p.end bytes.new.items ++ more)) }
-    ensures line { IfOk result (λ p. p.is_last ≡ false → IsLineEnd comma bytes.new.items p.end) }
+    ensures records { IfOk result (λ p. (more : List ℕ) → (p.is_last ≡ true → more ≡ []) → records (config_of delimiter) (bytes.new.items ++ more)
+        ≡ records (config_of delimiter) (take p.end bytes.new.items) ++ records (config_of delimiter) (drop p.end bytes.new.items ++ more)) }
+    ensures line { IfOk result (λ p. p.is_last ≡ false → IsLineEnd delimiter bytes.new.items p.end) }
     ensures rest { IfOk result (λ p. p.is_last ≡ false → (at : ℕ) → p.end < at → at ≤ length bytes.new.items
-        → IsLineEnd comma bytes.new.items at → ⊥) }
+        → IsLineEnd delimiter bytes.new.items at → ⊥) }
     ensures count { I.count input.new ≡ reads_after result (I.count input.old) }
     ensures fault { IfErr result IsInputFault }
 {
@@ -64,7 +65,7 @@ pub fn next_piece<I: Input>(
             Err(ReadRefused::ReadDevice) => return Err(DivideRefused::ReadDevice),
             Err(_) => return Err(DivideRefused::Memory),
         }
-        let end = last_cut(bytes.as_slice(), Delimiter::comma());
+        let end = last_cut(bytes.as_slice(), delimiter);
         if end > 0 {
             return Ok(Piece {
                 end,

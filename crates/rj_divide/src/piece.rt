@@ -6,7 +6,6 @@ ghost use Rattle.rj_columns.specs.Tables.{TableValue};
 ghost use Rattle.rj_csv_io.specs.Pieces.{piece_records};
 ghost use Rattle.rj_csv_io.specs.Tables.{is_null_text};
 ghost use Rattle.rj_csv_io.specs.Typed.{null_texts};
-ghost use Rattle.rj_strict.specs.Grammar.{comma};
 ghost use Rattle.rj_divide.specs.Divisions.{IsDivided, after_rows, counts_after, dividing, table_begun, written_null};
 ghost use Rattle.rj_divide.specs.Readings.{IsAfterReading, IsFaultBehind, IsHeaderRefusal, IsReadingFault, fault_behind, row_told};
 
@@ -18,9 +17,11 @@ use rj_csv_io::{Header, InputFormat, Output, ReadRefused};
 use rj_strict::Delimiter;
 use std::alloc::Global;
 
-/// How the rows of a text with commas are read, and to which parts they go.
+/// How the rows of a text are read, and to which parts they go.
 #[derive(Drop)]
 pub struct Division<'a, R: Route> {
+    /// What stands between two fields of the text.
+    pub delimiter: Delimiter,
     /// The header of the text.
     pub header: &'a Header,
     /// The types of its columns.
@@ -92,14 +93,14 @@ pub fn divide_piece<O: Output, R: Route>(
     requires first { division.now.first ≤ 2 ^ 62 }
     requires null { IsTrue (is_null_text (written_null (null_texts division.now.nulls.now))) }
     requires failures { All (λ o. O.count o < 2 ^ 64 - 1) outputs.old }
-    ensures divided { IfOk result (λ n. IsDivided (after_rows before (dividing R.part division.now)) (piece_records comma is_first text.now)
+    ensures divided { IfOk result (λ n. IsDivided (after_rows before (dividing R.part division.now)) (piece_records division.now.delimiter is_first text.now)
         (map O.told outputs.old) (map O.told outputs.new) n) }
     ensures read { IfErr result IsAfterReading }
     ensures few { IfOk result (λ n. before + n < 2 ^ 62) }
     ensures counts { map O.count outputs.new ≡ counts_after result (map O.count outputs.old) }
     ensures writes { OnOk result (All (λ o. O.count o < 2 ^ 64 - 1) outputs.new) }
     ensures fault { IfErr result (λ e. (t : TableValue) → table_begun division.now ≡ Ok t
-        → IsFaultBehind (dividing R.part division.now) before (length outputs.old) (piece_records comma is_first text.now) e) }
+        → IsFaultBehind (dividing R.part division.now) before (length outputs.old) (piece_records division.now.delimiter is_first text.now) e) }
     ensures begins { OnOk result ((t : TableValue) × (table_begun division.now ≡ Ok t)) }
     ensures refusal { IfErr result (λ e. (b : BuildRefused) → table_begun division.now ≡ Err b → before ≡ 0 → IsHeaderRefusal b e) }
     ensures untouched { (b : BuildRefused) → table_begun division.now ≡ Err b → outputs.new ≡ outputs.old }
@@ -108,7 +109,7 @@ pub fn divide_piece<O: Output, R: Route>(
         return Err(DivideRefused::TooLong);
     }
     let format = InputFormat {
-        delimiter: Delimiter::comma(),
+        delimiter: division.delimiter,
         nulls: division.nulls,
     };
     let table = match division

@@ -14,7 +14,7 @@ ghost use Rattle.rj_divide.specs.Divisions.{IsDivided, after_rows, counts_after,
 ghost use Rattle.rj_divide.specs.Readings.{IsAfterReading, IsFaultBehind, IsHeaderRefusal};
 ghost use Rattle.rj_divide.specs.Underway.{Beginning, IsReadTo};
 ghost use Rattle.rj_strict.specs.Faults.{row_at};
-ghost use Rattle.rj_strict.specs.Grammar.{Derives, File, comma, records_of};
+ghost use Rattle.rj_strict.specs.Grammar.{Derives, File, records_of};
 ghost use Rattle.rj_strict.specs.declared.header.Header.TheVariants.{Above};
 
 use crate::next::{drop_front, next_piece};
@@ -44,17 +44,18 @@ fn strict_behind(before: u64, fault: StrictFault) -> StrictFault
 }
 
 // A text under a header of one name, with a name above it and `""` in each of its empty lines.
-fn quote_below_name(alloc: Global, text: &[u8]) -> Result<Vec<u8>, AllocError>
-    requires { (names : ℕ) × (full : Bool) × (file : File) × (names ≤ 1) × Derives comma (Above names) full text.now file }
-    ensures { IfOk result (λ v. (names : ℕ) (full : Bool) (file : File) → names ≤ 1 → Derives comma (Above names) full text.now file
-        → piece_records comma true (strip_bom v.items) ≡ records_of file) }
+fn quote_below_name(alloc: Global, text: &[u8], delimiter: Delimiter) -> Result<Vec<u8>, AllocError>
+    requires { (names : ℕ) × (full : Bool) × (file : File) × (names ≤ 1) × Derives delimiter (Above names) full text.now file }
+    ensures { IfOk result (λ v. (names : ℕ) (full : Bool) (file : File) → names ≤ 1 → Derives delimiter (Above names) full text.now file
+        → piece_records delimiter true (strip_bom v.items) ≡ records_of file) }
 {
     joined_texts();
     reads_quoted_records();
+    let _byte = delimiter.byte();
     let mut named = Vec::new(alloc);
     named.extend_from_slice(b"x\n")?;
     named.extend_from_slice(text)?;
-    quote_empty_lines(alloc, named.as_slice(), Delimiter::comma())
+    quote_empty_lines(alloc, named.as_slice(), delimiter)
 }
 
 // Divides the rows of a text that is derived under the header.
@@ -70,11 +71,11 @@ fn divide_derived<W: Route, O: Output>(
     requires first { division.now.first ≤ 2 ^ 62 }
     requires null { IsTrue (is_null_text (written_null (null_texts division.now.nulls.now))) }
     requires failures { All (λ o. O.count o < 2 ^ 64 - 1) outputs.old }
-    requires derived { (full : Bool) × (file : File) × Derives comma (Above (length division.now.types.now)) full text.now file }
-    ensures divided { IfOk result (λ n. (full : Bool) (file : File) → Derives comma (Above (length division.now.types.now)) full text.now file
+    requires derived { (full : Bool) × (file : File) × Derives division.now.delimiter (Above (length division.now.types.now)) full text.now file }
+    ensures divided { IfOk result (λ n. (full : Bool) (file : File) → Derives division.now.delimiter (Above (length division.now.types.now)) full text.now file
         → IsDivided (after_rows before (dividing W.part division.now)) (records_of file) (map O.told outputs.old) (map O.told outputs.new) n) }
     ensures fault { IfErr result (λ e. (t : TableValue) (full : Bool) (file : File) → table_begun division.now ≡ Ok t
-        → Derives comma (Above (length division.now.types.now)) full text.now file
+        → Derives division.now.delimiter (Above (length division.now.types.now)) full text.now file
         → IsFaultBehind (dividing W.part division.now) before (length outputs.old) (records_of file) e) }
     ensures few { IfOk result (λ n. before + n < 2 ^ 62) }
     ensures counts { map O.count outputs.new ≡ counts_after result (map O.count outputs.old) }
@@ -85,10 +86,11 @@ fn divide_derived<W: Route, O: Output>(
     ensures untouched { (b : BuildRefused) → table_begun division.now ≡ Err b → outputs.new ≡ outputs.old }
 {
     reads_all_records();
+    let _byte = division.delimiter.byte();
     if division.types.len() > 1 {
         return divide_piece(alloc, division, text, false, before, outputs);
     }
-    let Ok(quoted) = quote_below_name(alloc, text) else {
+    let Ok(quoted) = quote_below_name(alloc, text, division.delimiter) else {
         return Err(DivideRefused::Memory);
     };
     divide_piece(
@@ -126,7 +128,7 @@ pub fn divide_block<W: Route, O: Output>(
     requires first { division.now.first ≤ 2 ^ 62 }
     requires null { IsTrue (is_null_text (written_null (null_texts division.now.nulls.now))) }
     requires failures { All (λ o. O.count o < 2 ^ 64 - 1) outputs.old }
-    ensures divided { IfOk result (λ n. (file : File) × Derives comma (Above (length division.now.types.now)) full text.now file
+    ensures divided { IfOk result (λ n. (file : File) × Derives division.now.delimiter (Above (length division.now.types.now)) full text.now file
         × IsDivided (after_rows before (dividing W.part division.now)) (records_of file) (map O.told outputs.old) (map O.told outputs.new) n) }
     ensures fault { IfErr result (λ e. (t : TableValue) → table_begun division.now ≡ Ok t
         → IsBlockFault (dividing W.part division.now) full text.now before (length outputs.old) e) }
@@ -138,7 +140,7 @@ pub fn divide_block<W: Route, O: Output>(
     ensures refusal { IfErr result (λ e. (b : BuildRefused) → table_begun division.now ≡ Err b → before ≡ 0 → IsBlockRefusal b e) }
     ensures untouched { (b : BuildRefused) → table_begun division.now ≡ Err b → outputs.new ≡ outputs.old }
 {
-    let delimiter = Delimiter::comma();
+    let delimiter = division.delimiter;
     let header = Header::Above(division.types.len() as u64);
     match check(text, delimiter, header, full) {
         Ok(()) => match divide_derived(alloc, division, text, before, outputs) {
@@ -162,6 +164,8 @@ struct Rest {
     bytes: Vec<u8>,
     // How many rows were divided.
     rows: u64,
+    // Whether the last record needs its line end.
+    full: bool,
 }
 
 // Divides the next block of a range. The answer is whether it was the last one.
@@ -169,7 +173,6 @@ fn divide_next<I: Input, W: Route, O: Output>(
     alloc: Global,
     input: &mut I,
     division: &Division<'_, W>,
-    full: bool,
     block: usize,
     rest: &mut Rest,
     outputs: &mut [O],
@@ -185,24 +188,26 @@ fn divide_next<I: Input, W: Route, O: Output>(
         → read begin (I.tells input.new) rest.new (map O.told outputs.new) (blocks + 1) }
     ensures last { let d = dividing W.part division.now in result ≡ Ok true → (begin : Beginning) (blocks : ℕ)
         → IsReadTo d begin (I.tells input.old) rest.old (map O.told outputs.old) blocks
-        → IsRangeDivided d full begin.text begin.told (map O.told outputs.new) rest.new.rows }
+        → IsRangeDivided d rest.old.full begin.text begin.told (map O.told outputs.new) rest.new.rows }
+    ensures full { rest.new.full ≡ rest.old.full }
     ensures end { result ≡ Ok true → IsAtEnd (I.tells input.new) }
     ensures reads { I.count input.new ≡ block_reads result (I.count input.old) }
     ensures writes { map O.count outputs.new ≡ block_counts result (map O.count outputs.old) }
     ensures fault { let d = dividing W.part division.now in IfErr result (λ e. (t : TableValue) (begin : Beginning) (blocks : ℕ)
         → table_begun division.now ≡ Ok t → IsReadTo d begin (I.tells input.old) rest.old (map O.told outputs.old) blocks
-        → IsRangeFault d block full begin.text (length outputs.old) e) }
+        → IsRangeFault d block rest.old.full begin.text (length outputs.old) e) }
     ensures begins { OnOk result ((t : TableValue) × (table_begun division.now ≡ Ok t)) }
     ensures refusal { IfErr result (λ e. (b : BuildRefused) → table_begun division.now ≡ Err b → rest.old.rows ≡ 0 → IsBlockRefusal b e) }
     ensures untouched { (b : BuildRefused) → table_begun division.now ≡ Err b → outputs.new ≡ outputs.old }
 {
     reads_records();
-    let piece = match next_piece(input, &mut rest.bytes, block) {
+    let _byte = division.delimiter.byte();
+    let piece = match next_piece(input, &mut rest.bytes, division.delimiter, block) {
         Ok(piece) => piece,
         Err(refused) => return Err(BlockRefused::Divided(refused)),
     };
     // (a block that isn't the last one ends after a line end)
-    let whole = full | !piece.is_last;
+    let whole = rest.full | !piece.is_last;
     let text = &rest.bytes[..piece.end];
     let rows = match divide_block(alloc, division, text, whole, rest.rows, outputs) {
         Ok(rows) => rows,
@@ -258,9 +263,10 @@ pub fn divide_strictly<I: Input, W: Route, O: Output>(
     let mut rest = Rest {
         bytes: Vec::new(alloc),
         rows: 0,
+        full,
     };
     for _turn in 0..u64::MAX {
-        match divide_next(alloc, input, division, full, block, &mut rest, outputs) {
+        match divide_next(alloc, input, division, block, &mut rest, outputs) {
             Ok(true) => return Ok(rest.rows),
             Ok(false) => {}
             Err(refused) => return Err(refused),

@@ -8,7 +8,6 @@ ghost use Rattle.rj_columns.specs.Tables.{TableValue};
 ghost use Rattle.rj_csv_io.specs.Pieces.{piece_records};
 ghost use Rattle.rj_csv_io.specs.Tables.{is_null_text};
 ghost use Rattle.rj_csv_io.specs.Typed.{null_texts};
-ghost use Rattle.rj_strict.specs.Grammar.{comma};
 ghost use Rattle.rj_strict.specs.Reading.{config_of};
 ghost use Rattle.rj_divide.specs.Divisions.{IsDivided, after_rows, counts_after, dividing, table_begun, written_null};
 ghost use Rattle.rj_divide.specs.Readings.{IsAfterReading, IsDivisionFault, IsFaultBehind, IsHeaderRefusal, reads_after};
@@ -37,14 +36,15 @@ pub(crate) struct Rest {
 pub(crate) fn is_header_ahead(
     alloc: Global,
     text: &[u8],
+    delimiter: Delimiter,
     is_first: bool,
 ) -> Result<bool, AllocError>
-    ensures { IfOk result (SplitsAs is_first (records (config_of comma) text.now)) }
+    ensures { IfOk result (SplitsAs is_first (records (config_of delimiter) text.now)) }
 {
     if !is_first {
         return Ok(false);
     }
-    match Header::of(alloc, text, Delimiter::comma())? {
+    match Header::of(alloc, text, delimiter)? {
         Some(_) => Ok(false),
         None => Ok(true),
     }
@@ -66,20 +66,20 @@ fn divide_front<O: Output, R: Route>(
     requires end { end ≤ length rest.old.bytes.items }
     ensures bytes { OnOk result (rest.new.bytes.items ≡ drop end rest.old.bytes.items) }
     ensures rows { OnOk result ((n : ℕ) × (rest.new.rows ≡ rest.old.rows + n)
-        × IsDivided (after_rows rest.old.rows (dividing R.part division.now)) (piece_records comma rest.old.is_first (take end rest.old.bytes.items))
+        × IsDivided (after_rows rest.old.rows (dividing R.part division.now)) (piece_records division.now.delimiter rest.old.is_first (take end rest.old.bytes.items))
         (map O.told outputs.old) (map O.told outputs.new) n) }
-    ensures header { OnOk result (SplitsAs rest.old.is_first (records (config_of comma) (take end rest.old.bytes.items)) rest.new.is_first) }
+    ensures header { OnOk result (SplitsAs rest.old.is_first (records (config_of division.now.delimiter) (take end rest.old.bytes.items)) rest.new.is_first) }
     ensures counts { map O.count outputs.new ≡ counts_after result (map O.count outputs.old) }
     ensures read { IfErr result IsAfterReading }
     ensures fault { IfErr result (λ e. (t : TableValue) → table_begun division.now ≡ Ok t
         → IsFaultBehind (dividing R.part division.now) rest.old.rows (length outputs.old)
-        (piece_records comma rest.old.is_first (take end rest.old.bytes.items)) e) }
+        (piece_records division.now.delimiter rest.old.is_first (take end rest.old.bytes.items)) e) }
     ensures begins { OnOk result ((t : TableValue) × (table_begun division.now ≡ Ok t)) }
     ensures refusal { IfErr result (λ e. (b : BuildRefused) → table_begun division.now ≡ Err b → rest.old.rows ≡ 0 → IsHeaderRefusal b e) }
     ensures untouched { (b : BuildRefused) → table_begun division.now ≡ Err b → outputs.new ≡ outputs.old }
 {
     let text = &rest.bytes[..end];
-    let Ok(is_first) = is_header_ahead(alloc, text, rest.is_first) else {
+    let Ok(is_first) = is_header_ahead(alloc, text, division.delimiter, rest.is_first) else {
         return Err(DivideRefused::Memory);
     };
     match divide_piece(alloc, division, text, rest.is_first, rest.rows, outputs) {
@@ -111,7 +111,7 @@ fn divide_next<I: Input, O: Output, R: Route>(
         → underway is_first begin (I.tells input.new) rest.new (map O.told outputs.new) (n + 1) }
     ensures last { let d = dividing R.part division.now in result ≡ Ok true → (is_first : Bool) (begin : Beginning) (n : ℕ)
         → IsUnderway d is_first begin (I.tells input.old) rest.old (map O.told outputs.old) n
-        → IsDivided d (piece_records comma is_first begin.text) begin.told (map O.told outputs.new) rest.new.rows }
+        → IsDivided d (piece_records division.now.delimiter is_first begin.text) begin.told (map O.told outputs.new) rest.new.rows }
     ensures end { result ≡ Ok true → IsAtEnd (I.tells input.new) }
     ensures reads { I.count input.new ≡ reads_after result (I.count input.old) }
     ensures writes { map O.count outputs.new ≡ counts_after result (map O.count outputs.old) }
@@ -122,7 +122,7 @@ fn divide_next<I: Input, O: Output, R: Route>(
     ensures refusal { IfErr result (λ e. (b : BuildRefused) → table_begun division.now ≡ Err b → rest.old.rows ≡ 0 → IsHeaderRefusal b e) }
     ensures untouched { (b : BuildRefused) → table_begun division.now ≡ Err b → outputs.new ≡ outputs.old }
 {
-    let piece = match next_piece(input, &mut rest.bytes, block) {
+    let piece = match next_piece(input, &mut rest.bytes, division.delimiter, block) {
         Ok(piece) => piece,
         Err(e) => return Err(e),
     };
@@ -161,7 +161,7 @@ pub fn divide<I: Input, O: Output, R: Route>(
     requires reads { I.count input.old < 2 ^ 64 - 1 }
     requires writes { All (λ o. O.count o < 2 ^ 64 - 1) outputs.old }
     ensures divided { IfOk result (λ n. IfSome (I.tells input.old) (λ text.
-        IsDivided (dividing R.part division.now) (piece_records comma is_first text) (map O.told outputs.old) (map O.told outputs.new) n)) }
+        IsDivided (dividing R.part division.now) (piece_records division.now.delimiter is_first text) (map O.told outputs.old) (map O.told outputs.new) n)) }
     ensures end { OnOk result (IsAtEnd (I.tells input.new)) }
     ensures reads { I.count input.new ≡ reads_after result (I.count input.old) }
     ensures writes { map O.count outputs.new ≡ counts_after result (map O.count outputs.old) }

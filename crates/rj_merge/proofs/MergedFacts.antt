@@ -5,7 +5,6 @@ use Rattle.std.specs.Option.{option_to_list}
 use mathlib.Core.List.{map-map}
 use Rattle.std.proofs.lemmas.List.Folds.{flat_map-map}
 use Rattle.rj_csv_io.specs.Shown.{rows_text}
-use Rattle.rj_strict.specs.Grammar.{comma}
 use Rattle.rj_merge.specs.declared.columns.Columns.{Columns}
 use Rattle.rj_merge.specs.declared.copies.Copies.{Copies}
 use Rattle.rj_merge.specs.declared.options.MergeOptions.{MergeOptions}
@@ -39,13 +38,13 @@ module _ {S : Type 0} (has : S → Copies) (gives : S → Reading (List (List �
       ∙ zip_maps has (λ s. (gives s).rows) sources
 
   pub merged : (columns : Columns) (first : List (List ℕ)) (rows : List (Placed (List (List ℕ)))) → first ≡ first_header texts → place_columns first ≡ Some columns
-      → IsMergeOf (copied_rows (lists_of_inputs has gives sources)) rows → IsMergedText how copies texts (rows_text comma (head_rows how.from (others columns first)) ++ records_text rows)
+      → IsMergeOf (copied_rows (lists_of_inputs has gives sources)) rows → IsMergedText how copies texts (rows_text how.delimiter (head_rows how.from (others columns first)) ++ records_text how.delimiter rows)
   merged columns first rows is places merge = record {
     columns = columns;
     rows = rows;
     places = ap place_columns (sym is) ∙ places;
     merge = subst (λ l. IsMergeOf (copied_rows l) rows) (sym lists_given) merge;
-    shown = under-head (head_rows how.from (others columns first)) rows ∙ ap (λ (h : List (List ℕ)). rows_text comma (head_rows how.from (others columns h) ++ map (λ p. p.row) rows)) is;
+    shown = under-head how.delimiter (head_rows how.from (others columns first)) rows ∙ ap (λ (h : List (List ℕ)). rows_text how.delimiter (head_rows how.from (others columns h) ++ map (λ p. p.row) rows)) is;
   }
 
   pub faultless : faults_of_inputs gives sources ≡ [] → HaveNoFault how texts

@@ -6,7 +6,6 @@ use Rattle.csv.specs.declared.writer.Writer.{Writer}
 use Rattle.csv.specs.Writing.{row_text}
 use Rattle.rj_csv_io.specs.Shown.{writer_of}
 use Rattle.rj_csv_io.specs.Written.{HasWritten}
-use Rattle.rj_strict.specs.Grammar.{comma}
 use Rattle.rj_merge.specs.declared.copies.Copies.{Copies}
 use Rattle.rj_merge.specs.declared.head.Head.{Head}
 use Rattle.rj_merge.specs.declared.input.TextSource.{TextSource}
@@ -48,38 +47,38 @@ abbrev pub source_last : {R : Type 0} → Box (TextSource R) Global → Option P
 source_last b = b.value.last
 
 -- rows that were put: the merge of the rows of the inputs that were passed
-pub record HasPut {S : Type 0} (telling : S → Type 0) (own : S → Copies) (gives : S → Reading (List (List ℕ))) (sources : List S) (passed : Option Place) (heads : List (Head (List (List ℕ)) S))
+pub record HasPut {S : Type 0} (d : ℕ) (telling : S → Type 0) (own : S → Copies) (gives : S → Reading (List (List ℕ))) (sources : List S) (passed : Option Place) (heads : List (Head (List (List ℕ)) S))
     (start : Option (List ℕ)) (begun block : Writer (Vec ℕ Global)) (told : Option (List ℕ)) : Type 0 where
   pub rows : List (Placed (List (List ℕ)))
   pub tells : All telling sources → AllTell telling heads
   pub gave : All telling sources → GaveSoFar own gives sources rows (stage_of own gives passed heads)
-  pub shown : (text : List ℕ) → HasWritten comma begun text [] → IsTold start (text ++ records_text rows) block told
+  pub shown : (text : List ℕ) → HasWritten d begun text [] → IsTold d start (text ++ records_text d rows) block told
 
-module _ {S : Type 0} (telling : S → Type 0) (own : S → Copies) (gives : S → Reading (List (List ℕ))) (sources : List S) (start : Option (List ℕ)) (begun : Writer (Vec ℕ Global)) where
+module _ {S : Type 0} (d : ℕ) (telling : S → Type 0) (own : S → Copies) (gives : S → Reading (List (List ℕ))) (sources : List S) (start : Option (List ℕ)) (begun : Writer (Vec ℕ Global)) where
   -- no row was put
   pub put-none : (passed : Option Place) (heads : List (Head (List (List ℕ)) S)) → passed ≡ None → (All telling sources → AllTell telling heads)
       → (All telling sources → IsPermutation (rows_of_inputs own gives sources) (rows_of_heads own gives heads))
       → (All telling sources → IsPermutation (faults_of_inputs gives sources) (faults_of_heads gives heads))
-      → HasPut telling own gives sources passed heads start begun begun start
+      → HasPut d telling own gives sources passed heads start begun begun start
   put-none passed heads none tells all faults = record {
     rows = [];
     tells = tells;
     gave = λ t. record { opened = stage_of own gives passed heads; passed = none; all = all t; faults = faults t; steps = refl };
-    shown = λ text h. told-none start (text ++ records_text []) begun (subst (λ t. HasWritten comma begun t []) (sym (ap (λ t. text ++ t) no_records ∙ append-nil text)) h);
+    shown = λ text h. told-none d start (text ++ records_text d []) begun (subst (λ t. HasWritten d begun t []) (sym (ap (λ t. text ++ t) no_records d ∙ append-nil text)) h);
   }
 
-  module _ (passed : Option Place) (heads : List (Head (List (List ℕ)) S)) (block : Writer (Vec ℕ Global)) (told : Option (List ℕ)) (h : HasPut telling own gives sources passed heads start begun block told) where
+  module _ (passed : Option Place) (heads : List (Head (List (List ℕ)) S)) (block : Writer (Vec ℕ Global)) (told : Option (List ℕ)) (h : HasPut d telling own gives sources passed heads start begun block told) where
     -- a row more
     pub put-more : (next : Option Place) (row : Placed (List (List ℕ))) (left : List (Head (List (List ℕ)) S)) (new : Writer (Vec ℕ Global)) (tells : Option (List ℕ))
         → (AllTell telling heads → AllTell telling left)
         → (AllTell telling heads → IsStep (stage_of own gives passed heads) (Some row) (stage_of own gives next left))
-        → ((text : List ℕ) → IsTold start text block told → IsTold start (text ++ row_text (writer_of comma) row.row) new tells)
-        → HasPut telling own gives sources next left start begun new tells
+        → ((text : List ℕ) → IsTold d start text block told → IsTold d start (text ++ row_text (writer_of d) row.row) new tells)
+        → HasPut d telling own gives sources next left start begun new tells
     put-more next row left new tells keeps step write = record {
       rows = h.rows ++ row ∷ [];
       tells = λ all. keeps (h.tells all);
       gave = λ all. gave_more own gives sources h.rows (stage_of own gives passed heads) (stage_of own gives next left) row (h.gave all) (step (h.tells all));
-      shown = λ text w. subst (λ t. IsTold start t new tells) (records-more text h.rows row) (write (text ++ records_text h.rows) (h.shown text w));
+      shown = λ text w. subst (λ t. IsTold d start t new tells) (records-more d text h.rows row) (write (text ++ records_text d h.rows) (h.shown text w));
     }
 
     -- no row is left

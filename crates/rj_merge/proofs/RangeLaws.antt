@@ -261,8 +261,8 @@ module _ (how : MergeOptions) (copies : List Copies) (texts : List (List ℕ)) w
           places = m.places;
           merge = joined m.rows n.rows m.merge n.merge;
           shown = (λ t. m.shown t ++ n.shown t)
-              ∙ (sym (rows_text-append (head ++ map row m.rows) (map row n.rows))
-              ∙ ap (rows_text comma) (append_assoc head (map row m.rows) (map row n.rows) ∙ ap (λ l. head ++ l) (sym (map-append row m.rows n.rows))));
+              ∙ (sym (rows_text-append how.delimiter (head ++ map row m.rows) (map row n.rows))
+              ∙ ap (rows_text how.delimiter) (append_assoc head (map row m.rows) (map row n.rows) ∙ ap (λ l. head ++ l) (sym (map-append row m.rows n.rows))));
         }
 
   -- all ranges from a place on

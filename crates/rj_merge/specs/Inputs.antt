@@ -50,11 +50,11 @@ input_tells known s = s.ended ≡ false → IsBetween known s.reader.value
 -- what its records still are
 abbrev pub records_reading : {R : Type 0} → (R → Option (List ℕ)) → TextSource R → Reading (List (List ℕ))
 records_reading known s =
-    if s.ended then record { rows = []; fault = None } else read_rows s.how s.columns s.input s.row s.last (records_remaining known s.reader.value)
+    if s.ended then record { rows = []; fault = None } else read_rows s.how.now s.columns s.input s.row s.last (records_remaining known s.reader.value)
 
 -- what it still gives: the rows among these that are within the range
 abbrev pub input_reading : {R : Type 0} → (R → Option (List ℕ)) → TextSource R → Reading (List (List ℕ))
-input_reading known s = reading_within s.how (records_reading known s)
+input_reading known s = reading_within s.how.now (records_reading known s)
 
 -- the same of an input on the heap
 abbrev pub boxed_copies : {R : Type 0} → Box (TextSource R) Global → Copies

@@ -7,7 +7,6 @@ use Rattle.std.specs.declared.vec.Vec.{Vec}
 use Rattle.csv.specs.declared.writer.Writer.{Writer}
 use Rattle.rj_csv_io.specs.Shown.{rows_text}
 use Rattle.rj_csv_io.specs.Written.{HasWritten}
-use Rattle.rj_strict.specs.Grammar.{comma}
 use Rattle.rj_merge.specs.declared.columns.Columns.{Columns}
 use Rattle.rj_merge.specs.declared.copies.Copies.{Copies}
 use Rattle.rj_merge.specs.declared.options.MergeOptions.{MergeOptions}
@@ -25,9 +24,9 @@ use Rattle.rj_merge.specs.Sources.{is_outside}
 use Rattle.rj_merge.specs.Texts.{others}
 use Rattle.rj_merge.specs.Wholes.{IsMergeOf}
 
--- the records of rows, one after the other
-abbrev pub records_text : List (Placed (List (List ℕ))) → List ℕ
-records_text rows = rows_text comma (map (λ p. p.row) rows)
+-- the records of rows, one after the other, with this delimiter
+abbrev pub records_text : ℕ → List (Placed (List (List ℕ))) → List ℕ
+records_text d rows = rows_text d (map (λ p. p.row) rows)
 
 -- the header is above rows whose range has no first place, and not above a later range
 abbrev pub head_rows : Option Place → List (List ℕ) → List (List (List ℕ))
@@ -45,7 +44,7 @@ pub record IsMergedText (how : MergeOptions) (copies : List Copies) (texts : Lis
   pub rows : List (Placed (List (List ℕ)))
   pub places : place_columns (first_header texts) ≡ Some columns
   pub merge : IsMergeOf (copied_rows (lists_of_texts how copies texts)) rows
-  pub shown : text ≡ rows_text comma (head_rows how.from (others columns (first_header texts)) ++ map (λ p. p.row) rows)
+  pub shown : text ≡ rows_text how.delimiter (head_rows how.from (others columns (first_header texts)) ++ map (λ p. p.row) rows)
 
 -- texts are those of the merges of the ranges between these cuts, the first from this place on, the last to the end
 abbrev pub AreRanges : MergeOptions → List Copies → List (List ℕ) → Option Place → List Place → List (List ℕ) → Type 0
@@ -81,10 +80,10 @@ HeedsHeaders result texts =
     (f : MergeRefused) → header_fault texts ≡ Some f → (e : MergeRefused) × (result ≡ Err (texts_refused.Merge e)) × (is_outside e ≡ false → e ≡ f)
 
 -- an output got all of a text after what it already had, except the records that still are in a
--- block
-pub record IsTold (start : Option (List ℕ)) (text : List ℕ) (block : Writer (Vec ℕ Global)) (told : Option (List ℕ)) : Type 0 where
+-- block, with this delimiter
+pub record IsTold (d : ℕ) (start : Option (List ℕ)) (text : List ℕ) (block : Writer (Vec ℕ Global)) (told : Option (List ℕ)) : Type 0 where
   pub put : List ℕ
   pub kept : List ℕ
   pub whole : text ≡ put ++ kept
   pub got : Appends start told put
-  pub written : HasWritten comma block kept []
+  pub written : HasWritten d block kept []

@@ -38,7 +38,7 @@ module _ {T : Type 0} where
 
 -- the same merge between other places
 abbrev pub between : MergeOptions → Option Place → Option Place → MergeOptions
-between how from to = record { null = how.null; order = how.order; from = from; to = to }
+between how from to = record how { from = from; to = to }
 
 -- cuts that rise, the first one above this place, if there is one
 abbrev pub AreCuts : Option Place → List Place → Type 0

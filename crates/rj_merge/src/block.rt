@@ -5,24 +5,26 @@ ghost use Rattle.std.specs.Io.KnownBytes.{Appends};
 ghost use Rattle.csv.specs.Writing.{row_text};
 ghost use Rattle.rj_csv_io.specs.Shown.{writer_of};
 ghost use Rattle.rj_csv_io.specs.Written.{HasWritten};
-ghost use Rattle.rj_strict.specs.Grammar.{comma};
 ghost use Rattle.rj_merge.specs.MergedTexts.{IsTold};
 
 use crate::fields::Fields;
 use crate::refused::{MergeRefused, MergeTextsRefused};
 use csv::{Writer, WriterBuilder};
 use rj_csv_io::{Failed, Output};
+use rj_strict::Delimiter;
 use std::alloc::Global;
 use std::mem;
 
 // A block with this many bytes is full.
 const BLOCK: usize = 65536;
 
-/// A block with nothing in it.
-pub(crate) fn empty_block(alloc: Global) -> Writer<Vec<u8>>
-    ensures { HasWritten comma result [] [] }
+/// A block with nothing in it, for records with this delimiter.
+pub(crate) fn empty_block(alloc: Global, delimiter: Delimiter) -> Writer<Vec<u8>>
+    ensures { HasWritten delimiter result [] [] }
 {
-    WriterBuilder::new().from_writer(Vec::new(alloc))
+    WriterBuilder::new()
+        .delimiter(delimiter.byte())
+        .from_writer(Vec::new(alloc))
 }
 
 /// Puts the content of a block on the output, and begins another block.
@@ -33,16 +35,17 @@ pub(crate) fn empty_block(alloc: Global) -> Writer<Vec<u8>>
 pub(crate) fn put_block<O: Output>(
     alloc: Global,
     block: &mut Writer<Vec<u8>>,
+    delimiter: Delimiter,
     output: &mut O,
 ) -> Result<(), MergeTextsRefused>
     requires { O.count output.old < 2 ^ 64 - 1 }
-    ensures told { (start : Option (List ℕ)) → (text : List ℕ) → IsTold start text block.old (O.told output.old)
-        → OnOk result (Appends start (O.told output.new) text × HasWritten comma block.new [] []) }
+    ensures told { (start : Option (List ℕ)) → (text : List ℕ) → IsTold delimiter start text block.old (O.told output.old)
+        → OnOk result (Appends start (O.told output.new) text × HasWritten delimiter block.new [] []) }
     ensures device { result ≡ Err MergeTextsRefused.WriteDevice → O.count output.new ≡ O.count output.old + 1 }
     ensures kept { result ≢ Err MergeTextsRefused.WriteDevice → O.count output.new ≡ O.count output.old }
     ensures fault { IfErr result (λ e. e ≢ MergeTextsRefused.WriteDevice → e ≡ MergeTextsRefused.Merge MergeRefused.Memory) }
 {
-    let full = mem::replace(block, empty_block(alloc));
+    let full = mem::replace(block, empty_block(alloc, delimiter));
     let Ok(text) = full.into_inner() else {
         return Err(MergeTextsRefused::Merge(MergeRefused::Memory));
     };
@@ -61,11 +64,12 @@ pub(crate) fn add_row<O: Output>(
     alloc: Global,
     row: &Fields,
     block: &mut Writer<Vec<u8>>,
+    delimiter: Delimiter,
     output: &mut O,
 ) -> Result<(), MergeTextsRefused>
     requires { O.count output.old < 2 ^ 64 - 1 }
-    ensures told { (start : Option (List ℕ)) → (text : List ℕ) → IsTold start text block.old (O.told output.old)
-        → OnOk result (IsTold start (text ++ row_text (writer_of comma) row.now) block.new (O.told output.new)) }
+    ensures told { (start : Option (List ℕ)) → (text : List ℕ) → IsTold delimiter start text block.old (O.told output.old)
+        → OnOk result (IsTold delimiter start (text ++ row_text (writer_of delimiter) row.now) block.new (O.told output.new)) }
     ensures device { result ≡ Err MergeTextsRefused.WriteDevice → O.count output.new ≡ O.count output.old + 1 }
     ensures kept { result ≢ Err MergeTextsRefused.WriteDevice → O.count output.new ≡ O.count output.old }
     ensures fault { IfErr result (λ e. e ≢ MergeTextsRefused.WriteDevice → e ≡ MergeTextsRefused.Merge MergeRefused.Memory) }
@@ -76,5 +80,5 @@ pub(crate) fn add_row<O: Output>(
     if block.get_ref().len() < BLOCK {
         return Ok(());
     }
-    put_block(alloc, block, output)
+    put_block(alloc, block, delimiter, output)
 }

@@ -5,7 +5,6 @@ ghost use Rattle.csv.specs.Records.{fields_of};
 ghost use Rattle.csv.specs.Writing.{row_text};
 ghost use Rattle.rj_csv_io.specs.Shown.{writer_of};
 ghost use Rattle.rj_csv_io.specs.Written.{HasWritten};
-ghost use Rattle.rj_strict.specs.Grammar.{comma};
 ghost use Rattle.rj_merge.specs.Texts.{others};
 
 use crate::columns::Columns;
@@ -39,8 +38,8 @@ impl Model for Fields {
 
 // Writes one more field of a record.
 fn write_field(writer: &mut Writer<Vec<u8>>, field: &[u8]) -> Result<(), AllocError>
-    ensures { (text : List ℕ) → (fields : List (List ℕ)) → length fields < 2 ^ 64 - 1 → HasWritten comma writer.old text fields
-        → OnOk result (HasWritten comma writer.new text (fields ++ field.now ∷ [])) }
+    ensures { (d : ℕ) (text : List ℕ) → (fields : List (List ℕ)) → length fields < 2 ^ 64 - 1 → HasWritten d writer.old text fields
+        → OnOk result (HasWritten d writer.new text (fields ++ field.now ∷ [])) }
 {
     if writer.write_field(field).is_err() {
         return Err(AllocError);
@@ -50,8 +49,8 @@ fn write_field(writer: &mut Writer<Vec<u8>>, field: &[u8]) -> Result<(), AllocEr
 
 // Ends a record.
 fn end_record(writer: &mut Writer<Vec<u8>>) -> Result<(), AllocError>
-    ensures { (text : List ℕ) → (fields : List (List ℕ)) → HasWritten comma writer.old text fields
-        → OnOk result (HasWritten comma writer.new (text ++ row_text (writer_of comma) fields) []) }
+    ensures { (d : ℕ) (text : List ℕ) → (fields : List (List ℕ)) → HasWritten d writer.old text fields
+        → OnOk result (HasWritten d writer.new (text ++ row_text (writer_of d) fields) []) }
 {
     if writer.end_record().is_err() {
         return Err(AllocError);
@@ -75,8 +74,8 @@ impl Fields {
 
     /// Writes them as a record.
     pub(crate) fn write(&self, writer: &mut Writer<Vec<u8>>) -> Result<(), AllocError>
-        ensures { (text : List ℕ) → HasWritten comma writer.old text []
-            → OnOk result (HasWritten comma writer.new (text ++ row_text (writer_of comma) self.now) []) }
+        ensures { (d : ℕ) (text : List ℕ) → HasWritten d writer.old text []
+            → OnOk result (HasWritten d writer.new (text ++ row_text (writer_of d) self.now) []) }
     {
         let whole = self.whole.as_ref();
         for i in 0..whole.fields.len() {

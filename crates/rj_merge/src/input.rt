@@ -49,12 +49,12 @@ fn place_of_row(
     before: Option<Place>,
     fields: &ByteRecord,
     columns: Columns,
-    how: MergeOptions<'_>,
+    how: &MergeOptions<'_>,
 ) -> Result<Place, MergeRefused>
-    ensures row { IfOk result (λ p. read_row how.entry columns input row before (fields_of fields.now)
+    ensures row { IfOk result (λ p. read_row how.now columns input row before (fields_of fields.now)
         ≡ Ok record { place = p; row = others columns (fields_of fields.now) }) }
     ensures rises { IfOk result (λ p. IsAbove before p) }
-    ensures fault { IfErr result (λ e. read_row how.entry columns input row before (fields_of fields.now) ≡ Err e) }
+    ensures fault { IfErr result (λ e. read_row how.now columns input row before (fields_of fields.now) ≡ Err e) }
     ensures input { IfErr result (TellsOf input) }
 {
     if fields.len() != columns.width {
@@ -79,7 +79,7 @@ pub(crate) struct TextSource<'n, R: Read + Drop> {
     // A row for reading the next one, if one was given back.
     spare: Option<Box<WholeRow>>,
     columns: Columns,
-    how: MergeOptions<'n>,
+    how: &'n MergeOptions<'n>,
     input: u32,
     copies: Copies,
     row: u64,
@@ -93,7 +93,7 @@ impl<'n, R: Read + Drop> TextSource<'n, R> {
         alloc: Global,
         reader: Box<Reader<R>>,
         columns: Columns,
-        how: MergeOptions<'n>,
+        how: &'n MergeOptions<'n>,
         input: u32,
         copies: Copies,
     ) -> TextSource<'n, R>
@@ -101,7 +101,7 @@ impl<'n, R: Read + Drop> TextSource<'n, R> {
         ensures number { result.input ≡ input }
         ensures tells { IsBetween R.remaining reader.value → input_tells R.remaining result }
         ensures reading { input_reading R.remaining result
-            ≡ reading_within how.entry (read_rows how.entry columns input 0 None (records_remaining R.remaining reader.value)) }
+            ≡ reading_within how.now (read_rows how.now columns input 0 None (records_remaining R.remaining reader.value)) }
     {
         TextSource {
             alloc,
@@ -120,7 +120,7 @@ impl<'n, R: Read + Drop> TextSource<'n, R> {
     // Reads the next row into a record, and gives its place; or `None` after the last one.
     fn next_place(&mut self, fields: &mut ByteRecord) -> Result<Option<Place>, MergeRefused>
         ensures tells { OnOk result (input_tells R.remaining self.old → input_tells R.remaining self.new) }
-        ensures how { OnOk result (self.new.how ≡ self.old.how) }
+        ensures how { OnOk result (self.new.how.now ≡ self.old.how.now) }
         ensures columns { OnOk result (self.new.columns ≡ self.old.columns) }
         ensures copies { OnOk result (self.new.copies ≡ self.old.copies) }
         ensures number { OnOk result (self.new.input ≡ self.old.input) }

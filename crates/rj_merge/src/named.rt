@@ -93,7 +93,7 @@ pub fn merge_named<P: Opener, O: Output>(
     opener: &P,
     names: &[&str],
     copies: &[Copies],
-    how: MergeOptions<'_>,
+    how: &MergeOptions<'_>,
     output: &mut O,
 ) -> Result<(), MergeTextsRefused>
     requires some { 0 < length names.now }
@@ -101,10 +101,10 @@ pub fn merge_named<P: Opener, O: Output>(
     requires copies { length copies.now ≡ length names.now }
     requires failures { O.count output.old < 2 ^ 64 - 1 }
     ensures merge { OnOk result (ForNamed (P.opens opener.now) P.Reader.remaining (map (λ n. n.now) names.now)
-        (λ texts. GotMerge how.entry copies.now texts (O.told output.old) (O.told output.new))) }
-    ensures faults { OnOk result (ForNamed (P.opens opener.now) P.Reader.remaining (map (λ n. n.now) names.now) (HaveNoFault how.entry)) }
+        (λ texts. GotMerge how.now copies.now texts (O.told output.old) (O.told output.new))) }
+    ensures faults { OnOk result (ForNamed (P.opens opener.now) P.Reader.remaining (map (λ n. n.now) names.now) (HaveNoFault how.now)) }
     ensures fault { (e : MergeRefused) → IsRefusedBy result e
-        → ForNamed (P.opens opener.now) P.Reader.remaining (map (λ n. n.now) names.now) (λ texts. IsFaultOfTexts how.entry copies.now texts e) }
+        → ForNamed (P.opens opener.now) P.Reader.remaining (map (λ n. n.now) names.now) (λ texts. IsFaultOfTexts how.now copies.now texts e) }
     ensures first { ForNamed (P.opens opener.now) P.Reader.remaining (map (λ n. n.now) names.now) (HeedsHeaders result) }
     ensures input { (e : MergeRefused) → result ≡ Err (MergeTextsRefused.Merge e) → TellsAmong (is_input (length names.now)) e }
     ensures device { result ≡ Err MergeTextsRefused.WriteDevice → O.count output.new ≡ O.count output.old + 1 }

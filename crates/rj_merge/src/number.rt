@@ -126,9 +126,9 @@ pub(crate) fn read_place(
     row: u64,
     fields: &ByteRecord,
     columns: Columns,
-    how: MergeOptions<'_>,
+    how: &MergeOptions<'_>,
 ) -> Result<Place, MergeRefused>
-    ensures { result ≡ place_in how.entry columns input row (fields_of fields.now) }
+    ensures { result ≡ place_in how.now columns input row (fields_of fields.now) }
 {
     let left = number_at(fields, columns.left, how.null);
     let right = number_at(fields, columns.right, how.null);

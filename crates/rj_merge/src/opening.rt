@@ -68,16 +68,16 @@ struct First<'n, R: Read + Drop> {
 fn open_first<'n, R: Read + Drop>(
     alloc: Global,
     first: MergeInput<R>,
-    how: MergeOptions<'n>,
+    how: &'n MergeOptions<'n>,
 ) -> Result<First<'n, R>, MergeRefused>
     ensures copies { IfOk result (λ f. f.source.copies ≡ first.copies) }
     ensures places { IfOk result (λ f. place_columns (fields_of f.header.names) ≡ Some f.header.columns) }
     ensures header { IfOk result (λ f. (text : List ℕ) → R.remaining first.reader ≡ Some text
         → fields_of f.header.names ≡ first_record (records_in comma text)) }
     ensures input { IfOk result (λ f. (text : List ℕ) → R.remaining first.reader ≡ Some text → input_tells R.remaining f.source
-        × (input_reading R.remaining f.source ≡ reading_of how.entry (first_record (records_in comma text)) 1 text)) }
+        × (input_reading R.remaining f.source ≡ reading_of how.now (first_record (records_in comma text)) 1 text)) }
     ensures fault { IfErr result (λ e. is_outside e ≡ false → (text : List ℕ) → R.remaining first.reader ≡ Some text
-        → (reading_of how.entry (first_record (records_in comma text)) 1 text).fault ≡ Some e) }
+        → (reading_of how.now (first_record (records_in comma text)) 1 text).fault ≡ Some e) }
     ensures headed { IfOk result (λ _. (text : List ℕ) → R.remaining first.reader ≡ Some text
         → header_fault_of (first_record (records_in comma text)) 1 text ≡ None) }
     ensures unheaded { IfErr result (λ e. is_outside e ≡ false → (text : List ℕ) → R.remaining first.reader ≡ Some text
@@ -110,14 +110,14 @@ fn open_next<'n, R: Read + Drop>(
     input: u32,
     next: MergeInput<R>,
     first: &SharedHeader,
-    how: MergeOptions<'n>,
+    how: &'n MergeOptions<'n>,
 ) -> Result<TextSource<'n, R>, MergeRefused>
     requires { place_columns (fields_of first.now.names) ≡ Some first.now.columns }
     ensures copies { IfOk result (λ s. s.copies ≡ next.copies) }
     ensures input { IfOk result (λ s. (text : List ℕ) → R.remaining next.reader ≡ Some text → input_tells R.remaining s
-        × (input_reading R.remaining s ≡ reading_of how.entry (fields_of first.now.names) input text)) }
+        × (input_reading R.remaining s ≡ reading_of how.now (fields_of first.now.names) input text)) }
     ensures fault { IfErr result (λ e. is_outside e ≡ false → (text : List ℕ) → R.remaining next.reader ≡ Some text
-        → (reading_of how.entry (fields_of first.now.names) input text).fault ≡ Some e) }
+        → (reading_of how.now (fields_of first.now.names) input text).fault ≡ Some e) }
     ensures headed { IfOk result (λ _. (text : List ℕ) → R.remaining next.reader ≡ Some text
         → header_fault_of (fields_of first.now.names) input text ≡ None) }
     ensures unheaded { IfErr result (λ e. is_outside e ≡ false → (text : List ℕ) → R.remaining next.reader ≡ Some text
@@ -154,7 +154,7 @@ pub(crate) struct Opened<'n, R: Read + Drop> {
 pub(crate) fn open_all<'n, R: Read + Drop>(
     alloc: Global,
     inputs: Vec<MergeInput<R>>,
-    how: MergeOptions<'n>,
+    how: &'n MergeOptions<'n>,
 ) -> Result<Opened<'n, R>, MergeRefused>
     requires some { 0 < vec_len inputs }
     requires count { vec_len inputs < 2 ^ 32 }
@@ -162,9 +162,9 @@ pub(crate) fn open_all<'n, R: Read + Drop>(
     ensures header { IfOk result (λ o. ForTexts R.remaining inputs.items (λ texts. fields_of o.header.names ≡ first_header texts)) }
     ensures copies { IfOk result (λ o. map own_copies o.sources.items ≡ copies_of inputs.items) }
     ensures tells { IfOk result (λ o. ForTexts R.remaining inputs.items (λ _. All (input_tells R.remaining) o.sources.items)) }
-    ensures readings { IfOk result (λ o. ForTexts R.remaining inputs.items (λ texts. readings how.entry texts ≡ map (input_reading R.remaining) o.sources.items)) }
+    ensures readings { IfOk result (λ o. ForTexts R.remaining inputs.items (λ texts. readings how.now texts ≡ map (input_reading R.remaining) o.sources.items)) }
     ensures fault { IfErr result (λ e. is_outside e ≡ false
-        → ForTexts R.remaining inputs.items (λ texts. Contains (faults_of_readings (readings how.entry texts)) e)) }
+        → ForTexts R.remaining inputs.items (λ texts. Contains (faults_of_readings (readings how.now texts)) e)) }
     ensures headers { IfOk result (λ _. ForTexts R.remaining inputs.items (λ texts. header_fault texts ≡ None)) }
     ensures first { IfErr result (λ e. is_outside e ≡ false → ForTexts R.remaining inputs.items (λ texts. header_fault texts ≡ Some e)) }
     ensures numbers { IfOk result (λ o. All (λ s. is_input (vec_len inputs) (own_number s) ≡ true) o.sources.items) }

@@ -5,10 +5,13 @@ ghost use Rattle.rj_merge.specs.Ranges.{is_before, is_from};
 
 use crate::place::Place;
 use rj_settings::RowOrder;
+use rj_strict::Delimiter;
 
 /// How texts of placed rows are merged.
-#[derive(Clone, Copy, Debug)]
+#[derive(Debug, Drop)]
 pub struct MergeOptions<'n> {
+    /// What stands between two fields of the merge. The texts have commas.
+    pub delimiter: Delimiter,
     /// The bytes of a field of a place that stand for no number.
     pub null: &'n [u8],
     /// The order of the rows, in each text and in the merge.

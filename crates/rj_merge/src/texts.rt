@@ -6,7 +6,6 @@ ghost use Rattle.std.specs.Io.KnownBytes.{Appends};
 ghost use Rattle.csv.specs.Records.{fields_of};
 ghost use Rattle.rj_csv_io.specs.Shown.{rows_text};
 ghost use Rattle.rj_csv_io.specs.Written.{HasWritten};
-ghost use Rattle.rj_strict.specs.Grammar.{comma};
 ghost use Rattle.rj_merge.specs.declared.place.Placed.{Placed};
 ghost use Rattle.rj_merge.specs.declared.refused.MergeRefused.{MergeRefused};
 ghost use Rattle.rj_merge.specs.Copies.{copied_rows};
@@ -25,10 +24,10 @@ use crate::input::TextSource;
 use crate::merge::Merge;
 use crate::opening::{Opened, open_all};
 use crate::options::MergeOptions;
-use crate::place::Place;
 use crate::refused::{MergeRefused, MergeTextsRefused};
 use csv::Writer;
 use rj_csv_io::Output;
+use rj_strict::Delimiter;
 use std::alloc::{AllocError, Global};
 use std::io::Read;
 
@@ -57,12 +56,13 @@ fn put_rows<'n, R: Read + Drop, O: Output>(
     alloc: Global,
     sources: Vec<Box<TextSource<'n, R>>>,
     block: Writer<Vec<u8>>,
+    delimiter: Delimiter,
     output: &mut O,
 ) -> Result<(), MergeTextsRefused>
     requires { O.count output.old < 2 ^ 64 - 1 }
-    ensures merge { OnOk result ((text : List ℕ) → HasWritten comma block text [] → All (boxed_tells R.remaining) sources.entry.items
+    ensures merge { OnOk result ((text : List ℕ) → HasWritten delimiter block text [] → All (boxed_tells R.remaining) sources.entry.items
         → (rows : List (Placed (List (List ℕ)))) × IsMergeOf (copied_rows (lists_of_inputs boxed_copies (boxed_reading R.remaining) sources.entry.items)) rows
-        × Appends (O.told output.old) (O.told output.new) (text ++ records_text rows)) }
+        × Appends (O.told output.old) (O.told output.new) (text ++ records_text delimiter rows)) }
     ensures faults { OnOk result (All (boxed_tells R.remaining) sources.entry.items → faults_of_inputs (boxed_reading R.remaining) sources.entry.items ≡ []) }
     ensures fault { (e : MergeRefused) → IsRefusedBy result e → All (boxed_tells R.remaining) sources.entry.items
         → IsFaultOf (copied_rows (lists_of_inputs boxed_copies (boxed_reading R.remaining) sources.entry.items))
@@ -80,10 +80,10 @@ fn put_rows<'n, R: Read + Drop, O: Output>(
     'rows: for _turn in 0..u64::MAX {
         let placed = match merge.next() {
             Ok(Some(placed)) => placed,
-            Ok(None) => return put_block(alloc, &mut block, output),
+            Ok(None) => return put_block(alloc, &mut block, delimiter, output),
             Err(e) => return Err(MergeTextsRefused::Merge(e)),
         };
-        match add_row(alloc, &placed.row, &mut block, output) {
+        match add_row(alloc, &placed.row, &mut block, delimiter, output) {
             Ok(()) => merge.reuse(placed.row),
             Err(e) => return Err(e),
         }
@@ -91,16 +91,16 @@ fn put_rows<'n, R: Read + Drop, O: Output>(
     Err(MergeTextsRefused::Merge(MergeRefused::Memory))
 }
 
-// A block with the header for rows from this place on, if they have one above them.
+// A block with the header for the rows of a merge, if they have one above them.
 fn begin_block(
     alloc: Global,
     header: SharedHeader,
-    from: Option<Place>,
+    how: &MergeOptions<'_>,
 ) -> Result<Writer<Vec<u8>>, AllocError>
-    ensures { IfOk result (λ block. HasWritten comma block (rows_text comma (head_rows from (others header.columns (fields_of header.names)))) []) }
+    ensures { IfOk result (λ block. HasWritten how.now.delimiter block (rows_text how.now.delimiter (head_rows how.now.from (others header.columns (fields_of header.names)))) []) }
 {
-    let mut block = empty_block(alloc);
-    if from.is_some() {
+    let mut block = empty_block(alloc, how.delimiter);
+    if how.from.is_some() {
         return Ok(block);
     }
     let SharedHeader { names, columns } = header;
@@ -118,9 +118,9 @@ fn begin_block(
 
 /// Merges texts of placed rows, and puts the merge on the output: their header, and the rows that
 /// are in as many of them as their copies say, each once and in order. The two columns of the
-/// places are left out. Records are written as csv's default writer writes them, block by block.
-/// The options give the order of the rows, the text of a place that is no number, and the places
-/// between which rows are merged. The header is written only if there is no first place. So the
+/// places are left out. Records are written as csv's writer writes them with the delimiter of the
+/// options, block by block. The options also give the order of the rows, the text of a place that
+/// is no number, and the places between which rows are merged. The header is written only if there is no first place. So the
 /// texts of ranges, one after another, are the text of the whole (`ranges_are_whole`).
 ///
 /// It holds a block, one row of each text, and one row more.
@@ -133,17 +133,17 @@ fn begin_block(
 pub fn merge_texts<R: Read + Drop, O: Output>(
     alloc: Global,
     inputs: Vec<MergeInput<R>>,
-    how: MergeOptions<'_>,
+    how: &MergeOptions<'_>,
     output: &mut O,
 ) -> Result<(), MergeTextsRefused>
     requires some { 0 < vec_len inputs }
     requires count { vec_len inputs < 2 ^ 32 }
     requires failures { O.count output.old < 2 ^ 64 - 1 }
     ensures merge { OnOk result (ForTexts R.remaining inputs.items
-        (λ texts. GotMerge how.entry (copies_of inputs.items) texts (O.told output.old) (O.told output.new))) }
-    ensures faults { OnOk result (ForTexts R.remaining inputs.items (HaveNoFault how.entry)) }
+        (λ texts. GotMerge how.now (copies_of inputs.items) texts (O.told output.old) (O.told output.new))) }
+    ensures faults { OnOk result (ForTexts R.remaining inputs.items (HaveNoFault how.now)) }
     ensures fault { (e : MergeRefused) → IsRefusedBy result e
-        → ForTexts R.remaining inputs.items (λ texts. IsFaultOfTexts how.entry (copies_of inputs.items) texts e) }
+        → ForTexts R.remaining inputs.items (λ texts. IsFaultOfTexts how.now (copies_of inputs.items) texts e) }
     ensures first { ForTexts R.remaining inputs.items (HeedsHeaders result) }
     ensures input { (e : MergeRefused) → result ≡ Err (MergeTextsRefused.Merge e) → TellsAmong (is_input (vec_len inputs)) e }
     ensures device { result ≡ Err MergeTextsRefused.WriteDevice → O.count output.new ≡ O.count output.old + 1 }
@@ -153,11 +153,11 @@ pub fn merge_texts<R: Read + Drop, O: Output>(
         Ok(opened) => opened,
         Err(e) => return Err(MergeTextsRefused::Merge(e)),
     };
-    let Ok(block) = begin_block(alloc, header, how.from) else {
+    let Ok(block) = begin_block(alloc, header, how) else {
         return Err(MergeTextsRefused::Merge(MergeRefused::Memory));
     };
     let Ok(sources) = on_heap(alloc, sources) else {
         return Err(MergeTextsRefused::Merge(MergeRefused::Memory));
     };
-    put_rows(alloc, sources, block, output)
+    put_rows(alloc, sources, block, how.delimiter, output)
 }

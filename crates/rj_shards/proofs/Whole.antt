@@ -1,6 +1,5 @@
 -- What a join of rows at some places gives: the rows of its members, in an order in which they rise.
 use Rattle.std.proofs.Common.{◌≡◌, ℕ, ◌<◌, true, List, [], ◌∷◌, length, map, slice_index_or, None, refl, ap, sym, subst, ◌∙◌, All}
-use Rattle.std.specs.List.{filter}
 use Rattle.std.specs.List.Sorted.{IsPermutation}
 use Rattle.std.proofs.lemmas.List.{get_or-map, length-map}
 use Rattle.std.proofs.lemmas.List.Sorted.{All-permutation, IsPermutation-map, IsPermutation-refl, IsPermutation-sym}
@@ -8,14 +7,12 @@ use Rattle.rj_columns.specs.Contents.{Content, nothing}
 use Rattle.rj_columns.specs.Scales.{coalesced, in_scale}
 use Rattle.rj_columns.specs.Tables.{TableValue, cell_of}
 use Rattle.rj_settings.specs.declared.choice.Choice.{Choice}
-use Rattle.rj_settings.specs.declared.choice.ColumnChoice.{ColumnChoice}
-use Rattle.rj_settings.specs.declared.choice.ColumnChoice.TheVariants as column_choice
 use Rattle.rj_settings.specs.declared.choice.RowOrder.{RowOrder}
 use Rattle.rj_settings.specs.declared.choice.RowOrder.TheVariants.{LeftFirst, PairsFirst}
 use Rattle.rj_condition.specs.Joins.{keeps, kind_of_join}
 use Rattle.rj_condition.specs.declared.bound.BoundJoin.{BoundJoin}
 use Rattle.rj_engine.specs.Cells.{coalesced_scale, columns_of, joined_cell, joined_cells, left_cell, right_cell, view_of}
-use Rattle.rj_engine.specs.Chosen.{are_all_columns, are_all_rows, by_left_row, chosen_columns, chosen_view, in_order, is_of_columns, rows_of_kinds}
+use Rattle.rj_engine.specs.Chosen.{are_all_columns, are_all_rows, by_left_row, chosen_columns, chosen_view, in_order, rows_of_kinds}
 use Rattle.rj_engine.specs.Join.{adds_left, adds_right, rows_in}
 use Rattle.rj_engine.specs.Results.{joined_of, kept_pairs, result_of}
 use Rattle.rj_shards.specs.Shards.{AreMerged, IsLawful, joined_at, joined_shard, joined_shards, left_shard, members_in, right_shard, rows_at}
@@ -23,7 +20,7 @@ use Rattle.rj_engine.specs.declared.joined.JoinedRow.{JoinedRow}
 use Rattle.rj_engine.specs.declared.joined.JoinedRow.TheVariants.{Both, LeftOnly, RightOnly}
 use Rattle.rj_engine.specs.declared.origin.Origin.{Origin}
 use Rattle.rj_engine.specs.declared.origin.Origin.TheVariants.{Coalesced, Left, Right}
-use Rattle.rj_engine.proofs.ChosenFacts.{all_rows as all_rows_of}
+use Rattle.rj_engine.proofs.ChosenFacts.{all_columns, all_rows as all_rows_of}
 use Rattle.rj_merge.specs.Wholes.{RisesFrom}
 use Rattle.rj_merge.specs.declared.place.Place.{Place}
 use Rattle.rj_merge.specs.declared.place.Place.TheVariants.{LoneAmongPairs, LoneLeft, LoneRight}
@@ -164,16 +161,6 @@ abbrev pub ShardIsPart : Type 0
 ShardIsPart = (value : List Content → ℕ) → IsLawful value → (count : ℕ) (join : BoundJoin) (l r : TableValue) (s : ℕ)
     → joined_shard value count join l r s ≡ members_in (left_shard value count join l) (right_shard value count join r) s (joined_of join l r)
 
--- where all columns are chosen, none is left out
-kept_origins : (os : List Origin) → filter (is_of_columns column_choice.All) os ≡ os
-kept_origins [] = refl
-kept_origins (o ∷ os) = ap (λ rest. o ∷ rest) (kept_origins os)
-
-all_origins : (c : ColumnChoice) (os : List Origin) → are_all_columns c ≡ true → filter (is_of_columns c) os ≡ os
-all_origins column_choice.All os h = kept_origins os
-all_origins column_choice.Left os h = cc
-all_origins column_choice.Right os h = cc
-
 -- rows without their places
 module _ {T : Type 0} (text : List Content → T) (join : BoundJoin) (l r : TableValue) (back : JoinedRow → JoinedRow) where
   rows_shown : (order : RowOrder)
@@ -190,5 +177,5 @@ module _ {T : Type 0} (text : List Content → T) (join : BoundJoin) (l r : Tabl
       → map (λ (p : Placed T). p.row) (placed choice.order text join l r back) ≡ map text (chosen_view choice join l r).cells
   shown_as_chosen choice all columns =
       let rows : rows_of_kinds choice.rows (length l.rows) (joined_of join l r) ≡ result_of join l r = all_rows_of choice.rows PairsFirst (length l.rows) (joined_of join l r) all in
-      let origins : chosen_columns choice join r ≡ columns_of join r = all_origins choice.columns (columns_of join r) columns in
+      let origins : chosen_columns choice join l r ≡ columns_of join r = all_columns choice.columns join l r columns in
       rows_shown choice.order ∙ sym (λ t. map text (map (joined_cells l r (origins t)) (in_order choice.order (length l.rows) (rows t))))

@@ -1,7 +1,9 @@
 //! Laws: each of these functions does nothing; its contract is a theorem about all joins in shards.
 
-ghost use Rattle.std.specs.Prelude.{◌≡◌, ℕ, true, All, List, None, map};
-ghost use Rattle.std.specs.List.{flat_map};
+ghost use Rattle.std.specs.Prelude.{◌≡◌, ◌<◌, ℕ, true, All, List, None, length, map};
+ghost use Rattle.std.specs.List.{flat_map, range_with_len};
+ghost use Rattle.std.specs.List.Sorted.{IsStrictlyIncreasing};
+ghost use Rattle.std.specs.Ordering.{nat_cmp};
 ghost use Rattle.rj_columns.specs.Contents.{Content};
 ghost use Rattle.rj_columns.specs.Tables.{TableValue};
 ghost use Rattle.rj_settings.specs.declared.choice.Choice.{Choice};
@@ -10,21 +12,55 @@ ghost use Rattle.rj_settings.specs.declared.choice.RowOrder.TheVariants.{PairsFi
 ghost use Rattle.rj_condition.specs.declared.bound.BoundJoin.{BoundJoin};
 ghost use Rattle.rj_engine.specs.Cells.{view_of};
 ghost use Rattle.rj_engine.specs.Chosen.{are_all_columns, are_all_rows, chosen_view};
-ghost use Rattle.rj_engine.specs.Results.{kept_pairs};
-ghost use Rattle.rj_shards.specs.Shards.{IsLawful, left_shard, right_shard};
+ghost use Rattle.rj_engine.specs.Join.{JoinedValue};
+ghost use Rattle.rj_engine.specs.Results.{joined_of, kept_pairs};
+ghost use Rattle.rj_shards.specs.Shards as specs;
+ghost use Rattle.rj_shards.specs.Shards.{AreMerged, IsLawful, joined_at, joined_shard, joined_shards, left_shard, members_in, places_of_all, right_shard, shard_of};
 ghost use Rattle.rj_engine.specs.declared.joined.JoinedRow.{JoinedRow};
 ghost use Rattle.rj_merge.specs.Copies.{StandsTooOften, copied_rows, single};
 ghost use Rattle.rj_merge.specs.Wholes.{HasTwice, IsMerge, IsMergeOf, RisesFrom};
 ghost use Rattle.rj_merge.specs.declared.copies.Copies.{Copies};
 ghost use Rattle.rj_merge.specs.declared.place.Place.{Place};
 ghost use Rattle.rj_merge.specs.declared.place.Placed.{Placed};
-ghost use Rattle.rj_shards.specs.Pieces.{AreCutShards};
+ghost use Rattle.rj_shards.specs.Pieces.{AreCutShards, ArePieces, AreRuns};
 ghost use Rattle.rj_shards.specs.Renumbered.{Rises, all_renumbered, inputs_renumbered};
 ghost use Rattle.rj_shards.specs.Rows.{AreShards, placed, placed_rows};
 
-use crate::joins::{shard_is_part, shards_merge};
 use rj_engine::left_order;
 use rj_merge::{one_merge, single_copies};
+
+/// Each row of a table is in one shard, also a row with a NULL in its key.
+pub fn rows_stand_once()
+    ensures { (value : List Content → ℕ) (count : ℕ) (table : TableValue) (columns : List ℕ) → 0 < count
+        → specs.IsMerge nat_cmp (places_of_all (shard_of value count table columns) table count) (range_with_len 0 (length table.rows)) }
+{}
+
+/// What a shard joins, with its row numbers mapped back, is the part of the joined table that is in
+/// the shard, in order: the matches and the unmatched rows of its own rows, and nothing else.
+pub fn shard_is_part()
+    ensures { (value : List Content → ℕ) → IsLawful value → (count : ℕ) (join : BoundJoin) (l r : TableValue) (s : ℕ)
+        → joined_shard value count join l r s ≡ members_in (left_shard value count join l) (right_shard value count join r) s (joined_of join l r) }
+{}
+
+/// The joined table of two tables is the merge of what its shards join, with their row numbers
+/// mapped back. Conversely, whatever is that merge is the joined table. This holds for each kind of
+/// join, each lawful hash and each number of shards. If a clause has no keys, all rows are in one
+/// shard.
+pub fn shards_merge()
+    ensures merge { (value : List Content → ℕ) → IsLawful value → (count : ℕ) (join : BoundJoin) (l r : TableValue)
+        → 0 < count → AreMerged (joined_shards value count join l r) (joined_of join l r) }
+    ensures only { (value : List Content → ℕ) → IsLawful value → (count : ℕ) (join : BoundJoin) (l r : TableValue)
+        → 0 < count → (v : JoinedValue) → AreMerged (joined_shards value count join l r) v → v ≡ joined_of join l r }
+{}
+
+/// A join of rows of two tables, with keys or without, has the members of its pieces. Its left rows
+/// and its right rows are cut into runs, and each run of left rows is joined with each run of right
+/// rows. The matches are those of all pieces, in order. The unmatched left rows are, run by run,
+/// those that are unmatched beside each run of right rows; and the unmatched right rows likewise.
+pub fn pieces_join()
+    ensures { (join : BoundJoin) (l r : TableValue) (xs ys : List ℕ) (lefts rights : List (List ℕ)) → AreRuns xs lefts → AreRuns ys rights
+        → IsStrictlyIncreasing xs → IsStrictlyIncreasing ys → ArePieces join l r lefts rights (joined_at join l r xs ys) }
+{}
 
 /// The two rows of a match have one shard, by the key columns of the join and each lawful hash,
 /// whatever the number of shards.

@@ -4,16 +4,15 @@
 //! (7.5).
 #![tactic(auto)]
 
-mod joins;
 mod laws;
 mod route;
 mod shards;
 
-pub use joins::{pieces_join, rows_stand_once, shard_is_part, shard_of_row, shards_merge};
 pub use laws::{
-    cut_shards_merge_to_whole, kept_rows_meet, no_place_too_often, no_place_twice, pieces_rise,
-    renumbered_cut_shards_merge_to_whole, renumbered_shards_merge_to_whole, rows_are_shown,
-    shards_merge_to_whole, shards_rise, whole_shards_are_cut,
+    cut_shards_merge_to_whole, kept_rows_meet, no_place_too_often, no_place_twice, pieces_join,
+    pieces_rise, renumbered_cut_shards_merge_to_whole, renumbered_shards_merge_to_whole,
+    rows_are_shown, rows_stand_once, shard_is_part, shards_merge, shards_merge_to_whole,
+    shards_rise, whole_shards_are_cut,
 };
 pub use route::ShardRoute;
 pub use shards::Shards;

@@ -1,4 +1,4 @@
-//! A text divided by hand, in blocks of several sizes, and where one can be cut.
+//! A text with semicolons divided by hand, in blocks of several sizes, and where one can be cut.
 
 ghost use Rattle.std.specs.Prelude.{◌<◌, length, slice_index_or, if◌then◌else◌};
 ghost use Rattle.rj_columns.specs.Compare.{is_null};
@@ -95,9 +95,9 @@ impl Sink {
     }
 }
 
-const TEXT: &[u8] = b"k,v\n1,a\n,b\n\n2,\"x\ny\"\r\n,\"q\"\"\"\n-7,z";
+const TEXT: &[u8] = b"k;v\n1;a\n;b\n\n2;\"x\ny\"\r\n;\"q\"\"\"\n-7;,";
 
-const FIRST: &[u8] = b"1,a,100\n2,\"x\ny\",102\n-7,z,104\n";
+const FIRST: &[u8] = b"1,a,100\n2,\"x\ny\",102\n-7,\",\",104\n";
 
 const SECOND: &[u8] = b",b,101\n,\"q\"\"\",103\n";
 
@@ -109,10 +109,14 @@ fn divided(
     step: usize,
     outputs: &mut [Sink],
 ) -> Result<u64, DivideRefused> {
-    let Ok(Some(header)) = Header::of(alloc, b"k,v\n", Delimiter::comma()) else {
+    let Some(delimiter) = Delimiter::of(b';') else {
+        return Err(DivideRefused::Memory);
+    };
+    let Ok(Some(header)) = Header::of(alloc, b"k;v\n", delimiter) else {
         return Err(DivideRefused::Memory);
     };
     let division = Division {
+        delimiter,
         header: &header,
         types: &TYPES,
         nulls: &[""],
@@ -157,11 +161,14 @@ fn blocks_of_any_size(rt: HostRuntime) {
 // Whether these are the places where a text can be cut, each this many bytes after the one before,
 // read byte by byte in blocks of one.
 fn are_cuts(alloc: Global, size: u64, wanted: &[u64]) -> bool {
+    let Some(delimiter) = Delimiter::of(b';') else {
+        return false;
+    };
     let mut source = Source {
-        bytes: b"k,v\n1,a\n2,\"x\ny\"\n3,c\n4".as_slice(),
+        bytes: b"k;v\n1;a\n2;\"x\ny\"\n3;c\n4".as_slice(),
         step: 1,
     };
-    match find_cuts(alloc, &mut source, size, 1) {
+    match find_cuts(alloc, &mut source, delimiter, size, 1) {
         Ok(cuts) => cuts.as_slice() == wanted,
         Err(_) => false,
     }

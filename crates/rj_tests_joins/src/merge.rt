@@ -5,6 +5,7 @@ use rj_merge::{
     Copies, MergeInput, MergeOptions, MergeRefused, MergeTextsRefused, RetryingReader, RowOrder,
     merge_texts,
 };
+use rj_strict::Delimiter;
 use std::alloc::Global;
 use std::io;
 use std::io::Read;
@@ -57,26 +58,31 @@ fn input_of(text: &str, fails: bool) -> MergeInput<RetryingReader<Halting<'_>>> 
     }
 }
 
-const FIRST: &str = "left_place,k,right_place,v\n0,\"a,b\",3,1\n2,x,1,\n5,lone,,7\n";
+const FIRST: &str = "left_place,k,right_place,v\n0,\"a,b\",3,1\n2,x,1,\n5,lone;,,7\n";
 
 const SECOND: &str =
     "left_place,k,right_place,v\n0,y,5,\"line\nbreak\"\n,only right,4,\"say \"\"hi\"\"\"\n";
 
-const BOTH: &str = "k,v\n\"a,b\",1\ny,\"line\nbreak\"\nx,\nlone,7\nonly right,\"say \"\"hi\"\"\"\n";
+const BOTH: &str =
+    "k;v\na,b;1\ny;\"line\nbreak\"\nx;\n\"lone;\";7\nonly right;\"say \"\"hi\"\"\"\n";
 
-// The merge of two texts. The second one may fail after its text.
+// The merge of two texts, written with semicolons. The second one may fail after its text.
 fn merged(alloc: Global, fails: bool) -> Result<Vec<u8>, MergeTextsRefused> {
     let Ok(inputs) = vec![in alloc; input_of(SECOND, false), input_of(FIRST, fails)] else {
         return Err(MergeTextsRefused::Merge(MergeRefused::Memory));
     };
+    let Some(delimiter) = Delimiter::of(b';') else {
+        return Err(MergeTextsRefused::Merge(MergeRefused::Memory));
+    };
     let how = MergeOptions {
+        delimiter,
         null: b"".as_slice(),
         order: RowOrder::PairsFirst,
         from: None,
         to: None,
     };
     let mut output = CountedWriter::new(Vec::new(alloc));
-    match merge_texts(alloc, inputs, how, &mut output) {
+    match merge_texts(alloc, inputs, &how, &mut output) {
         Ok(()) => Ok(output.into_inner()),
         Err(refused) => Err(refused),
     }

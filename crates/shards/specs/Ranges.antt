@@ -21,7 +21,6 @@ use Rattle.rj_fault.specs.declared.fault.Side.{Side}
 use Rattle.rj_fault.specs.declared.fault.Side.TheVariants as side
 use Rattle.rj_line.specs.declared.request.Strictness.{Strictness}
 use Rattle.rj_line.specs.declared.request.Strictness.TheVariants as strictness
-use Rattle.rj_strict.specs.Grammar.{comma}
 use Rattle.shards.specs.declared.dividing.Range.{Range}
 
 -- the name of the column with the places of a side's rows
@@ -31,7 +30,7 @@ place_name side.Right = codes "right_place"
 
 -- how the rows of a range are divided, where the route tells the parts so: their places count from the range's first byte
 abbrev pub range_dividing : {W : Type 0} → (W → List Content → ℕ) → Range → W → Dividing
-range_dividing part range route = record { nulls = null_texts range.nulls.now; types = range.types.now; part = part route; first = range.from }
+range_dividing part range route = record { delimiter = range.delimiter; nulls = null_texts range.nulls.now; types = range.types.now; part = part route; first = range.from }
 
 -- the table without rows that the header of a range begins with the types, or why it begins none
 abbrev pub range_begun : Range → Result TableValue BuildRefused
@@ -39,7 +38,7 @@ range_begun range = empty_table (names_in range.head.now.header) range.types.now
 
 -- the rows of a text are divided, so many, as strictly as is asked for
 abbrev pub IsDividedBy : Strictness → Bool → Dividing → List ℕ → List (Option (List ℕ)) → List (Option (List ℕ)) → ℕ → Type 0
-IsDividedBy strictness.Off is_first d text before after rows = IsDivided d (piece_records comma is_first text) before after rows
+IsDividedBy strictness.Off is_first d text before after rows = IsDivided d (piece_records d.delimiter is_first text) before after rows
 IsDividedBy strictness.On is_first d text before after rows = IsRangeDivided d false text before after rows
 IsDividedBy strictness.Full is_first d text before after rows = IsRangeDivided d true text before after rows
 

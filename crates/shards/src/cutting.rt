@@ -39,7 +39,8 @@ pub(crate) fn print_cuts<R: Files + AllocGlobal + Print>(
     ranges: u32,
 ) -> Result<(), Failure> {
     let file = line.operand(line.side).file;
-    let head = match read_head(rt, file, line.side, Strictness::Off) {
+    let delimiter = line.delimiter(line.side);
+    let head = match read_head(rt, file, line.side, delimiter, Strictness::Off) {
         Ok(head) => head,
         Err(Fault::NoHeader(_)) => return Ok(()),
         Err(fault) => return Err(Failure::Told(fault)),
@@ -48,7 +49,7 @@ pub(crate) fn print_cuts<R: Files + AllocGlobal + Print>(
     let mut input = open_range(rt, file, line.side, head.begin, 1 << 62)?;
     let least = (end / u64::from(ranges.max(1))).saturating_add(1);
     let block = least.min(BLOCK) as usize;
-    let cuts = match find_cuts(rt.alloc(), &mut input, least, block) {
+    let cuts = match find_cuts(rt.alloc(), &mut input, delimiter, least, block) {
         Ok(cuts) => cuts,
         Err(refused) => return Err(Failure::Told(fault_of_division(line.side, refused))),
     };

@@ -24,6 +24,7 @@ use rj_divide::{
 use rj_fault::{Fault, Side, fault_of_read};
 use rj_radix::Mixed;
 use rj_shards::{ShardRoute, Shards};
+use rj_strict::Delimiter;
 use std::alloc::{AllocError, Global};
 use std::fs::Files;
 use std::io;
@@ -42,6 +43,7 @@ struct Range<'a> {
     head: &'a Head,
     types: &'a [ColumnType],
     nulls: &'a [&'a str],
+    delimiter: Delimiter,
     from: u64,
     to: u64,
 }
@@ -136,7 +138,7 @@ fn plan<R: Files + AllocGlobal>(
 {
     let side = other_side(line.side);
     let operand = line.operand(side);
-    let head = read_head(rt, operand.file, side, line.strict)?;
+    let head = read_head(rt, operand.file, side, line.delimiter(side), line.strict)?;
     let other = empty_table(rt.alloc(), &head, operand, side)?;
     shards_of(rt.alloc(), line, own, &other)
 }
@@ -188,6 +190,7 @@ fn divide_input<I: Input, W: Route, O: Output>(
         IsRefusedBy range.now.line.now.strict (range.now.from == 0) (range_dividing W.part range.now route.now) BLOCK text (length outputs.old) e)) }
 {
     let division = Division {
+        delimiter: range.delimiter,
         header: &range.head.header,
         types: range.types,
         nulls: range.nulls,
@@ -315,7 +318,8 @@ pub(crate) fn divide_range<R: Files + AllocGlobal + Print>(
     folder: &str,
 ) -> Result<(), Failure> {
     let own = line.operand(line.side);
-    let head = read_head(rt, own.file, line.side, line.strict);
+    let delimiter = line.delimiter(line.side);
+    let head = read_head(rt, own.file, line.side, delimiter, line.strict);
     let nulls = line.nulls(line.side);
     if !have_lawful_nulls(nulls, line.nulls(other_side(line.side))) {
         return Err(unlawful_null(head));
@@ -328,6 +332,7 @@ pub(crate) fn divide_range<R: Files + AllocGlobal + Print>(
         head: &head,
         types: types.as_slice(),
         nulls,
+        delimiter,
         from: from.min(MOST),
         to: to.unwrap_or(MOST),
     };

@@ -74,15 +74,21 @@ pub(crate) fn file_size<R: Files>(rt: &R, name: &str, side: Side) -> Result<u64,
 }
 
 // The header of a text that may go on, if the text has a whole record.
-fn head_of(alloc: Global, bytes: &[u8], is_whole: bool, side: Side) -> Result<Option<Head>, Fault> {
+fn head_of(
+    alloc: Global,
+    bytes: &[u8],
+    is_whole: bool,
+    side: Side,
+    delimiter: Delimiter,
+) -> Result<Option<Head>, Fault> {
     let text = without_bom(bytes);
     let end = if is_whole {
         text.len()
     } else {
-        last_cut(text, Delimiter::comma())
+        last_cut(text, delimiter)
     };
     let begin = bytes.len().saturating_sub(text.len()) as u64;
-    match Header::of(alloc, &text[..end], Delimiter::comma()) {
+    match Header::of(alloc, &text[..end], delimiter) {
         Ok(Some(header)) => Ok(Some(Head { header, begin })),
         Ok(None) => {
             if is_whole {
@@ -94,7 +100,7 @@ fn head_of(alloc: Global, bytes: &[u8], is_whole: bool, side: Side) -> Result<Op
     }
 }
 
-/// Reads the header of a file, as strictly as is asked for.
+/// Reads the header of a file with this delimiter, as strictly as is asked for.
 ///
 /// # Errors
 ///
@@ -104,10 +110,12 @@ pub(crate) fn read_head<R: Files + AllocGlobal>(
     rt: &R,
     name: &str,
     side: Side,
+    delimiter: Delimiter,
     strict: Strictness,
 ) -> Result<Head, Fault> {
+    let alloc = rt.alloc();
     let mut input = CountedReader::new(open_file(rt, name, side)?);
-    let mut bytes = Vec::new(rt.alloc());
+    let mut bytes = Vec::new(alloc);
     let mut size = HEADER_BYTES;
     for _turn in 0..64 {
         let is_whole = match read_up_to(&mut input, &mut bytes, size) {
@@ -115,9 +123,13 @@ pub(crate) fn read_head<R: Files + AllocGlobal>(
             Err(refused) => return Err(fault_of_read(side, refused)),
         };
         let found = match strict {
-            Strictness::Off => head_of(rt.alloc(), bytes.as_slice(), is_whole, side)?,
-            Strictness::On => head_of_lines(rt.alloc(), bytes.as_slice(), is_whole, side, false)?,
-            Strictness::Full => head_of_lines(rt.alloc(), bytes.as_slice(), is_whole, side, true)?,
+            Strictness::Off => head_of(alloc, bytes.as_slice(), is_whole, side, delimiter)?,
+            Strictness::On => {
+                head_of_lines(alloc, bytes.as_slice(), is_whole, side, delimiter, false)?
+            }
+            Strictness::Full => {
+                head_of_lines(alloc, bytes.as_slice(), is_whole, side, delimiter, true)?
+            }
         };
         if let Some(head) = found {
             return Ok(head);

@@ -37,10 +37,15 @@ fn line_length(text: &[u8], is_whole: bool) -> Option<usize>
 }
 
 // The header that a line is. An empty line is one empty name, which `csv` would skip.
-fn header_of(alloc: Global, line: &[u8], side: Side) -> Result<Header, Fault> {
+fn header_of(
+    alloc: Global,
+    line: &[u8],
+    side: Side,
+    delimiter: Delimiter,
+) -> Result<Header, Fault> {
     let is_blank = !line.is_empty() && (line[0] == b'\n' || line[0] == b'\r');
     let named = if is_blank { b"\"\"".as_slice() } else { line };
-    match Header::of(alloc, named, Delimiter::comma()) {
+    match Header::of(alloc, named, delimiter) {
         Ok(Some(header)) => Ok(header),
         Ok(None) => Err(Fault::NoHeader(side)),
         Err(_) => Err(Fault::Memory),
@@ -59,6 +64,7 @@ pub(crate) fn head_of_lines(
     bytes: &[u8],
     is_whole: bool,
     side: Side,
+    delimiter: Delimiter,
     full: bool,
 ) -> Result<Option<Head>, Fault> {
     let text = without_bom(bytes);
@@ -68,11 +74,10 @@ pub(crate) fn head_of_lines(
     };
     // (with its byte order mark, since another one after it is part of a name)
     let end = mark.saturating_add(length).min(bytes.len());
-    let delimiter = Delimiter::comma();
     if let Err(fault) = check(&bytes[..end], delimiter, rj_strict::Header::First, full) {
         return Err(fault_of_text(side, fault));
     }
-    let header = header_of(alloc, &text[..length], side)?;
+    let header = header_of(alloc, &text[..length], side, delimiter)?;
     Ok(Some(Head {
         header,
         begin: end as u64,

@@ -6,6 +6,8 @@ use clap::error::ErrorKind;
 use clap::{Arg, ArgAction, ArgMatches, Command, Error, value_parser};
 use rj_command::{Strictness, TypeEntry, VERSION, read_nulls, read_types};
 use rj_fault::{Fault, Side};
+use rj_line::delimiter_of;
+use rj_strict::Delimiter;
 use std::alloc::{AllocError, Global};
 
 /// One of the two tables.
@@ -39,6 +41,10 @@ pub(crate) struct Line<'a> {
     pub(crate) left_nulls: Vec<&'a str>,
     /// The texts that stand for NULL in the right table.
     pub(crate) right_nulls: Vec<&'a str>,
+    /// What stands between two fields of the left file.
+    pub(crate) left_delimiter: Delimiter,
+    /// What stands between two fields of the right file.
+    pub(crate) right_delimiter: Delimiter,
     /// The text of the join clause.
     pub(crate) clause: &'a str,
     /// Whether the texts of the files have to be of RFC 4180's grammar.
@@ -65,6 +71,14 @@ impl<'a> Line<'a> {
             Side::Right => self.right_nulls.as_slice(),
         }
     }
+
+    /// What stands between two fields of the file of a side.
+    pub(crate) fn delimiter(&self, side: Side) -> Delimiter {
+        match side {
+            Side::Left => self.left_delimiter,
+            Side::Right => self.right_delimiter,
+        }
+    }
 }
 
 // An option that takes a text.
@@ -78,6 +92,16 @@ fn text_option<'a>(alloc: Global, name: &'a str, is_required: bool) -> Arg<'a> {
 // An option that takes a text at each use.
 fn texts_option<'a>(alloc: Global, name: &'a str) -> Arg<'a> {
     Arg::new(alloc, name).long(name).action(ArgAction::Append)
+}
+
+// The delimiter of a file by the value of its own option, or that of `--delimiter` if it has none,
+// or a comma.
+fn delimiter_given(matches: &ArgMatches<'_>, own: &str) -> Result<Delimiter, Fault> {
+    let common = matches.get_str("delimiter").unwrap_or(",");
+    match delimiter_of(matches.get_str(own).unwrap_or(common)) {
+        Some(delimiter) => Ok(delimiter),
+        None => Err(Fault::BadDelimiter),
+    }
 }
 
 // How strictly the files are read, as `radixjoin` has it.
@@ -107,6 +131,9 @@ fn with_tables<'a>(alloc: Global, command: Command<'a>) -> Result<Command<'a>, A
         .arg(text_option(alloc, "null", false))?
         .arg(texts_option(alloc, "left-null"))?
         .arg(texts_option(alloc, "right-null"))?
+        .arg(text_option(alloc, "delimiter", false).short('d'))?
+        .arg(text_option(alloc, "left-delimiter", false))?
+        .arg(text_option(alloc, "right-delimiter", false))?
         .arg(strict_option(alloc))
 }
 
@@ -165,13 +192,20 @@ fn task_of<'a>(matches: &ArgMatches<'a>) -> Option<Task<'a>> {
     }
 }
 
+fn side_of(matches: &ArgMatches<'_>) -> Side {
+    match matches.get_str("side") {
+        Some("right") => Side::Right,
+        _ => Side::Left,
+    }
+}
+
 /// Reads the words after the program's name.
 ///
 /// # Errors
 ///
 /// A line that `clap` refuses, or that asks for help or the version; a bad type list, the left one
-/// before the right one; more than four NULL texts of a table, in the same order; both or neither
-/// of `--out` and `--cuts`; or memory ran out.
+/// before the right one; more than four NULL texts of a table, in the same order; a text that is no
+/// delimiter; both or neither of `--out` and `--cuts`; or memory ran out.
 pub(crate) fn read_line<'a>(alloc: Global, words: &'a [&'a str]) -> Result<Line<'a>, Failure> {
     let matches = match read_matches(alloc, words) {
         Ok(matches) => matches,
@@ -191,19 +225,19 @@ pub(crate) fn read_line<'a>(alloc: Global, words: &'a [&'a str]) -> Result<Line<
         Ok(nulls) => nulls,
         Err(fault) => return Err(Failure::Told(fault)),
     };
+    let left_delimiter = delimiter_given(&matches, "left-delimiter")?;
+    let right_delimiter = delimiter_given(&matches, "right-delimiter")?;
     let Some(task) = task_of(&matches) else {
         return Err(Failure::NoTask);
     };
-    let side = match matches.get_str("side") {
-        Some("right") => Side::Right,
-        _ => Side::Left,
-    };
     Ok(Line {
-        side,
+        side: side_of(&matches),
         left,
         right,
         left_nulls,
         right_nulls,
+        left_delimiter,
+        right_delimiter,
         clause: matches.get_str("join").unwrap_or(""),
         strict: strictness_of(&matches),
         parts: matches.get_one("parts").unwrap_or(1),

@@ -5,7 +5,7 @@ use Rattle.rj_divide.proofs.cuts.find_cuts.Goals as goal
 
 pub loop-turn-init : goal.loop-turn-init
 loop-turn-init g c = record {
-  cutting = λ text e. cutting-none c.args.size c.args.block text (g.I.Input.tells c.args.input.now) _ e c.new.ensures.items refl refl c.new-2.ensures.items refl;
+  cutting = λ text e. cutting-none c.args.delimiter c.args.size c.args.block text (g.I.Input.tells c.args.input.now) _ e c.new.ensures.items refl refl c.new-2.ensures.items refl;
   reads = refl;
 }
 

@@ -9,7 +9,7 @@ invariant-reading g l = record {
   count : g.I.Input.count l.input ≡ g.I.Input.count l.fn.input;
   some : 1 ≤ l.size;
   least : l.fn.block ≤ l.size;
-  read : (r : IsReadFor l.fn.block l.fn.bytes.items l.bytes.items) × (l.size ≤ l.fn.block + 2 * r.plain + 1);
+  read : (r : IsReadFor l.fn.delimiter l.fn.block l.fn.bytes.items l.bytes.items) × (l.size ≤ l.fn.block + 2 * r.plain + 1);
 }
 
 abbrev pub decreases-reading : goal.decreases-reading

@@ -9,39 +9,37 @@ use Rattle.rj_divide.proofs.strict.divide_block.Goals as goal
 
 pub divide_derived-requires-in-Err-clause-derived : goal.divide_derived-requires-in-Err-clause-derived
 divide_derived-requires-in-Err-clause-derived g c =
-    let found = rw c.comma-delimiter.ensures at c.above_fault-above.ensures in let d = c.args.division.now in
-    (true, record { lines = found.0; rest = None }, above-derived (length d.types.now) c.args.text.now c.above_fault-above.result.now (row_at c.in-Err.fault) found.0 found.1 found.2)
+    let found = c.above_fault-above.ensures in let d = c.args.division.now in
+    (true, record { lines = found.0; rest = None }, above-derived d.delimiter (length d.types.now) c.args.text.now c.above_fault-above.result.now (row_at c.in-Err.fault) found.0 found.1 found.2)
 
 pub strict_behind-requires : goal.strict_behind-requires
 strict_behind-requires g c =
-    let found = rw c.comma-delimiter.ensures at c.above_fault-above.ensures in let d = c.args.division.now in
+    let found = c.above_fault-above.ensures in let d = c.args.division.now in
     let file : File = record { lines = found.0; rest = None } in
-    let derived = above-derived (length d.types.now) c.args.text.now c.above_fault-above.result.now (row_at c.in-Err.fault) found.0 found.1 found.2 in
+    let derived = above-derived d.delimiter (length d.types.now) c.args.text.now c.above_fault-above.result.now (row_at c.in-Err.fault) found.0 found.1 found.2 in
     let rows = c.in-Ok-divide_derived-2.ensures.divided true file derived in
-    let row = row-below (null_texts d.nulls.now) d.types.now (length d.types.now) c.args.text.now (row_at c.in-Err.fault) found.0 rows.rows _ found.1 rows.read rows.many in
+    let row = row-below d.delimiter (null_texts d.nulls.now) d.types.now (length d.types.now) c.args.text.now (row_at c.in-Err.fault) found.0 rows.rows _ found.1 rows.read rows.many in
     omega (arith, row, c.in-Ok-divide_derived-2.ensures.few)
 
 pub returns-in-Err-divide_derived-clause-fault : goal.returns-in-Err-divide_derived-clause-fault
 returns-in-Err-divide_derived-clause-fault g c = λ t begins.
-    let d = rw c.comma-delimiter.ensures at c.in-Ok.ensures.derived in
+    let d = c.in-Ok.ensures.derived in
     (_, in_all d.0 d.1, c.in-Err-divide_derived.ensures.fault t c.args.full d.0 begins d.1)
 
 pub returns-in-Ok-divide_derived-2-clause-fault : goal.returns-in-Ok-divide_derived-2-clause-fault
 returns-in-Ok-divide_derived-2-clause-fault g c = λ t begins.
-    let found = rw c.comma-delimiter.ensures at c.above_fault-above.ensures in let d = c.args.division.now in
+    let found = c.above_fault-above.ensures in let d = c.args.division.now in
     let file : File = record { lines = found.0; rest = None } in
-    let derived = above-derived (length d.types.now) c.args.text.now c.above_fault-above.result.now (row_at c.in-Err.fault) found.0 found.1 found.2 in
+    let derived = above-derived d.delimiter (length d.types.now) c.args.text.now c.above_fault-above.result.now (row_at c.in-Err.fault) found.0 found.1 found.2 in
     let rows = c.in-Ok-divide_derived-2.ensures.divided true file derived in
-    let has = rw c.comma-delimiter.ensures at c.in-Err.ensures.fault in
-    record { at = c.in-Err.fault; has = has; lines = found.0; above = found.1; rows = rows.rows; read = rows.read; is = c.strict_behind.ensures }
+    record { at = c.in-Err.fault; has = c.in-Err.ensures.fault; lines = found.0; above = found.1; rows = rows.rows; read = rows.read; is = c.strict_behind.ensures }
 
 pub returns-in-Err-divide_derived-2-clause-fault : goal.returns-in-Err-divide_derived-2-clause-fault
 returns-in-Err-divide_derived-2-clause-fault g c = λ t begins.
-    let found = rw c.comma-delimiter.ensures at c.above_fault-above.ensures in let d = c.args.division.now in
+    let found = c.above_fault-above.ensures in let d = c.args.division.now in
     let file : File = record { lines = found.0; rest = None } in
-    let derived = above-derived (length d.types.now) c.args.text.now c.above_fault-above.result.now (row_at c.in-Err.fault) found.0 found.1 found.2 in
-    let has = rw c.comma-delimiter.ensures at c.in-Err.ensures.fault in
-    (_, above c.in-Err.fault found.0 has found.1, c.in-Err-divide_derived-2.ensures.fault t true file begins derived)
+    let derived = above-derived d.delimiter (length d.types.now) c.args.text.now c.above_fault-above.result.now (row_at c.in-Err.fault) found.0 found.1 found.2 in
+    (_, above c.in-Err.fault found.0 c.in-Err.ensures.fault found.1, c.in-Err-divide_derived-2.ensures.fault t true file begins derived)
 
 pub returns-in-Ok-divide_derived-2-clause-refusal : goal.returns-in-Ok-divide_derived-2-clause-refusal
 returns-in-Ok-divide_derived-2-clause-refusal g c = λ b begins none. let made = c.in-Ok-divide_derived-2.ensures.begins.1 in absurd (cc)

@@ -1,7 +1,7 @@
 use Rattle.std.proofs.Common.{◌≡◌, ◌∙◌, ◌++◌, ◌∷◌, [], List, ℕ, ap, drop, refl, subst, sym, lit<}
 use Rattle.std.proofs.lemmas.Result.{IfOk-weaker}
 use Rattle.csv.specs.Reading.{records, strip_bom}
-use Rattle.rj_strict.specs.Grammar.{Derives, comma}
+use Rattle.rj_strict.specs.Grammar.{Derives, may_delimit}
 use Rattle.rj_strict.specs.Joined.{joined}
 use Rattle.rj_strict.specs.Reading.{config_of}
 use Rattle.rj_strict.specs.declared.header.Header.TheVariants.{First}
@@ -14,18 +14,20 @@ quote_empty_lines-requires c =
     let is : c.as_slice.result.now ≡ 120 ∷ 10 ∷ text =
     c.as_slice.ensures.value ∙ (c.in_ok-extend_from_slice-2.ensures.items ∙ ap (λ (x : List ℕ). x ++ text) (c.in_ok-extend_from_slice.ensures.items ∙ ap (λ (x : List ℕ). x ++ (120 ∷ 10 ∷ [])) c.new-named.ensures.items)) in
     let d = c.requires in
-    let whole = c.joined_texts.ensures comma First d.1 (120 ∷ 10 ∷ []) text name_file d.2 refl name-derived (lit< tt) (under-one d.0 d.1 text d.2 d.3 d.4) in
-    let named = subst (λ (x : List ℕ). Derives comma First d.1 x (joined name_file d.2)) (sym (ap strip_bom is ∙ unmarked text)) whole in
-    (d.1, joined name_file d.2, subst (λ (by : ℕ). Derives by First d.1 (strip_bom c.as_slice.result.now) (joined name_file d.2)) (sym c.comma.ensures) named)
+    let by = c.args.delimiter in
+    let may = subst (λ (x : ℕ). may_delimit x ≡ true) c.byte-_byte.ensures.value c.byte-_byte.ensures.lawful in
+    let whole = c.joined_texts.ensures by First d.1 (120 ∷ 10 ∷ []) text name_file d.2 may (name-derived by may) (lit< tt) (under-one by d.0 d.1 text d.2 d.3 d.4) in
+    (d.1, joined name_file d.2, subst (λ (x : List ℕ). Derives by First d.1 x (joined name_file d.2)) (sym (ap strip_bom is ∙ unmarked text)) whole)
 
 pub returns : goal.returns
 returns c =
     let text = c.args.text.now in
     let is : c.as_slice.result.now ≡ 120 ∷ 10 ∷ text =
     c.as_slice.ensures.value ∙ (c.in_ok-extend_from_slice-2.ensures.items ∙ ap (λ (x : List ℕ). x ++ text) (c.in_ok-extend_from_slice.ensures.items ∙ ap (λ (x : List ℕ). x ++ (120 ∷ 10 ∷ [])) c.new-named.ensures.items)) in
-    let tells = rw c.comma.ensures at c.quote_empty_lines.ensures in
+    let by = c.args.delimiter in
+    let may = subst (λ (x : ℕ). may_delimit x ≡ true) c.byte-_byte.ensures.value c.byte-_byte.ensures.lawful in
     IfOk-weaker c.quote_empty_lines.result _ _ (λ v told names full file low d.
-    let whole = c.joined_texts.ensures comma First full (120 ∷ 10 ∷ []) text name_file file refl name-derived (lit< tt) (under-one names full text file low d) in
-    let quoted = told full (joined name_file file) (subst (λ (x : List ℕ). Derives comma First full x (joined name_file file)) (sym (ap strip_bom is ∙ unmarked text)) whole) in
-    ap (λ (x : List ℕ). drop 1 (records (config_of comma) x)) quoted ∙ ap (λ (x : List (List (List ℕ))). drop 1 x) (c.reads_quoted_records.ensures comma First full (120 ∷ 10 ∷ text) (joined name_file file) refl whole))
-    tells
+    let whole = c.joined_texts.ensures by First full (120 ∷ 10 ∷ []) text name_file file may (name-derived by may) (lit< tt) (under-one by names full text file low d) in
+    let quoted = told full (joined name_file file) (subst (λ (x : List ℕ). Derives by First full x (joined name_file file)) (sym (ap strip_bom is ∙ unmarked text)) whole) in
+    ap (λ (x : List ℕ). drop 1 (records (config_of by) x)) quoted ∙ ap (λ (x : List (List (List ℕ))). drop 1 x) (c.reads_quoted_records.ensures by First full (120 ∷ 10 ∷ text) (joined name_file file) may whole))
+    c.quote_empty_lines.ensures

@@ -3,4 +3,4 @@ use Rattle.rj_merge.proofs.ToldFacts.{told_place}
 use Rattle.rj_merge.proofs.input.place_of_row.Goals as goal
 
 pub returns-in-Err-clause-input : goal.returns-in-Err-clause-input
-returns-in-Err-clause-input c = told_place c.args.how.order c.args.input c.args.row _ _ c.in-Err.e (sym c.in-Err.ensures)
+returns-in-Err-clause-input c = told_place c.args.how.now.order c.args.input c.args.row _ _ c.in-Err.e (sym c.in-Err.ensures)

@@ -12,7 +12,7 @@ returns-in-Err-clause-input g c = λ e told.
 
 pub returns-in-Ok-merge_texts-clause-merge : goal.returns-in-Ok-merge_texts-clause-merge
 returns-in-Ok-merge_texts-clause-merge g c = λ texts told.
-    subst (λ k. GotMerge c.args.how k texts (g.O.Output.told c.args.output.now) (g.O.Output.told c.merge_texts.new.output)) c.in-Ok.ensures.copies
+    subst (λ k. GotMerge c.args.how.now k texts (g.O.Output.told c.args.output.now) (g.O.Output.told c.merge_texts.new.output)) c.in-Ok.ensures.copies
     (c.in-Ok-merge_texts.ensures.merge texts (opened_tell (g.P.Opener.opens c.args.opener.now) g.P.Reader.Read.remaining _ texts c.in-Ok.inputs.items c.in-Ok.ensures.opened told))
 
 pub returns-in-Ok-merge_texts-clause-faults : goal.returns-in-Ok-merge_texts-clause-faults
@@ -25,7 +25,7 @@ returns-in-Ok-merge_texts-clause-first g c = λ texts told.
 
 pub returns-in-Err-merge_texts-clause-fault : goal.returns-in-Err-merge_texts-clause-fault
 returns-in-Err-merge_texts-clause-fault g c = λ e refused texts told.
-    subst (λ k. IsFaultOfTexts c.args.how k texts e) c.in-Ok.ensures.copies
+    subst (λ k. IsFaultOfTexts c.args.how.now k texts e) c.in-Ok.ensures.copies
     (c.in-Err-merge_texts.ensures.fault e refused texts (opened_tell (g.P.Opener.opens c.args.opener.now) g.P.Reader.Read.remaining _ texts c.in-Ok.inputs.items c.in-Ok.ensures.opened told))
 
 pub returns-in-Err-merge_texts-clause-first : goal.returns-in-Err-merge_texts-clause-first

@@ -10,7 +10,7 @@ use Rattle.rj_merge.proofs.opening.open_all.Goals as goal
 
 pub returns-in-Err-clause-fault : goal.returns-in-Err-clause-fault
 returns-in-Err-clause-fault g c = λ out texts tell.
-    fault-first g.R.Read.remaining c.args.how c.args.inputs.items c.in-Some.first (into_iter_items c.next.new.self) texts (sym c.into_iter-left.ensures.rest ∙ c.in-Some.ensures.items) tell c.in-Err.e (λ text here. c.in-Err.ensures.fault out text here)
+    fault-first g.R.Read.remaining c.args.how.now c.args.inputs.items c.in-Some.first (into_iter_items c.next.new.self) texts (sym c.into_iter-left.ensures.rest ∙ c.in-Some.ensures.items) tell c.in-Err.e (λ text here. c.in-Err.ensures.fault out text here)
 
 pub inputs-init : goal.inputs-init
 inputs-init g c =
@@ -30,14 +30,14 @@ inputs-init g c =
       copies = ap (λ l. map own_copies l ++ copies_of left) pushed ∙ ap (λ k. k ∷ copies_of left) c.in-Ok.ensures.copies
           ∙ sym (ap copies_of (sym c.into_iter-left.ensures.rest ∙ c.in-Some.ensures.items));
       opened = λ texts tell.
-          subst (λ l. HasOpened g.R.Read.remaining c.args.how texts names l 1 left) (sym pushed)
-          (opened-first g.R.Read.remaining c.args.how c.args.inputs.items c.in-Some.first left texts (sym c.into_iter-left.ensures.rest ∙ c.in-Some.ensures.items) tell names source
+          subst (λ l. HasOpened g.R.Read.remaining c.args.how.now texts names l 1 left) (sym pushed)
+          (opened-first g.R.Read.remaining c.args.how.now c.args.inputs.items c.in-Some.first left texts (sym c.into_iter-left.ensures.rest ∙ c.in-Some.ensures.items) tell names source
           (λ text here. c.in-Ok.ensures.header text here) (λ text here. c.in-Ok.ensures.input text here) (λ text here. c.in-Ok.ensures.headed text here));
     }
 
 pub returns-in-Err-open_next-clause-fault : goal.returns-in-Err-open_next-clause-fault
 returns-in-Err-open_next-clause-fault g c = λ out texts tell.
-    fault-next g.R.Read.remaining c.args.how texts (fields_of c.in-Ok.first.header.names) c.inputs.sources.items c.inputs.input (into_iter_items c.inputs.left) (into_iter_items c.next-in-inputs.new.self) c.in-Some-next.next
+    fault-next g.R.Read.remaining c.args.how.now texts (fields_of c.in-Ok.first.header.names) c.inputs.sources.items c.inputs.input (into_iter_items c.inputs.left) (into_iter_items c.next-in-inputs.new.self) c.in-Some-next.next
     (c.inputs.invariant.opened texts tell) c.in-Some-next.ensures.items c.in-Err-open_next.e (λ text here. c.in-Err-open_next.ensures.fault out text here)
 
 pub inputs-preserved : goal.inputs-preserved
@@ -58,8 +58,8 @@ inputs-preserved g c =
       copies = ap (λ l. map own_copies l ++ copies_of more) pushed
           ∙ copies-next c.inputs.sources.items (into_iter_items c.inputs.left) (copies_of c.args.inputs.items) c.inputs.invariant.copies source c.in-Some-next.next more c.in-Some-next.ensures.items c.in-Ok-open_next.ensures.copies;
       opened = λ texts tell.
-          subst (λ l. HasOpened g.R.Read.remaining c.args.how texts names l (c.inputs.input + 1) more) (sym pushed)
-          (opened-next g.R.Read.remaining c.args.how texts names c.inputs.sources.items c.inputs.input (into_iter_items c.inputs.left) more c.in-Some-next.next (c.inputs.invariant.opened texts tell)
+          subst (λ l. HasOpened g.R.Read.remaining c.args.how.now texts names l (c.inputs.input + 1) more) (sym pushed)
+          (opened-next g.R.Read.remaining c.args.how.now texts names c.inputs.sources.items c.inputs.input (into_iter_items c.inputs.left) more c.in-Some-next.next (c.inputs.invariant.opened texts tell)
           c.in-Some-next.ensures.items source (λ text here. c.in-Ok-open_next.ensures.input text here)
           (λ text here. c.in-Ok-open_next.ensures.headed text here));
     }
@@ -73,26 +73,26 @@ pub returns-clause-readings : goal.returns-clause-readings
 returns-clause-readings g c = λ texts tell.
     let left = into_iter_items c.inputs.left in
     let none = no_length left (sym c.inputs.left.rest.ok.0 ∙ c.in_default-next.ensures.cases.0) in
-    opened-all g.R.Read.remaining c.args.how texts (fields_of c.in-Ok.first.header.names) c.inputs.sources.items c.inputs.input left (c.inputs.invariant.opened texts tell) none
+    opened-all g.R.Read.remaining c.args.how.now texts (fields_of c.in-Ok.first.header.names) c.inputs.sources.items c.inputs.input left (c.inputs.invariant.opened texts tell) none
 
 pub returns-clause-tells : goal.returns-clause-tells
 returns-clause-tells g c = λ texts tell. (c.inputs.invariant.opened texts tell).tells
 
 pub returns-in-Err-clause-first : goal.returns-in-Err-clause-first
 returns-in-Err-clause-first g c = λ out texts tell.
-    heads-first g.R.Read.remaining c.args.how c.args.inputs.items c.in-Some.first (into_iter_items c.next.new.self) texts (sym c.into_iter-left.ensures.rest ∙ c.in-Some.ensures.items) tell c.in-Err.e
+    heads-first g.R.Read.remaining c.args.how.now c.args.inputs.items c.in-Some.first (into_iter_items c.next.new.self) texts (sym c.into_iter-left.ensures.rest ∙ c.in-Some.ensures.items) tell c.in-Err.e
     (λ text here. c.in-Err.ensures.unheaded out text here)
 
 pub returns-in-Err-open_next-clause-first : goal.returns-in-Err-open_next-clause-first
 returns-in-Err-open_next-clause-first g c = λ out texts tell.
-    heads-next g.R.Read.remaining c.args.how texts (fields_of c.in-Ok.first.header.names) c.inputs.sources.items c.inputs.input (into_iter_items c.inputs.left) (into_iter_items c.next-in-inputs.new.self) c.in-Some-next.next
+    heads-next g.R.Read.remaining c.args.how.now texts (fields_of c.in-Ok.first.header.names) c.inputs.sources.items c.inputs.input (into_iter_items c.inputs.left) (into_iter_items c.next-in-inputs.new.self) c.in-Some-next.next
     (c.inputs.invariant.opened texts tell) c.in-Some-next.ensures.items c.in-Err-open_next.e (λ text here. c.in-Err-open_next.ensures.unheaded out text here)
 
 pub returns-clause-headers : goal.returns-clause-headers
 returns-clause-headers g c = λ texts tell.
     let left = into_iter_items c.inputs.left in
     let none = no_length left (sym c.inputs.left.rest.ok.0 ∙ c.in_default-next.ensures.cases.0) in
-    headed-all g.R.Read.remaining c.args.how texts (fields_of c.in-Ok.first.header.names) c.inputs.sources.items c.inputs.input left (c.inputs.invariant.opened texts tell) none
+    headed-all g.R.Read.remaining c.args.how.now texts (fields_of c.in-Ok.first.header.names) c.inputs.sources.items c.inputs.input left (c.inputs.invariant.opened texts tell) none
 
 pub returns-in-Err-clause-told : goal.returns-in-Err-clause-told
 returns-in-Err-clause-told g c =

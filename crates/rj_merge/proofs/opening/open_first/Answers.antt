@@ -8,12 +8,12 @@ use Rattle.rj_merge.proofs.opening.open_first.Goals as goal
 pub returns-in_default-clause-fault : goal.returns-in_default-clause-fault
 returns-in_default-clause-fault g c = λ out text e.
     let begun = c.in-Ok.ensures.header text e in
-    of-unplaced c.args.how 1 (records_in comma text) _ _ begun.1 (sym c.in_default.ensures)
+    of-unplaced c.args.how.now 1 (records_in comma text) _ _ begun.1 (sym c.in_default.ensures)
 
 pub returns-clause-input : goal.returns-clause-input
 returns-clause-input g c = λ text e.
     let begun = c.in-Ok.ensures.header text e in
-    (c.new-source.ensures.tells begun.0, c.new-source.ensures.reading ∙ sym (of-first c.args.how 1 (records_in comma text) _ _ begun.1 c.in-Some.columns (sym c.in-Some.ensures)))
+    (c.new-source.ensures.tells begun.0, c.new-source.ensures.reading ∙ sym (of-first c.args.how.now 1 (records_in comma text) _ _ begun.1 c.in-Some.columns (sym c.in-Some.ensures)))
 
 pub returns-in-Err-clause-unheaded : goal.returns-in-Err-clause-unheaded
 returns-in-Err-clause-unheaded g c = λ out text e.

@@ -10,7 +10,7 @@ returns-clause-input g c = λ text e.
     let begun = c.in-Ok.ensures.header text e in (
       c.new.ensures.tells begun.0,
       c.new.ensures.reading
-          ∙ sym (of-header c.args.how (fields_of c.args.first.now.names) c.args.input (records_in comma text) _ _ c.args.first.now.columns begun.1 (sym c.are_same.ensures ∙ c.if-not-are_same.false) c.requires),
+          ∙ sym (of-header c.args.how.now (fields_of c.args.first.now.names) c.args.input (records_in comma text) _ _ c.args.first.now.columns begun.1 (sym c.are_same.ensures ∙ c.if-not-are_same.false) c.requires),
     )
 
 pub returns-in-Err-clause-unheaded : goal.returns-in-Err-clause-unheaded

@@ -2,7 +2,6 @@ use Rattle.std.proofs.Common.{◌++◌, ◌≡◌, refl, subst, vec_len}
 use Rattle.csv.specs.Records.{fields_of}
 use Rattle.rj_csv_io.specs.Shown.{rows_text}
 use Rattle.rj_csv_io.proofs.WriteFacts.{ok-holds}
-use Rattle.rj_strict.specs.Grammar.{comma}
 use Rattle.rj_merge.specs.declared.refused.MergeRefused.TheVariants as refused
 use Rattle.rj_merge.specs.Inputs.{boxed_copies, boxed_reading, copies_of, is_input}
 use Rattle.rj_merge.specs.MergedTexts.{head_rows, records_text}
@@ -22,11 +21,11 @@ returns-clause-merge g c =
     let boxed = c.in-Ok-on_heap.sources.items in
     let same = c.in-Ok-on_heap.ensures in
     let copies = copies_of c.args.inputs.items in
-    let head = rows_text comma (head_rows c.args.how.from (others header.columns (fields_of header.names))) in
+    let head = rows_text c.args.how.now.delimiter (head_rows c.args.how.now.from (others header.columns (fields_of header.names))) in
     ok-if c.put_rows.result (λ well. λ texts tell.
     let put = ok-holds c.put_rows.result well c.put_rows.ensures.merge head c.in-Ok-begin_block.ensures (tells-boxed known boxed sources same (opened.tells texts tell)) in record {
-      text = head ++ records_text put.0;
-      merge = merged boxed_copies (boxed_reading known) c.args.how copies texts boxed (copies-boxed known boxed sources same copies opened.copies) (readings-boxed known boxed sources same _ (opened.readings texts tell))
+      text = head ++ records_text c.args.how.now.delimiter put.0;
+      merge = merged boxed_copies (boxed_reading known) c.args.how.now copies texts boxed (copies-boxed known boxed sources same copies opened.copies) (readings-boxed known boxed sources same _ (opened.readings texts tell))
           header.columns (fields_of header.names) put.0 (opened.header texts tell) opened.places put.1;
       got = put.2;
     })
@@ -40,7 +39,7 @@ returns-clause-faults g c =
     let same = c.in-Ok-on_heap.ensures in
     let copies = copies_of c.args.inputs.items in
     ok-if c.put_rows.result (λ well. λ texts tell.
-    faultless boxed_copies (boxed_reading known) c.args.how copies texts boxed (copies-boxed known boxed sources same copies opened.copies) (readings-boxed known boxed sources same _ (opened.readings texts tell))
+    faultless boxed_copies (boxed_reading known) c.args.how.now copies texts boxed (copies-boxed known boxed sources same copies opened.copies) (readings-boxed known boxed sources same _ (opened.readings texts tell))
     (ok-holds c.put_rows.result well c.put_rows.ensures.faults (tells-boxed known boxed sources same (opened.tells texts tell))))
 
 pub returns-clause-fault : goal.returns-clause-fault
@@ -51,7 +50,7 @@ returns-clause-fault g c = λ e refused texts tell.
     let boxed = c.in-Ok-on_heap.sources.items in
     let same = c.in-Ok-on_heap.ensures in
     let copies = copies_of c.args.inputs.items in
-    fault_of_texts boxed_copies (boxed_reading known) c.args.how copies texts boxed (copies-boxed known boxed sources same copies opened.copies) (readings-boxed known boxed sources same _ (opened.readings texts tell)) e
+    fault_of_texts boxed_copies (boxed_reading known) c.args.how.now copies texts boxed (copies-boxed known boxed sources same copies opened.copies) (readings-boxed known boxed sources same _ (opened.readings texts tell)) e
     (c.put_rows.ensures.fault e refused (tells-boxed known boxed sources same (opened.tells texts tell)))
 
 pub returns-in-Err-clause-first : goal.returns-in-Err-clause-first

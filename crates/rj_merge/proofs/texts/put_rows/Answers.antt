@@ -24,7 +24,7 @@ returns-in-Err-clause-input g c = λ e told numbers all. let same : c.in-Err.e �
 pub rows-init : goal.rows-init
 rows-init g c = record {
   lawful = c.in-Ok.ensures.lawful;
-  put = put-none (boxed_tells g.R.Read.remaining) boxed_copies (boxed_reading g.R.Read.remaining) c.args.sources.items (g.O.Output.told c.args.output.now) c.args.block c.in-Ok.merge.passed (heap_items c.in-Ok.merge.heads) c.in-Ok.ensures.passed c.in-Ok.ensures.tells c.in-Ok.ensures.rows
+  put = put-none c.args.delimiter (boxed_tells g.R.Read.remaining) boxed_copies (boxed_reading g.R.Read.remaining) c.args.sources.items (g.O.Output.told c.args.output.now) c.args.block c.in-Ok.merge.passed (heap_items c.in-Ok.merge.heads) c.in-Ok.ensures.passed c.in-Ok.ensures.tells c.in-Ok.ensures.rows
       c.in-Ok.ensures.faults;
   among = λ numbers all. c.in-Ok.ensures.among numbers all;
   count = refl;
@@ -36,8 +36,8 @@ returns-in-Ok-None-clause-merge g c =
     let reading = boxed_reading g.R.Read.remaining in
     let h = c.rows.invariant.put in
     ok-if c.put_block.result (λ good. λ text w all.
-    let put = ok-holds c.put_block.result good (c.put_block.ensures.told (g.O.Output.told c.args.output.now) (text ++ records_text h.rows) (h.shown text w)) in
-    let gave = put-all (boxed_tells g.R.Read.remaining) boxed_copies reading c.args.sources.items _ _ _ _ _ _ h c.next.new.self.passed (heap_items c.next.new.self.heads)
+    let put = ok-holds c.put_block.result good (c.put_block.ensures.told (g.O.Output.told c.args.output.now) (text ++ records_text c.args.delimiter h.rows) (h.shown text w)) in
+    let gave = put-all c.args.delimiter (boxed_tells g.R.Read.remaining) boxed_copies reading c.args.sources.items _ _ _ _ _ _ h c.next.new.self.passed (heap_items c.next.new.self.heads)
     (λ t. rw c.in-Ok-None.field-0-is at (c.in-Ok-None.ensures.step t)) (end refl).0 (end refl).1 all in
     (h.rows, gave_merge boxed_copies reading c.args.sources.items h.rows gave, put.0))
 
@@ -48,7 +48,7 @@ returns-in-Ok-None-clause-faults g c =
     let h = c.rows.invariant.put in
     ok-if c.put_block.result (λ good. λ all.
     gave_faultless boxed_copies reading c.args.sources.items h.rows
-    (put-all (boxed_tells g.R.Read.remaining) boxed_copies reading c.args.sources.items _ _ _ _ _ _ h c.next.new.self.passed (heap_items c.next.new.self.heads)
+    (put-all c.args.delimiter (boxed_tells g.R.Read.remaining) boxed_copies reading c.args.sources.items _ _ _ _ _ _ h c.next.new.self.passed (heap_items c.next.new.self.heads)
     (λ t. rw c.in-Ok-None.field-0-is at (c.in-Ok-None.ensures.step t)) (end refl).0 (end refl).1 all))
 
 pub returns-in-Ok-None-clause-fault : goal.returns-in-Ok-None-clause-fault
@@ -95,7 +95,7 @@ rows-preserved g c =
     let start = g.O.Output.told c.args.output.now in
     record {
       lawful = rw c.reuse.ensures c.in-Ok-Some.ensures.lawful;
-      put = rw c.reuse.ensures (put-more (boxed_tells g.R.Read.remaining) boxed_copies (boxed_reading g.R.Read.remaining) c.args.sources.items start c.args.block c.rows.merge.passed (heap_items c.rows.merge.heads) c.rows.block (g.O.Output.told c.rows.output) c.rows.invariant.put c.next.new.self.passed
+      put = rw c.reuse.ensures (put-more c.args.delimiter (boxed_tells g.R.Read.remaining) boxed_copies (boxed_reading g.R.Read.remaining) c.args.sources.items start c.args.block c.rows.merge.passed (heap_items c.rows.merge.heads) c.rows.block (g.O.Output.told c.rows.output) c.rows.invariant.put c.next.new.self.passed
           c.in-Ok-Some.placed (heap_items c.next.new.self.heads) c.add_row.new.block (g.O.Output.told c.add_row.new.output) c.in-Ok-Some.ensures.tells
           (λ t. rw c.in-Ok-Some.field-0-is at (c.in-Ok-Some.ensures.step t)) (λ text t. c.in-Ok-add_row.ensures.told start text t));
       among = rw c.reuse.ensures (λ numbers all. c.in-Ok-Some.ensures.among numbers (c.rows.invariant.among numbers all));

@@ -7,7 +7,7 @@ use Rattle.rj_merge.proofs.fields.Fields.write.Goals as goal
 
 pub loop-i-init : goal.loop-i-init
 loop-i-init c = record {
-  written = λ text h. ([], kept-none c.as_ref-whole.result.now.columns (fields_of c.as_ref-whole.result.now.fields), h);
+  written = λ d text h. ([], kept-none c.as_ref-whole.result.now.columns (fields_of c.as_ref-whole.result.now.fields), h);
   end = c.len-i-end.ensures;
 }
 
@@ -19,8 +19,8 @@ loop-i-preserved-then-holds_place c =
     let fields = fields_of c.as_ref-whole.result.now.fields in
     let inside : c.loop-i.i < length fields = omega (arith, c.loop-i.invariant.end, c.loop-i-test.true) in
     record {
-      written = λ text h.
-          let so_far = c.loop-i.invariant.written text h in
+      written = λ d text h.
+          let so_far = c.loop-i.invariant.written d text h in
           (so_far.0, kept-place c.as_ref-whole.result.now.columns c.loop-i.i fields so_far.0 inside (sym c.holds_place.ensures ∙ c.if-holds_place.true) so_far.1, so_far.2);
       end = c.loop-i.invariant.end;
     }
@@ -32,13 +32,13 @@ loop-i-preserved c =
     let bound : c.loop-i.i < 2 ^ 64 - 1 = search rules in
     let field = field-get fields c.loop-i.i c.in-Some.field.now (sym c.in-Some.ensures.value) in
     record {
-      written = λ text h.
-          let so_far = c.loop-i.invariant.written text h in
+      written = λ d text h.
+          let so_far = c.loop-i.invariant.written d text h in
           let few = so_far.1.few in
           let room : length so_far.0 < 2 ^ 64 - 1 = omega arith in (
             so_far.0 ++ c.in-Some.field.now ∷ [],
             kept-field c.as_ref-whole.result.now.columns c.loop-i.i fields so_far.0 c.in-Some.field.now inside field (sym c.holds_place.ensures ∙ c.if-holds_place.false) so_far.1,
-            c.in_ok-write_field.ensures text so_far.0 room so_far.2,
+            c.in_ok-write_field.ensures d text so_far.0 room so_far.2,
           );
       end = c.loop-i.invariant.end;
     }
@@ -47,7 +47,7 @@ pub returns : goal.returns
 returns c =
     let fields = fields_of c.as_ref-whole.result.now.fields in
     let all = kept-all c.as_ref-whole.result.now.columns c.loop-i.i fields in
-    λ text h.
-    let so_far = c.loop-i.invariant.written text h in
+    λ d text h.
+    let so_far = c.loop-i.invariant.written d text h in
     let same = all so_far.0 (omega (arith, c.loop-i.invariant.end, c.loop-i-test.false)) so_far.1 ∙ ap (λ w. others w.columns (fields_of w.fields)) c.as_ref-whole.ensures ∙ c.self.view_is in
-    rw (← same) (c.end_record.ensures text so_far.0 so_far.2)
+    rw (← same) (c.end_record.ensures d text so_far.0 so_far.2)

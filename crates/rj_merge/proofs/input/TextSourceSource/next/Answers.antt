@@ -17,13 +17,13 @@ pub returns-in-Ok-None-clause-gives : goal.returns-in-Ok-None-clause-gives
 returns-in-Ok-None-clause-gives g c = λ t.
     let end = rw c.in-Ok-None.field-0-is at c.in-Ok-None.ensures.end in
     let last = end refl (c.rows.invariant.tells t) in
-    let none = within-none c.rows.self.how (records_reading g.R.Read.remaining c.rows.self) None last.0 last.1 in
+    let none = within-none c.rows.self.how.now (records_reading g.R.Read.remaining c.rows.self) None last.0 last.1 in
     (c.rows.invariant.rows t ∙ none.0, c.rows.invariant.fault t ∙ none.1)
 
 pub returns-in-Err-clause-gives : goal.returns-in-Err-clause-gives
 returns-in-Err-clause-gives g c = λ t out.
     let last = c.in-Err.ensures.fault out (c.rows.invariant.tells t) in
-    let none = within-none c.rows.self.how (records_reading g.R.Read.remaining c.rows.self) (Some c.in-Err.e) last.0 last.1 in
+    let none = within-none c.rows.self.how.now (records_reading g.R.Read.remaining c.rows.self) (Some c.in-Err.e) last.0 last.1 in
     (c.rows.invariant.rows t ∙ none.0, c.rows.invariant.fault t ∙ none.1)
 
 pub returns-then-not-is_before-clause-gives : goal.returns-then-not-is_before-clause-gives
@@ -32,8 +32,8 @@ returns-then-not-is_before-clause-gives g c = λ t.
     let step = some (c.rows.invariant.tells t) in
     let s = c.rows.self in
     let now = c.next_place.new.self in
-    let past = sym (same_before now.how s.how c.in-Ok-Some.place c.in-Ok-Some.ensures.how) ∙ (sym c.is_before.ensures ∙ c.if-not-is_before.true) in
-    let end = within-end s.how (records_reading g.R.Read.remaining s) record { place = c.in-Ok-Some.place; row = others s.columns (fields_of c.next_place.new.fields) } (records_reading g.R.Read.remaining now).rows step.0 past in
+    let past = sym (same_before now.how.now s.how.now c.in-Ok-Some.place c.in-Ok-Some.ensures.how) ∙ (sym c.is_before.ensures ∙ c.if-not-is_before.true) in
+    let end = within-end s.how.now (records_reading g.R.Read.remaining s) record { place = c.in-Ok-Some.place; row = others s.columns (fields_of c.next_place.new.fields) } (records_reading g.R.Read.remaining now).rows step.0 past in
     (c.rows.invariant.rows t ∙ end.0, c.rows.invariant.fault t ∙ end.1)
 
 pub rows-preserved : goal.rows-preserved
@@ -44,17 +44,17 @@ rows-preserved g c =
     let now = c.next_place.new.self in
     let old = records_reading g.R.Read.remaining s in
     let new = records_reading g.R.Read.remaining now in
-    let before = sym (same_before now.how s.how c.in-Ok-Some.place c.in-Ok-Some.ensures.how) ∙ (sym c.is_before.ensures ∙ c.if-not-is_before.false) in
-    let below = sym (same_from now.how s.how c.in-Ok-Some.place c.in-Ok-Some.ensures.how) ∙ (sym c.is_from.ensures ∙ c.if-is_from.false) in
-    let same = same_within now.how s.how new c.in-Ok-Some.ensures.how in
+    let before = sym (same_before now.how.now s.how.now c.in-Ok-Some.place c.in-Ok-Some.ensures.how) ∙ (sym c.is_before.ensures ∙ c.if-not-is_before.false) in
+    let below = sym (same_from now.how.now s.how.now c.in-Ok-Some.place c.in-Ok-Some.ensures.how) ∙ (sym c.is_from.ensures ∙ c.if-is_from.false) in
+    let same = same_within now.how.now s.how.now new c.in-Ok-Some.ensures.how in
     record {
       tells = λ t. c.in-Ok-Some.ensures.tells (c.rows.invariant.tells t);
       rows = λ t.
           let step = some (c.rows.invariant.tells t) in
-          c.rows.invariant.rows t ∙ ((within-below s.how old new record { place = c.in-Ok-Some.place; row = others s.columns (fields_of c.next_place.new.fields) } step.0 step.1 before below).0 ∙ ap (λ (r : Reading (List (List ℕ))). r.rows) same);
+          c.rows.invariant.rows t ∙ ((within-below s.how.now old new record { place = c.in-Ok-Some.place; row = others s.columns (fields_of c.next_place.new.fields) } step.0 step.1 before below).0 ∙ ap (λ (r : Reading (List (List ℕ))). r.rows) same);
       fault = λ t.
           let step = some (c.rows.invariant.tells t) in
-          c.rows.invariant.fault t ∙ ((within-below s.how old new record { place = c.in-Ok-Some.place; row = others s.columns (fields_of c.next_place.new.fields) } step.0 step.1 before below).1 ∙ ap (λ (r : Reading (List (List ℕ))). r.fault) same);
+          c.rows.invariant.fault t ∙ ((within-below s.how.now old new record { place = c.in-Ok-Some.place; row = others s.columns (fields_of c.next_place.new.fields) } step.0 step.1 before below).1 ∙ ap (λ (r : Reading (List (List ℕ))). r.fault) same);
       columns = ap (λ (w : WholeRow). w.columns) c.as_mut.ensures.value ∙ c.rows.invariant.columns ∙ sym c.in-Ok-Some.ensures.columns;
       copies = c.in-Ok-Some.ensures.copies ∙ c.rows.invariant.copies;
       number = c.in-Ok-Some.ensures.number ∙ c.rows.invariant.number;
@@ -72,12 +72,12 @@ returns-then-is_from-clause-gives g c = λ t.
     let fields = fields_of c.next_place.new.fields in
     let old = records_reading g.R.Read.remaining s in
     let new = records_reading g.R.Read.remaining now in
-    let before = sym (same_before now.how s.how c.in-Ok-Some.place c.in-Ok-Some.ensures.how) ∙ (sym c.is_before.ensures ∙ c.if-not-is_before.false) in
-    let from = sym (same_from now.how s.how c.in-Ok-Some.place c.in-Ok-Some.ensures.how) ∙ (sym c.is_from.ensures ∙ c.if-is_from.true) in
-    let same = same_within now.how s.how new c.in-Ok-Some.ensures.how in
+    let before = sym (same_before now.how.now s.how.now c.in-Ok-Some.place c.in-Ok-Some.ensures.how) ∙ (sym c.is_before.ensures ∙ c.if-not-is_before.false) in
+    let from = sym (same_from now.how.now s.how.now c.in-Ok-Some.place c.in-Ok-Some.ensures.how) ∙ (sym c.is_from.ensures ∙ c.if-is_from.true) in
+    let same = same_within now.how.now s.how.now new c.in-Ok-Some.ensures.how in
     let step = some (c.rows.invariant.tells t) in
     let named : c.without_place-row.result ≡ others s.columns fields = c.without_place-row.ensures ∙ ap (λ k. others k fields) (ap (λ (w : WholeRow). w.columns) c.as_mut.ensures.value ∙ c.rows.invariant.columns) in
-    let found = within-row s.how old new record { place = c.in-Ok-Some.place; row = others s.columns fields } step.0 step.1 before from in (
+    let found = within-row s.how.now old new record { place = c.in-Ok-Some.place; row = others s.columns fields } step.0 step.1 before from in (
       c.rows.invariant.rows t ∙ (found.0 ∙ (λ u. record { place = c.in-Ok-Some.place; row = sym named u } ∷ (same u).rows)),
       c.rows.invariant.fault t ∙ (found.1 ∙ ap (λ (r : Reading (List (List ℕ))). r.fault) same),
     )

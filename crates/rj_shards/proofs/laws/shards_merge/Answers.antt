@@ -1,5 +1,5 @@
 use Rattle.rj_shards.proofs.ShardFacts.{merged, only}
-use Rattle.rj_shards.proofs.joins.shards_merge.Goals as goal
+use Rattle.rj_shards.proofs.laws.shards_merge.Goals as goal
 
 pub returns-clause-merge : goal.returns-clause-merge
 returns-clause-merge c = merged
