@@ -63,6 +63,7 @@ status_of fault.MatchedLeftColumns = 2
 status_of fault.BadSelect = 2
 status_of fault.SelectedTwice = 2
 status_of fault.CountedChoice = 2
+status_of fault.QuietTwice = 2
 status_of fault.BadSuffix = 2
 status_of (fault.NoHeader side) = 3
 status_of (fault.BadName side column) = 3

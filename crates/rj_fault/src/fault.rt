@@ -73,6 +73,9 @@ pub enum Fault {
     /// The rows are to be counted, and an option chooses some of them.
     #[error("radixjoin: --count excludes --rows, --anti, --semi, --columns, --select and --order")]
     CountedChoice,
+    /// Nothing but errors is to be printed on standard error, and explanations or the progress too.
+    #[error("radixjoin: --quiet excludes --explain and --progress")]
+    QuietTwice,
     /// A text to be added to a repeated name has no byte, or more than 16.
     #[error("radixjoin: bad suffix of repeated names")]
     BadSuffix,
@@ -277,6 +280,7 @@ impl Fault {
             | Fault::BadSelect
             | Fault::SelectedTwice
             | Fault::CountedChoice
+            | Fault::QuietTwice
             | Fault::BadSuffix
             | Fault::TwoStandardInputs => 2,
             Fault::NoHeader(_)

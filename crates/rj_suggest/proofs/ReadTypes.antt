@@ -15,7 +15,7 @@ use Rattle.rj_types.specs.Columns as columns
 use Rattle.rj_types.specs.Columns.{first_kind, kind_of, label_fault, name_fault_behind, names, or_else, types_under}
 use Rattle.rj_types.specs.declared.entry.TypeEntry.{TypeEntry}
 use Rattle.rj_types.specs.Lists.{IsTypeList, is_rest}
-use Rattle.rj_types.proofs.LabelFacts.{not_empty}
+use Rattle.rj_types.proofs.NameFacts.{not_empty}
 use Rattle.rj_suggest.specs.Listed.{list_in}
 use Rattle.rj_suggest.specs.Suggested.{column_lines, entries_of, entry_of, is_identifier}
 use Rattle.rj_suggest.proofs.ReadBack.{AreSome, is_list}

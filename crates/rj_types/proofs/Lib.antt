@@ -1,5 +1,8 @@
 mod EntryFacts
-pub mod LabelFacts
+mod LabelFacts
+pub mod NameFacts
 pub mod NumberFacts
 mod OneList
+mod SelectedFacts
+mod Separated
 mod WordFacts

@@ -1,5 +1,5 @@
 -- A text is one list of types at most.
-use Rattle.std.proofs.Common.{◌≡◌, ◌∙◌, ◌≤◌, ◌++◌, ◌∷◌, [], ℕ, List, Option, Some, None, inl, inr, refl, sym, ap, subst, arith, codes, get_or}
+use Rattle.std.proofs.Common.{◌≡◌, ◌∙◌, ◌≤◌, ◌++◌, ◌∷◌, [], ℕ, List, Option, Some, inl, inr, refl, sym, ap, subst, arith, codes, get_or}
 use Rattle.std.specs.Char.{is_ascii_digit}
 use Rattle.std.specs.Fmt.{decimal}
 use Rattle.std.specs.List.{prefix_len}
@@ -9,11 +9,12 @@ use Rattle.std.proofs.lemmas.List.{append_cancel_left, append_cancel_right}
 use Rattle.rj_columns.specs.declared.cell.ColumnType.{ColumnType}
 use Rattle.rj_columns.specs.declared.cell.ColumnType.TheVariants as kind
 use Rattle.rj_decimal.specs.declared.numeric.NumericType.{NumericType}
-use Rattle.rj_types.specs.Lists.{AreEntries, BeginsEntry, IsTypeList}
+use Rattle.rj_types.specs.Lists.{BeginsEntry, IsEntry, IsTypeList}
 use Rattle.rj_types.specs.Words.{BeginsType, IsTypeWord, before, begin_word, end_word}
 use Rattle.rj_types.specs.declared.entry.Label.{Label}
 use Rattle.rj_types.specs.declared.entry.TypeEntry.{TypeEntry}
 use Rattle.rj_types.proofs.EntryFacts.{entry_split, one_entry}
+use Rattle.rj_types.proofs.Separated.{IsReadOnce, one_separated}
 use Rattle.rj_types.proofs.WordFacts.{before_comma, begin_no_comma, colon_cut, cut_once, end_no_comma, n_is_i, n_is_t, no_paren, not_begun, some_same, type_cut, word_form}
 
 -- a numeric type is its two numbers
@@ -120,19 +121,9 @@ whole_entry e f text r s one two =
     let same : (e.label, a.0) ≡ (f.label, b.0) = sym a.2 ∙ b.2 in
     same_entry e f (ap (λ p. p.0) same) (one_type e.kind f.kind b.0 r s (subst (λ (x : List ℕ). BeginsType e.kind x r) (ap (λ p. p.1) same) a.1) b.1)
 
--- its entries are one
-one_entries : (a b : List TypeEntry) (text : Option (List ℕ)) → AreEntries a text → AreEntries b text → a ≡ b
-one_entries [] [] None one two = refl
-one_entries [] [] (Some text) one two = absurd one
-one_entries [] (f ∷ b) None one two = absurd two
-one_entries [] (f ∷ b) (Some text) one two = absurd one
-one_entries (e ∷ a) [] None one two = absurd one
-one_entries (e ∷ a) [] (Some text) one two = absurd two
-one_entries (e ∷ a) (f ∷ b) None one two = absurd one
-one_entries (e ∷ a) (f ∷ b) (Some text) one two =
-    let rest = (one_entry e f text one.0 two.0 one.1 two.1).1 in
-    ap (λ (x : TypeEntry). x ∷ a) (whole_entry e f text one.0 two.0 one.1 two.1)
-    ∙ ap (λ (x : List TypeEntry). f ∷ x) (one_entries a b two.0 (subst (AreEntries a) rest one.2) two.2)
+-- and with it once
+pub type_once : IsReadOnce IsEntry
+type_once e f text r s one two = (whole_entry e f text r s one two, (one_entry e f text r s one two).1)
 
 pub one_list : (text : List ℕ) (a b : List TypeEntry) → IsTypeList text a → IsTypeList text b → a ≡ b
-one_list text a b one two = one_entries a b (Some text) one.0 two.0
+one_list text a b one two = one_separated IsEntry type_once a b (Some text) one.0 two.0

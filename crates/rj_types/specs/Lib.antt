@@ -2,4 +2,6 @@ pub mod Columns
 pub mod Labels
 pub mod Lists
 pub mod Scanning
+pub mod Selected
+pub mod Separated
 pub mod Words

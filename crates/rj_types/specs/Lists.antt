@@ -1,11 +1,12 @@
 -- Type lists: `int,num(9,2),text` by position, `id=int,"the price"=num(9,2),*=text` by name.
-use Rattle.std.specs.Prelude.{◌≡◌, ◌==◌, ◌&&◌, ◌||◌, nat_le, length, ℕ, Bool, true, false, Option, None, Some, List, [], ◌∷◌, ◌++◌}
+use Rattle.std.specs.Prelude.{◌≡◌, ◌==◌, ◌&&◌, ◌||◌, nat_le, length, ℕ, Bool, true, false, Option, Some, List, ◌++◌}
 use Rattle.std.specs.List.{count_by, list_all}
 use Rattle.rj_types.specs.declared.entry.Label.{Label}
 use Rattle.rj_types.specs.declared.entry.Label.TheVariants.{Name, Place, Rest}
 use Rattle.rj_types.specs.declared.entry.TypeEntry.{TypeEntry}
 use Rattle.rj_types.specs.Labels.{IsLabelText}
-use Rattle.rj_types.specs.Words.{IsTypeWord, before}
+use Rattle.rj_types.specs.Separated.{AreSeparated, Begins}
+use Rattle.rj_types.specs.Words.{IsTypeWord}
 
 -- an entry: perhaps a label, and a type
 abbrev pub IsEntry : TypeEntry → List ℕ → Type 0
@@ -13,14 +14,11 @@ IsEntry e text = (label word : List ℕ) × IsLabelText e.label label × IsTypeW
 
 -- a list begins with this entry, and this much of it is left
 abbrev pub BeginsEntry : TypeEntry → List ℕ → Option (List ℕ) → Type 0
-BeginsEntry e text rest = (first : List ℕ) × IsEntry e first × (text ≡ before first rest)
+BeginsEntry e text rest = Begins IsEntry e text rest
 
--- the entries, separated by commas, of what is left of a list; nothing is left after the last one
+-- the entries of what is left of a list
 abbrev pub AreEntries : List TypeEntry → Option (List ℕ) → Type 0
-AreEntries [] None = Unit {0}
-AreEntries [] (Some text) = ⊥
-AreEntries (e ∷ es) None = ⊥
-AreEntries (e ∷ es) (Some text) = (rest : Option (List ℕ)) × BeginsEntry e text rest × AreEntries es rest
+AreEntries entries text = AreSeparated IsEntry entries text
 
 abbrev pub is_place : Label → Bool
 is_place Place = true

@@ -1,102 +1,19 @@
 //! The label at the front of a list.
 
-ghost use Rattle.std.specs.Prelude.{◌≡◌, ◌<◌, IfOk, None};
-ghost use Rattle.std.specs.List.{list_all, prefix_len};
-ghost use Rattle.rj_condition.specs.Scanning.{quoted, view};
-ghost use Rattle.rj_condition.specs.Tokens.{is_name_byte};
-ghost use Rattle.rj_types.specs.Labels as labels;
+ghost use Rattle.std.specs.Prelude.{◌≡◌, IfOk};
+ghost use Rattle.rj_condition.specs.Scanning.{view};
 ghost use Rattle.rj_types.specs.Scanning as scanning;
-ghost use Rattle.rj_types.specs.Words.{text_of};
 
 use crate::entry::Label;
-use rj_condition::{Name, Word, quoted};
+use crate::name::{behind, name_at};
 use std::alloc::{AllocError, Global};
 
-// What comes after the sign that the text begins with.
-fn behind(sign: u8, text: &str) -> Option<&str>
-    requires { sign < 128 }
-    ensures { text_of result ≡ scanning.behind sign text.now }
-{
-    text.strip_prefix(sign as char)
-}
-
-fn name_byte(byte: u8) -> bool
-    ensures { result ≡ is_name_byte byte }
-{
-    byte.is_ascii_alphanumeric() || byte == b'_'
-}
-
-// How many bytes of a name the text begins with.
-fn word_len(text: &[u8]) -> usize
-    ensures { result ≡ prefix_len is_name_byte text.now }
-{
-    text.iter().take_while(|b| name_byte(**b)).count()
-}
-
-fn are_name_bytes(word: &[u8]) -> bool
-    ensures { result ≡ list_all is_name_byte word.now }
-{
-    word.iter().all(|b| name_byte(*b))
-}
-
-// Whether a word is a regular name. Unlike an identifier of a clause, it may begin with an underscore.
-fn is_regular(word: &[u8]) -> bool
-    ensures { result ≡ labels.is_regular word.now }
-{
-    match word {
-        [] => false,
-        [first, ..] => !first.is_ascii_digit() && are_name_bytes(word),
-    }
-}
-
-// The delimited name and the `=` in front of a text whose first quote was left out.
-fn delimited_at<'t>(alloc: Global, text: &'t str) -> Result<Option<(Label, &'t str)>, AllocError>
-    ensures { IfOk result (λ o. view o ≡ scanning.delimited_at (quoted 34 text.now)) }
-{
-    let Some((name, after)) = quoted(alloc, b'"', text)? else {
-        return Ok(None);
-    };
-    if name.as_str().is_empty() {
-        return Ok(None);
-    }
-    match behind(b'=', after) {
-        Some(rest) => Ok(Some((
-            Label::Name(Name {
-                text: name,
-                delimited: true,
-            }),
-            rest,
-        ))),
-        None => Ok(None),
-    }
-}
-
-// The regular name and the `=` in front of a text.
-fn regular_at<'t>(alloc: Global, text: &'t str) -> Result<Option<(Label, &'t str)>, AllocError>
-    ensures { IfOk result (λ o. view o ≡ scanning.label_by None None text.now) }
-{
-    let (front, after) = text.split_at(word_len(text.as_bytes()));
-    if !is_regular(front.as_bytes()) {
-        return Ok(None);
-    }
-    match behind(b'=', after) {
-        Some(rest) => Ok(Some((
-            Label::Name(Name {
-                text: Word::new(alloc, front)?,
-                delimited: false,
-            }),
-            rest,
-        ))),
-        None => Ok(None),
-    }
-}
-
-// The `=` after a `*`.
-fn rest_at(text: &str) -> Option<(Label, &str)>
-    ensures { view result ≡ scanning.labelled Label.Rest (scanning.behind 61 text.now) }
+// A label in front of a text that begins with `=`.
+fn labelled<'t>(label: Label, text: &'t str) -> Option<(Label, &'t str)>
+    ensures { view result ≡ scanning.labelled label (scanning.behind 61 text.now) }
 {
     match behind(b'=', text) {
-        Some(rest) => Some((Label::Rest, rest)),
+        Some(rest) => Some((label, rest)),
         None => None,
     }
 }
@@ -104,10 +21,12 @@ fn rest_at(text: &str) -> Option<(Label, &str)>
 fn label_in<'t>(alloc: Global, text: &'t str) -> Result<Option<(Label, &'t str)>, AllocError>
     ensures { IfOk result (λ o. view o ≡ scanning.label_in text.now) }
 {
-    match (behind(b'"', text), behind(b'*', text)) {
-        (Some(quoting), _) => delimited_at(alloc, quoting),
-        (None, Some(rest)) => Ok(rest_at(rest)),
-        (None, None) => regular_at(alloc, text),
+    if let Some((name, after)) = name_at(alloc, text)? {
+        return Ok(labelled(Label::Name(name), after));
+    }
+    match behind(b'*', text) {
+        Some(rest) => Ok(labelled(Label::Rest, rest)),
+        None => Ok(None),
     }
 }
 

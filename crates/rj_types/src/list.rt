@@ -1,7 +1,7 @@
 //! Reading a type list. A function without a body is a law: its contract is a theorem about all
 //! texts.
 
-ghost use Rattle.std.specs.Prelude.{◌≡◌, ◌&&◌, true, IfOk, List, ℕ, Option, MatchOption, Some, map};
+ghost use Rattle.std.specs.Prelude.{◌≡◌, ◌&&◌, true, IfOk, List, ℕ, Option, MatchOption, Some};
 ghost use Rattle.std.specs.List.{count_by, list_all};
 ghost use Rattle.rj_types.specs.Lists as lists;
 ghost use Rattle.rj_types.specs.Lists.{AreEntries, BeginsEntry, IsSharedList, IsTypeList, is_name, is_place, is_rest};
@@ -27,9 +27,7 @@ fn entry_at(alloc: Global, text: &str) -> Result<Option<(TypeEntry, Option<&str>
 
 // The entries of the whole text.
 fn read_entries(alloc: Global, text: &str) -> Result<Option<Vec<TypeEntry>>, AllocError>
-    ensures { IfOk result (λ o. MatchOption o ((all : List TypeEntry) → AreEntries all (Some text.now) → ⊥)
-        (λ v. AreEntries v.items (Some text.now)
-        × ((all : List TypeEntry) → AreEntries all (Some text.now) → map (λ e. e.label) all ≡ map (λ e. e.label) v.items))) }
+    ensures { IfOk result (λ o. MatchOption o ((all : List TypeEntry) → AreEntries all (Some text.now) → ⊥) (λ v. AreEntries v.items (Some text.now))) }
 {
     let mut entries = Vec::new(alloc);
     let mut left = text;

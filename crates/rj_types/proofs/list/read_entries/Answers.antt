@@ -1,8 +1,9 @@
-use Rattle.std.proofs.Common.{List, ℕ, Option, Some, None, rules, subst}
+use Rattle.std.proofs.Common.{Option, Some, None, List, ℕ, rules, subst}
 use Rattle.std.specs.Borrow.{Bor}
-use Rattle.rj_types.specs.Lists.{BeginsEntry}
+use Rattle.rj_types.specs.Lists.{BeginsEntry, IsEntry}
 use Rattle.rj_types.specs.Words.{text_of}
-use Rattle.rj_types.proofs.EntryFacts.{none_whole, only_end, only_more, sound_end, sound_more}
+use Rattle.rj_types.proofs.OneList.{type_once}
+use Rattle.rj_types.proofs.Separated.{none_whole, only_more, sound_end, sound_more}
 use Rattle.rj_types.proofs.list.read_entries.Goals as goal
 
 pub loop-entries-preserved : goal.loop-entries-preserved
@@ -12,23 +13,19 @@ loop-entries-preserved c =
     subst (λ (r : Option (Bor (List ℕ))). BeginsEntry c.in-Some.entry c.loop-entries.left.now (text_of r)) c.in-Some-rest.is begun in
     record {
       text = search rules;
-      sound = sound_more c.args.text.now c.loop-entries.left.now c.in-Some-rest.more.now c.loop-entries.entries.items c.push.new.self.items c.in-Some.entry
+      sound = sound_more IsEntry c.args.text.now c.loop-entries.left.now c.in-Some-rest.more.now c.loop-entries.entries.items c.push.new.self.items c.in-Some.entry
           c.in_ok-push-in-Some.ensures.items c.loop-entries.invariant.sound begins;
-      only = only_more c.args.text.now c.loop-entries.left.now c.in-Some-rest.more.now c.loop-entries.entries.items c.push.new.self.items c.in-Some.entry
-          c.in_ok-push-in-Some.ensures.items c.loop-entries.invariant.only begins;
+      only = only_more IsEntry type_once c.args.text.now c.loop-entries.left.now c.in-Some-rest.more.now c.in-Some.entry c.loop-entries.invariant.only begins;
     }
 
 pub returns-in-None-rest : goal.returns-in-None-rest
 returns-in-None-rest c =
     let begun = rw c.in-Some.is at c.in_ok-entry.ensures in
     let begins : BeginsEntry c.in-Some.entry c.loop-entries.left.now None =
-    subst (λ (r : Option (Bor (List ℕ))). BeginsEntry c.in-Some.entry c.loop-entries.left.now (text_of r)) c.in-None-rest.is begun in (
-      sound_end c.args.text.now c.loop-entries.left.now c.loop-entries.entries.items c.push.new.self.items c.in-Some.entry c.in_ok-push-in-Some.ensures.items
-          c.loop-entries.invariant.sound begins,
-      only_end c.args.text.now c.loop-entries.left.now c.loop-entries.entries.items c.push.new.self.items c.in-Some.entry c.in_ok-push-in-Some.ensures.items
-          c.loop-entries.invariant.only begins,
-    )
+    subst (λ (r : Option (Bor (List ℕ))). BeginsEntry c.in-Some.entry c.loop-entries.left.now (text_of r)) c.in-None-rest.is begun in
+    sound_end IsEntry c.args.text.now c.loop-entries.left.now c.loop-entries.entries.items c.push.new.self.items c.in-Some.entry
+    c.in_ok-push-in-Some.ensures.items c.loop-entries.invariant.sound begins
 
 pub returns-in-None : goal.returns-in-None
 returns-in-None c =
-    none_whole c.args.text.now c.loop-entries.left.now c.loop-entries.entries.items c.loop-entries.invariant.only (rw c.in-None.is at c.in_ok-entry.ensures)
+    none_whole IsEntry c.args.text.now c.loop-entries.left.now c.loop-entries.invariant.only (rw c.in-None.is at c.in_ok-entry.ensures)

@@ -1,11 +1,12 @@
 use Rattle.std.proofs.Common.{length}
 use denote.Text.{Utf8}
 use denote.Shadow.{shadow}
-use Rattle.rj_types.proofs.EntryFacts.{Only, Sound}
+use Rattle.rj_types.specs.Lists.{IsEntry}
+use Rattle.rj_types.proofs.Separated.{Only, Sound}
 use Rattle.rj_types.proofs.list.read_entries.Given as goal
 
 abbrev pub invariant-loop-entries : goal.invariant-loop-entries
-invariant-loop-entries l = record { text : shadow (Utf8 l.left); sound : Sound l.text l.entries.items l.left; only : Only l.text l.entries.items l.left }
+invariant-loop-entries l = record { text : shadow (Utf8 l.left); sound : Sound IsEntry l.text l.entries.items l.left; only : Only IsEntry l.text l.left }
 
 abbrev pub decreases-loop-entries : goal.decreases-loop-entries
 decreases-loop-entries l = length l.left

@@ -1,9 +1,11 @@
-use Rattle.std.proofs.Common.{◌∙◌, ap, sym}
-use Rattle.rj_types.specs.Lists.{are_alike}
-use Rattle.rj_types.proofs.EntryFacts.{not_alike}
+use Rattle.std.proofs.Common.{◌≡◌, ◌∙◌, ap, sym, Some, true≢false}
+use Rattle.rj_types.specs.Lists.{IsEntry, are_alike}
+use Rattle.rj_types.proofs.OneList.{type_once}
+use Rattle.rj_types.proofs.Separated.{one_separated}
 use Rattle.rj_types.proofs.list.read_list.Goals as goal
 
 pub returns-else-are_alike : goal.returns-else-are_alike
-returns-else-are_alike c =
+returns-else-are_alike c = λ entries is.
     let read = rw c.in-Some.is at c.in_ok-entries.ensures in
-    not_alike c.args.text.now c.in-Some.entries.items read.1 (ap are_alike (sym c.as_slice.ensures.value) ∙ (sym c.are_alike.ensures ∙ c.if-are_alike.false))
+    let same : entries ≡ c.in-Some.entries.items = one_separated IsEntry type_once entries c.in-Some.entries.items (Some c.args.text.now) is.0 read in
+    true≢false (sym is.1 ∙ (ap are_alike (same ∙ sym c.as_slice.ensures.value) ∙ (sym c.are_alike.ensures ∙ c.if-are_alike.false)))

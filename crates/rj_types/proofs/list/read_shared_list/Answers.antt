@@ -1,4 +1,4 @@
-use Rattle.std.proofs.Common.{◌≡◌, ◌∙◌, ap, sym, true, false, true≢false, List}
+use Rattle.std.proofs.Common.{◌≡◌, ◌∙◌, ap, sym, true≢false, List}
 use Rattle.std.specs.List.{list_all}
 use Rattle.rj_types.specs.Lists.{is_name}
 use Rattle.rj_types.specs.declared.entry.TypeEntry.{TypeEntry}
