@@ -24,6 +24,8 @@ pub mod Distinct
 pub mod NamingFacts
 pub mod KeyOrder
 pub mod ChosenFacts
+pub mod SelectedFacts
+pub mod SelectedNames
 pub mod Repeats
 pub mod GroupFacts
 pub mod RunFacts

@@ -32,7 +32,7 @@ use Rattle.rj_engine.specs.Chosen.{chosen_columns, chosen_header}
 use Rattle.rj_engine.proofs.ChosenFacts.{chosen-columns-there}
 use Rattle.rj_settings.specs.declared.choice.Choice.{Choice}
 
-abbrev Names : Type 0
+abbrev pub Names : Type 0
 Names = List (List ℕ)
 
 same_bool : (a b : Bool) → (a ≡ true → b ≡ true) → (b ≡ true → a ≡ true) → a ≡ b
@@ -144,7 +144,7 @@ pub fold_err : (repeated : Repeated) (header rest : Names) (e : NamingRefused) �
 fold_err repeated header [] e = refl
 fold_err repeated header (name ∷ rest) e = fold_err repeated header rest e
 
-fault_behind : (seen tail : Names) (name : List ℕ) → is_name name ≡ true → is_among seen name ≡ false → name_fault (seen ++ name ∷ []) tail ≡ None
+pub fault_behind : (seen tail : Names) (name : List ℕ) → is_name name ≡ true → is_among seen name ≡ false → name_fault (seen ++ name ∷ []) tail ≡ None
     → name_fault seen (name ∷ tail) ≡ None
 unfolding name_fault
 fault_behind seen tail name good fresh rest = rw (good, fresh) rest
@@ -292,7 +292,7 @@ pub renamed_all : (repeated : Repeated) (header written : Names) (column : ℕ) 
 unfolding renamed_behind
 renamed_all repeated header written column high = ap (fold (with_next repeated header) (Ok written)) (drop_all column header high)
 
-abbrev IsName : List ℕ → Type 0
+abbrev pub IsName : List ℕ → Type 0
 IsName n = is_name n ≡ true
 
 -- names without a fault are names
@@ -329,8 +329,8 @@ header_named join l r bound left right =
 -- and so are those of the columns that are chosen
 pub chosen_named : (choice : Choice) (join : BoundJoin) (l r : TableValue) → fits join l.types r.types ≡ true → HasLawfulNames l → HasLawfulNames r → All IsName (chosen_header choice join l r)
 chosen_named choice join l r bound left right =
-    All-map IsName (name_of l r) (chosen_columns choice join r)
-    (All-weaker (IsColumnOf l r) (λ (o : Origin). IsName (name_of l r o)) (origin_named l r left right) (chosen_columns choice join r) (chosen-columns-there choice join l r bound))
+    All-map IsName (name_of l r) (chosen_columns choice join l r)
+    (All-weaker (IsColumnOf l r) (λ (o : Origin). IsName (name_of l r o)) (origin_named l r left right) (chosen_columns choice join l r) (chosen-columns-there choice join l r bound))
 
 among_from : {X : Type 0} (f : X → List ℕ) (names : List X) (name : List ℕ) (i : ℕ) (d : X) → i < length names
     → is_among (map f (drop i names)) name ≡ (str_eq_ignore_ascii_case name (f (slice_index_or names i d)) || is_among (map f (drop (i + 1) names)) name)

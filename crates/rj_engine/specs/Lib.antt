@@ -11,6 +11,7 @@ pub mod Pools
 pub mod Once
 pub mod Expected
 pub mod Naming
+pub mod Selected
 pub mod Chosen
 pub mod Shown
 pub mod Violations

@@ -3,6 +3,7 @@
 
 mod cells;
 mod choices;
+mod chosen_columns;
 mod chosen_rows;
 mod closes;
 mod collecting;
@@ -36,13 +37,16 @@ pub use gathering::gather;
 pub use groups::{Group, KeyReport};
 pub use joined::{Joined, JoinedRow, Rows};
 pub use marks::unmatched;
-pub use naming::{NamingRefused, header_names_are_lawful, written_names, written_names_are_lawful};
+pub use naming::{
+    NamingRefused, chosen_names, header_names_are_lawful, written_names, written_names_are_lawful,
+};
 pub use nested_loops::nested_loop;
 pub use once::keyed_rows_stand_once;
 pub use partitions::run_join;
 pub use reporting::{JoinReport, report};
 pub use rj_settings::{
-    Choice, ColumnChoice, Expectation, Matching, Repeated, RowKinds, RowOrder, Settings,
+    Choice, ColumnChoice, Expectation, Matching, Repeated, RowKinds, RowOrder, SelectedColumn,
+    Settings, Source,
 };
 pub use rj_workers::{Gate, OpenGate, Place};
 pub use run_view::RunView;

@@ -8,10 +8,16 @@ ghost use Rattle.rj_columns.specs.Tables.{TableValue};
 ghost use Rattle.rj_condition.specs.Fits.{fits};
 ghost use Rattle.rj_condition.specs.declared.bound.BoundJoin.{BoundJoin};
 ghost use Rattle.rj_settings.specs.declared.choice.Repeated.{Repeated};
-ghost use Rattle.rj_engine.specs.Cells.{header_of};
+ghost use Rattle.rj_engine.specs.Cells.{IsColumnOf, header_of, name_of};
 ghost use Rattle.rj_engine.specs.Naming.{HasLawfulNames, free_name, is_among, is_free, next_name, renamed, with_mark, written_names};
+ghost use Rattle.rj_engine.specs.Naming.{chosen_names, if_free, name_of_entry, new_or_own, selected_names};
 
-use rj_settings::Repeated;
+use crate::chosen_columns::column_of_entry;
+use crate::origin::{Origin, name_at};
+use crate::view::chosen_header;
+use rj_columns::Table;
+use rj_condition::BoundJoin;
+use rj_settings::{Choice, ColumnChoice, Repeated, SelectedColumn};
 use std::alloc::{AllocError, Global};
 
 const MAX_NAME: usize = 128;
@@ -24,6 +30,9 @@ pub enum NamingRefused {
     /// The name of this column, counted from 1, repeats an earlier one, and with any number of
     /// marks it is longer than 128 bytes or the same as another name.
     NoFreeName(u64),
+    /// This entry of a list of columns, counted from 1, means no column, or its name can't be
+    /// written: it has no byte or more than 128, or it repeats the name of an earlier entry.
+    SelectedName(u64),
     /// Out of memory.
     Memory,
 }
@@ -202,6 +211,107 @@ pub fn written_names(
     match repeated {
         Repeated::Kept => Ok(own_names(alloc, header)?),
         Repeated::Qualified | Repeated::Suffixed(_) => renamed(alloc, header, repeated),
+    }
+}
+
+// The name under which an entry's column is written: its new one, or else the column's own.
+fn new_or_own<'a>(
+    left: &'a Table,
+    right: &'a Table,
+    origin: Origin,
+    entry: &'a SelectedColumn,
+) -> &'a str
+    requires { IsColumnOf left.now right.now origin }
+    ensures { result.now ≡ new_or_own entry.now.written (name_of left.now right.now origin) }
+{
+    match &entry.written {
+        Some(name) => name.text.as_str(),
+        None => name_at(left, right, origin),
+    }
+}
+
+// The name of an entry's column. None if the entry means no column, or if the name can't be written after those that were.
+fn next_selected(
+    alloc: Global,
+    left: &Table,
+    right: &Table,
+    join: &BoundJoin,
+    written: &[String],
+    entry: &SelectedColumn,
+) -> Result<Option<String>, AllocError>
+    requires { fits join.now left.now.types right.now.types ≡ true }
+    ensures { IfOk result (λ o. option_map string_bytes o
+        ≡ if_free (map string_bytes written.now) (name_of_entry join.now left.now right.now entry.now)) }
+{
+    let Some(origin) = column_of_entry(alloc, left, right, join, entry)? else {
+        return Ok(None);
+    };
+    let name = new_or_own(left, right, origin, entry);
+    if is_free(&[], written, name) {
+        Ok(Some(String::from_str(alloc, name)?))
+    } else {
+        Ok(None)
+    }
+}
+
+// The names that a list writes, in its order.
+fn selected_names(
+    alloc: Global,
+    left: &Table,
+    right: &Table,
+    join: &BoundJoin,
+    entries: &[SelectedColumn],
+) -> Result<Vec<String>, NamingRefused>
+    requires { fits join.now left.now.types right.now.types ≡ true }
+    ensures names { IfOk result (λ v. selected_names join.now left.now right.now entries.now ≡ Ok (map string_bytes v.items)) }
+    ensures fault { IfErr result (λ e. e ≢ NamingRefused.Memory → selected_names join.now left.now right.now entries.now ≡ Err e) }
+{
+    let mut written = Vec::with_capacity(alloc, entries.len())?;
+    for number in 0..entries.len() {
+        match next_selected(
+            alloc,
+            left,
+            right,
+            join,
+            written.as_slice(),
+            &entries[number],
+        )? {
+            Some(name) => add_name(&mut written, name)?,
+            None => return Err(NamingRefused::SelectedName(number as u64 + 1)),
+        }
+    }
+    Ok(written)
+}
+
+/// The names under which the chosen columns of the joined table of these tables are written. The
+/// join was bound to them. A list of columns has the names of its entries: new ones, or else the
+/// columns' own. All other columns have the names that `written_names` gives to those of
+/// `chosen_header`.
+///
+/// # Errors
+///
+/// Of a list `SelectedName` with its first entry that means no column, or whose name has no byte,
+/// more than 128, or repeats the name of an earlier entry, ignoring ASCII case. Else `NoFreeName`,
+/// as `written_names`. `Memory` only when memory ran out.
+pub fn chosen_names(
+    alloc: Global,
+    left: &Table,
+    right: &Table,
+    join: &BoundJoin,
+    choice: &Choice<'_>,
+) -> Result<Vec<String>, NamingRefused>
+    requires { fits join.now left.now.types right.now.types ≡ true }
+    ensures names { IfOk result (λ v. chosen_names choice.now join.now left.now right.now ≡ Ok (map string_bytes v.items)) }
+    ensures fault { IfErr result (λ e. e ≢ NamingRefused.Memory → chosen_names choice.now join.now left.now right.now ≡ Err e) }
+{
+    match &choice.columns {
+        ColumnChoice::Selected(entries) => {
+            selected_names(alloc, left, right, join, entries.as_slice())
+        }
+        ColumnChoice::All | ColumnChoice::Left | ColumnChoice::Right => {
+            let own = chosen_header(alloc, left, right, join, choice)?;
+            written_names(alloc, own.as_slice(), choice.repeated)
+        }
     }
 }
 

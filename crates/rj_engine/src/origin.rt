@@ -3,11 +3,11 @@
 ghost use Rattle.std.specs.Prelude.{◌≡◌, ◌++◌, ◌∷◌, [], IfOk, OnOk, filter, if◌then◌else◌, map};
 ghost use Rattle.std.specs.List.{list_any};
 ghost use Rattle.rj_condition.specs.Joins.{pairs_of};
-ghost use Rattle.rj_engine.specs.Chosen.{is_of_columns};
+ghost use Rattle.rj_engine.specs.Cells.{IsColumnOf, name_of};
 ghost use Rattle.rj_engine.specs.Origins.{is_column, other_lefts, other_rights, origins_of};
 ghost use Rattle.rj_engine.specs.declared.origin.Origin.TheVariants as origin;
 
-use rj_settings::ColumnChoice;
+use rj_columns::Table;
 use std::alloc::{AllocError, Global};
 
 /// Where a column of a joined table comes from: a pair of join columns, the left one first, or one column of one
@@ -36,32 +36,16 @@ pub(crate) fn origins(
     Ok(found)
 }
 
-// Whether a column is written. A coalesced one belongs to both tables.
-fn is_of_columns(columns: ColumnChoice, origin: Origin) -> bool
-    ensures { result ≡ is_of_columns columns origin }
+/// The name of a column. A join column has the left table's name.
+pub(crate) fn name_at<'a>(left: &'a Table, right: &'a Table, origin: Origin) -> &'a str
+    requires { IsColumnOf left.now right.now origin }
+    ensures { result.now ≡ name_of left.now right.now origin }
 {
-    match (columns, origin) {
-        (ColumnChoice::All, _) => true,
-        (_, Origin::Coalesced(_, _)) => true,
-        (ColumnChoice::Left, Origin::Left(_)) => true,
-        (ColumnChoice::Left, Origin::Right(_)) => false,
-        (ColumnChoice::Right, Origin::Left(_)) => false,
-        (ColumnChoice::Right, Origin::Right(_)) => true,
+    match origin {
+        Origin::Coalesced(a, _) => left.name(a),
+        Origin::Left(a) => left.name(a),
+        Origin::Right(b) => right.name(b),
     }
-}
-
-/// Those columns of a joined table that are written, in their order.
-pub(crate) fn chosen_origins(
-    alloc: Global,
-    partners: &[Option<usize>],
-    right_columns: usize,
-    columns: ColumnChoice,
-) -> Result<Vec<Origin>, AllocError>
-    ensures { IfOk result (λ v. v.items ≡ filter (is_of_columns columns) (origins_of partners.now right_columns)) }
-{
-    let mut found = origins(alloc, partners, right_columns)?;
-    found.retain(|origin| is_of_columns(columns, *origin));
-    Ok(found)
 }
 
 // Adds the join columns.

@@ -11,9 +11,10 @@ ghost use Rattle.rj_engine.specs.Shown.{HasColumnsOf, IsShownOf, counted_from, r
 ghost use Rattle.rj_engine.specs.declared.origin.Origin.{Origin};
 
 use crate::cells::{add_coalesced, add_left, add_right};
+use crate::chosen_columns::chosen_origins;
 use crate::chosen_rows::choose_rows;
 use crate::joined::{Joined, JoinedRow, Members};
-use crate::origin::{Origin, chosen_origins, origins};
+use crate::origin::{Origin, origins};
 use rj_columns::{Cell, ColumnType, Table, coalesce, in_scale};
 use rj_condition::BoundJoin;
 use rj_settings::Choice;
@@ -84,7 +85,7 @@ impl Shown {
         ensures there { IfOk result (IsShownOf left.now right.now joined.now.members) }
     {
         let chosen = choose_rows(alloc, joined, left.rows() as u32, choice)?;
-        let origins = chosen_origins(alloc, join.partners(), right.columns(), choice.columns)?;
+        let origins = chosen_origins(alloc, left, right, join, &choice.columns)?;
         let scales = scales_of(alloc, left, right, &origins)?;
         Ok(Shown {
             chosen,

@@ -7,9 +7,10 @@ ghost use Rattle.rj_engine.specs.Results.{joined_of};
 ghost use Rattle.rj_engine.specs.Chosen.{chosen_header, chosen_view};
 ghost use Rattle.rj_engine.specs.Cells.{header_of, view_of, columns_of, name_of, IsColumnOf};
 
+use crate::chosen_columns::chosen_origins;
 use crate::chosen_rows::{count_of, row_at};
 use crate::joined::Joined;
-use crate::origin::{Origin, chosen_origins, origins};
+use crate::origin::{Origin, name_at, origins};
 use crate::shown::{Shown, add_shown, cell_at};
 use rj_columns::{Cell, RowSource, Table};
 use rj_condition::BoundJoin;
@@ -154,8 +155,8 @@ pub fn header<'a>(
     Ok(names)
 }
 
-/// The names of the chosen columns of the joined table of these tables by this join, which was
-/// bound to them.
+/// The names that the chosen columns of the joined table have in these tables. The join was bound
+/// to them.
 ///
 /// # Errors
 ///
@@ -170,7 +171,7 @@ pub fn chosen_header<'a>(
     requires { fits join.now left.now.types right.now.types ≡ true }
     ensures { IfOk result (λ v. map (λ n. n.now) v.items ≡ chosen_header choice.now join.now left.now right.now) }
 {
-    let columns = chosen_origins(alloc, join.partners(), right.columns(), choice.columns)?;
+    let columns = chosen_origins(alloc, left, right, join, &choice.columns)?;
     let names = names_of(alloc, left, right, &columns)?;
     Ok(names)
 }
@@ -190,16 +191,4 @@ fn names_of<'a>(
         names.push(name_at(left, right, *origin))?;
     }
     Ok(names)
-}
-
-// The name of a column. A join column has the left table's name.
-fn name_at<'a>(left: &'a Table, right: &'a Table, origin: Origin) -> &'a str
-    requires { IsColumnOf left.now right.now origin }
-    ensures { result.now ≡ name_of left.now right.now origin }
-{
-    match origin {
-        Origin::Coalesced(a, _) => left.name(a),
-        Origin::Left(a) => left.name(a),
-        Origin::Right(b) => right.name(b),
-    }
 }

@@ -12,18 +12,20 @@ use rj_engine::{
 use std::alloc::Global;
 use std::test::Fail;
 
-// Each left row at its place, matched or not.
-const LEFT_ROWS: Choice<'static> = Choice {
-    rows: RowKinds {
-        pairs: true,
-        matched_left: false,
-        lone_left: true,
-        lone_right: false,
-    },
-    order: RowOrder::LeftFirst,
-    columns: ColumnChoice::All,
-    repeated: Repeated::Kept,
-};
+// Each left row at its place, matched or not, with these columns.
+fn left_rows(columns: ColumnChoice) -> Choice<'static> {
+    Choice {
+        rows: RowKinds {
+            pairs: true,
+            matched_left: false,
+            lone_left: true,
+            lone_right: false,
+        },
+        order: RowOrder::LeftFirst,
+        columns,
+        repeated: Repeated::Kept,
+    }
+}
 
 // How many names the joined table has, and how many rows it, its view and the view of what is
 // chosen of it have; none if memory runs out.
@@ -39,7 +41,8 @@ fn counts(alloc: Global, left: &Table, right: &Table, join: &BoundJoin) -> Optio
     let Ok(whole) = View::open(alloc, left, right, join, &joined) else {
         return None;
     };
-    let Ok(chosen) = View::choose(alloc, left, right, join, &joined, &LEFT_ROWS) else {
+    let choice = left_rows(ColumnChoice::All);
+    let Ok(chosen) = View::choose(alloc, left, right, join, &joined, &choice) else {
         return None;
     };
     let rows = [joined.len() as u64, whole.rows(), chosen.rows()];

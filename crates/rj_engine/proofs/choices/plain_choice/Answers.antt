@@ -1,4 +1,5 @@
 use Rattle.rj_engine.proofs.ChosenFacts.{plain_header, plain_view}
+use Rattle.rj_engine.proofs.SelectedNames.{plain_names}
 use Rattle.rj_engine.proofs.choices.plain_choice.Goals as goal
 
 pub returns-clause-header : goal.returns-clause-header
@@ -6,3 +7,6 @@ returns-clause-header c = plain_header
 
 pub returns-clause-view : goal.returns-clause-view
 returns-clause-view c = plain_view
+
+pub returns-clause-names : goal.returns-clause-names
+returns-clause-names c = plain_names

@@ -14,7 +14,7 @@ choose_rows-requires c =
 
 pub scales_of-requires : goal.scales_of-requires
 scales_of-requires c =
-    rw (c.deref.ensures.value, c.in_ok-origins.ensures, c.partners.ensures, c.columns.ensures.count) (chosen-columns-there c.args.choice.now c.args.join.now c.args.left.now c.args.right.now c.requires.bound)
+    rw (c.deref.ensures.value, c.in_ok-origins.ensures) (chosen-columns-there c.args.choice.now c.args.join.now c.args.left.now c.args.right.now c.requires.bound)
 
 pub returns-clause-there : goal.returns-clause-there
 returns-clause-there c =
@@ -25,5 +25,5 @@ returns-clause-there c =
     let rows = c.in_ok-chosen.ensures ∙ (ap (λ m. chosen_rows choice m c.args.joined.now.members) c.rows.ensures.count ∙ ap (chosen_rows choice (length l.rows)) c.requires.joined) in
     let columns = chosen-columns-there choice c.args.join.now l r c.requires.bound in (
       subst There (sym rows) (chosen-there choice c.args.join.now l r),
-      (rw (c.in_ok-origins.ensures, c.partners.ensures, c.columns.ensures.count) columns, c.in_ok-scales.ensures ∙ ap (map (shown_scale l r)) c.deref.ensures.value),
+      (rw c.in_ok-origins.ensures columns, c.in_ok-scales.ensures ∙ ap (map (shown_scale l r)) c.deref.ensures.value),
     )

@@ -1,8 +1,0 @@
-use Rattle.std.proofs.Common.{◌∙◌, ap, rules}
-use Rattle.std.specs.Prelude.{filter}
-use Rattle.std.proofs.lemmas.Fn.{filter_same}
-use Rattle.rj_engine.specs.Chosen.{is_of_columns}
-use Rattle.rj_engine.proofs.origin.chosen_origins.Goals as goal
-
-pub returns : goal.returns
-returns c = filter_same _ (is_of_columns c.args.columns) _ (λ x b f' k. search rules) _ _ c.retain.ensures.filtered ∙ ap (filter (is_of_columns c.args.columns)) c.in_ok-found.ensures
