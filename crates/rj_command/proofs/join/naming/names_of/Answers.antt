@@ -1,5 +1,6 @@
 use Rattle.std.proofs.Common.{◌∙◌, map}
 use Rattle.std.specs.Prelude.{string_bytes}
+use Rattle.rj_engine.specs.Naming.{HasLawfulNames}
 use Rattle.rj_command.proofs.PreparedFacts.{unnamed}
 use Rattle.rj_command.proofs.join.naming.names_of.Goals as goal
 
@@ -10,8 +11,8 @@ returns-in-Ok-clause-names c =
     let names = map string_bytes c.in-Ok.names.items in
     let written = c.in-Ok.ensures.names in
     let law = c.chosen_names_are_lawful.ensures in
-    let left = (c.columns.ensures.lawful, c.columns.ensures.named ∙ c.columns.ensures.count) in
-    let right = (c.columns-2.ensures.lawful, c.columns-2.ensures.named ∙ c.columns-2.ensures.count) in
+    let left : HasLawfulNames o.left = (c.columns.ensures.lawful, c.columns.ensures.named ∙ c.columns.ensures.count) in
+    let right : HasLawfulNames o.right = (c.columns-2.ensures.lawful, c.columns-2.ensures.named ∙ c.columns-2.ensures.count) in
     record {
       written = written;
       many = law.many choice o.join o.left o.right names written;
@@ -19,7 +20,7 @@ returns-in-Ok-clause-names c =
       selected = λ entries listed. law.selected choice o.join o.left o.right names entries listed written;
     }
 
-pub returns-clause-fault : goal.returns-clause-fault
-returns-clause-fault c =
+pub returns-in-Err-clause-fault : goal.returns-in-Err-clause-fault
+returns-in-Err-clause-fault c =
     let o = c.args.operands.now in
     unnamed c.args.request.now o.join o.left o.right c.in-Err.refused c.fault_of_naming.result c.in-Err.ensures.fault c.fault_of_naming.ensures
