@@ -85,8 +85,8 @@ fn join_by_hash<R: Threads + Wait + Clock + Sync, G: Gate + Sync>(
     }
 }
 
-/// The joined table of the operands, where it is as the request expects. It isn't made if it is known
-/// before that it has too many rows.
+/// The joined table of the operands, where it is as the request expects. It isn't made if it is
+/// known before then that it has too many rows.
 ///
 /// # Errors
 ///

@@ -49,7 +49,7 @@ fn violation_of<R: Threads + Wait + Clock + Sync, G: Gate + Sync>(
 /// How the joined table of the tables that the two files' bytes denote differs from what the
 /// request expects: in how many rows it has, or in the first row that is in more than one match, or
 /// in the first left row that is in none. `None` if it is as expected. Nothing is written, and the
-/// join isn't made if it is known before that it has too many rows.
+/// join isn't made if it is known before then that it has too many rows.
 ///
 /// # Errors
 ///
