@@ -78,7 +78,7 @@ module _ (null : List ℕ) (l r : TableValue) (left : AreApart null l.rows) (rig
 
   -- what is chosen of a joined table has no text that its tables lack
   pub view-apart : (choice : Choice) (join : BoundJoin) → AreApart null (chosen_view choice join l r).cells
-  view-apart choice join = rows-apart (chosen_columns choice join r) (chosen_rows choice (length l.rows) (joined_of join l r))
+  view-apart choice join = rows-apart (chosen_columns choice join l r) (chosen_rows choice (length l.rows) (joined_of join l r))
 
 -- what holds of each table that records read as holds of the table of a side
 module _ (P : TableValue → Type 0) (q : Request) (s : Side)

@@ -1,6 +1,8 @@
 -- The cells that are written of a joined table are of their columns' types, and can be held.
 use Rattle.std.proofs.Common.{◌≡◌, ◌∙◌, ℕ, zero, suc, ℤ, ◌-◌, List, [], ◌∷◌, map, All, Bool, true, false, Option, Some, None, refl, sym, ap, subst, inl, inr, arith}
 use Rattle.std.specs.Prelude.{◌≢◌, ◌⊎◌, ◌^◌, ◌<◌, if◌then◌else◌, ◌==◌, max, slice_get, slice_index_or, unsigned_abs, unwrap_or}
+use Rattle.std.specs.declared.alloc.Global.{Global}
+use Rattle.std.specs.declared.vec.Vec.{Vec}
 use Rattle.std.proofs.Math.Nat.{le_refl, max-eq_left}
 use Rattle.std.proofs.lemmas.List.Elements.{All-cons, All-head, All-nil, All-tail}
 use Rattle.rj_decimal.specs.Numbers.{finer}
@@ -16,8 +18,11 @@ use Rattle.rj_engine.specs.declared.joined.JoinedRow.{JoinedRow}
 use Rattle.rj_engine.specs.declared.joined.JoinedRow.TheVariants.{Both, LeftOnly, RightOnly}
 use Rattle.rj_engine.specs.declared.origin.Origin.{Origin}
 use Rattle.rj_engine.specs.declared.origin.Origin.TheVariants.{Coalesced, Left, Right}
+use Rattle.rj_settings.specs.declared.choice.ColumnChoice.{ColumnChoice}
+use Rattle.rj_settings.specs.declared.choice.ColumnChoice.TheVariants as columns
 use Rattle.rj_settings.specs.declared.choice.Repeated.{Repeated}
 use Rattle.rj_settings.specs.declared.choice.Repeated.TheVariants.{Kept, Qualified, Suffixed}
+use Rattle.rj_settings.specs.declared.choice.SelectedColumn.{SelectedColumn}
 use Rattle.rj_command.specs.ReadBack.{HasOneType, type_of_column}
 
 -- a cell of a column that may not be there: then it is null
@@ -169,3 +174,10 @@ pub kept_or_not : (x : Repeated) → (x ≡ Kept) ⊎ (x ≢ Kept)
 kept_or_not Kept = inl refl
 kept_or_not Qualified = inr (λ is. cc)
 kept_or_not (Suffixed suffix) = inr (λ is. cc)
+
+-- a list names the columns or none does
+pub listed_or_not : (x : ColumnChoice) → ((entries : Vec SelectedColumn Global) × (x ≡ columns.Selected entries)) ⊎ ((entries : Vec SelectedColumn Global) → x ≢ columns.Selected entries)
+listed_or_not columns.All = inr (λ entries is. cc)
+listed_or_not columns.Left = inr (λ entries is. cc)
+listed_or_not columns.Right = inr (λ entries is. cc)
+listed_or_not (columns.Selected entries) = inl (entries, refl)

@@ -4,6 +4,7 @@ mod AlikeFacts
 mod RunFacts
 mod PreparedFacts
 mod ExpectedFacts
+mod CountFacts
 pub mod TextFacts
 mod ApartFacts
 mod BackFacts

@@ -1,14 +1,19 @@
 -- What is made of two tables before what is chosen of their joined table is written.
 use Rattle.std.proofs.Common.{◌≡◌, ◌∙◌, [], Err, ap, false, inl, inr, map, refl, subst, sym, true≢false, List, ℕ}
-use Rattle.std.specs.Prelude.{◌⊎◌, IfOk, Ok, Result, string_bytes}
+use Rattle.std.specs.Prelude.{◌≢◌, ◌⊎◌, IfOk, Ok, Result, string_bytes}
 use Rattle.std.specs.declared.alloc.AllocError.{AllocError}
 use Rattle.rj_columns.specs.Contents.{Content}
+use Rattle.rj_columns.specs.Tables.{TableValue}
 use Rattle.rj_condition.specs.Splits.{keys_of}
+use Rattle.rj_condition.specs.declared.bound.BoundJoin.{BoundJoin}
 use Rattle.rj_engine.specs.Chosen.{chosen_view}
 use Rattle.rj_engine.specs.Join.{Outcome}
+use Rattle.rj_engine.specs.Naming.{chosen_names}
 use Rattle.rj_engine.specs.Partitioned.{sizes_of}
 use Rattle.rj_engine.specs.Pools.{pieces_of_sizes}
 use Rattle.rj_engine.specs.Results.{joined_of}
+use Rattle.rj_engine.specs.declared.naming.NamingRefused.{NamingRefused}
+use Rattle.rj_engine.specs.declared.naming.NamingRefused.TheVariants as naming
 use Rattle.rj_csv_io.specs.declared.write.WriteRefused.{WriteRefused}
 use Rattle.rj_csv_io.specs.declared.write.WriteRefused.TheVariants as write
 use Rattle.rj_fault.specs.Faults.{write_fault}
@@ -19,6 +24,7 @@ use Rattle.rj_line.specs.declared.request.Request.{Request}
 use Rattle.rj_line.specs.declared.request.Strictness.{Strictness}
 use Rattle.rj_line.specs.declared.request.Strictness.TheVariants as strictness
 use Rattle.rj_command.specs.Expected.{IsExpected, IsUnexpected}
+use Rattle.rj_command.specs.Refused.{naming_fault}
 use Rattle.rj_command.specs.Prepared.{IsOutcome, IsPrepared}
 use Rattle.rj_command.specs.Runs.{AreNames, IsNameFault, IsNullFault, IsReady, IsUnprepared, IsUnwritten, hash_value}
 use Rattle.rj_command.specs.declared.join.operands.Operands.{Operands}
@@ -54,11 +60,23 @@ ready_of q o p made = record {
   named = made.named;
 }
 
+-- why chosen columns have no names
+pub unnamed : (q : Request) (join : BoundJoin) (l r : TableValue) (e : NamingRefused) (f : Fault) → (e ≢ naming.Memory → chosen_names q.choice join l r ≡ Err e)
+    → f ≡ naming_fault e → (f ≡ fault.Memory) ⊎ IsNameFault q join l r f
+unnamed q join l r naming.Memory f told is = inl is
+unnamed q join l r (naming.NoFreeName column) f told is = inr (naming.NoFreeName column, told (λ memory. cc), is)
+unnamed q join l r (naming.SelectedName entry) f told is = inr (naming.SelectedName entry, told (λ memory. cc), is)
+
+naming_apart : (e : NamingRefused) → is_device (naming_fault e) ≡ false
+naming_apart (naming.NoFreeName column) = refl
+naming_apart (naming.SelectedName entry) = refl
+naming_apart naming.Memory = refl
+
 -- why nothing is prepared: of the names
 pub of_names : (q : Request) (o : Operands) (f : Fault) → (f ≡ fault.Memory) ⊎ IsNameFault q o.join o.left o.right f → IsUnprepared q o f
 of_names q o f told = elim told [
   | inl memory ↦ inl memory
-  | inr unnamed ↦ inr (inl unnamed)
+  | inr nameless ↦ inr (inl nameless)
 ]
 
 -- of a joined table that isn't as expected
@@ -86,7 +104,7 @@ unprepared_apart : (q : Request) (o : Operands) (f : Fault) → IsUnprepared q o
 unprepared_apart q o f told = elim told [
   | inl memory ↦ ap is_device memory
   | inr other ↦ elim other [
-    | inl unnamed ↦ ap is_device unnamed.1
+    | inl nameless ↦ ap is_device nameless.2 ∙ naming_apart nameless.0
     | inr seen ↦ elim seen.1 [
       | inl unexpected ↦ ap is_device unexpected.0
       | inr null ↦ null_apart q.strict q.out_null.now (chosen_view q.choice o.join o.left o.right).cells f null.1

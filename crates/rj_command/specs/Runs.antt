@@ -2,6 +2,8 @@
 use Rattle.std.specs.Prelude.{◌≡◌, ◌≢◌, ◌⊎◌, true, List, [], None, Option, ℕ, ◌^◌, length, map, Ok, Err}
 use Rattle.std.specs.List.{range_with_len}
 use Rattle.std.specs.Io.KnownBytes.{Appends}
+use Rattle.std.specs.declared.alloc.Global.{Global}
+use Rattle.std.specs.declared.vec.Vec.{Vec}
 use Rattle.rj_columns.specs.Names.{name_fault}
 use Rattle.rj_columns.specs.Tables.{TableValue}
 use Rattle.rj_csv_io.specs.Ambiguous.{AreApart, AreClear, IsFirstAmbiguous}
@@ -12,17 +14,20 @@ use Rattle.rj_condition.specs.Joins.{kind_of_join}
 use Rattle.rj_condition.specs.Splits.{keys_of}
 use Rattle.rj_columns.specs.Contents.{Content}
 use Rattle.rj_radix.specs.Hashes.{mixed, plain}
+use Rattle.rj_settings.specs.declared.choice.ColumnChoice.TheVariants.{Selected}
 use Rattle.rj_settings.specs.declared.choice.Repeated.TheVariants.{Kept}
+use Rattle.rj_settings.specs.declared.choice.SelectedColumn.{SelectedColumn}
 use Rattle.rj_engine.specs.Cells.{header_of, view_of}
 use Rattle.rj_engine.specs.Chosen.{chosen_header, chosen_view}
-use Rattle.rj_engine.specs.Naming.{written_names}
-use Rattle.rj_engine.specs.declared.naming.NamingRefused.TheVariants.{NoFreeName}
+use Rattle.rj_engine.specs.Naming.{chosen_names}
+use Rattle.rj_engine.specs.declared.naming.NamingRefused.{NamingRefused}
 use Rattle.rj_engine.specs.Partitioned.{sizes_of}
 use Rattle.rj_engine.specs.Pools.{pieces_of_sizes}
 use Rattle.rj_engine.specs.Results.{joined_of}
 use Rattle.rj_command.specs.Alike.{names_of, text_key_names}
 use Rattle.rj_command.specs.Expected.{IsExpected, IsUnexpected}
 use Rattle.rj_command.specs.Operands.{AreOperands, IsFirstFault}
+use Rattle.rj_command.specs.Refused.{naming_fault}
 use Rattle.rj_command.specs.Reported.{IsReported}
 use Rattle.rj_fault.specs.declared.fault.Fault.{Fault}
 use Rattle.rj_fault.specs.declared.fault.Fault.TheVariants as fault
@@ -38,11 +43,12 @@ use Rattle.rj_command.specs.SuchRows.{unkept_side}
 use Rattle.rj_command.specs.declared.join.stats.Stats.{Stats}
 
 -- these are the names that are asked for of the chosen columns: each is valid, and no two are the
--- same, if repeated ones are renamed
+-- same, if repeated ones are renamed, or if a list names the columns
 pub record AreNames (q : Request) (join : BoundJoin) (l r : TableValue) (names : List (List ℕ)) : Type 0 where
-  pub written : written_names q.choice.repeated (chosen_header q.choice join l r) ≡ Ok names
+  pub written : chosen_names q.choice join l r ≡ Ok names
   pub many : length names ≡ length (chosen_header q.choice join l r)
   pub lawful : q.choice.repeated ≢ Kept → name_fault [] names ≡ None
+  pub selected : (entries : Vec SelectedColumn Global) → q.choice.columns ≡ Selected entries → name_fault [] names ≡ None
 
 -- the text of the joined table of two tables by a bound join, with this delimiter
 abbrev pub joined_text : ℕ → List ℕ → BoundJoin → TableValue → TableValue → List ℕ
@@ -111,10 +117,10 @@ CanBeWritten q o = (stats : Stats) × IsReady q o stats
 abbrev pub WritesTables : Request → Operands → Option (List ℕ) → Option (List ℕ) → Stats → Type 0
 WritesTables q o before after stats = (j : IsReady q o stats) × Appends before after (chosen_text q j.names o.join o.left o.right)
 
--- a chosen column is to be renamed and has no free name, and this error reports the first one
+-- a chosen column is to be renamed and has no free name, or an entry of a list of columns means none
+-- or repeats a name, and this error reports the first one
 abbrev pub IsNameFault : Request → BoundJoin → TableValue → TableValue → Fault → Type 0
-IsNameFault q join l r f = (column : ℕ) × (f ≡ fault.NoFreeName column)
-    × (written_names q.choice.repeated (chosen_header q.choice join l r) ≡ Err (NoFreeName column))
+IsNameFault q join l r f = (e : NamingRefused) × (chosen_names q.choice join l r ≡ Err e) × (f ≡ naming_fault e)
 
 -- an error of a joined table before what is chosen of it is written: that one first, then that it
 -- isn't as expected, then a cell that can't be told from NULL

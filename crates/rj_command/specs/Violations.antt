@@ -1,5 +1,5 @@
 -- How the joined table of two files differs from what is expected.
-use Rattle.std.specs.Prelude.{ℕ, List, MatchOption, Option}
+use Rattle.std.specs.Prelude.{ℕ, List, MatchOption, Option, length}
 use Rattle.rj_columns.specs.Tables.{TableValue}
 use Rattle.rj_condition.specs.declared.bound.BoundJoin.{BoundJoin}
 use Rattle.rj_engine.specs.Results.{joined_of}
@@ -16,4 +16,4 @@ pub record HasViolation (left right : List ℕ) (q : Request) (found : Option Vi
   pub r : TableValue
   pub join : BoundJoin
   pub operands : AreOperands left right q l r join
-  pub told : MatchOption found (IsExpected q join l r) (IsViolation q.expectation (joined_of join l r))
+  pub told : MatchOption found (IsExpected q join l r) (IsViolation q.expectation (length l.rows) (joined_of join l r))

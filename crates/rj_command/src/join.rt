@@ -2,6 +2,7 @@
 
 mod alike;
 mod counting;
+mod early;
 mod expected;
 mod headers;
 mod laws;
@@ -22,7 +23,7 @@ mod undeclared;
 mod violations;
 mod watching;
 
-pub use self::counting::{Counts, count};
+pub use self::counting::count;
 pub use self::laws::{plain_text, results_are_apart, results_read_back};
 pub use self::operands::bind_clause;
 pub use self::running::run;

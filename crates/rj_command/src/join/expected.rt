@@ -1,14 +1,15 @@
 //! The operands' joined table, where it is as expected.
 
-ghost use Rattle.std.specs.Prelude.{◌≡◌, ◌⊎◌, IfErr, IfOk, OnOk, true};
+ghost use Rattle.std.specs.Prelude.{◌≡◌, ◌≢◌, ◌⊎◌, [], IfErr, IfOk, OnOk, true};
 ghost use Rattle.rj_condition.specs.Fits.{fits};
-ghost use Rattle.rj_engine.specs.Expected.{IsAsExpected};
+ghost use Rattle.rj_condition.specs.Splits.{rest_of};
+ghost use Rattle.rj_engine.specs.Expected.{HasAtMost};
 ghost use Rattle.rj_engine.specs.Results.{joined_of};
 ghost use Rattle.rj_command.specs.Expected.{IsExpected, IsUnexpected, refusal_of};
 ghost use Rattle.rj_command.specs.Prepared.{IsOutcome};
 
+use crate::join::early::early_excess;
 use crate::join::operands::Operands;
-use crate::join::watching::Watch;
 use rj_engine::{Gate, Joined, is_as_expected, run_join};
 use rj_fault::Fault;
 use rj_line::{Hash, Request};
@@ -38,7 +39,7 @@ fn refuse_unexpected(
     request: &Request<'_>,
 ) -> Result<(), Fault>
     requires { joined.now.members ≡ joined_of operands.now.join operands.now.left operands.now.right }
-    ensures expected { OnOk result (IsAsExpected request.now.expectation (joined_of operands.now.join operands.now.left operands.now.right)) }
+    ensures expected { OnOk result (IsExpected request.now operands.now.join operands.now.left operands.now.right) }
     ensures fault { IfErr result (λ f. (f ≡ Fault.Memory) ⊎ IsUnexpected request.now operands.now.join operands.now.left operands.now.right f) }
 {
     let expectation = &request.expectation;
@@ -50,6 +51,19 @@ fn refuse_unexpected(
         joined,
         expectation,
     ))
+}
+
+// Refuses a joined table before it is made, if it is known then that it has too many rows.
+fn refuse_excess(alloc: Global, operands: &Operands, request: &Request<'_>) -> Result<(), Fault>
+    requires { fits operands.now.join operands.now.left.types operands.now.right.types ≡ true }
+    ensures few { OnOk result ((rest_of operands.now.join ≢ [])
+        ⊎ HasAtMost request.now.expectation.most_rows (joined_of operands.now.join operands.now.left operands.now.right)) }
+    ensures fault { IfErr result (λ f. (f ≡ Fault.Memory) ⊎ IsUnexpected request.now operands.now.join operands.now.left operands.now.right f) }
+{
+    match early_excess(alloc, operands, request)? {
+        Some(_) => Err(Fault::NotAsExpected),
+        None => Ok(()),
+    }
 }
 
 // The joined table of the operands, by the hash of their keys that is asked for.
@@ -71,12 +85,13 @@ fn join_by_hash<R: Threads + Wait + Clock + Sync, G: Gate + Sync>(
     }
 }
 
-/// The joined table of the operands, where it is as the request expects.
+/// The joined table of the operands, where it is as the request expects. It isn't made if it is
+/// known before then that it has too many rows.
 ///
 /// # Errors
 ///
 /// `NotAsExpected` exactly where it isn't. `Memory` comes only where a growth was refused.
-pub(crate) fn join_as_expected<R: Threads + Wait + Clock + Sync, G: Watch + Sync>(
+pub(crate) fn join_as_expected<R: Threads + Wait + Clock + Sync, G: Gate + Sync>(
     rt: &R,
     alloc: Global,
     operands: &Operands,
@@ -88,7 +103,7 @@ pub(crate) fn join_as_expected<R: Threads + Wait + Clock + Sync, G: Watch + Sync
     ensures expected { OnOk result (IsExpected request.now operands.now.join operands.now.left operands.now.right) }
     ensures fault { IfErr result (λ f. (f ≡ Fault.Memory) ⊎ IsUnexpected request.now operands.now.join operands.now.left operands.now.right f) }
 {
-    gate.begin(operands.join_step());
+    refuse_excess(alloc, operands, request)?;
     let mut joined = join_by_hash(rt, alloc, operands, request, gate)?;
     joined.forget_delivered();
     refuse_unexpected(alloc, operands, &joined, request)?;

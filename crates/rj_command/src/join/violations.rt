@@ -1,6 +1,6 @@
 //! How the joined table of two files differs from what is expected.
 
-ghost use Rattle.std.specs.Prelude.{◌≡◌, ◌≢◌, IfErr, IfOk, MatchOption, true};
+ghost use Rattle.std.specs.Prelude.{◌≡◌, ◌≢◌, IfErr, IfOk, MatchOption, length, true};
 ghost use Rattle.rj_condition.specs.Fits.{fits};
 ghost use Rattle.rj_engine.specs.Results.{joined_of};
 ghost use Rattle.rj_engine.specs.Violations.{IsViolation};
@@ -8,6 +8,7 @@ ghost use Rattle.rj_command.specs.Expected.{IsExpected};
 ghost use Rattle.rj_command.specs.Operands.{IsFirstFault};
 ghost use Rattle.rj_command.specs.Violations.{HasViolation};
 
+use crate::join::early::early_excess;
 use crate::join::operands::{Operands, read_operands};
 use rj_engine::{Gate, OpenGate, Violation, run_join};
 use rj_fault::Fault;
@@ -29,9 +30,12 @@ fn violation_of<R: Threads + Wait + Clock + Sync, G: Gate + Sync>(
     requires bound { fits operands.now.join operands.now.left.types operands.now.right.types ≡ true }
     ensures told { IfOk result (λ found. MatchOption found
         (IsExpected request.now operands.now.join operands.now.left operands.now.right)
-        (IsViolation request.now.expectation (joined_of operands.now.join operands.now.left operands.now.right))) }
+        (IsViolation request.now.expectation (length operands.now.left.rows) (joined_of operands.now.join operands.now.left operands.now.right))) }
     ensures memory { IfErr result (λ f. f ≡ Fault.Memory) }
 {
+    if let Some(rows) = early_excess(alloc, operands, request)? {
+        return Ok(Some(Violation::Rows(rows)));
+    }
     let (left, right, join) = (&operands.left, &operands.right, &operands.join);
     let settings = &request.settings;
     let joined = run_join(rt, alloc, left, right, join, settings, &Plain, gate)?;
@@ -43,8 +47,9 @@ fn violation_of<R: Threads + Wait + Clock + Sync, G: Gate + Sync>(
 }
 
 /// How the joined table of the tables that the two files' bytes denote differs from what the
-/// request expects: in how many rows it has, or in the first row that is in more than one match.
-/// `None` if it is as expected. The join is made, and nothing is written.
+/// request expects: in how many rows it has, or in the first row that is in more than one match, or
+/// in the first left row that is in none. `None` if it is as expected. Nothing is written, and the
+/// join isn't made if it is known before then that it has too many rows.
 ///
 /// # Errors
 ///

@@ -9,7 +9,7 @@ use rj_fault::Side;
 pub enum Step {
     /// The table of a side is read from its bytes.
     Read(Side),
-    /// Two tables of these numbers of rows are joined.
+    /// Two tables of these numbers of rows are joined, or the rows of their joined table counted.
     Join {
         /// The rows of the left table.
         left_rows: u64,

@@ -11,21 +11,24 @@ use Rattle.rj_fault.specs.declared.fault.Side.TheVariants as side
 use Rattle.rj_command.specs.ReadBack.{type_of_column, written_table}
 use Rattle.rj_command.specs.Sides.{nulls_of}
 use Rattle.rj_command.proofs.ApartFacts.{table-holds}
-use Rattle.rj_command.proofs.BackFacts.{kept_or_not, rows-fit, rows-held}
+use Rattle.rj_command.proofs.BackFacts.{kept_or_not, listed_or_not, rows-fit, rows-held}
 use Rattle.rj_command.proofs.join.laws.results_read_back.Goals as goal
 
 pub returns : goal.returns
 returns c = λ left right text q stats nulls j may can.
     let l = j.l in
     let r = j.r in
-    let origins = chosen_columns q.choice j.join r in
+    let origins = chosen_columns q.choice j.join l r in
     let rows = chosen_rows q.choice (length l.rows) (joined_of j.join l r) in
     let table = written_table q j.names j.join l r in
     let Holds : TableValue → Type 0 = λ t. All (FitsTypes t.types) t.rows × All (All IsHeld) t.rows in
     let of_left = table-holds Holds q side.Left (λ found kinds t e. c.read_tables_hold_their_types.ensures found kinds (nulls_of q side.Left) t e) left l j.operands.left_read in
     let of_right = table-holds Holds q side.Right (λ found kinds t e. c.read_tables_hold_their_types.ensures found kinds (nulls_of q side.Right) t e) right r j.operands.right_read in
     let lawful : name_fault [] j.names ≡ None = elim (kept_or_not q.choice.repeated) [
-      | inl kept ↦ can.lawful kept
+      | inl kept ↦ elim (listed_or_not q.choice.columns) [
+        | inl listed ↦ j.named.selected listed.0 listed.1
+        | inr other ↦ can.lawful kept other
+      ]
       | inr other ↦ j.named.lawful other
     ] in
     let back : CanReadBack nulls table = record {

@@ -16,7 +16,7 @@ write_shown-requires-clause-names g c κs within =
     ap length c.as_slice.ensures.value
     ∙ (sym (length-map names (λ (n : String Global). string_bytes n))
     ∙ (c.requires.named.many
-    ∙ (length-map (chosen_columns c.args.request.now.choice o.join o.right) (name_of o.left o.right) ∙ sym (ap (λ (v : ViewValue). v.width) c.requires.chosen.shown))))
+    ∙ (length-map (chosen_columns c.args.request.now.choice o.join o.left o.right) (name_of o.left o.right) ∙ sym (ap (λ (v : ViewValue). v.width) c.requires.chosen.shown))))
 
 pub returns-clause-ok : goal.returns-clause-ok
 returns-clause-ok g c =
