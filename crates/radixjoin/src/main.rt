@@ -9,8 +9,8 @@ use crate::suggesting::suggest;
 use rj_command::{Line, Stats, UnkeptRows};
 use rj_fault::{Fault, read_words, texts_of};
 use rj_files::{
-    ExplainedFault, NamedStream, Progress, Terminals, processors, read_lists, read_words_of_line,
-    refuse_inputs, tell_explained, tell_texts, write_output,
+    ExplainedFault, NamedStream, Progress, Terminals, Written, processors, read_lists,
+    read_words_of_line, refuse_inputs, tell_explained, tell_texts, write_output,
 };
 use std::env::Env;
 use std::fs::Files;
@@ -25,7 +25,7 @@ fn write_watched<R: Files + Input + AllocGlobal + Print + Eprint + Threads + Wai
     rt: &R,
     line: &Line<'_>,
     terminals: Terminals,
-) -> Result<Option<Stats>, ExplainedFault> {
+) -> Result<Written, ExplainedFault> {
     let progress = Progress::of(rt, line, terminals);
     let (left, right) = (
         NamedStream::new(rt, line.left),
@@ -34,6 +34,30 @@ fn write_watched<R: Files + Input + AllocGlobal + Print + Eprint + Threads + Wai
     let written = write_output(rt, line, &progress, &left, &right);
     progress.clear();
     written
+}
+
+// Prints the report on standard error, if one is asked for.
+fn tell_report<R: Eprint>(rt: &R, report: &Option<String>) {
+    if let Some(report) = report {
+        let _ = eprintln!(rt; "{report}");
+    }
+}
+
+// Prints on standard error what is told beside the rows: what the line asks for and, unless it is
+// quiet, what the user may not have meant.
+fn tell_joined<R: Eprint>(rt: &R, line: &Line<'_>, stats: &Stats) {
+    if line.stats {
+        let _ = eprintln!(rt; "{stats}");
+    }
+    tell_report(rt, &stats.report);
+    if line.quiet {
+        return;
+    }
+    if let Some(side) = stats.unkept {
+        let rows = UnkeptRows { side };
+        let _ = eprintln!(rt; "radixjoin: {rows}");
+    }
+    tell_texts(rt, line, stats);
 }
 
 // Reads the words of a join, and writes what they ask for.
@@ -47,20 +71,10 @@ fn join<R: Files + Input + AllocGlobal + Print + Eprint + Threads + Wait + Clock
     let texts = texts_of(alloc, words.as_slice())?;
     let line = read_words_of_line(alloc, texts.as_slice(), processors(rt))?;
     refuse_inputs(rt, &line)?;
-    let Some(stats) = write_watched(rt, &line, terminals)? else {
-        return Ok(());
-    };
-    if line.stats {
-        let _ = eprintln!(rt; "{stats}");
+    match write_watched(rt, &line, terminals)? {
+        Written::Joined(stats) => tell_joined(rt, &line, &stats),
+        Written::Counted(report) => tell_report(rt, &report),
     }
-    if let Some(report) = &stats.report {
-        let _ = eprintln!(rt; "{report}");
-    }
-    if let Some(side) = stats.unkept {
-        let rows = UnkeptRows { side };
-        let _ = eprintln!(rt; "radixjoin: {rows}");
-    }
-    tell_texts(rt, &line, &stats);
     Ok(())
 }
 

@@ -53,7 +53,8 @@ fn matches_of<'a>(alloc: Global, words: &'a [&'a str]) -> Result<ArgMatches<'a>,
     }
 }
 
-/// Prints the types that the cells of the file in these words suggest. The words are those after `--suggest-types`.
+/// Prints the types that the cells of the file in these words suggest. The words are those after
+/// `--suggest-types`.
 pub(crate) fn suggest<'a, R: Files + Input + AllocGlobal + Print + Eprint + Clock>(
     rt: &'a R,
     words: &'a [&'a str],

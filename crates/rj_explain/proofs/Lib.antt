@@ -1,7 +1,9 @@
 pub mod EntryFacts
 pub mod HintFacts
 pub mod InputFacts
+pub mod JoinFacts
 pub mod NameFacts
 pub mod PlaceFacts
+pub mod SelectedFacts
 pub mod ShownFacts
 pub mod WordFacts

@@ -24,6 +24,9 @@ take-get [] (suc i) x e = absurd (none-some x e)
 take-get (n ∷ ns) zero x e = ap (λ y. y ∷ []) (ap (value_or n) e)
 take-get (n ∷ ns) (suc j) x e = ap (λ ys. n ∷ ys) (take-get ns j x e)
 
+pub take-more : (xs : List (List ℕ)) (i : ℕ) (x : List ℕ) → slice_get xs i ≡ Some x → take (i + 1) xs ≡ take i xs ++ x ∷ []
+take-more xs i x e = rw add-one (take-get xs i x e)
+
 -- a comma and a name
 abbrev comma : List ℕ → List ℕ
 comma m = codes ", " ++ m

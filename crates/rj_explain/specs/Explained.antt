@@ -1,6 +1,6 @@
 -- The lines for each error, by what was read. The words are those of `Lines`. No lines mean that
 -- there is no such place.
-use Rattle.std.specs.Prelude.{ℕ, ◌≡◌, ◌<◌, ◌⊎◌, ◌-◌, ◌==◌, Bool, false, true, List, [], ◌∷◌, codes, length, Option, None, Some, ◌++◌, Result, Ok, Err, if◌then◌else◌, slice_get}
+use Rattle.std.specs.Prelude.{ℕ, ◌≡◌, ◌<◌, ◌⊎◌, ◌-◌, ◌==◌, Bool, false, true, List, [], ◌∷◌, codes, length, take, Option, None, Some, MatchOption, ◌++◌, Result, Ok, Err, if◌then◌else◌, slice_get}
 use Rattle.std.specs.declared.alloc.Global.{Global}
 use Rattle.std.specs.declared.vec.Vec.{Vec}
 use Rattle.csv.specs.Reading.{records, strip_bom}
@@ -19,8 +19,7 @@ use Rattle.rj_condition.specs.declared.refusals.RefusedColumn.{RefusedColumn}
 use Rattle.rj_condition.specs.declared.tree.Clause.{Clause}
 use Rattle.rj_csv_io.specs.Pieces.{names_in}
 use Rattle.rj_csv_io.specs.declared.pieces.Header.{Header}
-use Rattle.rj_engine.specs.Chosen.{chosen_header}
-use Rattle.rj_engine.specs.Naming.{written_names}
+use Rattle.rj_engine.specs.Naming.{chosen_names, name_of_entry}
 use Rattle.rj_fault.specs.declared.fault.Fault.{Fault}
 use Rattle.rj_fault.specs.declared.fault.Fault.TheVariants as fault
 use Rattle.rj_fault.specs.declared.fault.Side.{Side}
@@ -31,14 +30,16 @@ use Rattle.rj_line.specs.declared.request.Strictness.TheVariants as strictness
 use Rattle.rj_strict.specs.Faults.{AreAbove, HasFault, row_at}
 use Rattle.rj_strict.specs.Grammar.{Derives, File, file_text}
 use Rattle.rj_strict.specs.Reading.{body_of, config_of, quoted}
+use Rattle.rj_settings.specs.declared.choice.SelectedColumn.{SelectedColumn}
 use Rattle.rj_strict.specs.declared.fault.StrictFault.{StrictFault}
 use Rattle.rj_strict.specs.declared.header.Header.TheVariants.{First}
 use Rattle.rj_types.specs.Columns.{types_under}
 use Rattle.rj_types.specs.declared.entry.TypeEntry.{TypeEntry}
 use Rattle.rj_explain.specs.declared.inputs.Inputs.{Inputs}
 use Rattle.rj_explain.specs.Hints.{file_line, file_side, file_words, separator_line}
-use Rattle.rj_explain.specs.Lines.{both_names_line, cell_of_row, clause_line, columns_line, count_line, grammar_line, mismatch_line, name_line, names_line, null_line, null_rule, ragged_line, repeated_told, row_line}
+use Rattle.rj_explain.specs.Lines.{both_names_line, cell_of_row, clause_line, columns_line, count_line, grammar_line, mismatch_line, name_line, names_line, null_line, null_rule, ragged_line, repeated_told, row_line, selected_line}
 use Rattle.rj_explain.specs.Places.{HasNoRow, IsRow, at_column}
+use Rattle.rj_explain.specs.Selected.{IsWhy, entries_of, meant_by, repeated_words}
 use Rattle.rj_explain.specs.Strict.{IsFaultLine}
 use Rattle.rj_explain.specs.Typed.{typed_text}
 
@@ -218,20 +219,50 @@ IsMismatchTold inputs lines = IsToldOfColumns inputs (IsApartTold inputs.request
 abbrev pub IsJoinOf : List ℕ → TableValue → TableValue → BoundJoin → Type 0
 IsJoinOf clause left right join = (c : Clause) × HasClause clause c × (bound c left right ≡ Ok join)
 
+-- none
+abbrev pub HasNoJoin : List ℕ → TableValue → TableValue → Type 0
+HasNoJoin clause left right = (join : BoundJoin) → IsJoinOf clause left right join → ⊥
+
 -- the names under which its chosen columns are written
 pub record AreNamesWritten (request : Request) (left right : TableValue) (names : List (List ℕ)) : Type 0 where
   pub join : BoundJoin
   pub asked : IsJoinOf request.clause.now left right join
-  pub written : written_names request.choice.repeated (chosen_header request.choice join left right) ≡ Ok names
+  pub written : chosen_names request.choice join left right ≡ Ok names
+
+-- none
+abbrev pub HasNoNames : Request → TableValue → TableValue → Type 0
+HasNoNames request left right = (names : List (List ℕ)) → AreNamesWritten request left right names → ⊥
 
 -- the lines for a cell of the result that would be read as NULL
 abbrev pub IsCellOfResultTold : Request → ℕ → ℕ → List ℕ → TableValue → TableValue → Type 0
 IsCellOfResultTold request row column lines left right =
-    (lines ≡ [])
+    (HasNoNames request left right × (lines ≡ []))
     ⊎ ((names : List (List ℕ)) × AreNamesWritten request left right names × (lines ≡ null_line row (slice_get names (column - 1)) request.out_null.now))
 
 abbrev pub IsNullTold : ℕ → ℕ → Inputs → List ℕ → Type 0
 IsNullTold row column inputs lines = IsToldOfColumns inputs (IsCellOfResultTold inputs.request.now row column lines) lines
+
+-- the words for an entry of a list of columns that is refused, by those before it
+abbrev pub IsRefusedEntry : Inputs → BoundJoin → TableValue → TableValue → List SelectedColumn → SelectedColumn → List ℕ → Type 0
+IsRefusedEntry inputs join left right earlier entry words =
+    IsWhy (meant_by join left right entry) (separators_told inputs left right) (repeated_words join left right earlier (name_of_entry join left right entry)) words
+
+-- the line for the entry with this number, counted from 1, if there is one
+abbrev pub IsEntryTold : Inputs → BoundJoin → TableValue → TableValue → List SelectedColumn → ℕ → List ℕ → Type 0
+IsEntryTold inputs join left right entries number lines =
+    MatchOption (slice_get entries (number - 1)) (lines ≡ []) (λ entry.
+    (words : List ℕ) × IsRefusedEntry inputs join left right (take (number - 1) entries) entry words × (lines ≡ selected_line entry.name.text number words))
+
+abbrev pub IsToldOfEntries : Inputs → List SelectedColumn → ℕ → List ℕ → TableValue → TableValue → Type 0
+IsToldOfEntries inputs entries number lines left right =
+    (HasNoJoin inputs.request.now.clause.now left right × (lines ≡ []))
+    ⊎ ((join : BoundJoin) × IsJoinOf inputs.request.now.clause.now left right join × IsEntryTold inputs join left right entries number lines)
+
+-- the same of the request's list
+abbrev pub IsSelectedTold : ℕ → Inputs → List ℕ → Type 0
+IsSelectedTold number inputs lines =
+    MatchOption (entries_of inputs.request.now.choice.columns) (lines ≡ []) (λ entries.
+    IsToldOfColumns inputs (IsToldOfEntries inputs entries number lines) lines)
 
 -- why a closing quote doesn't end its field
 abbrev pub behind_quote : ℕ → List ℕ
@@ -269,6 +300,7 @@ IsPlaceTold (fault.TypeName s name) inputs lines = IsTypeNameTold s inputs lines
 IsPlaceTold (fault.SharedTypeName name) inputs lines = IsSharedNameTold inputs lines
 IsPlaceTold (fault.Syntax byte) inputs lines = Unit {0}
 IsPlaceTold (fault.AmbiguousNull row column) inputs lines = IsNullTold row column inputs lines
+IsPlaceTold (fault.SelectedName number) inputs lines = IsSelectedTold number inputs lines
 IsPlaceTold fault.BadNull inputs lines = lines ≡ null_rule
 IsPlaceTold f inputs lines = IsStrictExplained f inputs lines
 

@@ -5,6 +5,7 @@ pub mod Lines
 pub mod Listed
 pub mod Names
 pub mod Places
+pub mod Selected
 pub mod Shown
 pub mod Strict
 pub mod Typed

@@ -1,5 +1,5 @@
 -- The lines that explain an error, by the places in them.
-use Rattle.std.specs.Prelude.{ℕ, ◌+◌, ◌-◌, List, [], ◌∷◌, ◌++◌, codes, decimal, length, map, Option, None, Some, slice_get, slice_index_or}
+use Rattle.std.specs.Prelude.{ℕ, ◌+◌, ◌-◌, ◌==◌, if◌then◌else◌, List, [], ◌∷◌, ◌++◌, codes, decimal, length, map, Option, None, Some, slice_get, slice_index_or}
 use Rattle.std.specs.List.{position_from}
 use Rattle.std.specs.Str.{str_eq_ignore_ascii_case}
 use Rattle.rj_columns.specs.declared.cell.ColumnType.{ColumnType}
@@ -27,7 +27,8 @@ cell_told line (Some kind) None value = []
 cell_told line (Some kind) (Some name) None = []
 cell_told line (Some kind) (Some name) (Some value) = cell_line line name value kind
 
--- of a row on this line, under these names, whose types a list gives: the cell at a column, counted from 1
+-- of a row on this line, under these names, whose types a list gives: the cell at a column, counted
+-- from 1
 abbrev pub cell_of_row : List TypeEntry → ℕ → ℕ → List (List ℕ) → List (List ℕ) → List ℕ
 cell_of_row entries column line names fields =
     cell_told line (slice_get (types_under entries names) (column - 1)) (at_column column names) (at_column column fields)
@@ -74,11 +75,15 @@ columns_line names = codes "  the header has " ++ (decimal names ++ (codes " nam
 abbrev pub names_line : List (List ℕ) → List ℕ
 names_line names = codes "  the header has " ++ (listed (map shown names) ++ 10 ∷ [])
 
+-- how many matches a row is in
+abbrev pub pairs_text : ℕ → List ℕ
+pairs_text pairs = if pairs == 0 then codes "no kept pair" else decimal pairs ++ codes " kept pairs"
+
 -- a row that is in this many matches, and what is in its columns
 abbrev pub row_line : Side → ℕ → ℕ → ℕ → List ℕ → List ℕ
 row_line side row pairs line fields =
     codes "  " ++ (side_text side ++ (codes " row " ++ (decimal row ++ (codes ", line " ++ (decimal line ++ (codes " of the file, is in "
-    ++ (decimal pairs ++ (codes " kept pairs" ++ (fields ++ 10 ∷ [])))))))))
+    ++ (pairs_text pairs ++ (fields ++ 10 ∷ []))))))))
 
 -- a cell of the result that would be read as NULL
 abbrev pub null_line : ℕ → Option (List ℕ) → List ℕ → List ℕ
@@ -90,6 +95,20 @@ null_line row (Some name) text =
 -- a name of the clause with the byte at which it begins, and what comes after that
 abbrev pub clause_line : RefusedColumn → List ℕ → List ℕ
 clause_line found more = codes "  " ++ (shown found.name ++ (codes " at byte " ++ (decimal found.at ++ (codes " of the clause" ++ more))))
+
+-- the name of an entry of a list of columns, its number, counted from 1, and what comes after that
+abbrev pub selected_line : List ℕ → ℕ → List ℕ → List ℕ
+selected_line name number more = codes "  " ++ (shown name ++ (codes " in entry " ++ (decimal number ++ (codes " of --select" ++ more))))
+
+-- what comes there for a name that both tables have
+abbrev pub both_words : List ℕ
+both_words = codes "; both tables have it: write L. or R. before it" ++ 10 ∷ []
+
+-- and for an entry that is written under this name, as an earlier entry of this number is too
+abbrev pub twice_words : List ℕ → Option ℕ → List ℕ
+twice_words name None = 10 ∷ []
+twice_words name (Some number) =
+    codes "; " ++ (shown name ++ (codes " is the name of entry " ++ (decimal number ++ (codes " too: give one of them another name by =" ++ 10 ∷ []))))
 
 -- two operands, and the byte at which their comparison begins
 abbrev pub mismatch_line : List ℕ → List ℕ → ℕ → List ℕ
@@ -118,6 +137,11 @@ null_rule = codes "  a text for null has at most 16 printable ASCII bytes, and n
 -- the line for an invalid list of rows
 abbrev pub rows_rule : List ℕ
 rows_rule = codes "  --rows takes pairs or matched-left, lone-left and lone-right, once each, with single commas" ++ 10 ∷ []
+
+-- the line for an invalid list of columns
+abbrev pub select_rule : List ℕ
+select_rule =
+    codes "  --select takes entries as L.id, name or R.city=town, with single commas and no blanks; a name with other signs is between double quotes" ++ 10 ∷ []
 
 -- the line for an invalid delimiter
 abbrev pub delimiter_rule : List ℕ

@@ -9,7 +9,7 @@ use Rattle.rj_fault.specs.declared.fault.Side.TheVariants as side
 use Rattle.rj_types.specs.Lists.{IsTypeList}
 use Rattle.rj_types.specs.declared.entry.TypeEntry.{TypeEntry}
 use Rattle.rj_explain.specs.Entries.{split_entries}
-use Rattle.rj_explain.specs.Lines.{delimiter_rule, entry_line, mixed_line, rows_rule, shared_line}
+use Rattle.rj_explain.specs.Lines.{delimiter_rule, entry_line, mixed_line, rows_rule, select_rule, shared_line}
 
 abbrev pub IsList : List ℕ → Type 0
 IsList text = (entries : List TypeEntry) × IsTypeList text entries
@@ -25,8 +25,8 @@ pub record IsFirstBad (list entry : List ℕ) : Type 0 where
   pub first : All IsList before
   pub bad : IsNoList entry
 
--- That entry, and what it has to be. Or, if each entry is valid by itself, the rule by which they go
--- together.
+-- That entry, and what it has to be. Or, if each entry is valid by itself, the rule by which they
+-- go together.
 abbrev pub IsListTold : List ℕ → List ℕ → List ℕ → Type 0
 IsListTold rule list lines =
     ((entry why : List ℕ) × IsFirstBad list entry × (lines ≡ entry_line entry why))
@@ -51,10 +51,11 @@ IsValueTold rule (Some list) None = ⊥
 IsValueTold rule (Some list) (Some lines) = IsListTold rule list lines
 
 -- the lines for an error of the command line with these words: those for an invalid type list, list
--- of rows or delimiter
+-- of rows, list of columns or delimiter
 abbrev pub AreWordsTold : Fault → List (List ℕ) → Option (List ℕ) → Type 0
 AreWordsTold (fault.BadTypeList s) words told = IsValueTold mixed_line (value_of (types_option s) words) told
 AreWordsTold fault.BadSharedTypeList words told = IsValueTold shared_line (value_of (codes "--types") words) told
 AreWordsTold fault.BadRows words told = told ≡ Some rows_rule
+AreWordsTold fault.BadSelect words told = told ≡ Some select_rule
 AreWordsTold fault.BadDelimiter words told = told ≡ Some delimiter_rule
 AreWordsTold _ words told = told ≡ None

@@ -1,5 +1,5 @@
--- Where the record of a row is in a text of CSV as the library `csv` reads it by a delimiter, and on
--- which line of the file (RFC 4180, section 2).
+-- Where the record of a row is in a text of CSV as the library `csv` reads it by a delimiter, and
+-- on which line of the file (RFC 4180, section 2).
 use Rattle.std.specs.Prelude.{ℕ, zero, suc, ◌≡◌, ◌⊎◌, ◌+◌, ◌≤◌, ◌==◌, ◌||◌, Bool, List, [], Option, None, Some, length, take, drop, slice_get}
 use Rattle.std.specs.List.{count_by, prefix_len}
 use Rattle.csv.specs.Machine.{Read, next_record}

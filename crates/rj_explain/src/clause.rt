@@ -1,18 +1,18 @@
 //! Names of a clause that are refused.
 
-ghost use Rattle.std.specs.Prelude.{◌≡◌, ◌⊎◌, ◌∷◌, [], ◌++◌, ℕ, codes, IfOk, List, MatchOption, None, Ok, string_bytes};
-ghost use Rattle.std.specs.Option.{option_copied};
+ghost use Rattle.std.specs.Prelude.{◌≡◌, ◌⊎◌, ℕ, IfOk, List, MatchOption, None, Ok, string_bytes};
 ghost use Rattle.rj_csv_io.specs.Pieces.{names_in};
-ghost use Rattle.rj_fault.specs.Faults.{side_text};
 ghost use Rattle.rj_fault.specs.declared.fault.Side.TheVariants as sides;
 ghost use Rattle.rj_explain.specs.Explained.{AreColumns, IsNameTold, IsRefusalTold, IsToldOfName, columns_in, refusal_told, side_names};
 ghost use Rattle.rj_explain.specs.Lines.{clause_line};
-ghost use Rattle.rj_explain.specs.Shown.{meant_text, names_text};
 
 use crate::hints::separator_lines;
 use crate::inputs::Inputs;
-use crate::names::{Meant, NamesOf, nearest};
+use crate::names::nearest;
 use crate::shown::Shown;
+use crate::unknown::{
+    IN_BOTH, side_of_case, words_of_case, words_of_neither, words_of_side, words_of_table,
+};
 use rj_columns::Table;
 use rj_condition::{BindRefused, Name, RefusedColumn, Word, refused_column};
 use rj_csv_io::{Header, ReadRefused};
@@ -62,8 +62,8 @@ pub(crate) struct BothColumns {
 }
 
 impl BothColumns {
-    // Those of a side.
-    fn of(&self, side: Side) -> &Table {
+    /// Those of a side.
+    pub(crate) fn of(&self, side: Side) -> &Table {
         match side {
             Side::Left => &self.left,
             Side::Right => &self.right,
@@ -97,42 +97,6 @@ fn name_line(alloc: Global, found: &RefusedColumn, words: &str) -> Result<String
         bytes: found.name.as_str().as_bytes(),
     };
     format!(in alloc; "  {name} at byte {at} of the clause{words}")
-}
-
-// The words for a name that neither table has.
-fn words_of_both(
-    alloc: Global,
-    columns: &BothColumns,
-    meant: Option<&str>,
-) -> Result<String, AllocError>
-    ensures { IfOk result (λ s. string_bytes s ≡ codes "; left has " ++ (names_text columns.now.left.names
-        ++ (codes "; right has " ++ (names_text columns.now.right.names ++ (meant_text (option_copied meant.entry) ++ 10 ∷ []))))) }
-{
-    let (left, right, meant) = (
-        NamesOf {
-            table: &columns.left,
-        },
-        NamesOf {
-            table: &columns.right,
-        },
-        Meant { name: meant },
-    );
-    format!(in alloc; "; left has {left}; right has {right}{meant}\n")
-}
-
-// The words for a name that a side's table doesn't have: the names that it has.
-fn words_of_side(
-    alloc: Global,
-    side: Side,
-    has: &str,
-    table: &Table,
-    meant: Option<&str>,
-) -> Result<String, AllocError>
-    ensures { IfOk result (λ s. string_bytes s ≡ codes "; " ++ (side_text side ++ (codes " " ++ (has.now
-        ++ (codes " " ++ (names_text table.now.names ++ (meant_text (option_copied meant.entry) ++ 10 ∷ []))))))) }
-{
-    let (names, meant) = (NamesOf { table }, Meant { name: meant });
-    format!(in alloc; "; {side} {has} {names}{meant}\n")
 }
 
 // The words for a name after a qualifier that is no table's name. If it differs from one by its
@@ -179,24 +143,6 @@ fn is_delimited_at(clause: &str, at: u64) -> bool {
     }
 }
 
-// The name of a table's column that differs from this one by ASCII case alone.
-fn other_case<'t>(table: &'t Table, name: &str) -> Option<&'t str> {
-    for column in 0..table.columns() {
-        if table.name(column).eq_ignore_ascii_case(name) {
-            return Some(table.name(column));
-        }
-    }
-    None
-}
-
-// The words for a delimited name that differs from one of a side's table by ASCII case alone.
-fn words_of_case(alloc: Global, side: Side, name: &str) -> Result<String, AllocError> {
-    let name = Shown {
-        bytes: name.as_bytes(),
-    };
-    format!(in alloc; "; {side} has {name}: between double quotes a name matches exactly\n")
-}
-
 // The words for a name after a qualifier that can't be resolved.
 fn words_of_qualified(
     alloc: Global,
@@ -209,14 +155,8 @@ fn words_of_qualified(
     let Some(side) = side_of(qualifier, delimited) else {
         return words_of_no_table(alloc, qualifier);
     };
-    let (table, wanted) = (columns.of(side), found.name.as_str());
-    if is_delimited_at(clause, found.at) {
-        if let Some(name) = other_case(table, wanted) {
-            return words_of_case(alloc, side, name);
-        }
-    }
-    let meant = nearest(alloc, wanted, table)?;
-    words_of_side(alloc, side, "has", table, meant)
+    let delimited = is_delimited_at(clause, found.at);
+    words_of_table(alloc, columns, side, found.name.as_str(), delimited)
 }
 
 // Whether a table has a column that a name means.
@@ -238,28 +178,6 @@ fn lacking_side(columns: &BothColumns, name: &Name) -> Option<Side> {
         (true, false) => Some(Side::Right),
         (false, true) => Some(Side::Left),
         _ => None,
-    }
-}
-
-// The side that has a name which differs from a delimited one by ASCII case alone: the side that
-// lacks the name, if one does, and else any.
-fn side_of_case<'c>(
-    columns: &'c BothColumns,
-    lacking: Option<Side>,
-    name: &str,
-) -> Option<(Side, &'c str)> {
-    let left = match other_case(&columns.left, name) {
-        Some(called) => Some((Side::Left, called)),
-        None => None,
-    };
-    let right = match other_case(&columns.right, name) {
-        Some(called) => Some((Side::Right, called)),
-        None => None,
-    };
-    match lacking {
-        Some(Side::Left) => left,
-        Some(Side::Right) => right,
-        None => left.or(right),
     }
 }
 
@@ -286,11 +204,7 @@ fn words_of_bare(
         let meant = nearest(alloc, wanted, table)?;
         return words_of_side(alloc, side, "lacks it, and has", table, meant);
     }
-    let meant = match nearest(alloc, wanted, &columns.left)? {
-        Some(name) => Some(name),
-        None => nearest(alloc, wanted, &columns.right)?,
-    };
-    words_of_both(alloc, columns, meant)
+    words_of_neither(alloc, columns, wanted)
 }
 
 // The words for a name that can't be resolved.
@@ -315,7 +229,7 @@ fn words_of(
 ) -> Result<String, AllocError> {
     let words = match found.refused {
         BindRefused::UnknownColumn => return words_of_unknown(alloc, clause, found, columns),
-        BindRefused::AmbiguousColumn => "; both tables have it: write L. or R. before it\n",
+        BindRefused::AmbiguousColumn => IN_BOTH,
         BindRefused::RepeatedUsing => "; the column is named before\n",
         BindRefused::TypeMismatch | BindRefused::Memory => "\n",
     };

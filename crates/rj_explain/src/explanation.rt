@@ -13,6 +13,7 @@ use crate::hints::file_lines;
 use crate::inputs::Inputs;
 use crate::joined::null_text_lines;
 use crate::mismatch::mismatch_lines;
+use crate::selected::selected_lines;
 use crate::shared::shared_name_lines;
 use crate::strict::grammar_lines;
 use crate::syntax::syntax_lines;
@@ -98,6 +99,7 @@ fn explain_place(
         }
         Fault::TypeMismatch => mismatch_lines(alloc, inputs),
         Fault::AmbiguousNull(row, column) => null_text_lines(alloc, inputs, row, column),
+        Fault::SelectedName(number) => selected_lines(alloc, inputs, number),
         Fault::TooManyColumns(side) => too_many_lines(alloc, inputs, side),
         Fault::BadNull => String::from_str(alloc, NULL_RULE),
         Fault::RaggedRow(side, row) => ragged_lines(alloc, inputs, side, row),

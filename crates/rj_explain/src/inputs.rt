@@ -95,7 +95,8 @@ impl<'a, 'r> Inputs<'a, 'r> {
         types_under(alloc, self.types(side), names.as_slice())
     }
 
-    /// The text of a side as its records are read, where that isn't the file's own: read strictly, an empty line is a record.
+    /// The text of a side as its records are read, where that isn't the file's own: read strictly,
+    /// an empty line is a record.
     ///
     /// # Errors
     ///

@@ -1,10 +1,9 @@
 //! Columns of the result, and rows that are in more matches than expected.
 
-ghost use Rattle.std.specs.Prelude.{◌≡◌, ◌-◌, IfOk, IfSome, List, Ok, ℕ, map, slice_get, string_bytes, true};
+ghost use Rattle.std.specs.Prelude.{◌≡◌, ◌-◌, IfOk, IfSome, IsErr, List, MatchOption, Ok, ℕ, map, slice_get, string_bytes, true};
 ghost use Rattle.rj_condition.specs.Fits.{fits};
-ghost use Rattle.rj_engine.specs.Chosen as chosen;
-ghost use Rattle.rj_engine.specs.Naming as naming;
-ghost use Rattle.rj_explain.specs.Explained.{AreNamesWritten, IsCellOfResultTold, IsJoinOf, IsNullTold, IsPairedTold};
+ghost use Rattle.rj_engine.specs.Naming.{chosen_names};
+ghost use Rattle.rj_explain.specs.Explained.{AreNamesWritten, HasNoJoin, HasNoNames, IsCellOfResultTold, IsJoinOf, IsNullTold, IsPairedTold};
 ghost use Rattle.rj_explain.specs.Lines as lines;
 
 use crate::cells::{HeaderAndRow, find_both};
@@ -13,27 +12,35 @@ use crate::inputs::Inputs;
 use crate::row::field_at;
 use crate::shown::Shown;
 use rj_columns::Table;
-use rj_condition::{BoundJoin, bind, parse, split};
-use rj_engine::{chosen_header, written_names};
+use rj_condition::{BindRefused, BoundJoin, ParseRefused, bind, one_clause, parse, split};
+use rj_engine::{NamingRefused, chosen_names};
 use rj_fault::Side;
 use rj_line::Request;
 use std::alloc::{AllocError, Global};
 
-// The join that a clause asks of two tables, if it is valid.
-fn join_of(
+/// The join that a clause asks of two tables, if it is valid.
+///
+/// # Errors
+///
+/// It fails only when memory runs out.
+pub(crate) fn join_of(
     alloc: Global,
     clause: &str,
     left: &Table,
     right: &Table,
 ) -> Result<Option<BoundJoin>, AllocError>
     ensures fits { IfOk result (λ o. IfSome o (λ join. fits join left.now.types right.now.types ≡ true)) }
-    ensures asked { IfOk result (λ o. IfSome o (IsJoinOf clause.now left.now right.now)) }
+    ensures asked { IfOk result (λ o. MatchOption o (HasNoJoin clause.now left.now right.now) (IsJoinOf clause.now left.now right.now)) }
 {
-    let Ok(clause) = parse(alloc, clause) else {
-        return Ok(None);
+    one_clause();
+    let clause = match parse(alloc, clause) {
+        Ok(clause) => clause,
+        Err(ParseRefused::Memory) => return Err(AllocError),
+        Err(_) => return Ok(None),
     };
     match bind(alloc, &clause, left, right) {
         Ok(join) => Ok(Some(join)),
+        Err(BindRefused::Memory) => Err(AllocError),
         Err(_) => Ok(None),
     }
 }
@@ -46,12 +53,12 @@ fn names_of(
     request: &Request<'_>,
 ) -> Result<Option<Vec<String>>, AllocError>
     requires { fits join.now columns.now.left.types columns.now.right.types ≡ true }
-    ensures { IfOk result (λ o. IfSome o (λ v. naming.written_names request.now.choice.repeated
-        (chosen.chosen_header request.now.choice join.now columns.now.left columns.now.right) ≡ Ok (map string_bytes v.items))) }
+    ensures { IfOk result (λ o. MatchOption o (IsErr (chosen_names request.now.choice join.now columns.now.left columns.now.right))
+        (λ v. chosen_names request.now.choice join.now columns.now.left columns.now.right ≡ Ok (map string_bytes v.items))) }
 {
-    let own = chosen_header(alloc, &columns.left, &columns.right, join, &request.choice)?;
-    match written_names(alloc, own.as_slice(), request.choice.repeated) {
+    match chosen_names(alloc, &columns.left, &columns.right, join, &request.choice) {
         Ok(names) => Ok(Some(names)),
+        Err(NamingRefused::Memory) => Err(AllocError),
         Err(_) => Ok(None),
     }
 }
@@ -62,8 +69,10 @@ fn names_of_result(
     inputs: &Inputs<'_, '_>,
     columns: &BothColumns,
 ) -> Result<Option<Vec<String>>, AllocError>
-    ensures { IfOk result (λ o. IfSome o (λ v. AreNamesWritten inputs.now.request.now columns.now.left columns.now.right (map string_bytes v.items))) }
+    ensures { IfOk result (λ o. MatchOption o (HasNoNames inputs.now.request.now columns.now.left columns.now.right)
+        (λ v. AreNamesWritten inputs.now.request.now columns.now.left columns.now.right (map string_bytes v.items))) }
 {
+    one_clause();
     match join_of(alloc, inputs.request.clause, &columns.left, &columns.right)? {
         Some(join) => names_of(alloc, columns, &join, inputs.request),
         None => Ok(None),
@@ -195,6 +204,16 @@ fn fields_text(
     Ok(text)
 }
 
+// How many matches a row is in.
+fn pairs_text(alloc: Global, pairs: u64) -> Result<String, AllocError>
+    ensures { IfOk result (λ s. string_bytes s ≡ lines.pairs_text pairs) }
+{
+    if pairs == 0 {
+        return String::from_str(alloc, "no kept pair");
+    }
+    format!(in alloc; "{pairs} kept pairs")
+}
+
 // The line for a row that is in this many matches, and what is in its key.
 fn paired_line(
     alloc: Global,
@@ -206,9 +225,8 @@ fn paired_line(
 ) -> Result<String, AllocError>
     ensures { IfOk result (λ s. string_bytes s ≡ lines.row_line side row pairs line key.now) }
 {
-    format!(in alloc;
-        "  {side} row {row}, line {line} of the file, is in {pairs} kept pairs{key}\n"
-    )
+    let pairs = pairs_text(alloc, pairs)?;
+    format!(in alloc; "  {side} row {row}, line {line} of the file, is in {pairs}{key}\n")
 }
 
 // What stands in the key's columns of a row at hand.

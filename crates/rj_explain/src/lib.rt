@@ -3,7 +3,7 @@
 //!
 //! A line is a function of the error and of what was read. The definitions in `specs/` fix its
 //! content: the lines of a file, the columns, names and fields, the bytes of a clause, and the
-//! words around them. Only tested are the words for a name that can't be resolved, for a text that
+//! words around them. Only tested are the words for a name that means no column, for a text that
 //! isn't a clause, and for an invalid entry of a type list.
 #![tactic(auto)]
 
@@ -21,10 +21,12 @@ mod names;
 mod places;
 mod quoting;
 mod row;
+mod selected;
 mod shared;
 mod shown;
 mod strict;
 mod syntax;
+mod unknown;
 mod words;
 
 pub use explanation::explain;

@@ -9,8 +9,8 @@ ghost use Rattle.rj_strict.specs.Reading.{config_of};
 ghost use Rattle.rj_explain.specs.Places.{EndsFirst, HasNoRow, StandsAt, state_of};
 ghost use Rattle.rj_explain.specs.Places as places;
 
-/// Where a reader stands: before a record, at the start of a further field, in one, between quotes, behind the quote that
-/// closed, and behind a CR that ended a record.
+/// Where a reader stands: before a record, at the start of a further field, in one, between quotes,
+/// behind the quote that closed, and behind a CR that ended a record.
 #[derive(Clone, Copy)]
 pub(crate) enum Standing {
     Record,

@@ -20,8 +20,8 @@ pub struct Row {
 }
 
 /// The record of a row in a text of CSV, as the library `csv` reads it by this delimiter. The
-/// text's byte order mark was left out already. The header has row 0. `None` if the text has no such
-/// record.
+/// text's byte order mark was left out already. The header has row 0. `None` if the text has no
+/// such record.
 ///
 /// # Errors
 ///

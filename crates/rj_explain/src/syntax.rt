@@ -143,7 +143,8 @@ fn is_near(at: usize, byte: usize) -> bool {
     at.saturating_add(50) >= byte && at <= byte.saturating_add(30)
 }
 
-// Adds the part of a clause round a byte to a text, and tells how many of its characters stand before that byte.
+// Adds the part of a clause round a byte to a text, and tells how many of its characters stand
+// before that byte.
 fn push_near(text: &mut String, clause: &str, byte: usize) -> Result<usize, AllocError> {
     let mut before = 0usize;
     for (at, c) in clause.char_indices() {
@@ -163,7 +164,8 @@ fn marked(alloc: Global, clause: &str, byte: usize) -> Result<String, AllocError
     format!(in alloc; "  {shown}\n  {blanks}^\n")
 }
 
-// The line that tells what stands at a byte of a clause, and what might stand there, before its part round that byte.
+// The line that tells what stands at a byte of a clause, and what might stand there, before its
+// part round that byte.
 fn found_lines(
     alloc: Global,
     behind: &str,

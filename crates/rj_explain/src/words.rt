@@ -15,6 +15,10 @@ use std::alloc::{AllocError, Global};
 const ROWS_RULE: &str =
     "  --rows takes pairs or matched-left, lone-left and lone-right, once each, with single commas\n";
 
+// What a list of columns may be.
+const SELECT_RULE: &str =
+    "  --select takes entries as L.id, name or R.city=town, with single commas and no blanks; a name with other signs is between double quotes\n";
+
 // What a delimiter may be.
 const DELIMITER_RULE: &str =
     "  a delimiter is one ASCII character that is no letter, digit or double quote, or the word tab\n";
@@ -79,8 +83,8 @@ fn lines_of_shared(alloc: Global, list: Option<&str>) -> Result<Option<String>, 
 
 /// The lines for an error of the command line with these words. They are those of
 /// [`explain_list`], if the error is an invalid type list and its option has a value among the
-/// words. A list of rows or a delimiter that is invalid is told what it may be. For all else there
-/// is no more to say.
+/// words. For an invalid list of rows or of columns, and for an invalid delimiter, they say what it
+/// may be. For all else there is no more to say.
 ///
 /// # Errors
 ///
@@ -98,6 +102,7 @@ pub fn explain_words(
         }
         Fault::BadSharedTypeList => lines_of_shared(alloc, value_among(words, "--types")),
         Fault::BadRows => Ok(Some(String::from_str(alloc, ROWS_RULE)?)),
+        Fault::BadSelect => Ok(Some(String::from_str(alloc, SELECT_RULE)?)),
         Fault::BadDelimiter => Ok(Some(String::from_str(alloc, DELIMITER_RULE)?)),
         _ => Ok(None),
     }

@@ -3,6 +3,7 @@ pub mod Entries
 pub mod Identities
 pub mod Labels
 pub mod Outputs
+pub mod Quiet
 pub mod Readers
 pub mod Shares
 pub mod Streams

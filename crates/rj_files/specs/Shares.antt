@@ -15,7 +15,8 @@ parts rows size = if size == 0 then 0 else div_ceil rows size
 abbrev pub share : ℕ → ℕ → ℕ → ℕ
 share rows this all = if all == 0 then 0 else min (bounded (rows * this) / all) rows
 
--- the lists of parcels of all senders: each worker sends rows of either table, and has a list for each partition
+-- the lists of parcels of all senders: each worker sends rows of either table, and has a list for
+-- each partition
 abbrev pub lists : Cuts → ℕ
 lists c = bounded (bounded (c.workers * 2) * c.partitions)
 

@@ -3,7 +3,6 @@ use Rattle.std.specs.Prelude.{◌≡◌, ◌≢◌, ◌⊎◌, true, false, ℕ,
 use Rattle.std.specs.Io.KnownBytes.{Appends}
 use Rattle.rj_command.specs.Counts.{IsCountFault, WritesCounts}
 use Rattle.rj_command.specs.Runs.{IsRunFault, WritesJoined}
-use Rattle.rj_command.specs.declared.join.stats.Stats.{Stats}
 use Rattle.rj_fault.specs.Faults.{IsOfWriting}
 use Rattle.rj_fault.specs.declared.fault.Fault.{Fault}
 use Rattle.rj_fault.specs.declared.fault.Fault.TheVariants as fault
@@ -11,6 +10,8 @@ use Rattle.rj_fault.specs.declared.fault.Side.{Side}
 use Rattle.rj_fault.specs.declared.fault.Side.TheVariants as side
 use Rattle.rj_line.specs.declared.line.Line.{Line}
 use Rattle.rj_suggest.specs.Suggested.{IsSuggestFault, IsSuggestedList}
+use Rattle.rj_files.specs.declared.joining.Written.{Written}
+use Rattle.rj_files.specs.declared.joining.Written.TheVariants.{Counted, Joined}
 
 -- these are all bytes of a stream: those that it tells; if it tells nothing, they may be any
 abbrev pub AreBytesOf : Option (List ℕ) → List ℕ → Type 0
@@ -22,23 +23,23 @@ IsUnread s f = (f ≡ fault.Memory) ⊎ (f ≡ fault.ReadDevice s)
 
 -- what a line asks for of two tables' bytes was written after what the writer already had: the text
 -- of what is chosen of their joined table, with its statistics, or with `--count` the line of the
--- numbers of its members
-abbrev pub WritesAsked : Line → List ℕ → List ℕ → Option (List ℕ) → Option (List ℕ) → Option Stats → Type 0
-WritesAsked line l r before after (Some stats) = (line.count ≡ false) × WritesJoined l r line.request before after stats
-WritesAsked line l r before after None = (line.count ≡ true) × WritesCounts l r line.request before after
+-- numbers of its members, with the report, if one is asked for
+abbrev pub WritesAsked : Line → List ℕ → List ℕ → Option (List ℕ) → Option (List ℕ) → Written → Type 0
+WritesAsked line l r before after (Joined stats) = (line.count ≡ false) × WritesJoined l r line.request before after stats
+WritesAsked line l r before after (Counted report) = (line.count ≡ true) × WritesCounts l r line.request before after report
 
 -- why it isn't written
 abbrev pub IsAskedFault : Line → List ℕ → List ℕ → Fault → Type 0
 IsAskedFault line l r f = (line.count ≡ false → IsRunFault l r line.request f) × (line.count ≡ true → IsCountFault l r line.request f)
 
 -- the same of the bytes of two streams
-abbrev pub WritesOf : Line → Option (List ℕ) → Option (List ℕ) → Option (List ℕ) → Option (List ℕ) → Option Stats → Type 0
-WritesOf line left right before after stats =
-    (l r : List ℕ) × AreBytesOf left l × AreBytesOf right r × WritesAsked line l r before after stats
+abbrev pub WritesOf : Line → Option (List ℕ) → Option (List ℕ) → Option (List ℕ) → Option (List ℕ) → Written → Type 0
+WritesOf line left right before after written =
+    (l r : List ℕ) × AreBytesOf left l × AreBytesOf right r × WritesAsked line l r before after written
 
 -- it was written to some writer, which may tell nothing
-abbrev pub IsWrittenOf : Line → Option (List ℕ) → Option (List ℕ) → Option Stats → Type 0
-IsWrittenOf line left right stats = (before after : Option (List ℕ)) × WritesOf line left right before after stats
+abbrev pub IsWrittenOf : Line → Option (List ℕ) → Option (List ℕ) → Written → Type 0
+IsWrittenOf line left right written = (before after : Option (List ℕ)) × WritesOf line left right before after written
 
 -- why it isn't written: out of memory, a failed writer, a stream that can't be read, or the error
 -- of their bytes

@@ -219,9 +219,9 @@ fn take_after<R: Files>(rt: &R, name: &str, target: &str) -> io::Result<()> {
 }
 
 impl Draft {
-    /// Opens a file to which a result for this output is written: a new one in the same folder, with
-    /// the owner and the mode of the file that is there, or the pipe or device that is there. So it
-    /// is known before anything is read whether such a file can be made.
+    /// Opens a file to which a result for this output is written: a new one in the same folder,
+    /// with the owner and the mode of the file that is there, or the pipe or device that is there.
+    /// So it is known before anything is read whether such a file can be made.
     ///
     /// # Errors
     ///

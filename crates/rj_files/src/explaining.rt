@@ -1,15 +1,16 @@
 //! `--explain`: the lines that are added after the line of an error.
 
-ghost use Rattle.std.specs.Prelude.{◌≡◌, ◌↔◌, ◌<◌, ◌||◌, IfErr, IfOk, IfSome, IsTrue, codes, false, length, map, option_map, string_bytes};
+ghost use Rattle.std.specs.Prelude.{◌≡◌, ◌↔◌, ◌<◌, IfErr, IfOk, IfSome, IsTrue, codes, false, length, map, option_map, string_bytes};
 ghost use Rattle.std.specs.IoError.{error_kind};
 ghost use Rattle.std.specs.List.{list_any};
 ghost use Rattle.std.specs.Option.{IsSomeAnd};
 ghost use Rattle.std.specs.Str.{bytes_eq};
 ghost use Rattle.rj_command.specs.Sides.{delimiter_of, nulls_of};
 ghost use Rattle.rj_csv_io.specs.Typed.{null_texts};
-ghost use Rattle.rj_line.specs.Forms as forms;
+ghost use Rattle.rj_line.specs.Forms.{form_of, is_explained};
 ghost use Rattle.rj_line.specs.Line.{IsLineFault, IsLineOf};
 ghost use Rattle.rj_files.specs.Entries.{entry_for, is_entry_for};
+ghost use Rattle.rj_files.specs.Quiet.{is_quiet};
 ghost use Rattle.rj_files.specs.Texts.{memory_text, unkept_lines};
 
 use crate::explained::ExplainedFault;
@@ -19,7 +20,7 @@ use rj_command::{Line, OpenGate, UnkeptRows, Violation, first_violation, read_li
 use rj_csv_io::InputFormat;
 use rj_explain::{Inputs, explain, explain_row, explain_words};
 use rj_fault::{Fault, Side};
-use rj_line::{Request, default_explain, form_of};
+use rj_line::{Request, form_of, is_explained};
 use rj_suggest::suggest_types;
 use std::alloc::{AllocError, Global};
 use std::io::{self, ErrorKind};
@@ -35,12 +36,31 @@ fn has_word(words: &[&str], sought: &str) -> bool
     words.iter().any(|word| *word == sought)
 }
 
-/// Whether the words ask for explanations: in the short form, unless one is `--terse`.
-pub(crate) fn ask_for_lines(words: &[&str]) -> bool
-    ensures { result ≡ (list_any (λ w. bytes_eq w.now (codes "--explain")) words.now
-        || forms.default_explain (forms.form_of (map (λ w. w.now) words.now)) (list_any (λ w. bytes_eq w.now (codes "--terse")) words.now)) }
+// Whether a word asks for nothing but the line of an error, alone or before further short options.
+fn is_quiet(word: &str) -> bool
+    ensures { result ≡ is_quiet word.now }
 {
-    has_word(words, "--explain") || default_explain(form_of(words), has_word(words, "--terse"))
+    word == "--quiet" || word.as_bytes().starts_with("-q".as_bytes())
+}
+
+// Whether one of the words does.
+fn are_quiet(words: &[&str]) -> bool
+    ensures { result ≡ list_any (λ w. is_quiet w.now) words.now }
+{
+    words.iter().any(|word| is_quiet(word))
+}
+
+/// Whether the words ask for explanations.
+pub(crate) fn ask_for_lines(words: &[&str]) -> bool
+    ensures { result ≡ is_explained (form_of (map (λ w. w.now) words.now)) (list_any (λ w. bytes_eq w.now (codes "--explain")) words.now)
+        (list_any (λ w. bytes_eq w.now (codes "--terse")) words.now) (list_any (λ w. is_quiet w.now) words.now) }
+{
+    is_explained(
+        form_of(words),
+        has_word(words, "--explain"),
+        has_word(words, "--terse"),
+        are_quiet(words),
+    )
 }
 
 // The lines that explain an error of the command line, if it can be explained and the words ask for
@@ -98,6 +118,7 @@ fn lines_of_violation(
         Violation::Rows(rows) => return format!(in alloc; "  the joined table has {rows} rows\n"),
         Violation::LeftRow(row, pairs) => (Side::Left, *row, *pairs),
         Violation::RightRow(row, pairs) => (Side::Right, *row, *pairs),
+        Violation::LoneLeft(row) => (Side::Left, *row, 0),
     };
     explain_row(alloc, inputs, side, u64::from(row).saturating_add(1), pairs)
 }

@@ -1,6 +1,6 @@
 //! What a line asks for of the bytes of two tables: their joined table, or how many rows it has.
 
-ghost use Rattle.std.specs.Prelude.{◌≡◌, ◌≢◌, ◌<◌, ◌-◌, ◌^◌, IfOk, IfErr, OnOk};
+ghost use Rattle.std.specs.Prelude.{◌≡◌, ◌≢◌, ◌<◌, ◌-◌, ◌^◌, IfOk, IfErr};
 ghost use Rattle.rj_command.specs.Counts.{IsCountFault, WritesCounts};
 ghost use Rattle.rj_command.specs.Runs.{IsRunFault, WritesJoined};
 ghost use Rattle.rj_files.specs.Streams.{IsAskedFault, WritesAsked};
@@ -19,6 +19,16 @@ use std::io::Write;
 use std::sync::Wait;
 use std::thread::Threads;
 use std::time::Clock;
+
+/// What was written of two tables.
+#[derive(Drop)]
+pub enum Written {
+    /// Their joined table, with its statistics.
+    Joined(Stats),
+    /// With `--count` the line of how many rows it has of each kind, with the report, if one is
+    /// asked for.
+    Counted(Option<String>),
+}
 
 /// The bytes of two tables.
 #[derive(Drop)]
@@ -74,19 +84,20 @@ where
     }
 }
 
-// Counts the rows of two tables' joined table. Bytes are kept only where an error is explained.
+// Counts the rows of two tables' joined table, with the report, if one is asked for. Bytes are kept
+// only where an error is explained.
 fn count_tables<R, O>(
     rt: &R,
     line: &Line<'_>,
     progress: &Progress<'_, R>,
     tables: Tables,
     writer: &mut O,
-) -> Result<(), ExplainedFault>
+) -> Result<Option<String>, ExplainedFault>
 where
     R: AllocGlobal + Eprint + Threads + Wait + Clock + Sync,
     O: Output,
     requires { O.count writer.old < 2 ^ 64 - 1 }
-    ensures counted { OnOk result (WritesCounts tables.left.items tables.right.items line.now.request (O.told writer.old) (O.told writer.new)) }
+    ensures counted { IfOk result (WritesCounts tables.left.items tables.right.items line.now.request (O.told writer.old) (O.told writer.new)) }
     ensures fault { IfErr result (λ e. IsCountFault tables.left.items tables.right.items line.now.request e.fault) }
     ensures unchanged { IfErr result (λ e. e.fault ≢ Fault.WriteDevice → writer.new ≡ writer.old) }
 {
@@ -94,26 +105,26 @@ where
     if !line.explain {
         let Tables { left, right } = tables;
         return match count(rt, alloc, left, right, request, progress, writer) {
-            Ok(()) => Ok(()),
+            Ok(report) => Ok(report),
             Err(fault) => Err(ExplainedFault::from(fault)),
         };
     }
     let inputs = tables.inputs(request);
     let (left, right) = (inputs.left, inputs.right);
     match count(rt, alloc, left, right, request, progress, writer) {
-        Ok(()) => Ok(()),
+        Ok(report) => Ok(report),
         Err(fault) => Err(explained(rt, fault, &inputs)),
     }
 }
 
-// Writes what the line asks for. There are statistics if that is the joined table.
+// Writes what the line asks for.
 fn write_asked<R, O>(
     rt: &R,
     line: &Line<'_>,
     progress: &Progress<'_, R>,
     tables: Tables,
     writer: &mut O,
-) -> Result<Option<Stats>, ExplainedFault>
+) -> Result<Written, ExplainedFault>
 where
     R: AllocGlobal + Eprint + Threads + Wait + Clock + Sync,
     O: Output,
@@ -124,18 +135,17 @@ where
 {
     if line.count {
         return match count_tables(rt, line, progress, tables, writer) {
-            Ok(()) => Ok(None),
+            Ok(report) => Ok(Written::Counted(report)),
             Err(e) => Err(e),
         };
     }
     match join_tables(rt, line, progress, tables, writer) {
-        Ok(stats) => Ok(Some(stats)),
+        Ok(stats) => Ok(Written::Joined(stats)),
         Err(e) => Err(e),
     }
 }
 
-/// Writes what the line asks for of two tables, and returns the writer. There are statistics if
-/// that is the joined table.
+/// Writes what the line asks for of two tables, and returns the writer.
 ///
 /// # Errors
 ///
@@ -147,7 +157,7 @@ pub(crate) fn write_tables<R, W>(
     progress: &Progress<'_, R>,
     tables: Tables,
     writer: W,
-) -> (Result<Option<Stats>, ExplainedFault>, W)
+) -> (Result<Written, ExplainedFault>, W)
 where
     R: AllocGlobal + Eprint + Threads + Wait + Clock + Sync,
     W: Write,
@@ -162,7 +172,7 @@ where
     let (writer, error) = writer.into_inner().into_parts();
     let writer = writer.into_inner();
     match written {
-        Ok(stats) => (Ok(stats), writer),
+        Ok(written) => (Ok(written), writer),
         Err(e) => (Err(with_write_error(rt.alloc(), line, e, &error)), writer),
     }
 }

@@ -24,6 +24,7 @@ mod watched;
 pub use explained::{ExplainedFault, tell_explained};
 pub use explaining::{processors, read_words_of_line};
 pub use identities::{Identities, Identity};
+pub use joining::Written;
 pub use lists::read_lists;
 pub use named::{NamedStream, StreamReader};
 pub use outputs::{refuse_inputs, refuse_printed, write_output};

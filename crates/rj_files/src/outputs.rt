@@ -9,11 +9,12 @@ use crate::draft::{Draft, Unwritten};
 use crate::explained::ExplainedFault;
 use crate::explaining::unwritten;
 use crate::identities::{Identities, Identity};
+use crate::joining::Written;
 use crate::named::{is_standard_stream, told_by_system};
 use crate::progress::Progress;
 use crate::reading::Stream;
 use crate::streams::write_streams;
-use rj_command::{Line, Stats};
+use rj_command::Line;
 use rj_fault::{Fault, Side};
 use std::alloc::{AllocError, Global};
 use std::fs::Files;
@@ -159,7 +160,7 @@ fn write_file<R, L, S>(
     left: &L,
     right: &S,
     name: &str,
-) -> Result<Option<Stats>, ExplainedFault>
+) -> Result<Written, ExplainedFault>
 where
     R: Files + AllocGlobal + Eprint + Threads + Wait + Clock + Sync,
     L: Stream,
@@ -173,8 +174,8 @@ where
     };
     let (written, file) = write_streams(rt, line, progress, left, right, file);
     match written {
-        Ok(stats) => match draft.finish(rt, file) {
-            Ok(()) => Ok(stats),
+        Ok(written) => match draft.finish(rt, file) {
+            Ok(()) => Ok(written),
             Err(refused) => Err(unplaced(rt.alloc(), line, refused)),
         },
         Err(e) => {
@@ -185,8 +186,8 @@ where
 }
 
 /// Reads two tables and writes what a line asks for: to standard output, or into a file,
-/// atomically. The file has the whole of it, or what it had before. There are statistics if that is
-/// the joined table.
+/// atomically. The file has the whole of it, or what it had before. It returns the statistics of
+/// the joined table, or with `--count` the report, if one is asked for.
 ///
 /// # Errors
 ///
@@ -198,7 +199,7 @@ pub fn write_output<R, L, S>(
     progress: &Progress<'_, R>,
     left: &L,
     right: &S,
-) -> Result<Option<Stats>, ExplainedFault>
+) -> Result<Written, ExplainedFault>
 where
     R: Files + AllocGlobal + Print + Eprint + Threads + Wait + Clock + Sync,
     L: Stream,

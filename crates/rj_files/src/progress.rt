@@ -58,7 +58,8 @@ pub struct Progress<'a, R> {
     // The bytes that were read from each file.
     left_bytes: AtomicU64,
     right_bytes: AtomicU64,
-    // The rows of each table, the parcels that were posted, and the partition of the first piece, plus one.
+    // The rows of each table, the parcels that were posted, and the partition of the first piece,
+    // plus one.
     left_rows: AtomicU64,
     right_rows: AtomicU64,
     posted: AtomicU64,
@@ -136,8 +137,9 @@ fn milliseconds<R: Clock>(rt: &R) -> u64 {
 }
 
 impl<'a, R: Clock> Progress<'a, R> {
-    /// The progress of a run that begins now. It is shown at once if the line asks for it, and else
-    /// after two seconds. If rows go to a terminal, nothing is shown once they come.
+    /// The progress of a run that begins now. It is shown at once if the line asks for it, never if
+    /// the line is quiet, and else after two seconds. If rows go to a terminal, nothing is shown
+    /// once they come.
     pub fn of(rt: &'a R, line: &Line<'_>, terminals: Terminals) -> Progress<'a, R> {
         let patience = if line.progress { 0 } else { PATIENCE };
         let settings = &line.request.settings;
@@ -148,7 +150,7 @@ impl<'a, R: Clock> Progress<'a, R> {
             piece: u64::from(settings.piece),
         };
         let from = milliseconds(rt).saturating_add(patience);
-        let mut progress = Progress::from(rt, from, cuts, terminals.error);
+        let mut progress = Progress::from(rt, from, cuts, terminals.error && !line.quiet);
         progress.shares_terminal = terminals.output && output_of(line).is_none();
         if terminals.input {
             progress.by_hand = side_of_input(line);

@@ -5,10 +5,10 @@ ghost use Rattle.rj_files.specs.Streams.{AreBytesOf, IsFaultOf, IsUnread, Writes
 ghost use Rattle.rj_files.specs.Texts.{unread_memory_text};
 
 use crate::explained::ExplainedFault;
-use crate::joining::{Tables, write_tables};
+use crate::joining::{Tables, Written, write_tables};
 use crate::progress::Progress;
 use crate::reading::{Stream, read_stream};
-use rj_command::{Line, Stats};
+use rj_command::Line;
 use rj_fault::{Fault, Side};
 use std::alloc::{AllocError, Global};
 use std::io::Write;
@@ -80,8 +80,8 @@ fn read_both<R: AllocGlobal + Eprint + Clock, L: Stream, S: Stream>(
 /// Reads the tables that two streams give, each to its end, and writes what the line asks for after
 /// what the writer already has. That is what is chosen of their joined table, or with `--count` the
 /// line of how many rows of each kind it has. The right stream is opened when the left one was read
-/// to its end, and nothing is written before both are. It returns the writer, and the statistics if
-/// the joined table was written.
+/// to its end, and nothing is written before both are. It returns the writer, and the statistics of
+/// the joined table, or with `--count` the report, if one is asked for.
 ///
 /// # Errors
 ///
@@ -96,7 +96,7 @@ pub fn write_streams<R, L, S, W>(
     left: &L,
     right: &S,
     writer: W,
-) -> (Result<Option<Stats>, ExplainedFault>, W)
+) -> (Result<Written, ExplainedFault>, W)
 where
     R: AllocGlobal + Eprint + Threads + Wait + Clock + Sync,
     L: Stream,

@@ -7,7 +7,8 @@ use rj_fault::Side;
 use std::io::{self, Read, Write};
 use std::time::Clock;
 
-/// A reader of a side's table that does what another one does. It tells the bytes that the other one tells.
+/// A reader of a side's table that does what another one does. It tells the bytes that the other
+/// one tells.
 #[derive(Drop)]
 pub(crate) struct WatchedReader<'a, R, S> {
     progress: &'a Progress<'a, R>,
@@ -49,7 +50,8 @@ impl<R: Clock + Eprint, S: Read> Read for WatchedReader<'_, R, S> {
     }
 }
 
-/// A writer of the result that does what another one does. It tells the bytes that the other one tells.
+/// A writer of the result that does what another one does. It tells the bytes that the other one
+/// tells.
 #[derive(Drop)]
 pub(crate) struct WatchedWriter<'a, R, W> {
     progress: &'a Progress<'a, R>,
