@@ -93,9 +93,30 @@ impl Numbers {
         }
     }
 
+    // Makes all wide, and adds a number: apart, so that `push` stays small. If memory runs out,
+    // nothing is changed.
+    #[cold]
+    #[inline(never)]
+    fn push_wide(&mut self, n: i64) -> Result<(), AllocError>
+        ensures ok { OnOk result (self.new ≡ self.old ++ n ∷ []) }
+        ensures err { OnErr result (self.new ≡ self.old) }
+    {
+        match &mut self.values {
+            Values::Narrow(values) => {
+                let mut wide = widened(values)?;
+                wide.push(n)?;
+                self.values = Values::Wide(wide);
+            }
+            Values::Wide(values) => {
+                values.push(n)?;
+            }
+        }
+        Ok(())
+    }
+
     // Adds a number. All become wide if it doesn't fit 4 bytes. If memory runs out, nothing is
     // changed.
-    #[inline]
+    #[inline(always)]
     pub(crate) fn push(&mut self, n: i64) -> Result<(), AllocError>
         ensures ok { OnOk result (self.new ≡ self.old ++ n ∷ []) }
         ensures err { OnErr result (self.new ≡ self.old) }
@@ -106,15 +127,13 @@ impl Numbers {
                     values.push(narrow)?;
                     return Ok(());
                 }
-                let mut wide = widened(values)?;
-                wide.push(n)?;
-                self.values = Values::Wide(wide);
             }
             Values::Wide(values) => {
                 values.push(n)?;
+                return Ok(());
             }
         }
-        Ok(())
+        self.push_wide(n)
     }
 
     // Drops all but the first.

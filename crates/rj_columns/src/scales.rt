@@ -10,6 +10,7 @@ use rj_decimal::{Decimal, rescale};
 /// A cell's number with this many digits after the point, at most 18 and no fewer than its own. The
 /// value stays the same. If the scale is 0, a whole number stays a whole number. A text and a NULL
 /// stay unchanged. A decimal has units below 10^18 in size.
+#[inline(always)]
 pub fn in_scale(cell: Cell<'_>, scale: u8) -> Cell<'_>
     requires limits { IsInLimits (content_of cell) }
     requires scale { scale ≤ 18 }

@@ -1,7 +1,7 @@
 use Rattle.std.proofs.Common.{refl}
 use Rattle.std.proofs.Math.Facts.{to_z-of_z}
 use Rattle.rj_csv_io.proofs.TypedFacts.{int-utf8, parsed-ok, parsed-err}
-use Rattle.rj_csv_io.proofs.fields.number_of_field.Goals as goal
+use Rattle.rj_csv_io.proofs.fields.parsed_number.Goals as goal
 
 pub returns-in-Err : goal.returns-in-Err
 returns-in-Err c = rw (int-utf8 c.args.field.now c.in-Err.ensures.cases.0) refl
