@@ -171,6 +171,25 @@ def random_bands(tally, with_sqlite):
         tally.check(f"random band {n}: {join.clause}", faults_of(left, right, join, with_sqlite, options=options))
 
 
+MOMENTS = ["2025", "2026-11-29", "2026-11-29T10:4", "2026-11-29T10:40:00", "2026-11-29T10:45:00", "2026-11-29T10:45:01", "2026-11-30", "é", None]
+
+
+def random_bands_of_texts(tally, with_sqlite):
+    """Joins whose clause bounds a column of texts, of which many begin with the same 15 bytes."""
+    source = random.Random("radixjoin: random bands of texts")
+    for n in range(CASES):
+        left, right = (reference.Table(names, ["text", "text"], [[source.choice(MOMENTS) for _ in names] for _ in range(source.randrange(13))]) for names in (["a", "b"], ["c", "d"]))
+        here, there = source.sample(["L", "R"], 2)
+        column, low, high = (("column", side, source.randrange(2)) for side in (here, there, there))
+        above = ("compare", source.choice([">", ">="]), column, low)
+        below = ("compare", source.choice([">", ">="]), high, column)
+        condition = source.choice([above, below, ("and", [above, below]), ("between", column, low, high, False)])
+        kind = source.choice(["INNER", "LEFT", "RIGHT", "FULL"])
+        join = reference.Join(f"{kind} JOIN ON {reference.spelled(condition, left, right)}", kind, condition=condition)
+        options = source.choice([(), ("--workers=3",), ("--workers=2", "--piece=2")])
+        tally.check(f"random band of texts {n}: {join.clause}", faults_of(left, right, join, with_sqlite, options=options))
+
+
 def random_meeting(source, left, right):
     """A conjunct by which the nulls of two columns meet, in any order, or one that looks so: with a further alternative, with
     nulls of another column, or with a null on one side alone."""
@@ -261,6 +280,7 @@ def run_all(tally):
     random_tables(tally, with_sqlite)
     random_decimals(tally, with_sqlite)
     random_bands(tally, with_sqlite)
+    random_bands_of_texts(tally, with_sqlite)
     random_nulls_that_meet(tally, with_sqlite)
     random_delimiters(tally, with_sqlite)
     large_tables(tally, with_sqlite)
