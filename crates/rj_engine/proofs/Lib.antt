@@ -27,3 +27,5 @@ pub mod ChosenFacts
 pub mod Repeats
 pub mod GroupFacts
 pub mod RunFacts
+pub mod LoneRows
+pub mod CountFacts

@@ -16,3 +16,4 @@ pub mod Shown
 pub mod Violations
 pub mod KeyGroups
 pub mod Reports
+pub mod Counts
