@@ -1,6 +1,6 @@
 //! Whether a joined table is as expected.
 
-ghost use Rattle.std.specs.Prelude.{◌≡◌, ◌<◌, ◌↔◌, All, IfOk, IsTrue, Some, length, map};
+ghost use Rattle.std.specs.Prelude.{◌≡◌, ◌<◌, ◌↔◌, All, IfOk, IsTrue, length, map};
 ghost use Rattle.rj_engine.specs.Expected.{AreDistinct, AreMatched, HasAtMost, HasNoLone, IsAsExpected};
 ghost use Rattle.rj_engine.specs.Marks.{row_on};
 ghost use Rattle.rj_engine.specs.Results.{joined_of};
@@ -45,11 +45,13 @@ fn are_matched(
     requires right { All (λ p. p.1 < rights) pairs.now }
     ensures { IfOk result (λ b. IsTrue b ↔ AreMatched matching pairs.now) }
 {
+    let Some(matching) = matching else {
+        return Ok(true);
+    };
     match matching {
-        None => Ok(true),
-        Some(Matching::ManyToOne) => are_distinct(alloc, pairs, PairSide::Left, lefts),
-        Some(Matching::OneToMany) => are_distinct(alloc, pairs, PairSide::Right, rights),
-        Some(Matching::OneToOne) => {
+        Matching::ManyToOne => are_distinct(alloc, pairs, PairSide::Left, lefts),
+        Matching::OneToMany => are_distinct(alloc, pairs, PairSide::Right, rights),
+        Matching::OneToOne => {
             let one = are_distinct(alloc, pairs, PairSide::Left, lefts)?;
             let other = are_distinct(alloc, pairs, PairSide::Right, rights)?;
             Ok(one && other)
