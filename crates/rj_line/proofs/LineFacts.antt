@@ -1,6 +1,7 @@
 -- Which fault of the command line a bad type list is, too many null texts, and what is chosen wrongly.
-use Rattle.std.proofs.Common.{◌≡◌, ◌≢◌, ◌∙◌, ◌⊎◌, ◌<◌, ◌≤◌, ◌∷◌, arith, ℕ, Bool, true, false, List, [], length, Option, ap, inl, inr, is_some, refl, sym, subst, true≢false, codes}
+use Rattle.std.proofs.Common.{◌≡◌, ◌≢◌, ◌∙◌, ◌⊎◌, ◌<◌, ◌≤◌, ◌∷◌, arith, ℕ, Bool, true, false, List, [], length, Option, ap, inl, inr, is_some, refl, sym, subst, true≢false, codes, Bor}
 use Rattle.std.specs.Cmp.Derive.{both_true}
+use Rattle.std.proofs.lemmas.List.{length-map}
 use Rattle.clap.specs.Words.{IsAmong, Text, fault_of, kind_of}
 use Rattle.clap.specs.declared.error.Error.{Error}
 use Rattle.clap.specs.declared.error.kind.ErrorKind.{ErrorKind}
@@ -12,10 +13,11 @@ use Rattle.rj_fault.specs.declared.fault.Side.TheVariants as side
 use Rattle.rj_line.specs.Choices.{IsChoiceFault}
 use Rattle.rj_line.specs.Delimiters.{AreDelimitersOf}
 use Rattle.rj_line.specs.declared.delimiters.Delimiters.{Delimiters}
-use Rattle.rj_line.specs.Line.{AreTablesGiven, GiveShared, GiveTypes, IsChosenFault, IsFaultIn, IsParseError, IsRequestFault, nulls_or, word_of, words_of}
+use Rattle.rj_line.specs.Line.{AreTablesGiven, GiveShared, GiveTypes, IsAskedOf, IsChosenFault, IsFaultIn, IsParseError, IsRequestFault, IsRequestOf, IsValueFault, null_word, nulls_or, word_of, words_of}
 use Rattle.rj_line.specs.Options.{OptionWords, line_app}
 use Rattle.rj_line.specs.Types.{GivesNoShared, GivesNoTypes, GivesTypes}
 use Rattle.rj_line.specs.declared.form.Form.{Form}
+use Rattle.rj_line.specs.declared.request.Request.{Request}
 use Rattle.rj_types.specs.declared.entry.TypeEntry.{TypeEntry}
 
 abbrev is_memory : Fault → Bool
@@ -71,14 +73,38 @@ module _ (form : Form) (word : Text → Option Text) (texts : Text → List Text
   chosen_fault (fault.TooManyNulls side) given told = absurd told.1
   chosen_fault f given told = (given, told)
 
+  -- a fault of what is asked of the tables is one of the values
+  pub asked_fault : (f : Fault) → IsRequestFault form word texts f → IsValueFault form word texts f
+  asked_fault fault.QuietTwice told = absurd told.1.1
+  asked_fault fault.CountedChoice told = absurd told.1.1
+  asked_fault f told = told
+
 -- a table has as many null texts as it is given, or one
 pub few_given : (texts : List Text) (null : Text) (count : ℕ) → count ≡ length (nulls_or texts null) → count ≤ 4 → length texts ≤ 4
 few_given [] null count is few = omega arith
 few_given (t ∷ texts) null count is few = subst (λ n. n ≤ 4) is few
 
+-- where a request is read, what is asked of the tables is given
+pub asked_of : (form : Form) (processors : ℕ) (word : Text → Option Text) (texts : Text → List Text) (r : Request) → IsRequestOf form processors word texts r
+    → IsAskedOf form word texts
+asked_of form processors word texts r is =
+    let null = null_word word in
+    let lefts : length r.left_nulls.items ≡ length (nulls_or (texts (codes "left-null")) null) =
+    sym (length-map r.left_nulls.items (λ (n : Bor Text). n.now)) ∙ ap length is.left_nulls in
+    let rights : length r.right_nulls.items ≡ length (nulls_or (texts (codes "right-null")) null) =
+    sym (length-map r.right_nulls.items (λ (n : Bor Text). n.now)) ∙ ap length is.right_nulls in (
+      (
+        ((r.shared_types.items, is.shared_types), (is.left_types.listed, is.left_types.given), (is.right_types.listed, is.right_types.given)),
+        few_given _ null _ lefts is.few_nulls.0,
+        few_given _ null _ rights is.few_nulls.1,
+      ),
+      both_true (ap is_some is.left_delimiter) (both_true (ap is_some is.right_delimiter) (ap is_some is.out_delimiter)),
+      (r.choice, is.choice),
+    )
+
 -- where `clap` has no fault to tell, a fault of the values is one of the line
 pub line_fault : (form : Form) (words : List Text) (h : OptionWords) (f : Fault) → fault_of (line_app form h) words ≡ []
-    → IsRequestFault form (word_of form h words) (words_of form h words) f → IsFaultIn form words f
+    → IsValueFault form (word_of form h words) (words_of form h words) f → IsFaultIn form words f
 line_fault form words h (fault.CommandLine e) accepted told = absurd told.1.1
 line_fault form words h fault.Memory accepted told = tt
 line_fault form words h f accepted told = (h, accepted, told)

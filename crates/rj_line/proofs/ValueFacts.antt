@@ -1,20 +1,53 @@
 -- The values that a parse of each form has.
-use Rattle.std.proofs.Common.{◌≡◌, refl, true, lit<, true≢false, is_some, codes, [], ◌∷◌}
+use Rattle.std.proofs.Common.{◌≡◌, ◌∙◌, refl, sym, ap, subst, Bool, true, false, lit<, true≢false, is_some, codes, List, [], ◌∷◌, Option, Some, None}
 use Rattle.std.specs.List.{list_all}
-use Rattle.clap.specs.Words.{IsParsedFrom, first_value, found_of}
+use Rattle.clap.specs.Words.{IsParsedFrom, Text, first_value, found_of}
 use Rattle.clap.specs.declared.builder.command.Command.{Command}
 use Rattle.clap.specs.declared.parser.matches.ArgMatches.{ArgMatches}
-use Rattle.rj_line.specs.Choices.{columns_name, order_name}
-use Rattle.rj_line.specs.Line.{HasValues, hash_name, matching_name}
+use Rattle.rj_line.specs.Choices.{GivesSide, NamesColumns, order_name}
+use Rattle.rj_line.specs.Line.{GivesExpected, HasValues, expected_word, hash_name}
+use Rattle.rj_line.specs.Named.{IsNameOf}
 use Rattle.rj_line.specs.Options.{IsBare, IsChain, OptionWords, option_rules}
 use Rattle.rj_line.specs.declared.form.Form.{Form}
 use Rattle.rj_line.specs.declared.form.Form.TheVariants as form
 use Rattle.rj_line.specs.declared.request.Hash.TheVariants as hash
 use Rattle.rj_line.proofs.ChainFacts.{are_distinct, fits_option, wanted_given}
 use Rattle.rj_line.proofs.NumberFacts.{name_given, number_given, strict_given}
+use Rattle.rj_settings.specs.declared.expectation.Matching.{Matching}
 use Rattle.rj_settings.specs.declared.expectation.Matching.TheVariants as matching
+use Rattle.rj_settings.specs.declared.choice.ColumnChoice.{ColumnChoice}
 use Rattle.rj_settings.specs.declared.choice.ColumnChoice.TheVariants as columns
 use Rattle.rj_settings.specs.declared.choice.RowOrder.TheVariants as order
+
+-- a word, and the columns that it names
+abbrev SideWord : Type 0
+SideWord = (c : ColumnChoice) × (word : Text) × NamesColumns word c
+
+abbrev side_words : List SideWord
+side_words = (columns.All, codes "all", refl) ∷ (columns.Left, codes "left", refl) ∷ (columns.Right, codes "right", refl) ∷ []
+
+side_given : (word : Option Text) → IsNameOf (λ (w : SideWord). w.1) word → GivesSide word
+side_given None is = (columns.All, refl)
+side_given (Some text) is = (is.0.0, subst (λ (w : Text). NamesColumns w is.0.0) (sym is.1) is.0.2)
+
+-- a word, and what it expects of the matches
+abbrev ExpectWord : Type 0
+ExpectWord = (m : Option Matching) × (matched : Bool) × (word : Text) × (expected_word m matched ≡ Some word)
+
+abbrev expect_words : List ExpectWord
+expect_words =
+    (Some matching.OneToOne, false, codes "one-to-one", refl)
+    ∷ (Some matching.ManyToOne, false, codes "many-to-one", refl)
+    ∷ (Some matching.OneToMany, false, codes "one-to-many", refl)
+    ∷ (None, true, codes "matched", refl)
+    ∷ (Some matching.OneToOne, true, codes "one-to-one,matched", refl)
+    ∷ (Some matching.ManyToOne, true, codes "many-to-one,matched", refl)
+    ∷ (Some matching.OneToMany, true, codes "one-to-many,matched", refl)
+    ∷ []
+
+expected_given : (word : Option Text) → IsNameOf (λ (w : ExpectWord). w.2) word → GivesExpected word
+expected_given None is = (None, false, refl)
+expected_given (Some text) is = (is.0.0, is.0.1, is.0.3 ∙ ap Some (sym is.1))
 
 pub all_plain : (f : Form) (h : OptionWords) → list_all fits_option (option_rules f h) ≡ true
 all_plain form.Long h = refl
@@ -52,11 +85,11 @@ module _ (start command : Command) (h : OptionWords) (m : ArgMatches) (bare : Is
           retries = number 21 0 3 (lit< tt) refl parsed;
           piece = number 22 1 1048576 (lit< tt) refl parsed;
         };
-        expect = name_given start command rules m bare chain refl refl matching_name (matching.OneToOne ∷ matching.ManyToOne ∷ matching.OneToMany ∷ []) h.matchings h.are_matchings 32 (lit< tt) refl refl parsed;
+        expect = expected_given (first_value (found_of m) (codes "expect")) (name_given start command rules m bare chain refl refl (λ (w : ExpectWord). w.2) expect_words h.matchings h.are_matchings 32 (lit< tt) refl refl parsed);
         most_rows = number 33 0 4294967295 (lit< tt) refl parsed;
         hash = name_given start command rules m bare chain refl refl hash_name (hash.Plain ∷ hash.Mixed ∷ []) h.hashes h.are_hashes 16 (lit< tt) refl refl parsed;
         order = name_given start command rules m bare chain refl refl order_name (order.PairsFirst ∷ order.LeftFirst ∷ []) h.orders h.are_orders 26 (lit< tt) refl refl parsed;
-        columns = name_given start command rules m bare chain refl refl columns_name (columns.All ∷ columns.Left ∷ columns.Right ∷ []) h.sides h.are_sides 28 (lit< tt) refl refl parsed;
+        columns = side_given (first_value (found_of m) (codes "columns")) (name_given start command rules m bare chain refl refl (λ (w : SideWord). w.1) side_words h.sides h.are_sides 28 (lit< tt) refl refl parsed);
         strict = strict_given start command rules m bare chain refl refl 13 (lit< tt) h refl refl parsed;
       }
 
@@ -79,11 +112,11 @@ module _ (start command : Command) (h : OptionWords) (m : ArgMatches) (bare : Is
           retries = number 24 0 3 (lit< tt) refl parsed;
           piece = number 25 1 1048576 (lit< tt) refl parsed;
         };
-        expect = name_given start command rules m bare chain refl refl matching_name (matching.OneToOne ∷ matching.ManyToOne ∷ matching.OneToMany ∷ []) h.matchings h.are_matchings 35 (lit< tt) refl refl parsed;
+        expect = expected_given (first_value (found_of m) (codes "expect")) (name_given start command rules m bare chain refl refl (λ (w : ExpectWord). w.2) expect_words h.matchings h.are_matchings 35 (lit< tt) refl refl parsed);
         most_rows = number 36 0 4294967295 (lit< tt) refl parsed;
         hash = name_given start command rules m bare chain refl refl hash_name (hash.Plain ∷ hash.Mixed ∷ []) h.hashes h.are_hashes 19 (lit< tt) refl refl parsed;
         order = name_given start command rules m bare chain refl refl order_name (order.PairsFirst ∷ order.LeftFirst ∷ []) h.orders h.are_orders 29 (lit< tt) refl refl parsed;
-        columns = name_given start command rules m bare chain refl refl columns_name (columns.All ∷ columns.Left ∷ columns.Right ∷ []) h.sides h.are_sides 31 (lit< tt) refl refl parsed;
+        columns = side_given (first_value (found_of m) (codes "columns")) (name_given start command rules m bare chain refl refl (λ (w : SideWord). w.1) side_words h.sides h.are_sides 31 (lit< tt) refl refl parsed);
         strict = strict_given start command rules m bare chain refl refl 16 (lit< tt) h refl refl parsed;
       }
 

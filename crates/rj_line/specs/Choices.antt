@@ -13,6 +13,7 @@ use Rattle.rj_settings.specs.declared.choice.Repeated.TheVariants as repeated
 use Rattle.rj_settings.specs.declared.choice.RowKinds.{RowKinds}
 use Rattle.rj_settings.specs.declared.choice.RowOrder.{RowOrder}
 use Rattle.rj_settings.specs.declared.choice.RowOrder.TheVariants as order
+use Rattle.rj_types.specs.Selected.{IsSelectList}
 use Rattle.rj_line.specs.Forms.{default_repeated}
 use Rattle.rj_line.specs.Named.{IsNamedOr, is_true}
 use Rattle.rj_line.specs.declared.form.Form.{Form}
@@ -22,11 +23,17 @@ abbrev pub order_name : RowOrder → Text
 order_name order.PairsFirst = codes "pairs"
 order_name order.LeftFirst = codes "left"
 
--- the name of a choice of columns
-abbrev pub columns_name : ColumnChoice → Text
-columns_name column.All = codes "all"
-columns_name column.Left = codes "left"
-columns_name column.Right = codes "right"
+-- a word names these columns: all, or those of a table
+abbrev pub NamesColumns : Text → ColumnChoice → Type 0
+NamesColumns word column.All = word ≡ codes "all"
+NamesColumns word column.Left = word ≡ codes "left"
+NamesColumns word column.Right = word ≡ codes "right"
+NamesColumns word (column.Selected list) = ⊥
+
+-- a text lists these columns
+abbrev pub ListsColumns : Text → ColumnChoice → Type 0
+ListsColumns text (column.Selected list) = IsSelectList text list.items
+ListsColumns text _ = ⊥
 
 -- the word is the name of a kind of rows
 abbrev pub is_kind : Text → Bool
@@ -56,6 +63,14 @@ is_chosen_twice word =
     (is_true (word (codes "anti")) && is_true (word (codes "semi")))
     || (is_looked_for word && (is_some (word (codes "rows")) || is_some (word (codes "columns"))))
 
+-- columns are named by a list, and so is what the list is in place of
+abbrev pub is_selected_twice : (Text → Option Text) → Bool
+is_selected_twice word = is_some (word (codes "select")) && (is_some (word (codes "columns")) || is_some (word (codes "repeated")))
+
+-- nothing is asked for twice
+abbrev pub IsAskedOnce : (Text → Option Text) → Type 0
+IsAskedOnce word = (is_chosen_twice word ≡ false) × (is_selected_twice word ≡ false)
+
 -- what the kinds of rows are named by: unmatched left rows by `--anti`, matched left rows by `--semi`,
 -- and others by `--rows`
 abbrev pub rows_word : (Text → Option Text) → Option Text
@@ -83,46 +98,79 @@ abbrev pub GivesNoRows : Option Text → Type 0
 GivesNoRows word = (k : RowKinds) → AreRowsOf word k → ⊥
 
 -- the columns that an option's value names, or all if it has none
-abbrev pub AreColumnsOf : Option Text → ColumnChoice → Type 0
-AreColumnsOf word c = IsNamedOr columns_name column.All word c
+abbrev pub AreNamedColumns : Option Text → ColumnChoice → Type 0
+AreNamedColumns None c = c ≡ column.All
+AreNamedColumns (Some word) c = NamesColumns word c
+
+-- an option's value names columns
+abbrev pub GivesSide : Option Text → Type 0
+GivesSide word = (c : ColumnChoice) × AreNamedColumns word c
+
+-- the columns that a list names, or where none is given, an option's value
+abbrev pub AreColumnsBy : Option Text → Option Text → ColumnChoice → Type 0
+AreColumnsBy None named c = AreNamedColumns named c
+AreColumnsBy (Some text) named c = ListsColumns text c
+
+-- the columns that the values of the options name
+abbrev pub AreColumnsOf : (Text → Option Text) → ColumnChoice → Type 0
+AreColumnsOf word c = AreColumnsBy (word (codes "select")) (columns_word word) c
+
+-- they name none, since what is given as a list of columns is none
+abbrev pub GivesNoColumns : (Text → Option Text) → Type 0
+GivesNoColumns word = (c : ColumnChoice) → AreColumnsOf word c → ⊥
+
+-- what becomes of names that occur twice where no option says it: in a list of columns they are as
+-- the list has them
+abbrev pub unsaid_repeated : Form → Option Text → Repeated
+unsaid_repeated f None = default_repeated f
+unsaid_repeated f (Some text) = repeated.Kept
 
 -- what an option's value says of names that occur twice: the words `keep` and `qualify`, and any
--- other text of 1 to 16 bytes, which is added; the form of the line says it if the option has none
-abbrev pub IsRepeatedOf : Form → Option Text → Repeated → Type 0
-IsRepeatedOf f None r = r ≡ default_repeated f
-IsRepeatedOf f (Some text) repeated.Kept = text ≡ codes "keep"
-IsRepeatedOf f (Some text) repeated.Qualified = text ≡ codes "qualify"
-IsRepeatedOf f (Some text) (repeated.Suffixed suffix) =
+-- other text of 1 to 16 bytes, which is added; or as here if it has none
+abbrev pub IsRepeatedOr : Repeated → Option Text → Repeated → Type 0
+IsRepeatedOr other None r = r ≡ other
+IsRepeatedOr other (Some text) repeated.Kept = text ≡ codes "keep"
+IsRepeatedOr other (Some text) repeated.Qualified = text ≡ codes "qualify"
+IsRepeatedOr other (Some text) (repeated.Suffixed suffix) =
     (suffix.now ≡ text) × (text ≢ codes "keep") × (text ≢ codes "qualify") × (1 ≤ length text) × (length text ≤ 16)
+
+-- what the values of the options say of names that occur twice, in a line of this form
+abbrev pub IsRepeatedOf : Form → (Text → Option Text) → Repeated → Type 0
+IsRepeatedOf f word r = IsRepeatedOr (unsaid_repeated f (word (codes "select"))) (word (codes "repeated")) r
 
 -- what the values of the options choose; matched left rows are chosen only with the columns of the
 -- left table alone
 pub record IsChoiceOf (f : Form) (word : Text → Option Text) (c : Choice) : Type 0 where
-  pub once : is_chosen_twice word ≡ false
+  pub once : IsAskedOnce word
   pub rows : AreRowsOf (rows_word word) c.rows
   pub order : IsNamedOr order_name order.PairsFirst (word (codes "order")) c.order
-  pub columns : AreColumnsOf (columns_word word) c.columns
+  pub columns : AreColumnsOf word c.columns
   pub of_left : c.rows.matched_left ≡ true → c.columns ≡ column.Left
-  pub repeated : IsRepeatedOf f (word (codes "repeated")) c.repeated
+  pub repeated : IsRepeatedOf f word c.repeated
+
+-- kinds of rows are named
+abbrev pub GivesRows : (Text → Option Text) → Type 0
+GivesRows word = (k : RowKinds) × AreRowsOf (rows_word word) k
 
 -- matched left rows are asked for, but not only the columns of the left table
 abbrev pub AreColumnsMissing : (Text → Option Text) → Type 0
 AreColumnsMissing word =
-    ((k : RowKinds) × AreRowsOf (rows_word word) k × (k.matched_left ≡ true)) × (AreColumnsOf (columns_word word) column.Left → ⊥)
+    (k : RowKinds) × (c : ColumnChoice) × AreRowsOf (rows_word word) k × AreColumnsOf word c × (k.matched_left ≡ true) × (c ≢ column.Left)
 
 -- the kinds of rows are named, and the columns go with them
 abbrev pub AreRowsChosen : (Text → Option Text) → Type 0
 AreRowsChosen word =
-    (k : RowKinds) × AreRowsOf (rows_word word) k × (k.matched_left ≡ true → AreColumnsOf (columns_word word) column.Left)
+    (k : RowKinds) × (c : ColumnChoice) × AreRowsOf (rows_word word) k × AreColumnsOf word c × (k.matched_left ≡ true → c ≡ column.Left)
 
 -- why the values of the options choose nothing that can be written: the same is asked for twice,
--- then no kinds of rows, then columns that don't go with them, then a text that can't be added to a
--- name; or memory ran out
+-- then no kinds of rows, then no list of columns, then columns that don't go with the rows, then a
+-- text that can't be added to a name; or memory ran out
 abbrev pub IsChoiceFault : Form → (Text → Option Text) → Fault → Type 0
 IsChoiceFault form word fault.ChosenTwice = is_chosen_twice word ≡ true
-IsChoiceFault form word fault.BadRows = (is_chosen_twice word ≡ false) × GivesNoRows (rows_word word)
-IsChoiceFault form word fault.MatchedLeftColumns = (is_chosen_twice word ≡ false) × AreColumnsMissing word
-IsChoiceFault form word fault.BadSuffix =
-    (is_chosen_twice word ≡ false) × AreRowsChosen word × ((r : Repeated) → IsRepeatedOf form (word (codes "repeated")) r → ⊥)
+IsChoiceFault form word fault.SelectedTwice = (is_chosen_twice word ≡ false) × (is_selected_twice word ≡ true)
+IsChoiceFault form word fault.BadRows = IsAskedOnce word × GivesNoRows (rows_word word)
+IsChoiceFault form word fault.BadSelect = IsAskedOnce word × GivesRows word × GivesNoColumns word
+IsChoiceFault form word fault.MatchedLeftColumns = IsAskedOnce word × AreColumnsMissing word
+IsChoiceFault form word fault.BadSuffix = IsAskedOnce word × AreRowsChosen word × ((r : Repeated) → IsRepeatedOf form word r → ⊥)
 IsChoiceFault form word fault.Memory = Unit {0}
 IsChoiceFault form word _ = ⊥

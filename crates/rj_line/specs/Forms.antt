@@ -1,5 +1,5 @@
 -- The two forms of a command line, and what each asks for where its words don't say.
-use Rattle.std.specs.Prelude.{ℕ, Bool, true, false, not, ◌||◌, nat_eq, nat_lt, if◌then◌else◌, List, codes}
+use Rattle.std.specs.Prelude.{ℕ, Bool, true, false, not, ◌&&◌, ◌||◌, nat_eq, nat_lt, if◌then◌else◌, List, codes}
 use Rattle.std.specs.List.{list_any, starts_with}
 use Rattle.std.specs.Str.{bytes_eq}
 use Rattle.clap.specs.Words.{Text}
@@ -38,10 +38,15 @@ abbrev pub default_strictness : Form → Bool → Strictness
 default_strictness form.Long lenient = strictness.Off
 default_strictness form.Short lenient = if lenient then strictness.Off else strictness.On
 
--- whether an error is explained: in the short form it is, unless the line is terse
+-- whether an error is explained where a line doesn't ask for that: in the short form it is, unless
+-- the line is terse
 abbrev pub default_explain : Form → Bool → Bool
 default_explain form.Long terse = false
 default_explain form.Short terse = not terse
+
+-- whether an error is explained: not if the line is quiet, and else if it asks for that, or by its form
+abbrev pub is_explained : Form → Bool → Bool → Bool → Bool
+is_explained f explain terse quiet = not quiet && (explain || default_explain f terse)
 
 abbrev pub is_short : Form → Bool
 is_short form.Long = false

@@ -1,5 +1,5 @@
 -- What the words of the command line say.
-use Rattle.std.specs.Prelude.{◌≡◌, ◌≢◌, ◌≤◌, ◌<◌, ◌⊎◌, ◌||◌, true, false, ℕ, List, [], ◌∷◌, length, Option, Some, None, option_map, codes, is_some, unwrap_or, pos}
+use Rattle.std.specs.Prelude.{◌≡◌, ◌≢◌, ◌≤◌, ◌<◌, ◌⊎◌, ◌&&◌, ◌||◌, Bool, true, false, ℕ, List, [], ◌∷◌, ◌++◌, length, Option, Some, None, option_map, codes, is_some, unwrap_or, pos}
 use Rattle.std.specs.Str.Parse.{IsNumeral, signed_digits_value, without_leading_sign}
 use Rattle.clap.specs.Words.{IsAmong, IsSignedIn, Text, all_of, fault_of, first_of, first_value, found_of, kind_of, matched_of, matches_of, raw_values}
 use Rattle.clap.specs.declared.error.Error.{Error}
@@ -20,9 +20,10 @@ use Rattle.rj_settings.specs.declared.expectation.Matching.TheVariants as matchi
 use Rattle.rj_line.specs.declared.request.Request.{Request}
 use Rattle.rj_line.specs.declared.request.Strictness.{Strictness}
 use Rattle.rj_line.specs.declared.request.Strictness.TheVariants as strictness
-use Rattle.rj_line.specs.Choices.{IsChoiceFault, IsChoiceOf, columns_name, order_name}
+use Rattle.rj_settings.specs.declared.choice.Choice.{Choice}
+use Rattle.rj_line.specs.Choices.{GivesSide, IsChoiceFault, IsChoiceOf, is_looked_for, order_name}
 use Rattle.rj_line.specs.Delimiters.{are_delimiters_given, delimiter_given}
-use Rattle.rj_line.specs.Forms.{default_explain, default_strictness, default_workers, form_of, is_short}
+use Rattle.rj_line.specs.Forms.{default_strictness, default_workers, form_of, is_explained, is_short}
 use Rattle.rj_line.specs.Named.{IsNameOf, IsNamedOr, is_true}
 use Rattle.rj_line.specs.Options.{OptionWords, line_app}
 use Rattle.rj_line.specs.Types.{AreTypesOf, GivesNoShared, GivesNoTypes, GivesShared, GivesTypes}
@@ -88,6 +89,17 @@ matching_name matching.OneToOne = codes "one-to-one"
 matching_name matching.ManyToOne = codes "many-to-one"
 matching_name matching.OneToMany = codes "one-to-many"
 
+-- the word for such an expectation, for that each left row is in a match, or for both
+abbrev pub expected_word : Option Matching → Bool → Option Text
+expected_word None false = None
+expected_word None true = Some (codes "matched")
+expected_word (Some m) false = Some (matching_name m)
+expected_word (Some m) true = Some (matching_name m ++ codes ",matched")
+
+-- an option's value, if it has one, is such a word
+abbrev pub GivesExpected : Option Text → Type 0
+GivesExpected word = (m : Option Matching) × (matched : Bool) × (expected_word m matched ≡ word)
+
 -- the number that an option's value spells, if it has one
 abbrev pub SpellsSome : Option Text → Option ℕ → Type 0
 SpellsSome None n = n ≡ None
@@ -96,7 +108,7 @@ SpellsSome (Some text) (Some n) = Spells text n
 
 -- what the values of the options expect of a joined table
 pub record IsExpectationOf (word : Text → Option Text) (e : Expectation) : Type 0 where
-  pub matching : option_map matching_name e.matching ≡ word (codes "expect")
+  pub matching : expected_word e.matching e.matched ≡ word (codes "expect")
   pub most_rows : SpellsSome (word (codes "max-rows")) e.most_rows
 
 -- how strictly files are read by an option's value, or as here if it has none
@@ -134,8 +146,26 @@ pub record IsRequestOf (f : Form) (processors : ℕ) (word : Text → Option Tex
   pub expectation : IsExpectationOf word r.expectation
   pub report : r.report ≡ is_true (word (codes "report"))
 
--- read in this form, `clap` has no error to report, what is required is given, and each value is the
--- one given or the default
+-- whether the values of the options of a line of this form ask for errors to be explained
+abbrev pub asks_explained : Form → (Text → Option Text) → Bool
+asks_explained f word = is_explained f (is_true (word (codes "explain"))) (is_true (word (codes "terse"))) (is_true (word (codes "quiet")))
+
+-- nothing but the line of an error is to be printed, and explanations or the progress too
+abbrev pub is_quiet_twice : (Text → Option Text) → Bool
+is_quiet_twice word = is_true (word (codes "quiet")) && (is_true (word (codes "explain")) || is_true (word (codes "progress")))
+
+-- rows, columns or their order are chosen
+abbrev pub is_chosen : (Text → Option Text) → Bool
+is_chosen word =
+    is_looked_for word
+    || (is_some (word (codes "rows")) || (is_some (word (codes "columns")) || (is_some (word (codes "select")) || is_some (word (codes "order")))))
+
+-- they are, and the rows are to be counted, whichever they are
+abbrev pub is_counted_choice : (Text → Option Text) → Bool
+is_counted_choice word = is_true (word (codes "count")) && is_chosen word
+
+-- read in this form, `clap` has no error to report, what is required is given, each value is the one
+-- given or the default, and no two exclude each other
 pub record IsLineIn (f : Form) (processors : ℕ) (words : List Text) (l : Line) : Type 0 where
   pub option_words : OptionWords
   pub accepted : fault_of (line_app f option_words) words ≡ []
@@ -143,11 +173,13 @@ pub record IsLineIn (f : Form) (processors : ℕ) (words : List Text) (l : Line)
   pub right : word_of f option_words words (codes "right") ≡ Some l.right.now
   pub request : IsRequestOf f processors (word_of f option_words words) (words_of f option_words words) l.request
   pub stats : l.stats ≡ is_true (word_of f option_words words (codes "stats"))
-  pub explain : l.explain
-      ≡ (is_true (word_of f option_words words (codes "explain")) || default_explain f (is_true (word_of f option_words words (codes "terse"))))
+  pub explain : l.explain ≡ asks_explained f (word_of f option_words words)
   pub output : option_map (λ s. s.now) l.output ≡ word_of f option_words words (codes "output")
   pub count : l.count ≡ is_true (word_of f option_words words (codes "count"))
   pub progress : l.progress ≡ is_true (word_of f option_words words (codes "progress"))
+  pub quiet : l.quiet ≡ is_true (word_of f option_words words (codes "quiet"))
+  pub quiet_once : is_quiet_twice (word_of f option_words words) ≡ false
+  pub counts_all : is_counted_choice (word_of f option_words words) ≡ false
 
 -- the words are read in the form that they have
 abbrev pub IsLineOf : ℕ → List Text → Line → Type 0
@@ -188,6 +220,17 @@ IsRequestFault f word texts (fault.TooManyNulls side.Right) =
 IsRequestFault f word texts fault.Memory = Unit {0}
 IsRequestFault f word texts e = AreTablesGiven f word texts × IsChosenFault f word e
 
+-- what is asked of the tables is given
+abbrev pub IsAskedOf : Form → (Text → Option Text) → (Text → List Text) → Type 0
+IsAskedOf f word texts = AreTablesGiven f word texts × (are_delimiters_given word ≡ true) × ((c : Choice) × IsChoiceOf f word c)
+
+-- why the values of the options make no line: they ask nothing of the tables, then they are quiet and
+-- not, then they choose what is only counted; or memory ran out
+abbrev pub IsValueFault : Form → (Text → Option Text) → (Text → List Text) → Fault → Type 0
+IsValueFault f word texts fault.QuietTwice = IsAskedOf f word texts × (is_quiet_twice word ≡ true)
+IsValueFault f word texts fault.CountedChoice = IsAskedOf f word texts × (is_quiet_twice word ≡ false) × (is_counted_choice word ≡ true)
+IsValueFault f word texts e = IsRequestFault f word texts e
+
 -- an error of `clap`: out of memory, or one of a kind that it may report of the words
 abbrev pub IsParseError : Form → List Text → Error → Type 0
 IsParseError f words e = (kind_of e ≡ OutOfMemory) ⊎ ((h : OptionWords) × IsAmong (kind_of e) (fault_of (line_app f h) words))
@@ -198,7 +241,7 @@ abbrev pub IsFaultIn : Form → List Text → Fault → Type 0
 IsFaultIn f words (fault.CommandLine e) = (kind_of e ≢ OutOfMemory) × ((h : OptionWords) × IsAmong (kind_of e) (fault_of (line_app f h) words))
 IsFaultIn f words fault.Memory = Unit {0}
 IsFaultIn f words e =
-    (h : OptionWords) × (fault_of (line_app f h) words ≡ []) × IsRequestFault f (word_of f h words) (words_of f h words) e
+    (h : OptionWords) × (fault_of (line_app f h) words ≡ []) × IsValueFault f (word_of f h words) (words_of f h words) e
 
 abbrev pub IsLineFault : List Text → Fault → Type 0
 IsLineFault words e = IsFaultIn (form_of words) words e
@@ -224,8 +267,8 @@ pub record HasValues (f : Form) (word : Text → Option Text) : Type 0 where
   pub hash : IsNameOf hash_name (word (codes "hash"))
   pub strict : IsStrictName (word (codes "strict"))
   pub order : IsNameOf order_name (word (codes "order"))
-  pub columns : IsNameOf columns_name (word (codes "columns"))
-  pub expect : IsNameOf matching_name (word (codes "expect"))
+  pub columns : GivesSide (word (codes "columns"))
+  pub expect : GivesExpected (word (codes "expect"))
   pub most_rows : IsNumberIn 0 4294967295 (word (codes "max-rows"))
 
 -- the parsed words, with the names of both files, and the values from which a request is read

@@ -45,6 +45,12 @@ rule_for name letter takes.Nothing = record (named name letter) { action = Some 
 abbrev pub rule_of_option : LineOption → Rule
 rule_of_option o = rule_for o.name.now o.letter o.takes
 
+-- the words for what is expected of the matches
+abbrev pub expect_words : List Text
+expect_words =
+    codes "one-to-one" ∷ codes "many-to-one" ∷ codes "one-to-many" ∷ codes "matched" ∷ codes "one-to-one,matched" ∷ codes "many-to-one,matched"
+    ∷ codes "one-to-many,matched" ∷ []
+
 -- the words that options take, wherever they are in memory
 pub record OptionWords : Type 0 where
   pub hashes : Bor (List (Bor Text))
@@ -56,7 +62,7 @@ pub record OptionWords : Type 0 where
   pub sides : Bor (List (Bor Text))
   pub are_sides : map (λ w. w.now) sides.now ≡ codes "all" ∷ codes "left" ∷ codes "right" ∷ []
   pub matchings : Bor (List (Bor Text))
-  pub are_matchings : map (λ w. w.now) matchings.now ≡ codes "one-to-one" ∷ codes "many-to-one" ∷ codes "one-to-many" ∷ []
+  pub are_matchings : map (λ w. w.now) matchings.now ≡ expect_words
 
 -- the options of each form alone; in the short one the first three words that are no options are
 -- the left table, the right table and the clause
@@ -79,7 +85,7 @@ own_rules form.Short =
     ∷ rule_for (codes "terse") None takes.Nothing
     ∷ []
 
--- the options of both forms, in order; 100 is d, 111 is o and 119 is w
+-- the options of both forms, in order; 100 is d, 111 is o, 113 is q and 119 is w
 abbrev pub common_rules : OptionWords → List Rule
 common_rules h =
     rule_for (codes "null") None takes.Text
@@ -114,6 +120,8 @@ common_rules h =
     ∷ rule_for (codes "count") None takes.Nothing
     ∷ rule_for (codes "report") None takes.Nothing
     ∷ rule_for (codes "progress") None takes.Nothing
+    ∷ rule_for (codes "select") None takes.Text
+    ∷ rule_for (codes "quiet") (Some 113) takes.Nothing
     ∷ []
 
 abbrev pub option_rules : Form → OptionWords → List Rule

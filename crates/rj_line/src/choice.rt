@@ -4,10 +4,11 @@ ghost use Rattle.std.specs.Prelude.{◌≡◌, ◌≢◌, ◌==◌, ◌↔◌, B
 ghost use Rattle.std.specs.List.{count_by, list_all, slice_split};
 ghost use Rattle.std.specs.Str.{bytes_eq};
 ghost use Rattle.clap.specs.Words.{first_value, found_of};
+ghost use Rattle.rj_settings.specs.declared.choice.ColumnChoice.{ColumnChoice};
 ghost use Rattle.rj_settings.specs.declared.choice.Repeated.{Repeated};
 ghost use Rattle.rj_settings.specs.declared.choice.RowKinds.{RowKinds};
 ghost use Rattle.rj_line.specs.Choices as choices;
-ghost use Rattle.rj_line.specs.Choices.{AreColumnsOf, AreKinds, AreRowsOf, GivesNoRows, IsChoiceFault, IsChoiceOf, IsRepeatedOf, StandsWhere, columns_name, columns_word, order_name, rows_word};
+ghost use Rattle.rj_line.specs.Choices.{AreColumnsOf, AreKinds, AreNamedColumns, AreRowsOf, GivesNoColumns, GivesNoRows, GivesSide, IsAskedOnce, IsChoiceFault, IsChoiceOf, IsRepeatedOr, StandsWhere, columns_word, order_name, rows_word, unsaid_repeated};
 ghost use Rattle.rj_line.specs.Named.{IsNameOf, IsNamedOr};
 
 use crate::flags::{has_value, is_given};
@@ -15,6 +16,7 @@ use crate::form::{Form, default_repeated};
 use clap::ArgMatches;
 use rj_fault::Fault;
 use rj_settings::{Choice, ColumnChoice, Repeated, RowKinds, RowOrder};
+use rj_types::read_selected;
 use std::alloc::{AllocError, Global};
 
 // Whether a word is the name of a kind of rows.
@@ -72,8 +74,8 @@ fn kinds_of(words: &[&str]) -> Option<RowKinds>
     })
 }
 
-// Whether rows are asked for by a word for what is looked for.
-fn is_looked_for(matches: &ArgMatches<'_>) -> bool
+/// Whether rows are asked for by a word for what is looked for.
+pub(crate) fn is_looked_for(matches: &ArgMatches<'_>) -> bool
     ensures { result ≡ choices.is_looked_for (first_value (found_of matches.now)) }
 {
     is_given(matches, "anti") || is_given(matches, "semi")
@@ -85,6 +87,14 @@ fn is_chosen_twice(matches: &ArgMatches<'_>) -> bool
 {
     (is_given(matches, "anti") && is_given(matches, "semi"))
         || (is_looked_for(matches) && (has_value(matches, "rows") || has_value(matches, "columns")))
+}
+
+// Whether columns are named by a list, and so is what the list is in place of.
+fn is_selected_twice(matches: &ArgMatches<'_>) -> bool
+    ensures { result ≡ choices.is_selected_twice (first_value (found_of matches.now)) }
+{
+    has_value(matches, "select")
+        && (has_value(matches, "columns") || has_value(matches, "repeated"))
 }
 
 // What names the kinds of rows, if anything does.
@@ -138,10 +148,10 @@ fn order_of(matches: &ArgMatches<'_>) -> RowOrder
     }
 }
 
-// The columns that are named, or all if none are.
-fn columns_of(matches: &ArgMatches<'_>) -> ColumnChoice
-    requires { IsNameOf columns_name (first_value (found_of matches.now) (codes "columns")) }
-    ensures { AreColumnsOf (columns_word (first_value (found_of matches.now))) result }
+// The columns that a word names, or all if none does.
+fn named_columns(matches: &ArgMatches<'_>) -> ColumnChoice
+    requires { GivesSide (first_value (found_of matches.now) (codes "columns")) }
+    ensures { AreNamedColumns (columns_word (first_value (found_of matches.now))) result }
 {
     if is_looked_for(matches) {
         return ColumnChoice::Left;
@@ -153,16 +163,43 @@ fn columns_of(matches: &ArgMatches<'_>) -> ColumnChoice
     }
 }
 
+// The columns that are asked for: those of a list, or else those that a word names.
+fn columns_of(alloc: Global, matches: &ArgMatches<'_>) -> Result<ColumnChoice, Fault>
+    requires { GivesSide (first_value (found_of matches.now) (codes "columns")) }
+    ensures columns { IfOk result (AreColumnsOf (first_value (found_of matches.now))) }
+    ensures fault { IfErr result (λ f. f ≢ Fault.Memory → (f ≡ Fault.BadSelect) × GivesNoColumns (first_value (found_of matches.now))) }
+{
+    let Some(text) = matches.get_str("select") else {
+        return Ok(named_columns(matches));
+    };
+    match read_selected(alloc, text) {
+        Ok(Some(entries)) => Ok(ColumnChoice::Selected(entries)),
+        Ok(None) => Err(Fault::BadSelect),
+        Err(_) => Err(Fault::Memory),
+    }
+}
+
+// What becomes of names that occur twice where `--repeated` isn't given, in a line of this form.
+fn unsaid_repeated<'a>(matches: &ArgMatches<'_>, form: Form) -> Repeated<'a>
+    ensures { result ≡ unsaid_repeated form (first_value (found_of matches.now) (codes "select")) }
+{
+    match matches.get_str("select") {
+        Some(_) => Repeated::Kept,
+        None => default_repeated(form),
+    }
+}
+
 // The most bytes that are added to a name at once.
 const LONGEST_SUFFIX: usize = 16;
 
-// What becomes of names that occur twice, in a line of this form.
-fn repeated_of<'a>(matches: &ArgMatches<'a>, form: Form) -> Result<Repeated<'a>, Fault>
-    ensures repeated { IfOk result (IsRepeatedOf form (first_value (found_of matches.now) (codes "repeated"))) }
-    ensures fault { IfErr result (λ f. (f ≡ Fault.BadSuffix) × ((r : Repeated) → IsRepeatedOf form (first_value (found_of matches.now) (codes "repeated")) r → ⊥)) }
+// What becomes of names that occur twice, or the other answer if `--repeated` isn't given.
+fn repeated_or<'a>(matches: &ArgMatches<'a>, other: Repeated<'a>) -> Result<Repeated<'a>, Fault>
+    ensures repeated { IfOk result (IsRepeatedOr other.entry (first_value (found_of matches.now) (codes "repeated"))) }
+    ensures fault { IfErr result (λ f. (f ≡ Fault.BadSuffix)
+        × ((r : Repeated) → IsRepeatedOr other.entry (first_value (found_of matches.now) (codes "repeated")) r → ⊥)) }
 {
     match matches.get_str("repeated") {
-        None => Ok(default_repeated(form)),
+        None => Ok(other),
         Some("keep") => Ok(Repeated::Kept),
         Some("qualify") => Ok(Repeated::Qualified),
         Some(suffix) => {
@@ -176,12 +213,12 @@ fn repeated_of<'a>(matches: &ArgMatches<'a>, form: Form) -> Result<Repeated<'a>,
 }
 
 // Whether only the columns of the left table are chosen.
-fn is_left(columns: ColumnChoice) -> bool
-    ensures { IsTrue result ↔ (columns ≡ ColumnChoice.Left) }
+fn is_left(columns: &ColumnChoice) -> bool
+    ensures { IsTrue result ↔ (columns.now ≡ ColumnChoice.Left) }
 {
     match columns {
         ColumnChoice::Left => true,
-        ColumnChoice::All | ColumnChoice::Right => false,
+        ColumnChoice::All | ColumnChoice::Right | ColumnChoice::Selected(_) => false,
     }
 }
 
@@ -190,31 +227,36 @@ fn is_left(columns: ColumnChoice) -> bool
 /// # Errors
 ///
 /// `ChosenTwice` if `--anti` or `--semi` is given with the other one, `--rows` or `--columns`; then
-/// `BadRows` if `--rows` isn't a list of kinds of rows; then `MatchedLeftColumns` if it names
-/// matched left rows and `--columns` isn't `left`; then `BadSuffix` if a text to be added to names
-/// has no byte or more than 16. `Memory` comes only when memory ran out.
+/// `SelectedTwice` if `--select` is given with `--columns` or `--repeated`; then `BadRows` if
+/// `--rows` isn't a list of kinds of rows; then `BadSelect` if `--select` isn't a list of columns;
+/// then `MatchedLeftColumns` if matched left rows are asked for, and not only the columns of the
+/// left table; then `BadSuffix` if a text to be added to names has no byte or more than 16. `Memory`
+/// comes only when memory ran out.
 pub(crate) fn choice_of<'a>(
     alloc: Global,
     matches: &ArgMatches<'a>,
     form: Form,
 ) -> Result<Choice<'a>, Fault>
     requires order { IsNameOf order_name (first_value (found_of matches.now) (codes "order")) }
-    requires columns { IsNameOf columns_name (first_value (found_of matches.now) (codes "columns")) }
+    requires columns { GivesSide (first_value (found_of matches.now) (codes "columns")) }
     ensures choice { IfOk result (IsChoiceOf form (first_value (found_of matches.now))) }
     ensures fault { IfErr result (IsChoiceFault form (first_value (found_of matches.now))) }
 {
     if is_chosen_twice(matches) {
         return Err(Fault::ChosenTwice);
     }
+    if is_selected_twice(matches) {
+        return Err(Fault::SelectedTwice);
+    }
     let rows = rows_of(alloc, matches)?;
-    let columns = columns_of(matches);
-    if rows.matched_left && !is_left(columns) {
+    let columns = columns_of(alloc, matches)?;
+    if rows.matched_left && !is_left(&columns) {
         return Err(Fault::MatchedLeftColumns);
     }
     Ok(Choice {
         rows,
         order: order_of(matches),
         columns,
-        repeated: repeated_of(matches, form)?,
+        repeated: repeated_or(matches, unsaid_repeated(matches, form))?,
     })
 }

@@ -107,15 +107,22 @@ pub(crate) fn default_strictness(form: Form, lenient: bool) -> Strictness
     }
 }
 
-/// Whether an error is explained where a line doesn't have `--explain`, by whether it has
-/// `--terse`.
-pub fn default_explain(form: Form, terse: bool) -> bool
+// Whether an error is explained where a line doesn't have `--explain`, by whether it has `--terse`.
+fn default_explain(form: Form, terse: bool) -> bool
     ensures { result ≡ forms.default_explain form terse }
 {
     match form {
         Form::Long => false,
         Form::Short => !terse,
     }
+}
+
+/// Whether an error is explained, by whether a line of this form has `--explain`, `--terse` and
+/// `--quiet`.
+pub fn is_explained(form: Form, explain: bool, terse: bool, quiet: bool) -> bool
+    ensures { result ≡ forms.is_explained form explain terse quiet }
+{
+    !quiet && (explain || default_explain(form, terse))
 }
 
 /// Whether a form is the short one.

@@ -39,18 +39,20 @@ Output (a pair is a match, a lone row is an unmatched row):
   --columns <SIDE>          Columns to write: all, left or right [default: all]
   --anti                    Left rows without a match (LEFT JOIN): --rows lone-left --columns left
   --semi                    Left rows with a match, each once: --rows matched-left --columns left
+  --select <LIST>           Columns to write, in this order, renamed by =: 'L.id,name,R.city=town'
   --repeated <MARK>         Repeated names: keep, qualify (as R.id), or a suffix [default: keep]
   --out-delimiter <CHAR>    Delimiter of the result [default: as --delimiter]
   --out-null <TEXT>         Text for NULL in the result [default: as --null]
 
 Checks (--report and --stats print on standard error):
-  --expect <MATCHING>       Fail (E30) unless matches are one-to-one, many-to-one or one-to-many
+  --expect <MATCHING>       Fail (E30) unless one-to-one, many-to-one, one-to-many, and/or matched
   --max-rows <N>            Fail (E30) if the joined table has more rows, 0 to 4294967295
   --count                   Write one line of counts in place of the rows, to --output if given
   --report                  Count matches, NULL keys, repeated keys; largest group of equal keys
   --stats                   Count rows by partition and by kind, and with --piece the pieces
   --explain                 Say where an error is, what is there, and what was perhaps meant
   --terse                   Don't explain errors in the short form
+  -q, --quiet               Print no explanation, note or progress, only the line of an error
   --progress                Show the progress on a terminal at once, not only after two seconds
 
 How it runs (none of these changes the result):

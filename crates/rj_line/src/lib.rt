@@ -14,7 +14,7 @@ mod request;
 mod types;
 
 pub use delimiters::delimiter_of;
-pub use form::{Form, default_explain, form_of};
+pub use form::{Form, form_of, is_explained};
 pub use line::{Line, read_line};
 pub use nulls::read_nulls;
 pub use request::{Hash, Request, Strictness};

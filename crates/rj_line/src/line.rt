@@ -1,18 +1,19 @@
 //! Reading the words of the command line.
 
-ghost use Rattle.std.specs.Prelude.{◌≡◌, ◌-◌, ◌^◌, ◌≤◌, ◌||◌, IfOk, IfErr, Some, codes, is_some, map, true};
+ghost use Rattle.std.specs.Prelude.{◌≡◌, ◌-◌, ◌^◌, ◌≤◌, IfOk, IfErr, Some, codes, is_some, map, true};
 ghost use Rattle.clap.specs.Words.{first_value, found_of};
-ghost use Rattle.rj_line.specs.Choices.{IsChoiceOf, columns_name, order_name};
+ghost use Rattle.rj_line.specs.Choices.{GivesSide, IsChoiceOf, order_name};
 ghost use Rattle.rj_line.specs.Delimiters.{AreDelimitersOf};
-ghost use Rattle.rj_line.specs.Forms.{default_explain, default_strictness};
+ghost use Rattle.rj_line.specs.Forms.{default_strictness};
 ghost use Rattle.rj_line.specs.Named.{IsNameOf, IsNamedOr, is_true};
+ghost use Rattle.rj_line.specs.Line as lines;
 ghost use Rattle.rj_line.specs.Line.{AreNumbersIn, AreSettings, HasValues, IsChosenFault, IsFaultIn, IsLineFault, IsLineIn, IsLineOf, IsNumberIn, IsNumberOr, IsParseError, IsParseOf, IsRequestFault, IsRequestOf, IsStrictName, IsStrictness, hash_name, texts_found};
 
-use crate::choice::choice_of;
+use crate::choice::{choice_of, is_looked_for};
 use crate::delimiters::{Delimiters, delimiters_of};
 use crate::expecting::{expectation_of, number_of};
-use crate::flags::is_given;
-use crate::form::{Form, default_explain, default_strictness, default_workers, form_of, is_short};
+use crate::flags::{has_value, is_given};
+use crate::form::{Form, default_strictness, default_workers, form_of, is_explained, is_short};
 use crate::nulls::read_nulls;
 use crate::options::line_command;
 use crate::request::{Hash, Request, Strictness};
@@ -41,6 +42,8 @@ pub struct Line<'a> {
     pub count: bool,
     /// Whether the progress of the run is shown from the beginning.
     pub progress: bool,
+    /// Whether standard error gets nothing but the line of an error.
+    pub quiet: bool,
 }
 
 // The parsed words of a line of this form, as `clap` matches them.
@@ -126,12 +129,41 @@ fn strictness_of(matches: &ArgMatches<'_>, form: Form) -> Strictness
     )
 }
 
-// Whether an error is explained in a line of this form.
-fn is_explained(matches: &ArgMatches<'_>, form: Form) -> bool
-    ensures { result ≡ (is_true (first_value (found_of matches.now) (codes "explain"))
-        || default_explain form (is_true (first_value (found_of matches.now) (codes "terse")))) }
+// Whether a line of this form asks for errors to be explained.
+fn asks_explained(matches: &ArgMatches<'_>, form: Form) -> bool
+    ensures { result ≡ lines.asks_explained form (first_value (found_of matches.now)) }
 {
-    is_given(matches, "explain") || default_explain(form, is_given(matches, "terse"))
+    is_explained(
+        form,
+        is_given(matches, "explain"),
+        is_given(matches, "terse"),
+        is_given(matches, "quiet"),
+    )
+}
+
+// Whether nothing but errors is to be printed, and explanations or the progress too.
+fn is_quiet_twice(matches: &ArgMatches<'_>) -> bool
+    ensures { result ≡ lines.is_quiet_twice (first_value (found_of matches.now)) }
+{
+    is_given(matches, "quiet") && (is_given(matches, "explain") || is_given(matches, "progress"))
+}
+
+// Whether rows, columns or their order are chosen.
+fn is_chosen(matches: &ArgMatches<'_>) -> bool
+    ensures { result ≡ lines.is_chosen (first_value (found_of matches.now)) }
+{
+    is_looked_for(matches)
+        || has_value(matches, "rows")
+        || has_value(matches, "columns")
+        || has_value(matches, "select")
+        || has_value(matches, "order")
+}
+
+// Whether they are, and the rows are to be counted, whichever they are.
+fn is_counted_choice(matches: &ArgMatches<'_>) -> bool
+    ensures { result ≡ lines.is_counted_choice (first_value (found_of matches.now)) }
+{
+    is_given(matches, "count") && is_chosen(matches)
 }
 
 // The delimiters of the tables and of the result, and what is chosen of the joined table.
@@ -141,7 +173,7 @@ fn chosen_of<'a>(
     form: Form,
 ) -> Result<(Delimiters, Choice<'a>), Fault>
     requires order { IsNameOf order_name (first_value (found_of matches.now) (codes "order")) }
-    requires columns { IsNameOf columns_name (first_value (found_of matches.now) (codes "columns")) }
+    requires columns { GivesSide (first_value (found_of matches.now) (codes "columns")) }
     ensures delimiters { IfOk result (λ c. AreDelimitersOf (first_value (found_of matches.now)) c.0) }
     ensures choice { IfOk result (λ c. IsChoiceOf form (first_value (found_of matches.now)) c.1) }
     ensures fault { IfErr result (IsChosenFault form (first_value (found_of matches.now))) }
@@ -222,15 +254,22 @@ fn read_in_form<'a>(
         Ok(request) => request,
         Err(fault) => return Err(fault),
     };
+    if is_quiet_twice(&matches) {
+        return Err(Fault::QuietTwice);
+    }
+    if is_counted_choice(&matches) {
+        return Err(Fault::CountedChoice);
+    }
     Ok(Line {
         left: given(&matches, "left"),
         right: given(&matches, "right"),
         request,
         stats: is_given(&matches, "stats"),
-        explain: is_explained(&matches, form),
+        explain: asks_explained(&matches, form),
         output: matches.get_str("output"),
         count: is_given(&matches, "count"),
         progress: is_given(&matches, "progress"),
+        quiet: is_given(&matches, "quiet"),
     })
 }
 
@@ -242,8 +281,9 @@ fn read_in_form<'a>(
 /// `CommandLine` for a line that `clap` refuses, or that asks for help or the version. Then come,
 /// in this order: a bad type list, that for both tables, the left one, the right one; more than
 /// four NULL texts on the left, and on the right; `BadDelimiter` if that of a table or of the result
-/// is none; `ChosenTwice`; a bad list of kinds of rows; `MatchedLeftColumns`; and a bad suffix.
-/// `Memory` comes only when memory ran out.
+/// is none; `ChosenTwice`; `SelectedTwice`; a bad list of kinds of rows; a bad list of columns;
+/// `MatchedLeftColumns`; a bad suffix; `QuietTwice`; and `CountedChoice`. `Memory` comes only when
+/// memory ran out.
 pub fn read_line<'a>(
     alloc: Global,
     words: &'a [&'a str],

@@ -117,7 +117,7 @@ const SHORT: [LineOption; 8] = [
 ];
 
 // The options of both forms.
-const COMMON: [LineOption; 32] = [
+const COMMON: [LineOption; 34] = [
     LineOption {
         name: "null",
         letter: None,
@@ -256,7 +256,15 @@ const COMMON: [LineOption; 32] = [
     LineOption {
         name: "expect",
         letter: None,
-        takes: Takes::Word(&["one-to-one", "many-to-one", "one-to-many"]),
+        takes: Takes::Word(&[
+            "one-to-one",
+            "many-to-one",
+            "one-to-many",
+            "matched",
+            "one-to-one,matched",
+            "many-to-one,matched",
+            "one-to-many,matched",
+        ]),
     },
     LineOption {
         name: "max-rows",
@@ -276,6 +284,16 @@ const COMMON: [LineOption; 32] = [
     LineOption {
         name: "progress",
         letter: None,
+        takes: Takes::Nothing,
+    },
+    LineOption {
+        name: "select",
+        letter: None,
+        takes: Takes::Text,
+    },
+    LineOption {
+        name: "quiet",
+        letter: Some('q'),
         takes: Takes::Nothing,
     },
 ];
