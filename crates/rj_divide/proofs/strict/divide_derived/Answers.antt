@@ -12,7 +12,7 @@ pub returns-then-division-gt1-clause-divided : goal.returns-then-division-gt1-cl
 returns-then-division-gt1-clause-divided g c =
     let d = c.args.division.now in
     let many : 1 < length d.types.now = omega arith in
-    let may = subst (λ (x : ℕ). may_delimit x ≡ true) c.byte-_byte.ensures.value c.byte-_byte.ensures.lawful in
+    let may = subst (λ (x : ℕ). may_delimit x ≡ true) c.byte-byte.ensures.value c.byte-byte.ensures.lawful in
     IfOk-weaker c.divide_piece.result _ _ (λ n told full file derived.
     subst (λ (x : List (List (List ℕ))). IsDivided (after_rows c.args.before (dividing g.W.Route.part d)) x (map g.O.Output.told c.args.outputs.now) (map g.O.Output.told c.divide_piece.new.outputs) n)
     (c.reads_all_records.ensures d.delimiter (Above (length d.types.now)) full c.args.text.now file may derived many) told) c.divide_piece.ensures.divided
@@ -21,7 +21,7 @@ pub returns-then-division-gt1-clause-fault : goal.returns-then-division-gt1-clau
 returns-then-division-gt1-clause-fault g c =
     let d = c.args.division.now in
     let many : 1 < length d.types.now = omega arith in
-    let may = subst (λ (x : ℕ). may_delimit x ≡ true) c.byte-_byte.ensures.value c.byte-_byte.ensures.lawful in
+    let may = subst (λ (x : ℕ). may_delimit x ≡ true) c.byte-byte.ensures.value c.byte-byte.ensures.lawful in
     IfErr-weaker c.divide_piece.result _ _ (λ e told t full file begins derived.
     subst (λ (x : List (List (List ℕ))). IsFaultBehind (dividing g.W.Route.part d) c.args.before (length c.args.outputs.now) x e)
     (c.reads_all_records.ensures d.delimiter (Above (length d.types.now)) full c.args.text.now file may derived many) (told t begins)) c.divide_piece.ensures.fault

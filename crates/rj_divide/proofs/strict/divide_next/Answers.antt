@@ -56,7 +56,7 @@ returns-in-Err-divide_block-clause-fault g c = λ t begin blocks begins u.
     let d = dividing g.W.Route.part c.args.division.now in let p = c.in-Ok.piece in let bytes = c.next_piece.new.bytes.items in
     let within : p.end ≤ length bytes = search rules in
     let asked = c.args.rest.now.full || not p.is_last in
-    let may = subst (λ (x : ℕ). may_delimit x ≡ true) c.byte-_byte.ensures.value c.byte-_byte.ensures.lawful in
+    let may = subst (λ (x : ℕ). may_delimit x ≡ true) c.byte-byte.ensures.value c.byte-byte.ensures.lawful in
     fault-in d begin c.args.rest.now bytes (g.I.Input.tells c.args.input.now) (g.I.Input.tells c.next_piece.new.input) (map g.O.Output.told c.args.outputs.now) p.end blocks u
     c.in-Ok.ensures.bytes may (λ header whole text file derived. c.reads_records.ensures d.delimiter header whole text file may derived) c.args.block c.in-Ok.ensures.read c.args.rest.now.full asked (length c.args.outputs.now) c.in-Err-divide_block.refused
     (elim (cases_Bool p.is_last) [

@@ -1,4 +1,4 @@
-use Rattle.std.proofs.Common.{◌≡◌, ◌∙◌, ◌++◌, ◌∷◌, [], List, ℕ, ap, drop, refl, subst, sym, lit<}
+use Rattle.std.proofs.Common.{◌≡◌, ◌∙◌, ◌++◌, ◌∷◌, [], List, ℕ, ap, drop, refl, subst, sym, true, lit<}
 use Rattle.std.proofs.lemmas.Result.{IfOk-weaker}
 use Rattle.csv.specs.Reading.{records, strip_bom}
 use Rattle.rj_strict.specs.Grammar.{Derives, may_delimit}
@@ -15,7 +15,7 @@ quote_empty_lines-requires c =
     c.as_slice.ensures.value ∙ (c.in_ok-extend_from_slice-2.ensures.items ∙ ap (λ (x : List ℕ). x ++ text) (c.in_ok-extend_from_slice.ensures.items ∙ ap (λ (x : List ℕ). x ++ (120 ∷ 10 ∷ [])) c.new-named.ensures.items)) in
     let d = c.requires in
     let by = c.args.delimiter in
-    let may = subst (λ (x : ℕ). may_delimit x ≡ true) c.byte-_byte.ensures.value c.byte-_byte.ensures.lawful in
+    let may = subst (λ (x : ℕ). may_delimit x ≡ true) c.byte-byte.ensures.value c.byte-byte.ensures.lawful in
     let whole = c.joined_texts.ensures by First d.1 (120 ∷ 10 ∷ []) text name_file d.2 may (name-derived by may) (lit< tt) (under-one by d.0 d.1 text d.2 d.3 d.4) in
     (d.1, joined name_file d.2, subst (λ (x : List ℕ). Derives by First d.1 x (joined name_file d.2)) (sym (ap strip_bom is ∙ unmarked text)) whole)
 
@@ -25,7 +25,7 @@ returns c =
     let is : c.as_slice.result.now ≡ 120 ∷ 10 ∷ text =
     c.as_slice.ensures.value ∙ (c.in_ok-extend_from_slice-2.ensures.items ∙ ap (λ (x : List ℕ). x ++ text) (c.in_ok-extend_from_slice.ensures.items ∙ ap (λ (x : List ℕ). x ++ (120 ∷ 10 ∷ [])) c.new-named.ensures.items)) in
     let by = c.args.delimiter in
-    let may = subst (λ (x : ℕ). may_delimit x ≡ true) c.byte-_byte.ensures.value c.byte-_byte.ensures.lawful in
+    let may = subst (λ (x : ℕ). may_delimit x ≡ true) c.byte-byte.ensures.value c.byte-byte.ensures.lawful in
     IfOk-weaker c.quote_empty_lines.result _ _ (λ v told names full file low d.
     let whole = c.joined_texts.ensures by First full (120 ∷ 10 ∷ []) text name_file file may (name-derived by may) (lit< tt) (under-one by names full text file low d) in
     let quoted = told full (joined name_file file) (subst (λ (x : List ℕ). Derives by First full x (joined name_file file)) (sym (ap strip_bom is ∙ unmarked text)) whole) in
