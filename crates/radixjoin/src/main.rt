@@ -3,8 +3,10 @@
 //! Statistics, errors and the progress of a run go to standard error.
 #![tactic(auto)]
 
+mod stack;
 mod suggesting;
 
+use crate::stack::{PAGES, take_stack};
 use crate::suggesting::suggest;
 use rj_command::{Line, Stats, UnkeptRows};
 use rj_fault::{Fault, read_words, texts_of};
@@ -103,6 +105,10 @@ fn run<R: Env + Files + Input + AllocGlobal + Print + Eprint + Threads + Wait + 
 }
 
 fn main(rt: HostRuntime) -> ExitCode {
+    // (The compiler leaves out a call whose answer nobody asks for.)
+    if take_stack(1) < PAGES {
+        return ExitCode::from(Fault::Memory.status());
+    }
     let terminals = Terminals {
         input: rt.stdin().is_terminal(),
         output: rt.stdout().is_terminal(),
