@@ -44,7 +44,8 @@ abbrev pub default_explain : Form → Bool → Bool
 default_explain form.Long terse = false
 default_explain form.Short terse = not terse
 
--- whether an error is explained: not if the line is quiet, and else if it asks for that, or by its form
+-- whether an error is explained: not if the line is quiet, and else if it asks for that, or by its
+-- form
 abbrev pub is_explained : Form → Bool → Bool → Bool → Bool
 is_explained f explain terse quiet = not quiet && (explain || default_explain f terse)
 

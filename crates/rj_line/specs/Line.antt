@@ -164,8 +164,8 @@ is_chosen word =
 abbrev pub is_counted_choice : (Text → Option Text) → Bool
 is_counted_choice word = is_true (word (codes "count")) && is_chosen word
 
--- read in this form, `clap` has no error to report, what is required is given, each value is the one
--- given or the default, and no two exclude each other
+-- read in this form, `clap` has no error to report, what is required is given, each value is the
+-- one given or the default, and no two exclude each other
 pub record IsLineIn (f : Form) (processors : ℕ) (words : List Text) (l : Line) : Type 0 where
   pub option_words : OptionWords
   pub accepted : fault_of (line_app f option_words) words ≡ []
@@ -224,8 +224,8 @@ IsRequestFault f word texts e = AreTablesGiven f word texts × IsChosenFault f w
 abbrev pub IsAskedOf : Form → (Text → Option Text) → (Text → List Text) → Type 0
 IsAskedOf f word texts = AreTablesGiven f word texts × (are_delimiters_given word ≡ true) × ((c : Choice) × IsChoiceOf f word c)
 
--- why the values of the options make no line: they ask nothing of the tables, then they are quiet and
--- not, then they choose what is only counted; or memory ran out
+-- why the values of the options make no line: they ask nothing of the tables, then they are quiet
+-- and not, then they choose what is only counted; or memory ran out
 abbrev pub IsValueFault : Form → (Text → Option Text) → (Text → List Text) → Fault → Type 0
 IsValueFault f word texts fault.QuietTwice = IsAskedOf f word texts × (is_quiet_twice word ≡ true)
 IsValueFault f word texts fault.CountedChoice = IsAskedOf f word texts × (is_quiet_twice word ≡ false) × (is_counted_choice word ≡ true)

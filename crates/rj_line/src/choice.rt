@@ -230,8 +230,8 @@ fn is_left(columns: &ColumnChoice) -> bool
 /// `SelectedTwice` if `--select` is given with `--columns` or `--repeated`; then `BadRows` if
 /// `--rows` isn't a list of kinds of rows; then `BadSelect` if `--select` isn't a list of columns;
 /// then `MatchedLeftColumns` if matched left rows are asked for, and not only the columns of the
-/// left table; then `BadSuffix` if a text to be added to names has no byte or more than 16. `Memory`
-/// comes only when memory ran out.
+/// left table; then `BadSuffix` if a text to be added to names has no byte or more than 16.
+/// `Memory` comes only when memory ran out.
 pub(crate) fn choice_of<'a>(
     alloc: Global,
     matches: &ArgMatches<'a>,

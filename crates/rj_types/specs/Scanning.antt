@@ -1,5 +1,5 @@
--- What the functions that read a name, a label or an entry of a list of columns find, on lists of bytes. Internal: no public contract
--- uses it.
+-- What the functions that read a name, a label or an entry of a list of columns find, on lists of
+-- bytes. Internal: no public contract uses it.
 use Rattle.std.specs.Prelude.{◌==◌, ℕ, Bool, true, false, if◌then◌else◌, nat_lt, length, take, drop, Option, Some, None, List, [], ◌∷◌}
 use Rattle.std.specs.List.{prefix_len}
 use Rattle.rj_columns.specs.Names.{is_name}

@@ -18,7 +18,8 @@ abbrev pub IsQualifier : Source → List ℕ → Type 0
 IsQualifier source.Joined text = text ≡ []
 IsQualifier s text = (q : Name) × (word : List ℕ) × IsNameWord q.delimited q.text word × (source_of q ≡ Some s) × (text ≡ word ++ codes ".")
 
--- what comes after it: nothing, or `=` and the name under which it is written, which is one of a table
+-- what comes after it: nothing, or `=` and the name under which it is written, which is one of a
+-- table
 abbrev pub IsRenaming : Option Name → List ℕ → Type 0
 IsRenaming None text = text ≡ []
 IsRenaming (Some n) text = (word : List ℕ) × IsNameWord n.delimited n.text word × (is_name n.text ≡ true) × (text ≡ codes "=" ++ word)

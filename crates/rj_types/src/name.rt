@@ -38,7 +38,8 @@ fn are_name_bytes(word: &[u8]) -> bool
     word.iter().all(|b| name_byte(*b))
 }
 
-// Whether a word is a regular name. Unlike an identifier of a clause, it may begin with an underscore.
+// Whether a word is a regular name. Unlike an identifier of a clause, it may begin with an
+// underscore.
 fn is_regular(word: &[u8]) -> bool
     ensures { result ≡ labels.is_regular word.now }
 {
