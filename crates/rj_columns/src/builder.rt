@@ -94,7 +94,7 @@ impl TableBuilder {
     /// # Errors
     ///
     /// It fails only when memory runs out. The builder then stays as it was.
-    #[inline]
+    #[inline(always)]
     pub fn push_cell(&mut self, cell: Cell<'_>) -> Result<(), AllocError>
         requires { FitsAt self.old.table.types (length self.old.row) (content_of cell) }
         ensures ok { OnOk result (self.new ≡ record self.old { row = self.old.row ++ content_of cell.entry ∷ [] }) }
@@ -105,6 +105,8 @@ impl TableBuilder {
     }
 
     // Begins another segment. The row at hand has no cell. If memory runs out, nothing is changed.
+    #[cold]
+    #[inline(never)]
     fn close(&mut self) -> Result<(), AllocError>
         requires { self.old.row ≡ [] }
         ensures { self.new ≡ self.old }
@@ -121,7 +123,7 @@ impl TableBuilder {
     }
 
     // Begins another segment if the current one is full. If memory runs out, nothing is changed.
-    #[inline]
+    #[inline(always)]
     fn make_room(&mut self) -> Result<(), AllocError>
         ensures { self.new ≡ self.old }
     {

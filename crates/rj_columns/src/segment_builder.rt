@@ -165,7 +165,7 @@ impl SegmentBuilder {
     }
 
     // Adds a cell to the row at hand. If memory runs out, nothing is changed.
-    #[inline]
+    #[inline(always)]
     pub(crate) fn push_cell(&mut self, cell: Cell<'_>) -> Result<(), AllocError>
         requires { FitsAt self.old.table.types (length self.old.row) (content_of cell) }
         ensures ok { OnOk result (self.new ≡ record self.old { row = self.old.row ++ content_of cell.entry ∷ [] }) }
