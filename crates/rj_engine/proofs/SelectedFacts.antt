@@ -1,8 +1,8 @@
 -- The columns that a list means are columns of the tables; the search for the only one that a name means.
-use Rattle.std.proofs.Common.{◌≡◌, ◌∙◌, ◌<◌, ◌≤◌, ◌+◌, ℕ, suc, List, [], ◌∷◌, ◌++◌, All, Bool, true, false, Option, None, Some, add-one, ap, append_assoc, arith, cond, drop, drop-cons, length, map, refl, sym, take, true≢false}
+use Rattle.std.proofs.Common.{◌≡◌, ◌∙◌, ◌<◌, ◌≤◌, ◌+◌, ℕ, List, [], ◌∷◌, ◌++◌, All, Bool, true, false, Option, None, Some, add-one, ap, arith, cond, drop, drop-cons, length, refl, sym, take, true≢false}
 use Rattle.std.specs.Prelude.{is_some, option_to_list, slice_index_or}
 use Rattle.std.specs.List.{cons_option, filter, filter_map, range_with_len}
-use Rattle.std.proofs.lemmas.List.{append-nil, drop_all, take_more}
+use Rattle.std.proofs.lemmas.List.{drop_all, take_more}
 use Rattle.std.proofs.lemmas.List.Elements.{All-cons, All-filter, All-head, All-map, All-nil, filter_map-append}
 use Rattle.rj_columns.specs.Tables.{TableValue}
 use Rattle.rj_condition.specs.Fits.{fits}

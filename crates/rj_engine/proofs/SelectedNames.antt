@@ -1,12 +1,12 @@
 -- The names that are written of the columns that are chosen: as many, and those of a table if a list chose the columns.
-use Rattle.std.proofs.Common.{◌≡◌, ◌∙◌, ◌<◌, ◌≤◌, ◌+◌, ℕ, suc, List, [], ◌∷◌, ◌++◌, length, map, drop, Bool, true, false, Option, None, Some, refl, sym, ap, subst, add-one, append_assoc, drop-cons, inl, inr}
-use Rattle.std.specs.Prelude.{◌≢◌, All, Err, Ok, Result, fold, if◌then◌else◌, not, option_map, slice_index_or}
+use Rattle.std.proofs.Common.{◌≡◌, ◌∙◌, ◌<◌, ◌≤◌, ◌+◌, ℕ, suc, List, [], ◌∷◌, ◌++◌, length, map, drop, Bool, true, Option, None, Some, refl, sym, ap, subst, add-one, append_assoc, drop-cons, inl, inr}
+use Rattle.std.specs.Prelude.{◌≢◌, All, Err, Ok, Result, fold, if◌then◌else◌, option_map, slice_index_or}
 use Rattle.std.specs.List.{cons_option}
 use Rattle.std.specs.declared.alloc.Global.{Global}
 use Rattle.std.specs.declared.vec.Vec.{Vec}
 use Rattle.std.proofs.lemmas.Bool.{and_parts, cases_Bool, not-true}
-use Rattle.std.proofs.lemmas.List.{append-nil, drop_all, length-append, length-map}
-use Rattle.rj_columns.specs.Names.{is_name, name_fault}
+use Rattle.std.proofs.lemmas.List.{append-nil, drop_all, length-map}
+use Rattle.rj_columns.specs.Names.{name_fault}
 use Rattle.rj_columns.specs.Tables.{TableValue}
 use Rattle.rj_condition.specs.Fits.{fits}
 use Rattle.rj_condition.specs.declared.bound.BoundJoin.{BoundJoin}
@@ -21,7 +21,7 @@ use Rattle.rj_engine.specs.declared.naming.NamingRefused.TheVariants.{SelectedNa
 use Rattle.rj_engine.specs.declared.origin.Origin.{Origin}
 use Rattle.rj_engine.specs.Cells.{header_of, name_of}
 use Rattle.rj_engine.specs.Chosen.{are_all_columns, chosen_header, columns_by, is_plain}
-use Rattle.rj_engine.specs.Naming.{HasLawfulNames, chosen_names, if_free, is_among, is_free, name_of_entry, names_by, new_or_own, selected_names, with_entry, with_selected, written_names}
+use Rattle.rj_engine.specs.Naming.{HasLawfulNames, chosen_names, if_free, is_free, name_of_entry, names_by, new_or_own, selected_names, with_entry, with_selected}
 use Rattle.rj_engine.specs.Selected.{column_of_entry, selected_columns}
 use Rattle.rj_engine.proofs.ChosenFacts.{plain_parts}
 use Rattle.rj_engine.proofs.NamingFacts.{IsName, Names, are_lawful, as_many, chosen_named, fault_behind}

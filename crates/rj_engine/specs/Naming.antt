@@ -89,7 +89,8 @@ with_selected written None = Err (SelectedName (length written + 1))
 with_selected written (Some name) = Ok (written ++ name ∷ [])
 
 -- the same with an entry's name; after an error nothing more
-abbrev pub with_entry : BoundJoin → TableValue → TableValue → Result (List (List ℕ)) NamingRefused → SelectedColumn → Result (List (List ℕ)) NamingRefused
+abbrev pub with_entry : BoundJoin → TableValue → TableValue → Result (List (List ℕ)) NamingRefused → SelectedColumn
+    → Result (List (List ℕ)) NamingRefused
 with_entry join l r (Err e) entry = Err e
 with_entry join l r (Ok written) entry = with_selected written (if_free written (name_of_entry join l r entry))
 
@@ -98,7 +99,8 @@ unfoldable pub selected_names : BoundJoin → TableValue → TableValue → List
 selected_names join l r entries = fold (with_entry join l r) (Ok []) entries
 
 -- the names that are written of the columns that are chosen, or why there are none
-abbrev pub names_by : ColumnChoice → Repeated → List (List ℕ) → BoundJoin → TableValue → TableValue → Result (List (List ℕ)) NamingRefused
+abbrev pub names_by : ColumnChoice → Repeated → List (List ℕ) → BoundJoin → TableValue → TableValue
+    → Result (List (List ℕ)) NamingRefused
 names_by column_choice.All repeated header join l r = written_names repeated header
 names_by column_choice.Left repeated header join l r = written_names repeated header
 names_by column_choice.Right repeated header join l r = written_names repeated header

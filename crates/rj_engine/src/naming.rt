@@ -230,7 +230,8 @@ fn new_or_own<'a>(
     }
 }
 
-// The name of an entry's column. None if the entry means no column, or if the name can't be written after those that were.
+// The name of an entry's column. None if the entry means no column, or if the name can't be written
+// after those that were.
 fn next_selected(
     alloc: Global,
     left: &Table,
@@ -268,14 +269,8 @@ fn selected_names(
 {
     let mut written = Vec::with_capacity(alloc, entries.len())?;
     for number in 0..entries.len() {
-        match next_selected(
-            alloc,
-            left,
-            right,
-            join,
-            written.as_slice(),
-            &entries[number],
-        )? {
+        let entry = &entries[number];
+        match next_selected(alloc, left, right, join, written.as_slice(), entry)? {
             Some(name) => add_name(&mut written, name)?,
             None => return Err(NamingRefused::SelectedName(number as u64 + 1)),
         }

@@ -1,4 +1,4 @@
-use Rattle.std.proofs.Common.{◌≡◌, ◌-◌, ◌<◌, ◌∙◌, ap, arith, length, map, rules, subst, sym}
+use Rattle.std.proofs.Common.{◌≡◌, ◌-◌, ◌<◌, ◌∙◌, ap, arith, length, rules, subst, sym}
 use Rattle.rj_columns.specs.Tables.{cell_in}
 use Rattle.rj_engine.specs.Cells.{IsMemberOf, joined_cell}
 use Rattle.rj_engine.specs.Chosen.{shown_rows}

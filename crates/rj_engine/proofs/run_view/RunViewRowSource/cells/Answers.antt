@@ -1,4 +1,4 @@
-use Rattle.std.proofs.Common.{◌≡◌, ◌+◌, ◌-◌, ◌<◌, ◌++◌, ◌∙◌, All, ap, arith, drop, get_or, length, map, refl, rules, subst, sym, take}
+use Rattle.std.proofs.Common.{◌≡◌, ◌+◌, ◌-◌, ◌<◌, ◌++◌, ◌∙◌, All, ap, arith, drop, get_or, length, map, refl, rules, subst, sym}
 use Rattle.std.specs.Prelude.{OnOk, slice_index_or}
 use Rattle.rj_engine.specs.declared.origin.Origin.TheVariants as origin
 use Rattle.std.proofs.lemmas.List.Elements.{All-drop, All-take}
