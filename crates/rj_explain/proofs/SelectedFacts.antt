@@ -1,12 +1,11 @@
 -- The columns that an entry of a list of columns means, and their names.
-use Rattle.std.proofs.Common.{◌≡◌, ◌∙◌, ℕ, ◌+◌, Bool, true, false, cond, List, [], ◌∷◌, ◌++◌, map, take, refl, sym, ap, append-nil}
+use Rattle.std.proofs.Common.{◌≡◌, ◌∙◌, ℕ, ◌+◌, ◌<◌, ◌≤◌, Bool, true, false, cond, List, [], ◌∷◌, ◌++◌, length, map, take, refl, ap, append-nil, arith}
 use Rattle.std.specs.Prelude.{Option, None, Some, filter, option_map, slice_get}
 use Rattle.std.proofs.lemmas.List.Elements.{filter-append}
 use Rattle.rj_condition.specs.declared.tree.Name.{Name}
 use Rattle.rj_engine.specs.Naming.{new_or_own}
-use Rattle.rj_engine.specs.Selected.{the_only}
-use Rattle.rj_engine.specs.declared.origin.Origin.{Origin}
-use Rattle.rj_explain.specs.Selected.{name_among}
+use Rattle.rj_explain.specs.Lines.{both_words}
+use Rattle.rj_explain.specs.Selected.{IsWhy, name_among}
 use Rattle.rj_explain.proofs.NameFacts.{take-more}
 
 -- one more name
@@ -19,7 +18,7 @@ pub filter-less : (p : List ℕ → Bool) (xs : List (List ℕ)) (i : ℕ) (x : 
 filter-less p xs i x at e = ap (filter p) (take-more xs i x at) ∙ (filter-append p (take i xs) (x ∷ []) ∙ rw e (append-nil (filter p (take i xs))))
 
 -- the names of those columns whose names pass a test
-pub filter-map : (p : List ℕ → Bool) (f : Origin → List ℕ) (columns : List Origin) → filter p (map f columns) ≡ map f (filter (λ o. p (f o)) columns)
+pub filter-map : {A : Type 0} (p : List ℕ → Bool) (f : A → List ℕ) (columns : List A) → filter p (map f columns) ≡ map f (filter (λ o. p (f o)) columns)
 filter-map p f [] = refl
 filter-map p f (o ∷ columns) = by_test (p (f o)) (filter-map p f columns)
   where
@@ -29,8 +28,21 @@ filter-map p f (o ∷ columns) = by_test (p (f o)) (filter-map p f columns)
     by_test false e = e
 
 -- the name of the column that is meant, if it is alone
-pub name-among : (new : Option Name) (f : Origin → List ℕ) (columns : List Origin)
-    → name_among new (map f columns) ≡ option_map (λ o. new_or_own new (f o)) (the_only columns)
-name-among new f [] = refl
-name-among new f (o ∷ []) = refl
-name-among new f (o ∷ (p ∷ columns)) = refl
+pub name-among : {A : Type 0} (only : List A → Option A) (new : Option Name) (f : A → List ℕ)
+    → None ≡ only [] → ((o : A) → Some o ≡ only (o ∷ [])) → ((o p : A) (columns : List A) → None ≡ only (o ∷ (p ∷ columns)))
+    → (columns : List A) → name_among new (map f columns) ≡ option_map (λ o. new_or_own new (f o)) (only columns)
+name-among only new f none one more [] = ap (option_map (λ o. new_or_own new (f o))) none
+name-among only new f none one more (o ∷ []) = ap (option_map (λ o. new_or_own new (f o))) (one o)
+name-among only new f none one more (o ∷ (p ∷ columns)) = ap (option_map (λ o. new_or_own new (f o))) (more o p columns)
+
+-- how many columns are meant
+pub one-meant : (names : List (List ℕ)) (files repeated words : List ℕ) → 1 ≤ length names → length names < 2 → words ≡ repeated
+    → IsWhy names files repeated words
+one-meant [] files repeated words some few told = absurd (omega arith)
+one-meant (own ∷ []) files repeated words some few told = told
+one-meant (own ∷ (other ∷ names)) files repeated words some few told = absurd (omega arith)
+
+pub both-meant : (names : List (List ℕ)) (files repeated words : List ℕ) → 2 ≤ length names → words ≡ both_words → IsWhy names files repeated words
+both-meant [] files repeated words many told = absurd (omega arith)
+both-meant (own ∷ []) files repeated words many told = absurd (omega arith)
+both-meant (own ∷ (other ∷ names)) files repeated words many told = told

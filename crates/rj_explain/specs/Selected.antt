@@ -1,13 +1,13 @@
 -- Why an entry of a list of columns is refused.
-use Rattle.std.specs.Prelude.{ℕ, ◌≡◌, Bool, false, List, [], ◌∷◌, ◌++◌, Option, None, Some}
+use Rattle.std.specs.Prelude.{ℕ, ◌≡◌, Bool, false, List, [], ◌∷◌, ◌++◌, map, Option, None, Some}
 use Rattle.std.specs.List.{position_from}
 use Rattle.std.specs.Str.{str_eq_ignore_ascii_case}
 use Rattle.rj_columns.specs.Tables.{TableValue}
 use Rattle.rj_condition.specs.declared.bound.BoundJoin.{BoundJoin}
 use Rattle.rj_condition.specs.declared.tree.Name.{Name}
+use Rattle.rj_engine.specs.Cells.{name_of}
 use Rattle.rj_engine.specs.Naming.{name_of_entry, new_or_own}
 use Rattle.rj_engine.specs.Selected.{columns_from, columns_named}
-use Rattle.rj_engine.specs.declared.origin.Origin.{Origin}
 use Rattle.rj_settings.specs.declared.choice.ColumnChoice.{ColumnChoice}
 use Rattle.rj_settings.specs.declared.choice.ColumnChoice.TheVariants as column_choice
 use Rattle.rj_settings.specs.declared.choice.SelectedColumn.{SelectedColumn}
@@ -20,9 +20,9 @@ entries_of column_choice.Left = None
 entries_of column_choice.Right = None
 entries_of (column_choice.Selected entries) = Some entries.items
 
--- the columns that an entry's name means, of those among which it is looked for
-abbrev pub meant_by : BoundJoin → TableValue → TableValue → SelectedColumn → List Origin
-meant_by join l r entry = columns_named l r entry.name (columns_from entry.source join l r)
+-- the names of the columns that an entry's name means, of those among which it is looked for
+abbrev pub meant_by : BoundJoin → TableValue → TableValue → SelectedColumn → List (List ℕ)
+meant_by join l r entry = map (name_of l r) (columns_named l r entry.name (columns_from entry.source join l r))
 
 -- there is a name, and it is this one, ignoring ASCII case
 abbrev pub is_alike : List ℕ → Option (List ℕ) → Bool
@@ -38,13 +38,13 @@ abbrev pub repeated_words : BoundJoin → TableValue → TableValue → List Sel
 repeated_words join l r earlier None = 10 ∷ []
 repeated_words join l r earlier (Some name) = twice_words name (number_under join l r earlier name)
 
--- The words for an entry, by the columns that its name means: if there is none, what may have been
+-- The words for an entry, by the names of the columns that it means: if there is none, what may have been
 -- meant, and what is said of the files; if there is one, that its name is written twice; and else
 -- that both tables have it.
-abbrev pub IsWhy : List Origin → List ℕ → List ℕ → List ℕ → Type 0
+abbrev pub IsWhy : List (List ℕ) → List ℕ → List ℕ → List ℕ → Type 0
 IsWhy [] files repeated words = (meant : List ℕ) × (words ≡ meant ++ files)
-IsWhy (o ∷ []) files repeated words = words ≡ repeated
-IsWhy (o ∷ (p ∷ columns)) files repeated words = words ≡ both_words
+IsWhy (own ∷ []) files repeated words = words ≡ repeated
+IsWhy (own ∷ (other ∷ names)) files repeated words = words ≡ both_words
 
 -- What a function says that finds the name of an entry. Internal: no public contract uses it.
 

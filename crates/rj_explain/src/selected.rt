@@ -90,8 +90,7 @@ fn meant_by<'c>(
     join: &BoundJoin,
 ) -> Result<Vec<&'c str>, AllocError>
     requires { fits join.now columns.now.left.types columns.now.right.types ≡ true }
-    ensures { IfOk result (λ v. map (λ n. n.now) v.items
-        ≡ map (name_of columns.now.left columns.now.right) (meant_by join.now columns.now.left columns.now.right entry.now)) }
+    ensures { IfOk result (λ v. map (λ n. n.now) v.items ≡ meant_by join.now columns.now.left columns.now.right entry.now) }
 {
     let names = names_from(alloc, entry.source, columns, join)?;
     meant_among(alloc, &entry.name, names.as_slice())
