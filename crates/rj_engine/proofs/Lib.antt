@@ -29,3 +29,5 @@ pub mod SelectedNames
 pub mod Repeats
 pub mod GroupFacts
 pub mod RunFacts
+pub mod LoneRows
+pub mod CountFacts

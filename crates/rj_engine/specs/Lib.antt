@@ -17,3 +17,4 @@ pub mod Shown
 pub mod Violations
 pub mod KeyGroups
 pub mod Reports
+pub mod Counts

@@ -1,12 +1,12 @@
 //! Whether a joined table is as expected.
 
-ghost use Rattle.std.specs.Prelude.{◌≡◌, ◌<◌, ◌↔◌, All, IfOk, IsTrue, Some, length, map};
-ghost use Rattle.rj_engine.specs.Expected.{AreDistinct, AreMatched, HasAtMost, IsAsExpected};
+ghost use Rattle.std.specs.Prelude.{◌≡◌, ◌<◌, ◌↔◌, All, IfOk, IsTrue, length, map};
+ghost use Rattle.rj_engine.specs.Expected.{AreDistinct, AreMatched, HasAtMost, HasNoLone, IsAsExpected};
 ghost use Rattle.rj_engine.specs.Marks.{row_on};
 ghost use Rattle.rj_engine.specs.Results.{joined_of};
 
 use crate::joined::Joined;
-use crate::marks::{PairSide, mark, row_on};
+use crate::marks::{PairSide, lone_rows, mark, row_on};
 use rj_columns::Table;
 use rj_condition::BoundJoin;
 use rj_settings::{Expectation, Matching};
@@ -37,14 +37,17 @@ fn are_distinct(
 fn are_matched(
     alloc: Global,
     pairs: &[(u32, u32)],
-    matching: Matching,
+    matching: Option<Matching>,
     lefts: u32,
     rights: u32,
 ) -> Result<bool, AllocError>
     requires left { All (λ p. p.0 < lefts) pairs.now }
     requires right { All (λ p. p.1 < rights) pairs.now }
-    ensures { IfOk result (λ b. IsTrue b ↔ AreMatched (Some matching) pairs.now) }
+    ensures { IfOk result (λ b. IsTrue b ↔ AreMatched matching pairs.now) }
 {
+    let Some(matching) = matching else {
+        return Ok(true);
+    };
     match matching {
         Matching::ManyToOne => are_distinct(alloc, pairs, PairSide::Left, lefts),
         Matching::OneToMany => are_distinct(alloc, pairs, PairSide::Right, rights),
@@ -54,6 +57,22 @@ fn are_matched(
             Ok(one && other)
         }
     }
+}
+
+// Whether each of this many left rows is in a match, if that is asked for.
+fn has_no_lone(
+    alloc: Global,
+    pairs: &[(u32, u32)],
+    matched: bool,
+    lefts: u32,
+) -> Result<bool, AllocError>
+    ensures { IfOk result (λ b. IsTrue b ↔ HasNoLone matched lefts pairs.now) }
+{
+    if !matched {
+        return Ok(true);
+    }
+    let lone = lone_rows(alloc, pairs, PairSide::Left, lefts)?;
+    Ok(lone.is_empty())
 }
 
 // Whether there are no more members than this.
@@ -66,13 +85,14 @@ pub(crate) fn has_at_most(joined: &Joined, most: Option<u32>) -> bool
     }
 }
 
-/// Whether the joined table of these tables by this join is as expected, in how many rows it has
-/// and in how many matches a row is.
+/// Whether the joined table of these tables by this join is as expected, in how many rows it has,
+/// in how many matches a row is, and in whether each left row is in one.
 ///
 /// # Errors
 ///
 /// It fails only when memory runs out. It takes a byte for each row of a side that may be in one
-/// match only.
+/// match only. If each left row has to be in a match, it takes one for each left row, and four more
+/// for each unmatched one.
 pub fn is_as_expected(
     alloc: Global,
     left: &Table,
@@ -82,19 +102,15 @@ pub fn is_as_expected(
     expectation: &Expectation,
 ) -> Result<bool, AllocError>
     requires { joined.now.members ≡ joined_of join.now left.now right.now }
-    ensures { IfOk result (λ b. IsTrue b ↔ IsAsExpected expectation.now (joined_of join.now left.now right.now)) }
+    ensures { IfOk result (λ b. IsTrue b ↔ IsAsExpected expectation.now (length left.now.rows) (joined_of join.now left.now right.now)) }
 {
+    let pairs = joined.kept_pairs();
+    let (lefts, rights) = (left.rows() as u32, right.rows() as u32);
     if !has_at_most(joined, expectation.most_rows) {
         return Ok(false);
     }
-    let Some(matching) = expectation.matching else {
-        return Ok(true);
-    };
-    are_matched(
-        alloc,
-        joined.kept_pairs(),
-        matching,
-        left.rows() as u32,
-        right.rows() as u32,
-    )
+    if !are_matched(alloc, pairs, expectation.matching, lefts, rights)? {
+        return Ok(false);
+    }
+    has_no_lone(alloc, pairs, expectation.matched, lefts)
 }

@@ -7,6 +7,7 @@ mod chosen_columns;
 mod chosen_rows;
 mod closes;
 mod collecting;
+mod counts;
 mod expected;
 mod gathering;
 mod groups;
@@ -32,6 +33,7 @@ mod violations;
 
 pub use choices::{chosen_names_are_lawful, left_order, plain_choice};
 pub use closes::nothing_after_close;
+pub use counts::{Counts, early_counts};
 pub use expected::is_as_expected;
 pub use gathering::gather;
 pub use groups::{Group, KeyReport};

@@ -1,14 +1,14 @@
 //! How a joined table differs from what is expected.
 
 ghost use Rattle.std.specs.Prelude.{◌≡◌, ◌<◌, ◌↔◌, ℕ, All, IfOk, IsTrue, MatchOption, Some, length, map, slice_index};
-ghost use Rattle.rj_engine.specs.Expected.{AreDistinct, AreMatched, IsAsExpected};
+ghost use Rattle.rj_engine.specs.Expected.{AreDistinct, AreMatched, HasNoLone, IsAsExpected};
 ghost use Rattle.rj_engine.specs.Marks.{row_on};
 ghost use Rattle.rj_engine.specs.Results.{joined_of};
-ghost use Rattle.rj_engine.specs.Violations.{IsFirstRepeated, IsPairViolation, IsViolation, times};
+ghost use Rattle.rj_engine.specs.Violations.{IsFirstRepeated, IsLoneViolation, IsPairViolation, IsViolation, times};
 
 use crate::expected::has_at_most;
 use crate::joined::Joined;
-use crate::marks::{PairSide, row_on};
+use crate::marks::{PairSide, lone_rows, row_on};
 use rj_columns::Table;
 use rj_condition::BoundJoin;
 use rj_settings::{Expectation, Matching};
@@ -23,6 +23,8 @@ pub enum Violation {
     LeftRow(u32, u64),
     /// This right row, counted from 0, is in this many matches.
     RightRow(u32, u64),
+    /// This left row, counted from 0, is in no match.
+    LoneLeft(u32),
 }
 
 // How often each number below the count is among the numbers, all of which are below it.
@@ -73,7 +75,7 @@ fn left_violation(
     lefts: u32,
 ) -> Result<Option<Violation>, AllocError>
     requires { All (λ p. p.0 < lefts) pairs.now }
-    ensures { IfOk result (λ o. MatchOption o (AreDistinct (map (λ p. p.0) pairs.now)) (IsPairViolation Matching.ManyToOne pairs.now)) }
+    ensures { IfOk result (λ o. MatchOption o (AreDistinct (map (λ p. p.0) pairs.now)) (IsPairViolation (Some Matching.ManyToOne) pairs.now)) }
 {
     let rows = rows_on(alloc, pairs, PairSide::Left)?;
     match first_repeated(alloc, rows.as_slice(), lefts)? {
@@ -89,7 +91,7 @@ fn right_violation(
     rights: u32,
 ) -> Result<Option<Violation>, AllocError>
     requires { All (λ p. p.1 < rights) pairs.now }
-    ensures { IfOk result (λ o. MatchOption o (AreDistinct (map (λ p. p.1) pairs.now)) (IsPairViolation Matching.OneToMany pairs.now)) }
+    ensures { IfOk result (λ o. MatchOption o (AreDistinct (map (λ p. p.1) pairs.now)) (IsPairViolation (Some Matching.OneToMany) pairs.now)) }
 {
     let rows = rows_on(alloc, pairs, PairSide::Right)?;
     match first_repeated(alloc, rows.as_slice(), rights)? {
@@ -107,7 +109,7 @@ fn either_violation(
 ) -> Result<Option<Violation>, AllocError>
     requires left { All (λ p. p.0 < lefts) pairs.now }
     requires right { All (λ p. p.1 < rights) pairs.now }
-    ensures { IfOk result (λ o. MatchOption o (AreMatched (Some Matching.OneToOne) pairs.now) (IsPairViolation Matching.OneToOne pairs.now)) }
+    ensures { IfOk result (λ o. MatchOption o (AreMatched (Some Matching.OneToOne) pairs.now) (IsPairViolation (Some Matching.OneToOne) pairs.now)) }
 {
     match left_violation(alloc, pairs, lefts)? {
         Some(found) => Ok(Some(found)),
@@ -123,30 +125,52 @@ fn either_violation(
 fn pair_violation(
     alloc: Global,
     pairs: &[(u32, u32)],
-    matching: Matching,
+    matching: Option<Matching>,
     lefts: u32,
     rights: u32,
 ) -> Result<Option<Violation>, AllocError>
     requires left { All (λ p. p.0 < lefts) pairs.now }
     requires right { All (λ p. p.1 < rights) pairs.now }
-    ensures { IfOk result (λ o. MatchOption o (AreMatched (Some matching) pairs.now) (IsPairViolation matching pairs.now)) }
+    ensures { IfOk result (λ o. MatchOption o (AreMatched matching pairs.now) (IsPairViolation matching pairs.now)) }
 {
     match matching {
-        Matching::ManyToOne => left_violation(alloc, pairs, lefts),
-        Matching::OneToMany => right_violation(alloc, pairs, rights),
-        Matching::OneToOne => either_violation(alloc, pairs, lefts, rights),
+        None => Ok(None),
+        Some(Matching::ManyToOne) => left_violation(alloc, pairs, lefts),
+        Some(Matching::OneToMany) => right_violation(alloc, pairs, rights),
+        Some(Matching::OneToOne) => either_violation(alloc, pairs, lefts, rights),
     }
+}
+
+// The first of this many left rows that is in no match, if each has to be in one.
+fn lone_violation(
+    alloc: Global,
+    pairs: &[(u32, u32)],
+    matched: bool,
+    lefts: u32,
+) -> Result<Option<Violation>, AllocError>
+    ensures { IfOk result (λ o. MatchOption o (HasNoLone matched lefts pairs.now) (IsLoneViolation matched lefts pairs.now)) }
+{
+    if !matched {
+        return Ok(None);
+    }
+    let lone = lone_rows(alloc, pairs, PairSide::Left, lefts)?;
+    if lone.is_empty() {
+        return Ok(None);
+    }
+    Ok(Some(Violation::LoneLeft(lone[0])))
 }
 
 /// How the joined table of these tables by this join differs from what is expected. It is the
 /// number of rows, if there are too many, or else the first row that is in more than one match,
 /// with their number. If neither a left nor a right row may be, a left one comes before a right
-/// one. `None` exactly if the joined table is as expected.
+/// one. If there is none, it is the first left row that is in no match, if each has to be in one.
+/// `None` exactly if the joined table is as expected.
 ///
 /// # Errors
 ///
 /// It fails only when memory runs out. It takes eight bytes for each row of a side that may be in
-/// one match only, and four for each match.
+/// one match only, and four for each match. If each left row has to be in a match, it takes a byte
+/// for each left row, and four more for each unmatched one.
 pub fn first_violation(
     alloc: Global,
     left: &Table,
@@ -156,20 +180,16 @@ pub fn first_violation(
     expectation: &Expectation,
 ) -> Result<Option<Violation>, AllocError>
     requires { joined.now.members ≡ joined_of join.now left.now right.now }
-    ensures { IfOk result (λ o. MatchOption o (IsAsExpected expectation.now (joined_of join.now left.now right.now))
-        (IsViolation expectation.now (joined_of join.now left.now right.now))) }
+    ensures { IfOk result (λ o. MatchOption o (IsAsExpected expectation.now (length left.now.rows) (joined_of join.now left.now right.now))
+        (IsViolation expectation.now (length left.now.rows) (joined_of join.now left.now right.now))) }
 {
     if !has_at_most(joined, expectation.most_rows) {
         return Ok(Some(Violation::Rows(joined.len() as u64)));
     }
-    let Some(matching) = expectation.matching else {
-        return Ok(None);
-    };
-    pair_violation(
-        alloc,
-        joined.kept_pairs(),
-        matching,
-        left.rows() as u32,
-        right.rows() as u32,
-    )
+    let pairs = joined.kept_pairs();
+    let (lefts, rights) = (left.rows() as u32, right.rows() as u32);
+    match pair_violation(alloc, pairs, expectation.matching, lefts, rights)? {
+        Some(found) => Ok(Some(found)),
+        None => lone_violation(alloc, pairs, expectation.matched, lefts),
+    }
 }

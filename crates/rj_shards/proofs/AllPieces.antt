@@ -15,7 +15,7 @@ use Rattle.rj_shards.specs.Rows.{place_of}
 use Rattle.rj_shards.proofs.AtPlaces.{members_at}
 use Rattle.rj_shards.proofs.KeptPairs.{kept_of_runs}
 use Rattle.rj_shards.proofs.LoneCounts.{often, often_lone_runs, often_lone_turned}
-use Rattle.rj_shards.proofs.LoneRows.{lone_of}
+use Rattle.rj_engine.proofs.LoneRows.{lone_of}
 use Rattle.rj_shards.proofs.Needed.{AreCut, IsNeeded, is_at, left_times, lone_if_added, often_needed, pair_times, right_times, same_member}
 use Rattle.rj_shards.proofs.Own.{range_all}
 use Rattle.rj_shards.proofs.Rising.{kept_rise, number_place, once, pair_place, range_rises, right_up}

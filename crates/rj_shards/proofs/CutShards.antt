@@ -37,7 +37,8 @@ use Rattle.rj_shards.specs.Shards.{joined_at, joined_shard, joined_shards, left_
 use Rattle.rj_shards.proofs.AllPieces.{all_pieces, member_needed, needs, of_all, of_each, of_runs, whole}
 use Rattle.rj_shards.proofs.AtPlaces.{all_places_joined, at_places, members_of_places}
 use Rattle.rj_shards.proofs.Extended.{extended, extended_up}
-use Rattle.rj_shards.proofs.LoneRows.{is_free, lone_of}
+use Rattle.rj_engine.proofs.LoneRows.{lone_of}
+use Rattle.rj_shards.proofs.LoneRows.{is_free}
 use Rattle.rj_shards.proofs.MergedCopies.{alike, merged, needed_row}
 use Rattle.rj_shards.proofs.Needed.{AreCut, same_member}
 use Rattle.rj_shards.proofs.Own.{range_all}

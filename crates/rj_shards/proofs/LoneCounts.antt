@@ -4,7 +4,8 @@ use Rattle.std.specs.List.{count_by, flat_map, list_any}
 use Rattle.std.proofs.Math.Nat.{add-mul, mul-add, mul-one, mul-zero, zero-mul}
 use Rattle.std.proofs.lemmas.Bool.{eqb-true}
 use Rattle.rj_shards.proofs.Counted.{count_append, count_cons, count_filter}
-use Rattle.rj_shards.proofs.LoneRows.{filter_runs, is_free, lone_of}
+use Rattle.rj_engine.proofs.LoneRows.{lone_of}
+use Rattle.rj_shards.proofs.LoneRows.{filter_runs, is_free}
 
 -- how often a number stands in a list
 abbrev pub often : ℕ → List ℕ → ℕ

@@ -18,7 +18,8 @@ use Rattle.rj_merge.specs.Places.{place_order, place_total}
 use Rattle.rj_shards.specs.Rows.{place_of}
 use Rattle.rj_shards.proofs.Counted.{all_counted, count_append, count_filter, count_map, count_none, count_one_of, counted_all}
 use Rattle.rj_shards.proofs.LoneCounts.{often, often_lone}
-use Rattle.rj_shards.proofs.LoneRows.{free_of_runs, is_free, lone_of}
+use Rattle.rj_engine.proofs.LoneRows.{lone_of}
+use Rattle.rj_shards.proofs.LoneRows.{free_of_runs, is_free}
 
 -- what stands so often has to stand so often, if it does in the whole
 pub record IsNeeded (needs times whole : ℕ) : Type 0 where

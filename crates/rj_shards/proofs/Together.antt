@@ -1,6 +1,6 @@
 -- Members of several joined tables together, and lists that are made of each element of a list.
-use Rattle.std.proofs.Common.{◌≡◌, ℕ, ◌<◌, Bool, cond, List, [], ◌∷◌, ◌++◌, length, map, refl, ap, sym, subst, ◌∙◌, append_assoc, arith, All}
-use Rattle.std.specs.List.{Contains, filter, flat_map}
+use Rattle.std.proofs.Common.{◌≡◌, ℕ, ◌<◌, List, [], ◌∷◌, ◌++◌, length, map, refl, ap, sym, subst, ◌∙◌, append_assoc, arith, All}
+use Rattle.std.specs.List.{Contains, flat_map}
 use Rattle.std.specs.List.Sorted.{IsPermutation}
 use Rattle.std.proofs.lemmas.Grind.{flat_map-append}
 use Rattle.std.proofs.lemmas.List.{get_or-map, length-map, map-append}
@@ -95,14 +95,7 @@ module _ {A B : Type 0} where
   All-flat_map P f (x ∷ xs) each =
       All-append P (f x) (flat_map f xs) (All-head (λ a. All P (f a)) x xs each) (All-flat_map P f xs (All-tail (λ a. All P (f a)) x xs each))
 
--- two tests, or two functions, that agree on the elements of a list
-pub filter_within : {X : Type 0} (p q : X → Bool) (xs : List X) → All (λ x. p x ≡ q x) xs → filter p xs ≡ filter q xs
-filter_within p q [] same = refl
-filter_within p q (x ∷ xs) same =
-    let first = All-head (λ x. p x ≡ q x) x xs same in
-    let rest = filter_within p q xs (All-tail (λ x. p x ≡ q x) x xs same) in
-    λ t. cond (first t) (x ∷ rest t) (rest t)
-
+-- two functions that agree on the elements of a list
 pub map_within : {X Y : Type 0} (f g : X → Y) (xs : List X) → All (λ x. f x ≡ g x) xs → map f xs ≡ map g xs
 map_within f g [] same = refl
 map_within f g (x ∷ xs) same =
