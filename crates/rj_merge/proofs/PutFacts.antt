@@ -64,7 +64,7 @@ module _ {S : Type 0} (d : ℕ) (telling : S → Type 0) (own : S → Copies) (g
     rows = [];
     tells = tells;
     gave = λ t. record { opened = stage_of own gives passed heads; passed = none; all = all t; faults = faults t; steps = refl };
-    shown = λ text h. told-none d start (text ++ records_text d []) begun (subst (λ t. HasWritten d begun t []) (sym (ap (λ t. text ++ t) no_records d ∙ append-nil text)) h);
+    shown = λ text h. told-none d start (text ++ records_text d []) begun (subst (λ t. HasWritten d begun t []) (sym (ap (λ t. text ++ t) (no_records d) ∙ append-nil text)) h);
   }
 
   module _ (passed : Option Place) (heads : List (Head (List (List ℕ)) S)) (block : Writer (Vec ℕ Global)) (told : Option (List ℕ)) (h : HasPut d telling own gives sources passed heads start begun block told) where

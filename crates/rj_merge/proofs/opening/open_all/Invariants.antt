@@ -13,7 +13,7 @@ invariant-inputs g l = record {
   numbers : All (λ s. is_input (vec_len l.fn.inputs) (own_number s) ≡ true) l.sources.items;
   copies : map own_copies l.sources.items ++ copies_of (into_iter_items l.left) ≡ copies_of l.fn.inputs.items;
   opened : (texts : List (List ℕ)) → TellTexts g.R.Read.remaining l.fn.inputs.items texts
-      → HasOpened g.R.Read.remaining l.how.now texts (fields_of l.header.names) l.sources.items l.input (into_iter_items l.left);
+      → HasOpened g.R.Read.remaining l.how texts (fields_of l.header.names) l.sources.items l.input (into_iter_items l.left);
 }
 
 abbrev pub decreases-inputs : goal.decreases-inputs
