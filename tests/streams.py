@@ -219,6 +219,8 @@ def suggested_types(folder):
     (folder / "table.csv").write_bytes(b"a,b\nNA,NA\n1,\n")
     yield "suggested: a null text", joined(folder, ["--suggest-types", "table.csv", "--null", "NA"], b"a=int\nb=text\n")
     yield "suggested: a null text first", joined(folder, ["--suggest-types", "--null=NA", "table.csv"], b"a=int\nb=text\n")
+    for words in (["--null", "NA", "--suggest-types", "table.csv"], ["table.csv", "--null=NA", "--suggest-types"], ["--null=NA", "--suggest-types=table.csv"], ["--suggest-types=table.csv", "--null", "NA"]):
+        yield f"suggested: {words}", joined(folder, words, b"a=int\nb=text\n")
     yield "suggested: no null text", joined(folder, ["--suggest-types", "table.csv"], b"a=text\nb=text\n")
     (folder / "table.csv").write_bytes(b'id;"a;b";c\n1;1,5;2\n2;x;\n')
     for words in (["--delimiter", ";"], ["--delimiter=;"], ["-d", ";"], ["-d;"]):
@@ -245,8 +247,11 @@ def ends_of_suggesting(folder):
     ran = run("radixjoin", ["--suggest-types", "--help"], folder)
     lacking = [f"no {word}" for word in ("--suggest-types", "FILE", "--null", "--delimiter") if word.encode() not in ran.stdout]
     yield "--suggest-types --help", lacking + harness.differences(ran, None)
-    ran = run("radixjoin", ["--left", "table.csv", "--suggest-types", "table.csv"], folder)
-    yield "--suggest-types behind another word", harness.differences(ran, b"", None, 2)
+    for words in (["--left", "table.csv", "--suggest-types", "table.csv"], ["--suggest-types=table.csv", "table.csv"], ["--suggest-types=table.csv", "--suggest-types"]):
+        ran = run("radixjoin", words, folder)
+        yield f"refused: {words}", harness.differences(ran, b"", None, 2)
+    ran = run("radixjoin", ["--terse", "--", "--suggest-types", "table.csv", "CROSS JOIN"], folder)
+    yield "a table that is named --suggest-types", harness.differences(ran, b"", b"radixjoin: E19 ReadDevice left\n", 6)
     for output in ("full", "closed"):
         ran = harness.run([harness.program("radixjoin"), "--suggest-types", "table.csv"], folder, output=output)
         yield f"--suggest-types to a {output} output", harness.differences(ran, b"", b"radixjoin: E20 WriteDevice\n", 6)
