@@ -64,7 +64,8 @@ fn with_file<'a>(
         Asking::Apart => {
             let asked = Arg::new(alloc, "suggest-types")
                 .long("suggest-types")
-                .action(ArgAction::SetTrue);
+                .action(ArgAction::SetTrue)
+                .required(true);
             command.arg(file)?.arg(asked)
         }
     }
@@ -76,7 +77,7 @@ fn suggest_command<'a>(alloc: Global, asking: Asking) -> Result<Command<'a>, All
         .long("delimiter")
         .short('d')
         .action(ArgAction::Set);
-    let command = Command::new(alloc, "radixjoin --suggest-types")
+    let command = Command::new(alloc, "radixjoin")
         .override_help(HELP)
         .no_binary_name(true);
     with_file(alloc, command, asking)?.arg(null)?.arg(delimiter)
