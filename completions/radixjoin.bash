@@ -13,7 +13,7 @@ _radixjoin() {
     if [[ $before == --strict && $word == -* ]]; then
         before=
     fi
-    # `--suggest-types` is the first word, or none.
+    # Few options go with `--suggest-types`, so it is proposed as the first word alone.
     if ((COMP_CWORD == 1)); then
         options+=" --suggest-types"
     fi

@@ -167,11 +167,14 @@ SUGGESTED = [
     ("the least and the most", "a\n-9223372036854775808\n9223372036854775807\n", "a=int\n"),
     ("past the most", "a\n9223372036854775808\n", "a=text\n"),
     ("past the least", "a\n-9223372036854775809\n", "a=text\n"),
-    ("decimals", "a\n1.5\n-22.25\n3\n", "a=num(4,2)\n"),
-    ("digits from different cells", "a\n12345.6\n1.2345\n", "a=num(9,4)\n"),
-    ("a sign and a zero", "a\n-0.50\n+0.5\n", "a=num(3,2)\n"),
+    ("decimals", "a\n1.5\n-22.25\n3\n", "a=num(6,2)\n"),
+    ("digits from different cells", "a\n12345.6\n1.2345\n", "a=num(11,4)\n"),
+    ("a sign and a zero", "a\n-0.50\n+0.5\n", "a=num(5,2)\n"),
     ("18 digits", "a\n123456789012345678.0\n", "a=text\n"),
     ("17 and one", "a\n12345678901234567.8\n", "a=num(18,1)\n"),
+    ("16 digits, and one after a point", "a\n1234567890123456\n1.0\n", "a=num(18,1)\n"),
+    ("15 and one", "a\n123456789012345.6\n", "a=num(18,1)\n"),
+    ("14 and one", "a\n12345678901234.5\n", "a=num(17,1)\n"),
     ("one and 17", "a\n1.23456789012345678\n", "a=num(18,17)\n"),
     ("one and 18", "a\n1.234567890123456789\n", "a=text\n"),
     ("19 digits in two cells", "a\n123456789.1\n1.1234567891\n", "a=text\n"),
@@ -216,13 +219,15 @@ def suggested_types(folder):
     (folder / "table.csv").write_bytes(b"a,b\nNA,NA\n1,\n")
     yield "suggested: a null text", joined(folder, ["--suggest-types", "table.csv", "--null", "NA"], b"a=int\nb=text\n")
     yield "suggested: a null text first", joined(folder, ["--suggest-types", "--null=NA", "table.csv"], b"a=int\nb=text\n")
+    for words in (["--null", "NA", "--suggest-types", "table.csv"], ["table.csv", "--null=NA", "--suggest-types"], ["--null=NA", "--suggest-types=table.csv"], ["--suggest-types=table.csv", "--null", "NA"]):
+        yield f"suggested: {words}", joined(folder, words, b"a=int\nb=text\n")
     yield "suggested: no null text", joined(folder, ["--suggest-types", "table.csv"], b"a=text\nb=text\n")
     (folder / "table.csv").write_bytes(b'id;"a;b";c\n1;1,5;2\n2;x;\n')
     for words in (["--delimiter", ";"], ["--delimiter=;"], ["-d", ";"], ["-d;"]):
         yield f"suggested: by semicolons, {words}", joined(folder, ["--suggest-types", "table.csv", *words], b'id=int\n"a;b"=text\nc=int\n')
     (folder / "table.csv").write_bytes(b"id\tprice\n1\t1.5\nNA\tNA\n")
     for word in ("tab", "\\t", "\t"):
-        yield f"suggested: by tabs, {word!r}", joined(folder, ["--suggest-types", f"--delimiter={word}", "table.csv", "--null=NA"], b"id=int\nprice=num(2,1)\n")
+        yield f"suggested: by tabs, {word!r}", joined(folder, ["--suggest-types", f"--delimiter={word}", "table.csv", "--null=NA"], b"id=int\nprice=num(4,1)\n")
     for word in ("", ";;", "a", "7", '"', "\n", "\u00e9"):
         yield f"not suggested: by {word!r}", joined(folder, ["--suggest-types", "table.csv", f"--delimiter={word}"], "E34 BadDelimiter", 2)
     (folder / "table.csv").write_bytes(b"a,b\nNA,NA\n1,\n")
@@ -242,8 +247,11 @@ def ends_of_suggesting(folder):
     ran = run("radixjoin", ["--suggest-types", "--help"], folder)
     lacking = [f"no {word}" for word in ("--suggest-types", "FILE", "--null", "--delimiter") if word.encode() not in ran.stdout]
     yield "--suggest-types --help", lacking + harness.differences(ran, None)
-    ran = run("radixjoin", ["--left", "table.csv", "--suggest-types", "table.csv"], folder)
-    yield "--suggest-types behind another word", harness.differences(ran, b"", None, 2)
+    for words in (["--left", "table.csv", "--suggest-types", "table.csv"], ["--suggest-types=table.csv", "table.csv"], ["--suggest-types=table.csv", "--suggest-types"]):
+        ran = run("radixjoin", words, folder)
+        yield f"refused: {words}", harness.differences(ran, b"", None, 2)
+    ran = run("radixjoin", ["--terse", "--", "--suggest-types", "table.csv", "CROSS JOIN"], folder)
+    yield "a table that is named --suggest-types", harness.differences(ran, b"", b"radixjoin: E19 ReadDevice left\n", 6)
     for output in ("full", "closed"):
         ran = harness.run([harness.program("radixjoin"), "--suggest-types", "table.csv"], folder, output=output)
         yield f"--suggest-types to a {output} output", harness.differences(ran, b"", b"radixjoin: E20 WriteDevice\n", 6)
@@ -280,6 +288,18 @@ def suggested_lists_given(folder):
         yield f"a suggested list is given, {number}", harness.differences(by_place, None) + harness.differences(by_name, by_place.stdout)
 
 
+def suggested_margins(folder):
+    """A list that is suggested reads numbers with two digits more before the point, and no more."""
+    words = ["--left", "table.csv", "--left-types", "@table.types", "--right", "one.csv", "--right-types", "int", "--join", "CROSS JOIN"]
+    (folder / "one.csv").write_bytes(b"one\n1\n")
+    (folder / "table.csv").write_bytes(b"a\n9.99\n")
+    (folder / "table.types").write_bytes(run("radixjoin", ["--suggest-types", "table.csv"], folder).stdout)
+    (folder / "table.csv").write_bytes(b"a\n-999.99\n")
+    yield "two digits more than were suggested", joined(folder, words, b"a,one\n-999.99,1\n")
+    (folder / "table.csv").write_bytes(b"a\n1000.00\n")
+    yield "three digits more than were suggested", joined(folder, words, "E6 BadInteger left row 1 column 1", 3)
+
+
 PARTS = [
     standard_input,
     pipes,
@@ -292,6 +312,7 @@ PARTS = [
     suggested_types,
     ends_of_suggesting,
     suggested_lists_given,
+    suggested_margins,
 ]
 
 # Runs in which each allocation is refused in turn: name, program, its files, its words, its standard input, what it prints.
@@ -306,8 +327,8 @@ SWEPT = [
         JOINED,
     ),
     ("suggested types", "radixjoin", {"table.csv": b'id,"a b"\n1,1.5\n2,x\n3,\n'}, ["--suggest-types", "table.csv"], b"", b'id=int\n"a b"=text\n'),
-    ("suggested types by tabs", "radixjoin", {"table.tsv": b"id\ta\n1\t1.5\n"}, ["--suggest-types", "table.tsv", "--delimiter=tab"], b"", b"id=int\na=num(2,1)\n"),
-    ("suggested numbers", "radixjoin", {}, ["--suggest-types", "-", "--null", "NA"], b"a,b\n1.5,NA\n", b"a=num(2,1)\nb=text\n"),
+    ("suggested types by tabs", "radixjoin", {"table.tsv": b"id\ta\n1\t1.5\n"}, ["--suggest-types", "table.tsv", "--delimiter=tab"], b"", b"id=int\na=num(4,1)\n"),
+    ("suggested numbers", "radixjoin", {}, ["--suggest-types", "-", "--null", "NA"], b"a,b\n1.5,NA\n", b"a=num(4,1)\nb=text\n"),
 ]
 
 

@@ -7,7 +7,7 @@ mod stack;
 mod suggesting;
 
 use crate::stack::{PAGES, take_stack};
-use crate::suggesting::suggest;
+use crate::suggesting::{asking_of, suggest};
 use rj_command::{Line, Stats, UnkeptRows};
 use rj_fault::{Fault, read_words, texts_of};
 use rj_files::{
@@ -80,14 +80,6 @@ fn join<R: Files + Input + AllocGlobal + Print + Eprint + Threads + Wait + Clock
     Ok(())
 }
 
-// The words after `--suggest-types`, if that is the first word.
-fn words_to_suggest(words: &[String]) -> Option<&[String]> {
-    match words {
-        [first, rest @ ..] if first.as_str() == "--suggest-types" => Some(rest),
-        _ => None,
-    }
-}
-
 // Reads the command line, and does what it asks for.
 fn run<R: Env + Files + Input + AllocGlobal + Print + Eprint + Threads + Wait + Clock + Sync>(
     rt: &R,
@@ -96,9 +88,9 @@ fn run<R: Env + Files + Input + AllocGlobal + Print + Eprint + Threads + Wait + 
     let Some(words) = read_words(rt)? else {
         return Err(ExplainedFault::from(Fault::NotText));
     };
-    if let Some(behind) = words_to_suggest(words.as_slice()) {
-        let texts = texts_of(rt.alloc(), behind)?;
-        suggest(rt, texts.as_slice())?;
+    if let Some(asking) = asking_of(words.as_slice()) {
+        let texts = texts_of(rt.alloc(), words.as_slice())?;
+        suggest(rt, texts.as_slice(), asking)?;
         return Ok(());
     }
     join(rt, words, terminals)

@@ -15,7 +15,7 @@ use std::time::Clock;
 const HELP: &str = "\
 Prints types that the cells of a CSV file suggest: check them, and give them by --left-types @FILE
 
-Usage: radixjoin --suggest-types <FILE> [--null <TEXT>] [--delimiter <CHAR>]
+Usage: radixjoin --suggest-types <FILE> [--null <TEXT>] [--delimiter <CHAR>], in any order
 
   <FILE>                  CSV file of a table; - is standard input
   -d, --delimiter <CHAR>  Delimiter of the file, or tab [default: a comma]
@@ -23,43 +23,94 @@ Usage: radixjoin --suggest-types <FILE> [--null <TEXT>] [--delimiter <CHAR>]
   -h, --help              Print this help
 ";
 
-fn suggest_command<'a>(alloc: Global) -> Result<Command<'a>, AllocError> {
+/// How a line asks for suggested types.
+#[derive(Clone, Copy)]
+pub(crate) enum Asking {
+    /// By the word `--suggest-types`: the file is a word of its own.
+    Apart,
+    /// By a word that has the file, too: `--suggest-types=FILE`.
+    WithFile,
+}
+
+/// How these words ask for suggested types, if they do, in whatever place. Words behind `--` are no
+/// options.
+pub(crate) fn asking_of(words: &[String]) -> Option<Asking> {
+    for word in words {
+        let word = word.as_str();
+        if word == "--" {
+            return None;
+        }
+        if word == "--suggest-types" {
+            return Some(Asking::Apart);
+        }
+        if word.starts_with("--suggest-types=") {
+            return Some(Asking::WithFile);
+        }
+    }
+    None
+}
+
+// The command with the argument that has the file, in these words.
+fn with_file<'a>(
+    alloc: Global,
+    command: Command<'a>,
+    asking: Asking,
+) -> Result<Command<'a>, AllocError> {
     let file = Arg::new(alloc, "FILE")
         .action(ArgAction::Set)
         .required(true);
+    match asking {
+        Asking::WithFile => command.arg(file.long("suggest-types")),
+        Asking::Apart => {
+            let asked = Arg::new(alloc, "suggest-types")
+                .long("suggest-types")
+                .action(ArgAction::SetTrue)
+                .required(true);
+            command.arg(file)?.arg(asked)
+        }
+    }
+}
+
+fn suggest_command<'a>(alloc: Global, asking: Asking) -> Result<Command<'a>, AllocError> {
     let null = Arg::new(alloc, "null").long("null").action(ArgAction::Set);
     let delimiter = Arg::new(alloc, "delimiter")
         .long("delimiter")
         .short('d')
         .action(ArgAction::Set);
-    Command::new(alloc, "radixjoin --suggest-types")
+    let command = Command::new(alloc, "radixjoin")
         .override_help(HELP)
-        .no_binary_name(true)
-        .arg(file)?
-        .arg(null)?
-        .arg(delimiter)
+        .no_binary_name(true);
+    with_file(alloc, command, asking)?.arg(null)?.arg(delimiter)
 }
 
-fn read_matches<'a>(alloc: Global, words: &'a [&'a str]) -> Result<ArgMatches<'a>, Error> {
-    let command = suggest_command(alloc)?;
+fn read_matches<'a>(
+    alloc: Global,
+    words: &'a [&'a str],
+    asking: Asking,
+) -> Result<ArgMatches<'a>, Error> {
+    let command = suggest_command(alloc, asking)?;
     command.try_get_matches_from(words)
 }
 
-fn matches_of<'a>(alloc: Global, words: &'a [&'a str]) -> Result<ArgMatches<'a>, Fault> {
-    match read_matches(alloc, words) {
+fn matches_of<'a>(
+    alloc: Global,
+    words: &'a [&'a str],
+    asking: Asking,
+) -> Result<ArgMatches<'a>, Fault> {
+    match read_matches(alloc, words, asking) {
         Ok(matches) => Ok(matches),
         Err(error) if error.kind() == ErrorKind::OutOfMemory => Err(Fault::Memory),
         Err(error) => Err(Fault::CommandLine(error)),
     }
 }
 
-/// Prints the types that the cells of the file in these words suggest. The words are those after
-/// `--suggest-types`.
+/// Prints the types that the cells of the file in these words suggest, which ask for it so.
 pub(crate) fn suggest<'a, R: Files + Input + AllocGlobal + Print + Eprint + Clock>(
     rt: &'a R,
     words: &'a [&'a str],
+    asking: Asking,
 ) -> Result<(), Fault> {
-    let matches = matches_of(rt.alloc(), words)?;
+    let matches = matches_of(rt.alloc(), words, asking)?;
     let Some(delimiter) = delimiter_of(matches.get_str("delimiter").unwrap_or(",")) else {
         return Err(Fault::BadDelimiter);
     };

@@ -84,7 +84,7 @@ int-texts : (o : Option (List ℕ)) → IfSome o (λ s. is_of form.Int s ≡ tru
 int-texts None h = tt
 int-texts (Some s) h = int-reads s h
 
-number-texts : (n : NumericType) (before after : ℕ) (o : Option (List ℕ)) → n.precision ≡ before + after → n.scale ≡ after → IfSome o (λ s. is_of form.Number s ≡ true)
+number-texts : (n : NumericType) (before after : ℕ) (o : Option (List ℕ)) → before + after ≤ n.precision → n.scale ≡ after → IfSome o (λ s. is_of form.Number s ≡ true)
     → IfSome o (λ s. length (digits_of part.Before s) ≤ before) → IfSome o (λ s. length (digits_of part.After s) ≤ after) → IfSome o (ReadsText (kind.Num n))
 number-texts n before after None precision scale holds b a = tt
 number-texts n before after (Some s) precision scale holds b a = number-reads s n holds (omega (arith, a, scale)) (omega (arith, b, precision, scale))
@@ -93,7 +93,8 @@ number-texts n before after (Some s) precision scale holds b a = number-reads s 
 kind-reads : (t : TableValue) (row col : ℕ) (k : ColumnType) → row < length t.rows → IsSuggested t col k → IfSome (text_in (cell_of t row col)) (ReadsText k)
 kind-reads t row col kind.Int inside h = int-texts (text_in (cell_of t row col)) (h.1 row inside)
 kind-reads t row col (kind.Num n) inside h =
-    number-texts n h.2.before h.2.after (text_in (cell_of t row col)) h.2.type.0 h.2.type.1 (h.1 row inside) (h.2.most_before.bound row inside) (h.2.most_after.bound row inside)
+    let enough : h.2.before + h.2.after ≤ n.precision = omega (arith, h.2.type.0, h.2.type.1) in
+    number-texts n h.2.before h.2.after (text_in (cell_of t row col)) enough h.2.type.2 (h.1 row inside) (h.2.most_before.bound row inside) (h.2.most_after.bound row inside)
 kind-reads t row col kind.Text inside h = any-text (text_in (cell_of t row col))
 
 pub suggested-read : (t : TableValue) (kinds : List ColumnType) → AreSuggested t kinds → ReadColumns kinds t.rows

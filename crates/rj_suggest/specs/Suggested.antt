@@ -1,5 +1,5 @@
 -- The types that the cells of a file suggest, and the text of their list.
-use Rattle.std.specs.Prelude.{codes, ℕ, ◌≡◌, ◌==◌, ◌<◌, ◌≤◌, ◌+◌, ◌&&◌, ◌||◌, ◌⊎◌, Bool, true, false, not, nat_le, max, if◌then◌else◌, List, [], ◌∷◌, ◌++◌, length, map, Option, Some, None, IfSome, Result, Ok, Err}
+use Rattle.std.specs.Prelude.{codes, ℕ, ◌≡◌, ◌==◌, ◌<◌, ◌≤◌, ◌+◌, ◌&&◌, ◌||◌, ◌⊎◌, Bool, true, false, not, nat_le, min, max, if◌then◌else◌, List, [], ◌∷◌, ◌++◌, length, map, Option, Some, None, IfSome, Result, Ok, Err}
 use Rattle.std.specs.Option.{IsSomeAnd}
 use Rattle.std.specs.List.{list_all, slice_get}
 use Rattle.std.specs.Char.{is_ascii_alphabetic}
@@ -84,11 +84,15 @@ abbrev pub most_with : Part → ℕ → Option (List ℕ) → ℕ
 most_with p most None = most
 most_with p most (Some s) = max most (length (digits_of p s))
 
--- the numeric type with this many digits before and after the point, or `text` if these are more
--- than 18
+-- the digits of the type for numbers that take so many: two more, for larger numbers, but at most 18
+abbrev pub with_margin : ℕ → ℕ
+with_margin digits = min 18 (digits + 2)
+
+-- the numeric type with this many digits after the point, and before it this many and the margin, or
+-- `text` if the two are more than 18
 abbrev pub IsNumericOrText : ℕ → ℕ → ColumnType → Type 0
 IsNumericOrText before after kind.Int = ⊥
-IsNumericOrText before after (kind.Num n) = (n.precision ≡ before + after) × (n.scale ≡ after)
+IsNumericOrText before after (kind.Num n) = (before + after ≤ 18) × (n.precision ≡ with_margin (before + after)) × (n.scale ≡ after)
 IsNumericOrText before after kind.Text = 18 < before + after
 
 -- that type by the most digits that a text of a column has before the point, at least one, and after it
@@ -100,7 +104,8 @@ pub record IsByDigits (t : TableValue) (col : ℕ) (kind : ColumnType) : Type 0 
   pub type : IsNumericOrText before after kind
 
 -- the type that the cells of a column of texts suggest: `int` if each text is a whole number; else
--- the type with the digits seen if each is a number; else `text`, also if there is no text
+-- the type with the digits seen, and a margin, if each is a number; else `text`, also if there is no
+-- text
 abbrev pub IsSuggested : TableValue → ℕ → ColumnType → Type 0
 IsSuggested t col kind.Int = SomeText t col (λ _. Unit {0}) × EachText t col (λ s. is_of form.Int s ≡ true)
 IsSuggested t col (kind.Num n) =

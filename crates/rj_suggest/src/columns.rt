@@ -11,6 +11,10 @@ use std::alloc::{AllocError, Global};
 // The most digits of a numeric type.
 const MOST_DIGITS: usize = 18;
 
+// How many digits a suggested type has before the point beyond those seen, as far as it may have so
+// many.
+const MARGIN: usize = 2;
+
 // The text in a cell.
 fn text_at(table: &Table, row: u64, col: usize) -> Option<&str>
     requires row { row < length table.now.rows }
@@ -75,8 +79,8 @@ fn most_digits(part: Part, table: &Table, col: usize, least: usize) -> usize
     most
 }
 
-// The numeric type with these digits before and after the point, or that of texts if there are too
-// many.
+// The numeric type for numbers with these digits before and after the point, with a margin for
+// larger ones, or that of texts if there are too many.
 fn numeric_or_text(before: usize, after: usize) -> ColumnType
     requires { 1 ≤ before }
     ensures { IsNumericOrText before after result }
@@ -84,8 +88,9 @@ fn numeric_or_text(before: usize, after: usize) -> ColumnType
     if before > MOST_DIGITS || after > MOST_DIGITS - before {
         return ColumnType::Text;
     }
+    let precision = MOST_DIGITS.min(before + after + MARGIN);
     ColumnType::Num(NumericType {
-        precision: (before + after) as u8,
+        precision: precision as u8,
         scale: after as u8,
     })
 }

@@ -51,7 +51,8 @@ fn texts_for(
 ///
 /// - `int` if each cell is an optional sign and digits, a number of 64 bits;
 /// - else `num(P,S)` if each is an optional sign, digits, and perhaps a point and digits, where S
-///   is the most digits after the point, and P is S plus the most digits before it, at most 18;
+///   is the most digits after the point. S and the most digits before it are at most 18, and P is
+///   two more than these, or 18, so that somewhat larger numbers fit, too;
 /// - else `text`, also if all cells are NULL.
 ///
 /// A number with a leading zero before other digits is a text. A name is between double quotes
