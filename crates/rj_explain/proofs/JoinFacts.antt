@@ -10,7 +10,6 @@ use Rattle.rj_condition.specs.Clauses.{HasClause}
 use Rattle.rj_condition.specs.declared.bound.BoundJoin.{BoundJoin}
 use Rattle.rj_condition.specs.declared.tree.Clause.{Clause}
 use Rattle.rj_engine.specs.Naming.{chosen_names}
-use Rattle.rj_engine.specs.declared.naming.NamingRefused.{NamingRefused}
 use Rattle.rj_line.specs.declared.request.Request.{Request}
 use Rattle.rj_explain.specs.Explained.{AreNamesWritten, HasNoNames, IsJoinOf}
 

@@ -1,4 +1,4 @@
-use Rattle.std.proofs.Common.{◌≡◌, ◌∙◌, ◌++◌, ◌∷◌, [], true, false, List, ℕ, Bor, ap, arith, get_or, map, refl, rules, sym}
+use Rattle.std.proofs.Common.{◌≡◌, ◌∙◌, ◌++◌, ◌∷◌, [], List, ℕ, Bor, ap, arith, get_or, map, refl, rules, sym}
 use Rattle.std.proofs.lemmas.List.{map-append}
 use Rattle.rj_condition.specs.Names.{matches}
 use Rattle.rj_explain.proofs.NameFacts.{item-is}
