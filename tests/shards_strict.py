@@ -1,5 +1,5 @@
 """Joins in shards whose files are read strictly, beside `radixjoin --strict`: the files of tests/strict.py, alone and with rows
-before what is wrong so that they are cut into ranges, and random broken files."""
+before what is wrong so that they are cut into ranges, and random broken files, some by other delimiters."""
 import pathlib
 import random
 
@@ -85,6 +85,7 @@ def run_random(seed, tally):
         text = random_text(pick, columns)
         options = pick.choice((ON, ON, FULL))
         words = words_of(folder, text, types, pick.choice(("left", "right")), options, pick.choice((None, "-")))
+        words = words if pick.random() < 0.6 else shards.delimited(pick, words, folder)
         return both(folder, words, tally, f"random text {seed}", ((pick.choice((1, 3)), pick.choice((1, 2, 7))),)).status
 
 
