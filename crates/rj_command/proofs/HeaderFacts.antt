@@ -1,6 +1,6 @@
 -- What a header denotes alone.
 use Rattle.std.proofs.Common.{◌≡◌, ◌≢◌, ◌∙◌, true, List, [], ◌∷◌, ℕ, refl, sym, ap, ap₂}
-use Rattle.std.specs.Prelude.{Result, Ok, Err, Option, Some, None, take}
+use Rattle.std.specs.Prelude.{Ok, Err, Some, None, take}
 use Rattle.std.proofs.lemmas.Bool.{and_parts}
 use Rattle.csv.specs.Reading.{records, strip_bom}
 use Rattle.rj_columns.specs.Contents.{Content}

@@ -1,5 +1,5 @@
 -- Which fault is the first.
-use Rattle.std.proofs.Common.{◌≡◌, ◌≢◌, ◌∙◌, Bool, true, false, true≢false, List, None, Option, Result, Some, ℕ, Err, ap, ap₂, sym, subst}
+use Rattle.std.proofs.Common.{◌≡◌, ◌≢◌, ◌∙◌, true, false, true≢false, List, None, Option, Result, Some, ℕ, Err, ap, ap₂, sym, subst}
 use Rattle.std.specs.Prelude.{IfErr, IfOk, IsErr, Ok, if◌then◌else◌}
 use Rattle.rj_columns.specs.Tables.{TableValue}
 use Rattle.rj_condition.specs.Bound.{bound}

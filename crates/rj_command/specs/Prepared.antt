@@ -1,5 +1,5 @@
 -- What is made of two tables before what is chosen of their joined table is written. Internal: no public contract uses it.
-use Rattle.std.specs.Prelude.{◌≡◌, List, map, string_bytes}
+use Rattle.std.specs.Prelude.{◌≡◌, map, string_bytes}
 use Rattle.rj_condition.specs.Splits.{keys_of}
 use Rattle.rj_engine.specs.Chosen.{chosen_view}
 use Rattle.rj_engine.specs.Join.{Outcome}

@@ -1,5 +1,5 @@
 -- Columns of a run's tables whose types nobody declared, and what a clause that needs them is bound as.
-use Rattle.std.specs.Prelude.{◌≡◌, ◌&&◌, ◌||◌, not, ℕ, Bool, List, [], map, Option, None, Some, option_map, if◌then◌else◌, slice_get, unwrap_or, Result, Ok, Err}
+use Rattle.std.specs.Prelude.{◌&&◌, ◌||◌, not, ℕ, Bool, List, [], map, Option, None, Some, option_map, if◌then◌else◌, slice_get, unwrap_or, Result, Ok, Err}
 use Rattle.std.specs.List.{list_any}
 use Rattle.rj_columns.specs.Tables.{TableValue}
 use Rattle.rj_condition.specs.Bound.{bound}

@@ -1,4 +1,4 @@
-use Rattle.std.proofs.Common.{◌≡◌, ◌∙◌, List, ℕ, [], None, Ok, All, inl, inr, length, map, sym, subst}
+use Rattle.std.proofs.Common.{◌≡◌, ◌∙◌, List, ℕ, [], None, Ok, All, inl, inr, length, sym, subst}
 use Rattle.std.proofs.lemmas.List.{length-map}
 use Rattle.rj_columns.specs.Names.{name_fault}
 use Rattle.rj_columns.specs.Tables.{FitsTypes, TableValue}

@@ -1,4 +1,4 @@
-use Rattle.std.proofs.Common.{◌≡◌, ◌∙◌, Err, ap, inl, inr, refl, rules, sym, subst}
+use Rattle.std.proofs.Common.{◌≡◌, ◌∙◌, Err, ap, refl, rules, sym, subst}
 use Rattle.std.specs.Prelude.{IfErr, Result}
 use Rattle.std.proofs.lemmas.Result.{err_from_is_err_and}
 use Rattle.rj_csv_io.specs.declared.write.WriteRefused.{WriteRefused}

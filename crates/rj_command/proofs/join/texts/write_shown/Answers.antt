@@ -1,10 +1,7 @@
-use Rattle.std.proofs.Common.{◌≡◌, ◌∙◌, List, Bor, ap, length, map, subst, sym, ℕ}
-use Rattle.std.specs.Prelude.{OnOk, String, string_bytes}
-use Rattle.std.specs.Io.KnownBytes.{Appends}
+use Rattle.std.proofs.Common.{◌∙◌, List, Bor, ap, length, sym, ℕ}
+use Rattle.std.specs.Prelude.{String, string_bytes}
 use Rattle.std.specs.declared.alloc.Global.{Global}
 use Rattle.std.proofs.lemmas.List.{length-map}
-use Rattle.rj_csv_io.specs.Shown.{table_text}
-use Rattle.rj_command.specs.Texts.{shown_cells}
 use Rattle.rj_command.proofs.join.texts.write_shown.Goals as goal
 
 pub write_whole-requires-clause-header : goal.write_whole-requires-clause-header

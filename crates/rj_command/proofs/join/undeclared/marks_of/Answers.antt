@@ -1,4 +1,4 @@
-use Rattle.std.proofs.Common.{◌≡◌, ◌∙◌, ◌+◌, ◌++◌, ◌∷◌, [], ap, append_assoc, drop, map, refl, rules, sym, true, Bool, List, ℕ, Some}
+use Rattle.std.proofs.Common.{◌≡◌, ◌∙◌, ◌+◌, ◌++◌, ◌∷◌, [], ap, append_assoc, drop, map, rules, sym, true, Bool, List, ℕ, Some}
 use Rattle.std.specs.Prelude.{is_ok, slice_get}
 use Rattle.rj_condition.proofs.StepFacts.{drop_get}
 use Rattle.rj_command.specs.Undeclared.{is_undeclared}
