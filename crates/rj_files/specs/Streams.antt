@@ -1,5 +1,5 @@
 -- What becomes of two streams of bytes: what is written of their joined table, or why nothing is.
-use Rattle.std.specs.Prelude.{◌≡◌, ◌≢◌, ◌⊎◌, true, false, ℕ, List, Option, Some, None, IfSome}
+use Rattle.std.specs.Prelude.{◌≡◌, ◌≢◌, ◌⊎◌, true, false, ℕ, List, Option, IfSome}
 use Rattle.std.specs.Io.KnownBytes.{Appends}
 use Rattle.rj_command.specs.Counts.{IsCountFault, WritesCounts}
 use Rattle.rj_command.specs.Runs.{IsRunFault, WritesJoined}
