@@ -12,7 +12,9 @@ LEFT, RIGHT = 600_000, 1_100
 KEYS = LEFT // 2
 STEP = 300
 # The address spaces that are tried, in MiB.
-LEAST, MOST, BY = 25, 185, 10
+LEAST, MOST, BY = 20, 185, 10
+# Those that are tried in small steps, in KiB, while tables are read: a page of the stack is refused in none.
+FINE_LEAST, FINE_MOST, FINE_BY = 16_000, 26_000, 60
 
 
 def key_of(row):
@@ -90,9 +92,21 @@ def run_in_little_room(tally, folder):
         tally.check(f"segments: both ends by {workers}", [] if {0, 5} == set(ends) else [f"statuses {ends}"])
 
 
+def run_in_small_steps(tally, folder):
+    """By none of many limits that lie close together a run ends by a signal."""
+    clause, _, options = CASES[3]
+    for workers in (1, 2):
+        others = []
+        for room in range(FINE_LEAST, FINE_MOST, FINE_BY):
+            ran = run(folder, clause, [*options, f"--workers={workers}"], room << 10)
+            others += [f"{room} KiB: status {ran.status}, {ran.stderr!r}"] if (ran.status, ran.stderr) != (5, b"radixjoin: E18 Memory\n") else []
+        tally.check(f"segments: {clause} in small steps of room by {workers}", others)
+
+
 def run_all(tally):
     with harness.folder() as name:
         for side, content in zip(("left", "right"), tables()):
             (pathlib.Path(name) / f"{side}.csv").write_bytes(content)
         run_cases(tally, name)
         run_in_little_room(tally, name)
+        run_in_small_steps(tally, name)
