@@ -36,7 +36,7 @@ _radixjoin() {
             mapfile -t COMPREPLY < <(compgen -W "keep qualify" -- "$word")
             ;;
         --expect)
-            mapfile -t COMPREPLY < <(compgen -W "one-to-one many-to-one one-to-many matched" -- "$word")
+            mapfile -t COMPREPLY < <(compgen -W "one-to-one many-to-one one-to-many matched one-to-one,matched many-to-one,matched one-to-many,matched" -- "$word")
             ;;
         --hash)
             mapfile -t COMPREPLY < <(compgen -W "plain mixed" -- "$word")

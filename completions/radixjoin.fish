@@ -23,7 +23,7 @@ complete -c radixjoin -l select -x -d 'Columns to write, as L.id,name,R.city=tow
 complete -c radixjoin -l anti -d 'Left rows without a match, of a LEFT JOIN'
 complete -c radixjoin -l semi -d 'Left rows with a match, once'
 complete -c radixjoin -l repeated -x -a 'keep qualify' -d 'What becomes of repeated names'
-complete -c radixjoin -l expect -x -a 'one-to-one many-to-one one-to-many matched' -d 'Fail if a row has more matches'
+complete -c radixjoin -l expect -x -a 'one-to-one many-to-one one-to-many matched one-to-one,matched many-to-one,matched one-to-many,matched' -d 'Fail if a row has more matches'
 complete -c radixjoin -l max-rows -x -d 'Fail if the joined table has more rows, 0 to 4294967295'
 complete -c radixjoin -l count -d 'Write counts in place of the rows'
 complete -c radixjoin -l report -d 'Report how rows match and how keys repeat'

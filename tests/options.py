@@ -31,6 +31,8 @@ class Option:
         self.refusal = refusal
         words = re.search(r"\[possible values: ([^\]]*)\]", refusal)
         self.words = words[1].split(", ") if words else []
+        # (what help and the pages tell of them: a word may be two with a comma between)
+        self.told = list(dict.fromkeys(part for word in self.words for part in word.split(",")))
         limits = re.search(r"\b(\d[\d,]*) to (\d[\d,]*)", text)
         default = re.search(r"\[default: ([\w,-]+)\]", text)
         self.limits = [number.replace(",", "") for number in limits.groups()] if limits else []
@@ -65,7 +67,7 @@ def help_faults(program, options):
             yield f"--{name}: help and program differ in whether it takes a value"
         if f"unexpected argument '--{name}'" in option.refusal:
             yield f"--{name}: the program doesn't know it"
-        yield from (f"--{name}: help doesn't tell {word}" for word in option.words if not re.search(rf"\b{word}\b", option.text))
+        yield from (f"--{name}: help doesn't tell {word}" for word in option.told if not re.search(rf"\b{word}\b", option.text))
         limits = re.search(rf"{BEYOND} is not in (\d+)\.\.=(\d+)", option.refusal)
         if limits and int(limits[2]) != MOST_BYTES and list(limits.groups()) != option.limits:
             yield f"--{name}: the limits are {limits[1]} to {limits[2]}"
@@ -94,7 +96,7 @@ def manual_faults(program, options):
         entry = entries.get(name, "")
         if option.takes_value != (" Ar " in entry.split("\n")[0] or " Cm " in entry.split("\n")[0]):
             faults.append(f"--{name}: help and page differ in whether it takes a value")
-        missing = [word for word in option.words + option.numbers if not re.search(rf"\b{word}\b", entry.replace(",", ""))]
+        missing = [word for word in option.told + option.numbers if not re.search(rf"\b{word}\b", entry.replace(",", ""))]
         faults += [f"--{name}: the page doesn't tell {word}" for word in missing]
     synopsis = (harness.ROOT / "man" / f"{program}.1").read_text().split(".Sh DESCRIPTION")[0]
     return faults + [f"--{name} is not in the synopsis" for name in options if not re.search(rf"Fl Fl {name}\b(?!-)", synopsis)]
@@ -212,7 +214,7 @@ def check_lint(tally):
 def row_faults(text, options):
     """The limits, defaults and words of help that a table's row of an option lacks."""
     for name, row in re.findall(r"^\| `--([\w-]+) [^|]*\|(.*)$", text, re.MULTILINE):
-        known = options[name].numbers + options[name].words if name in options else []
+        known = options[name].numbers + options[name].told if name in options else []
         yield from (f"--{name}: the row doesn't tell {word}" for word in known if not re.search(rf"\b{word}\b", row.replace(",", "")))
 
 
