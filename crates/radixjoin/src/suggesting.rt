@@ -76,7 +76,7 @@ fn suggest_command<'a>(alloc: Global, asking: Asking) -> Result<Command<'a>, All
         .long("delimiter")
         .short('d')
         .action(ArgAction::Set);
-    let command = Command::new(alloc, "radixjoin --suggest-types")
+    let command = Command::new(alloc, "radixjoin")
         .override_help(HELP)
         .no_binary_name(true);
     with_file(alloc, command, asking)?.arg(null)?.arg(delimiter)
