@@ -10,7 +10,7 @@ import harness
 
 PROGRAMS = ("radixjoin", "arrivals", "shards", "merges")
 SECONDS = 20
-# What stands in the place of options, as the first word, and has a help of its own.
+# What stands in the place of options, and has a help of its own.
 MODES = {"suggest-types"}
 # Where each program names its options, and what it names there beside them.
 SOURCES = {"radixjoin": "rj_line/src/options.rt", "arrivals": "arrivals/src/main.rt", "shards": "shards/src/line.rt", "merges": "merges/src/main.rt"}

@@ -24,7 +24,7 @@ def suggest_types(path: Path, *, null: Optional[str] = None, delimiter: Optional
 
     >>> _ = open("items.csv", "w").write("id,price,name\\n1,1.50,bolt\\n2,,nut\\n")
     >>> radixjoin.suggest_types("items.csv")
-    {'id': 'int', 'price': 'num(3,2)', 'name': 'text'}
+    {'id': 'int', 'price': 'num(5,2)', 'name': 'text'}
     """
     found = programs.find(program)
     file = os.fsencode(path)

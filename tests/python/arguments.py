@@ -174,7 +174,7 @@ def suggested(folder):
     path = folder / "-items.csv"
     path.write_text('id,price,"a ""name"", and more",none\n1,1.50,x,~\n~,12,007,~\n')
     types = radixjoin.suggest_types(path, null="~")
-    yield from telling.differs("types", types, {"id": "int", "price": "num(4,2)", 'a "name", and more': "text", "none": "text"})
+    yield from telling.differs("types", types, {"id": "int", "price": "num(6,2)", 'a "name", and more': "text", "none": "text"})
     got = list(radixjoin.join(path, [(1,)], using="id", left_types=types, right_columns=["id"], null="~"))
     yield from telling.differs("a join with them", [tuple(map(str, row)) for row in got], [("1", "1.50", "x", "None")])
     path.write_text('id;"a;b"\n1;1,5\n')
