@@ -54,6 +54,14 @@ pub fn form_of(words: &[&str]) -> Form
     }
 }
 
+/// Whether the option that explains errors takes a word in a line of these words: where one of them
+/// is `--explain=all`.
+pub(crate) fn explains_by_word(words: &[&str]) -> bool
+    ensures { result ≡ forms.explains_by_word (map (λ w. w.now) words.now) }
+{
+    words.iter().any(|word| *word == "--explain=all")
+}
+
 // A worker for each processor, from 1 to 64.
 fn workers_for(processors: usize) -> u32
     ensures workers { result ≡ forms.workers_for processors }
