@@ -12,11 +12,13 @@ mod columns;
 mod listed;
 mod number;
 mod numeral;
+mod strict;
 mod writing;
 
 use crate::columns::kinds_of;
 pub use crate::listed::list_of_lines;
 pub use crate::numeral::{are_digits, is_unsigned_text, place_of_point, without_sign};
+pub use crate::strict::{StrictlyRefused, suggest_types_strictly};
 pub use crate::writing::lines_are_read_back;
 use crate::writing::lines_of;
 use rj_columns::ColumnType;
