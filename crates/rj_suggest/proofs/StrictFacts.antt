@@ -14,8 +14,10 @@ use Rattle.rj_strict.specs.Reading.{config_of, quoted}
 use Rattle.rj_strict.specs.declared.fault.StrictFault.{StrictFault}
 use Rattle.rj_strict.specs.declared.header.Header.TheVariants.{First}
 use Rattle.rj_suggest.specs.Strict.{fault_in, refused_below}
-use Rattle.rj_suggest.specs.Suggested.{IsFaultOf, IsListOf, read_as_texts}
+use Rattle.rj_suggest.specs.Misfits.{IsSuggestionOf}
+use Rattle.rj_suggest.specs.Suggested.{IsFaultOf, read_as_texts}
 use Rattle.rj_suggest.specs.declared.strict.StrictlyRefused.TheVariants.{Records}
+use Rattle.rj_suggest.specs.declared.suggestion.Suggestion.{Suggestion}
 
 -- whole lines are derived
 pub lines-derived : (d : ℕ) (text above : List ℕ) (row : ℕ) (lines : List Line) → AreAbove d First text row lines → above ≡ lines_text d lines
@@ -29,13 +31,13 @@ records-quoted d file shown text same spelled law =
     ap (λ (x : List ℕ). records (config_of d) (strip_bom x)) same ∙ (ap (λ (x : List ℕ). records (config_of d) x) spelled ∙ law)
 
 -- the error of the records above is the one that was found
-pub refused-by-lines : {T : Type 0} (list_of : T → List ℕ) (f : StrictFault) (rs : List (List (List ℕ))) (nulls : List (List ℕ)) (r : Result T Fault)
-    → IfOk r (λ v. IsListOf rs nulls (list_of v)) → IfErr r (λ g. g ≢ fault.Memory → IsFaultOf rs nulls g)
+pub refused-by-lines : (f : StrictFault) (rs : List (List (List ℕ))) (nulls : List (List ℕ)) (r : Result Suggestion Fault)
+    → IfOk r (IsSuggestionOf rs nulls) → IfErr r (λ g. g ≢ fault.Memory → IsFaultOf rs nulls g)
     → refused_below f (result_err r) ≢ Records fault.Memory → refused_below f (result_err r) ≡ refused_below f (fault_in rs nulls)
-refused-by-lines list_of f rs nulls (Ok v) ok err other =
-    let none : fault_in rs nulls ≡ None = ap (λ r. option_map (read_fault side.Left) (result_err r)) ok.read in
+refused-by-lines f rs nulls (Ok v) ok err other =
+    let none : fault_in rs nulls ≡ None = ap (λ r. option_map (read_fault side.Left) (result_err r)) ok.are.read in
     ap (refused_below f) (sym none)
-refused-by-lines list_of f rs nulls (Err g) ok err other =
+refused-by-lines f rs nulls (Err g) ok err other =
     let (e, read, same) = err (λ is. other (ap (λ (g : Fault). refused_below f (Some g)) is)) in
     let some : fault_in rs nulls ≡ Some g = ap (λ r. option_map (read_fault side.Left) (result_err r)) read ∙ ap Some (sym same) in
     ap (refused_below f) (sym some)

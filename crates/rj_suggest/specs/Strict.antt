@@ -1,4 +1,4 @@
--- The list of types that a file suggests if its text has to be of RFC 4180's grammar.
+-- What a file suggests if its text has to be of RFC 4180's grammar.
 use Rattle.std.specs.Prelude.{ℕ, Bool, List, Option, None, Some, option_map}
 use Rattle.std.specs.Result.{result_err}
 use Rattle.rj_fault.specs.Faults.{read_fault}
@@ -10,13 +10,15 @@ use Rattle.rj_strict.specs.Grammar.{Derives, File, Line, records_of}
 use Rattle.rj_strict.specs.Reading.{body_of}
 use Rattle.rj_strict.specs.declared.fault.StrictFault.{StrictFault}
 use Rattle.rj_strict.specs.declared.header.Header.TheVariants.{First}
-use Rattle.rj_suggest.specs.Suggested.{IsFaultOf, IsListOf, read_as_texts}
+use Rattle.rj_suggest.specs.Misfits.{IsSuggestionOf}
+use Rattle.rj_suggest.specs.Suggested.{IsFaultOf, read_as_texts}
 use Rattle.rj_suggest.specs.declared.strict.StrictlyRefused.{StrictlyRefused}
 use Rattle.rj_suggest.specs.declared.strict.StrictlyRefused.TheVariants.{Records, Text}
+use Rattle.rj_suggest.specs.declared.suggestion.Suggestion.{Suggestion}
 
--- the list that the records of a text's one derivation suggest
-abbrev pub IsStrictList : Bool → ℕ → List ℕ → List (List ℕ) → List ℕ → Type 0
-IsStrictList full d bytes nulls list = (file : File) × Derives d First full (body_of First bytes) file × IsListOf (records_of file) nulls list
+-- what the records of a text's one derivation suggest
+abbrev pub IsStrictSuggestion : Bool → ℕ → List ℕ → List (List ℕ) → Suggestion → Type 0
+IsStrictSuggestion full d bytes nulls s = (file : File) × Derives d First full (body_of First bytes) file × IsSuggestionOf (records_of file) nulls s
 
 -- the records that are in lines
 abbrev pub records_in_lines : List Line → List (List (List ℕ))

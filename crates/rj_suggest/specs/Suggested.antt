@@ -70,6 +70,12 @@ EachText t col P = EachAbove t col (length t.rows) P
 abbrev pub SomeText : TableValue → ℕ → (List ℕ → Type 0) → Type 0
 SomeText t col P = SomeAbove t col (length t.rows) P
 
+-- the first row of a column whose text isn't of a form
+pub record IsFirstNotOf (form : Form) (t : TableValue) (col row : ℕ) : Type 0 where
+  pub inside : row < length t.rows
+  pub other : IsSomeAnd (text_in (cell_of t row col)) (λ s. is_of form s ≡ false)
+  pub above : EachAbove t col row (λ s. is_of form s ≡ true)
+
 -- the most digits that a text in the first rows of a column has in this part, and no fewer than `least`
 pub record IsMostAbove (t : TableValue) (col rows : ℕ) (p : Part) (least most : ℕ) : Type 0 where
   pub enough : least ≤ most
@@ -153,23 +159,17 @@ entries_of [] kinds = []
 entries_of (name ∷ names) [] = []
 entries_of (name ∷ names) (kind ∷ kinds) = entry_of name kind ∷ entries_of names kinds
 
--- the lines of the types that are suggested for the columns of records, which read as texts, and read
--- with these types too
-pub record IsListOf (rs : List (List (List ℕ))) (nulls : List (List ℕ)) (text : List ℕ) : Type 0 where
-  pub table : TableValue
-  pub kinds : List ColumnType
-  pub read : read_as_texts rs nulls ≡ Ok table
-  pub suggested : AreSuggested table kinds
+-- the types that the cells of records suggest: these read as this table of texts, and read with these
+-- types too
+pub record AreKindsOf (rs : List (List (List ℕ))) (nulls : List (List ℕ)) (t : TableValue) (kinds : List ColumnType) : Type 0 where
+  pub read : read_as_texts rs nulls ≡ Ok t
+  pub suggested : AreSuggested t kinds
   pub typed : (typed_table : TableValue) × (records_read rs kinds nulls ≡ Ok typed_table)
-  pub lines : text ≡ column_lines table.names kinds
 
 -- the error of records that don't read as texts
 abbrev pub IsFaultOf : List (List (List ℕ)) → List (List ℕ) → Fault → Type 0
 IsFaultOf rs nulls f = (e : ReadRefused) × (read_as_texts rs nulls ≡ Err e) × (f ≡ read_fault side.Left e)
 
--- the list, and the error, of a file's records, by a delimiter
-abbrev pub IsSuggestedList : ℕ → List ℕ → List (List ℕ) → List ℕ → Type 0
-IsSuggestedList d bytes nulls text = IsListOf (records (config_of d) (strip_bom bytes)) nulls text
-
+-- that of a file's records, by a delimiter
 abbrev pub IsSuggestFault : ℕ → List ℕ → List (List ℕ) → Fault → Type 0
 IsSuggestFault d bytes nulls f = IsFaultOf (records (config_of d) (strip_bom bytes)) nulls f

@@ -5,16 +5,18 @@ ghost use Rattle.rj_csv_io.specs.Typed.{null_texts};
 ghost use Rattle.rj_strict.specs.Grammar.{Derives, File, records_of};
 ghost use Rattle.rj_strict.specs.Reading.{body_of};
 ghost use Rattle.rj_strict.specs.declared.header.Header.TheVariants.{First};
-ghost use Rattle.rj_suggest.specs.Strict.{IsStrictList, IsStrictRefusal, refused_below};
-ghost use Rattle.rj_suggest.specs.Suggested.{IsFaultOf, IsListOf};
+ghost use Rattle.rj_suggest.specs.Misfits.{IsSuggestionOf};
+ghost use Rattle.rj_suggest.specs.Strict.{IsStrictRefusal, IsStrictSuggestion, refused_below};
+ghost use Rattle.rj_suggest.specs.Suggested.{IsFaultOf};
 
 use crate::suggest_types;
+use crate::suggestion::Suggestion;
 use rj_csv_io::InputFormat;
 use rj_fault::Fault;
 use rj_strict::{Header, StrictFault, above_fault, check, quote_empty_lines, reads_quoted_records};
 use std::alloc::Global;
 
-/// Why a file suggests no list if its text has to be of RFC 4180's grammar.
+/// Why a file suggests nothing if its text has to be of RFC 4180's grammar.
 #[derive(Debug, Drop)]
 pub enum StrictlyRefused {
     /// Its records, or those above the place where it stops being of the grammar, don't read as
@@ -24,12 +26,12 @@ pub enum StrictlyRefused {
     Text(StrictFault),
 }
 
-// The list that all records of a text that is derived suggest. `""` is written into each of its
+// What all records of a text that is derived suggest. `""` is written into each of its
 // empty lines first.
-fn suggest_derived(alloc: Global, text: &[u8], format: &InputFormat<'_>) -> Result<Vec<u8>, Fault>
+fn suggest_derived(alloc: Global, text: &[u8], format: &InputFormat<'_>) -> Result<Suggestion, Fault>
     requires { (full : Bool) × (file : File) × Derives format.now.delimiter First full (body_of First text.now) file }
-    ensures list { (full : Bool) (file : File) → Derives format.now.delimiter First full (body_of First text.now) file
-        → IfOk result (λ list. IsListOf (records_of file) (null_texts format.now.nulls.now) list.items) }
+    ensures suggestion { (full : Bool) (file : File) → Derives format.now.delimiter First full (body_of First text.now) file
+        → IfOk result (IsSuggestionOf (records_of file) (null_texts format.now.nulls.now)) }
     ensures fault { (full : Bool) (file : File) → Derives format.now.delimiter First full (body_of First text.now) file
         → IfErr result (λ f. f ≢ Fault.Memory → IsFaultOf (records_of file) (null_texts format.now.nulls.now) f) }
 {
@@ -62,8 +64,8 @@ pub fn suggest_types_strictly(
     bytes: &[u8],
     format: &InputFormat<'_>,
     full: bool,
-) -> Result<Vec<u8>, StrictlyRefused>
-    ensures list { IfOk result (λ list. IsStrictList full format.now.delimiter bytes.now (null_texts format.now.nulls.now) list.items) }
+) -> Result<Suggestion, StrictlyRefused>
+    ensures suggestion { IfOk result (IsStrictSuggestion full format.now.delimiter bytes.now (null_texts format.now.nulls.now)) }
     ensures refused { IfErr result (λ e. e ≢ StrictlyRefused.Records Fault.Memory
         → IsStrictRefusal full format.now.delimiter bytes.now (null_texts format.now.nulls.now) e) }
 {

@@ -31,7 +31,7 @@ returns-in-Err-clause-refused c = λ apart.
     let file : File = record { lines = above.0; rest = None } in
     let derived = lines-derived c.args.format.now.delimiter text (strip_bom c.above_fault-above.result.now) (row_at c.in-Err.fault) above.0 above.1 above.2 in
     let found = c.refused_below.ensures ∙ ap (refused_below c.in-Err.fault) c.err-found.ensures.value in
-    let same = refused-by-lines _ c.in-Err.fault (records_of file) nulls c.suggest_derived-in-Err.result
-    (c.suggest_derived-in-Err.ensures.list true file derived) (c.suggest_derived-in-Err.ensures.fault true file derived) (λ e. apart (found ∙ e)) in
+    let same = refused-by-lines c.in-Err.fault (records_of file) nulls c.suggest_derived-in-Err.result
+    (c.suggest_derived-in-Err.ensures.suggestion true file derived) (c.suggest_derived-in-Err.ensures.fault true file derived) (λ e. apart (found ∙ e)) in
     let P : StrictlyRefused → Type 0 = IsStrictRefusal c.args.full c.args.format.now.delimiter c.args.bytes.now nulls in
     subst P (sym (found ∙ same)) (of_text c.in-Err.fault above.0 c.in-Err.ensures.fault above.1)
