@@ -209,6 +209,25 @@ REFUSED = [
     ("too many columns", b",".join(b"c%d" % n for n in range(257)) + b"\n", "E9 TooManyColumns left", 3),
 ]
 
+# What is suggested by files that are read strictly, and by the same files if they aren't.
+STRICT = [
+    ("nothing broken", b'a,"b\n"\n1,"2"\n', ["--strict"], b'a=int\n"b\n"=int\n', 0),
+    ("a bare quote", b'a,b\n1,2"\n', ["--strict"], "E23 BareQuote left row 1 column 2", 3),
+    ("a bare quote", b'a,b\n1,2"\n', [], b"a=int\nb=text\n", 0),
+    ("an open quote", b'a,b\n1,"2\n', ["--strict=on"], "E21 OpenQuote left row 1 column 2", 3),
+    ("a ragged row above a bare quote", b'a,b\n1\n1,2"\n', ["--strict"], "E5 RaggedRow left row 1", 3),
+    ("a ragged row below a bare quote", b'a,b\n1,2"\n1\n', ["--strict"], "E23 BareQuote left row 1 column 2", 3),
+    ("a bare quote in the header", b'a,b"\n1,2\n', ["--strict"], "E23 BareQuote left row 0 column 2", 3),
+    ("an empty line", b"a,b\n\n1,2\n", ["--strict"], "E25 EmptyLine left row 1", 3),
+    ("an empty line of one column", b"a\n\n1\n", ["--strict", "--null=NA"], b"a=text\n", 0),
+    ("an empty line of one column, not strictly", b"a\n\n1\n", ["--null=NA"], b"a=int\n", 0),
+    ("an empty line that is NULL", b"a\n\n1\n", ["--strict"], b"a=int\n", 0),
+    ("no last line end", b"a\n1", ["--strict"], b"a=int\n", 0),
+    ("no last line end", b"a\n1", ["--strict=full"], "E26 CutShort left row 1", 3),
+    ("semicolons", b'a;b\n1;2"\n', ["--strict", "-d;"], "E23 BareQuote left row 1 column 2", 3),
+    ("a null text", b"a\n1\n", ["--strict", "--null=1"], "E10 BadNull", 3),
+]
+
 
 def suggested_types(folder):
     """The types that the cells of a file suggest."""
@@ -231,6 +250,9 @@ def suggested_types(folder):
     for word in ("", ";;", "a", "7", '"', "\n", "\u00e9"):
         yield f"not suggested: by {word!r}", joined(folder, ["--suggest-types", "table.csv", f"--delimiter={word}"], "E34 BadDelimiter", 2)
     (folder / "table.csv").write_bytes(b"a,b\nNA,NA\n1,\n")
+    for label, content, words, told, status in STRICT:
+        (folder / "strict.csv").write_bytes(content)
+        yield f"suggested: {words}, {label}", joined(folder, ["--suggest-types", "strict.csv", *words], told, status)
     yield "suggested: a bad null text", joined(folder, ["--suggest-types", "table.csv", "--null", "0"], "E10 BadNull", 3)
     for label, content, told, status in REFUSED:
         (folder / "table.csv").write_bytes(content)
