@@ -96,12 +96,13 @@ def outputs_that_are_inputs(folder):
         ("written to by --output -", '"$@" >> left.csv', [*words, "--output", "-"], "left"),
         ("counted", '"$@" >> right.csv', [*words, "--count"], "right"),
         ("counted by --output -", '"$@" >> left.csv', [*words, "--count", "--output=-"], "left"),
-        ("of which types are suggested", '"$@" >> left.csv', ["--suggest-types", "left.csv"], "left"),
     ]
     for label, line, asked, side in cases:
         ran = by_shell(folder, line, asked)
         told = f"radixjoin: E29 OutputIsInput {side}\n".encode()
         yield f"output is input: {label}", harness.differences(ran, b"", told, 6) + unchanged(folder, ["left.csv", "right.csv"])
+    ran = by_shell(folder, '"$@" >> left.csv', ["--suggest-types", "left.csv"])
+    yield "output is input: of which types are suggested", harness.differences(ran, b"", b"radixjoin: E29 OutputIsInput\n", 6) + unchanged(folder, ["left.csv"])
     ran = by_shell(folder, '"$@" >> left.csv', [*words[:5], "int;text", *words[6:]])
     yield "output is input: behind the command line", harness.differences(ran, b"", b"radixjoin: bad type list left\n", 2)
     ran = by_shell(folder, '"$@" > left.csv', words)
@@ -201,30 +202,30 @@ SUGGESTED = [
 ]
 
 REFUSED = [
-    ("no byte", b"", "E1 NoHeader left", 3),
-    ("a ragged row", b"a,b\n1,2\n3\n", "E5 RaggedRow left row 2", 3),
-    ("a name twice", b"a,A\n1,2\n", "E3 RepeatedName left column 2", 3),
-    ("an empty name", b"a,\n1,2\n", "E2 BadName left column 2", 3),
-    ("a cell that isn't UTF-8", b"a,b\n1,\xff\n", "E7 BadText left row 1 column 2", 3),
-    ("too many columns", b",".join(b"c%d" % n for n in range(257)) + b"\n", "E9 TooManyColumns left", 3),
+    ("no byte", b"", "E1 NoHeader", 3),
+    ("a ragged row", b"a,b\n1,2\n3\n", "E5 RaggedRow row 2", 3),
+    ("a name twice", b"a,A\n1,2\n", "E3 RepeatedName column 2", 3),
+    ("an empty name", b"a,\n1,2\n", "E2 BadName column 2", 3),
+    ("a cell that isn't UTF-8", b"a,b\n1,\xff\n", "E7 BadText row 1 column 2", 3),
+    ("too many columns", b",".join(b"c%d" % n for n in range(257)) + b"\n", "E9 TooManyColumns", 3),
 ]
 
 # What is suggested by files that are read strictly, and by the same files if they aren't.
 STRICT = [
     ("nothing broken", b'a,"b\n"\n1,"2"\n', ["--strict"], b'a=int\n"b\n"=int\n', 0),
-    ("a bare quote", b'a,b\n1,2"\n', ["--strict"], "E23 BareQuote left row 1 column 2", 3),
+    ("a bare quote", b'a,b\n1,2"\n', ["--strict"], "E23 BareQuote row 1 column 2", 3),
     ("a bare quote", b'a,b\n1,2"\n', [], b"a=int\nb=text\n", 0),
-    ("an open quote", b'a,b\n1,"2\n', ["--strict=on"], "E21 OpenQuote left row 1 column 2", 3),
-    ("a ragged row above a bare quote", b'a,b\n1\n1,2"\n', ["--strict"], "E5 RaggedRow left row 1", 3),
-    ("a ragged row below a bare quote", b'a,b\n1,2"\n1\n', ["--strict"], "E23 BareQuote left row 1 column 2", 3),
-    ("a bare quote in the header", b'a,b"\n1,2\n', ["--strict"], "E23 BareQuote left row 0 column 2", 3),
-    ("an empty line", b"a,b\n\n1,2\n", ["--strict"], "E25 EmptyLine left row 1", 3),
+    ("an open quote", b'a,b\n1,"2\n', ["--strict=on"], "E21 OpenQuote row 1 column 2", 3),
+    ("a ragged row above a bare quote", b'a,b\n1\n1,2"\n', ["--strict"], "E5 RaggedRow row 1", 3),
+    ("a ragged row below a bare quote", b'a,b\n1,2"\n1\n', ["--strict"], "E23 BareQuote row 1 column 2", 3),
+    ("a bare quote in the header", b'a,b"\n1,2\n', ["--strict"], "E23 BareQuote row 0 column 2", 3),
+    ("an empty line", b"a,b\n\n1,2\n", ["--strict"], "E25 EmptyLine row 1", 3),
     ("an empty line of one column", b"a\n\n1\n", ["--strict", "--null=NA"], b"a=text\n", 0),
     ("an empty line of one column, not strictly", b"a\n\n1\n", ["--null=NA"], b"a=int\n", 0),
     ("an empty line that is NULL", b"a\n\n1\n", ["--strict"], b"a=int\n", 0),
     ("no last line end", b"a\n1", ["--strict"], b"a=int\n", 0),
-    ("no last line end", b"a\n1", ["--strict=full"], "E26 CutShort left row 1", 3),
-    ("semicolons", b'a;b\n1;2"\n', ["--strict", "-d;"], "E23 BareQuote left row 1 column 2", 3),
+    ("no last line end", b"a\n1", ["--strict=full"], "E26 CutShort row 1", 3),
+    ("semicolons", b'a;b\n1;2"\n', ["--strict", "-d;"], "E23 BareQuote row 1 column 2", 3),
     ("a null text", b"a\n1\n", ["--strict", "--null=1"], "E10 BadNull", 3),
 ]
 
@@ -257,7 +258,7 @@ def suggested_types(folder):
     for label, content, told, status in REFUSED:
         (folder / "table.csv").write_bytes(content)
         yield f"not suggested: {label}", joined(folder, ["--suggest-types", "table.csv"], told, status)
-    yield "not suggested: a missing file", joined(folder, ["--suggest-types", "missing"], "E19 ReadDevice left", 6)
+    yield "not suggested: a missing file", joined(folder, ["--suggest-types", "missing"], "E19 ReadDevice", 6)
 
 
 def ends_of_suggesting(folder):

@@ -3,7 +3,7 @@
 use clap::error::ErrorKind;
 use clap::{Arg, ArgAction, ArgMatches, Command, Error};
 use rj_csv_io::InputFormat;
-use rj_fault::Fault;
+use rj_fault::{ExitReason, Fault, tell};
 use rj_files::{NamedStream, refuse_printed, write_suggested};
 use rj_line::{Strictness, delimiter_of};
 use std::alloc::{AllocError, Global};
@@ -124,6 +124,29 @@ fn matches_of<'a>(
         Ok(matches) => Ok(matches),
         Err(error) if error.kind() == ErrorKind::OutOfMemory => Err(Fault::Memory),
         Err(error) => Err(Fault::CommandLine(error)),
+    }
+}
+
+// The line of an error of the only file, without its side. None if the error is `clap`'s, or memory
+// ran out.
+fn line_alone(alloc: Global, fault: &Fault) -> Option<String> {
+    if let Fault::CommandLine(_) = fault {
+        return None;
+    }
+    let line = format!(in alloc; "{fault}").ok()?;
+    let (before, behind) = line.split_once(" left")?;
+    format!(in alloc; "{before}{behind}").ok()
+}
+
+/// Prints why no types are suggested, and returns the exit status. There is one file, so the line
+/// doesn't tell its side.
+pub(crate) fn tell_alone<R: AllocGlobal + Print + Eprint>(rt: &R, fault: &Fault) -> u8 {
+    match line_alone(rt.alloc(), fault) {
+        Some(line) => {
+            let _ = eprintln!(rt; "{line}");
+            fault.status()
+        }
+        None => tell(rt, fault),
     }
 }
 
