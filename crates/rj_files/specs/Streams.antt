@@ -12,8 +12,10 @@ use Rattle.rj_fault.specs.declared.fault.Side.TheVariants as side
 use Rattle.rj_line.specs.declared.line.Line.{Line}
 use Rattle.rj_line.specs.declared.request.Strictness.{Strictness}
 use Rattle.rj_line.specs.declared.request.Strictness.TheVariants as strictness
-use Rattle.rj_suggest.specs.Strict.{IsStrictList, IsStrictRefusal}
-use Rattle.rj_suggest.specs.Suggested.{IsSuggestFault, IsSuggestedList}
+use Rattle.rj_suggest.specs.Misfits.{IsSuggestion}
+use Rattle.rj_suggest.specs.Strict.{IsStrictRefusal, IsStrictSuggestion}
+use Rattle.rj_suggest.specs.Suggested.{IsSuggestFault}
+use Rattle.rj_suggest.specs.declared.suggestion.Suggestion.{Suggestion}
 use Rattle.rj_suggest.specs.declared.strict.StrictlyRefused.{StrictlyRefused}
 use Rattle.rj_suggest.specs.declared.strict.StrictlyRefused.TheVariants as refused
 use Rattle.rj_files.specs.declared.joining.Written.{Written}
@@ -54,32 +56,32 @@ IsFaultOf line left right f =
     IsOfWriting f ⊎ (IsUnread side.Left f ⊎ (IsUnread side.Right f
     ⊎ ((l r : List ℕ) × AreBytesOf left l × AreBytesOf right r × IsAskedFault line l r f)))
 
--- the list of types that a file's bytes suggest, read by a delimiter and as strictly as this
-abbrev pub IsListBy : Strictness → ℕ → List ℕ → List (List ℕ) → List ℕ → Type 0
-IsListBy strictness.Off d bytes nulls list = IsSuggestedList d bytes nulls list
-IsListBy strictness.On d bytes nulls list = IsStrictList false d bytes nulls list
-IsListBy strictness.Full d bytes nulls list = IsStrictList true d bytes nulls list
+-- what a file's bytes suggest, read by a delimiter and as strictly as this
+abbrev pub IsSuggestedBy : Strictness → ℕ → List ℕ → List (List ℕ) → Suggestion → Type 0
+IsSuggestedBy strictness.Off d bytes nulls s = IsSuggestion d bytes nulls s
+IsSuggestedBy strictness.On d bytes nulls s = IsStrictSuggestion false d bytes nulls s
+IsSuggestedBy strictness.Full d bytes nulls s = IsStrictSuggestion true d bytes nulls s
 
 -- the error of a file that is read strictly, as that of a left table
 abbrev pub fault_of_refused : StrictlyRefused → Fault
 fault_of_refused (refused.Records f) = f
 fault_of_refused (refused.Text f) = strict_fault side.Left f
 
-abbrev pub IsStrictlyUnlisted : Bool → ℕ → List ℕ → List (List ℕ) → Fault → Type 0
-IsStrictlyUnlisted full d bytes nulls f = (r : StrictlyRefused) × IsStrictRefusal full d bytes nulls r × (f ≡ fault_of_refused r)
+abbrev pub IsStrictlyUnsuggested : Bool → ℕ → List ℕ → List (List ℕ) → Fault → Type 0
+IsStrictlyUnsuggested full d bytes nulls f = (r : StrictlyRefused) × IsStrictRefusal full d bytes nulls r × (f ≡ fault_of_refused r)
 
--- why its bytes suggest none
-abbrev pub IsUnlistedBy : Strictness → ℕ → List ℕ → List (List ℕ) → Fault → Type 0
-IsUnlistedBy strictness.Off d bytes nulls f = IsSuggestFault d bytes nulls f
-IsUnlistedBy strictness.On d bytes nulls f = IsStrictlyUnlisted false d bytes nulls f
-IsUnlistedBy strictness.Full d bytes nulls f = IsStrictlyUnlisted true d bytes nulls f
+-- why its bytes suggest nothing
+abbrev pub IsUnsuggestedBy : Strictness → ℕ → List ℕ → List (List ℕ) → Fault → Type 0
+IsUnsuggestedBy strictness.Off d bytes nulls f = IsSuggestFault d bytes nulls f
+IsUnsuggestedBy strictness.On d bytes nulls f = IsStrictlyUnsuggested false d bytes nulls f
+IsUnsuggestedBy strictness.Full d bytes nulls f = IsStrictlyUnsuggested true d bytes nulls f
 
 -- the list that a stream's bytes suggest was written after what the writer already had
 abbrev pub WritesSuggested : Strictness → ℕ → List (List ℕ) → Option (List ℕ) → Option (List ℕ) → Option (List ℕ) → Type 0
 WritesSuggested strict d nulls told before after =
-    (bytes list : List ℕ) × AreBytesOf told bytes × IsListBy strict d bytes nulls list × Appends before after list
+    (bytes : List ℕ) × (s : Suggestion) × AreBytesOf told bytes × IsSuggestedBy strict d bytes nulls s × Appends before after s.list.items
 
 -- why none is made: the stream can't be read, or the error of its bytes
 abbrev pub IsUnsuggested : Strictness → ℕ → List (List ℕ) → Option (List ℕ) → Fault → Type 0
 IsUnsuggested strict d nulls told f =
-    IsUnread side.Left f ⊎ ((bytes : List ℕ) × AreBytesOf told bytes × (f ≢ fault.Memory → IsUnlistedBy strict d bytes nulls f))
+    IsUnread side.Left f ⊎ ((bytes : List ℕ) × AreBytesOf told bytes × (f ≢ fault.Memory → IsUnsuggestedBy strict d bytes nulls f))
