@@ -7,7 +7,7 @@ mod stack;
 mod suggesting;
 
 use crate::stack::{PAGES, take_stack};
-use crate::suggesting::{asking_of, suggest};
+use crate::suggesting::{Asking, asking_of, suggest, tell_alone};
 use rj_command::{Line, Stats, UnkeptRows};
 use rj_fault::{Fault, read_words, texts_of};
 use rj_files::{
@@ -80,20 +80,32 @@ fn join<R: Files + Input + AllocGlobal + Print + Eprint + Threads + Wait + Clock
     Ok(())
 }
 
-// Reads the command line, and does what it asks for.
+// Prints the types that a file's cells suggest, or why there are none, and returns the exit status.
+fn tell_types<R: Env + Files + Input + AllocGlobal + Print + Eprint + Clock>(
+    rt: &R,
+    words: &[String],
+    asking: Asking,
+) -> Result<u8, ExplainedFault> {
+    let texts = texts_of(rt.alloc(), words)?;
+    match suggest(rt, texts.as_slice(), asking) {
+        Ok(()) => Ok(0),
+        Err(fault) => Ok(tell_alone(rt, &fault)),
+    }
+}
+
+// Reads the command line, does what it asks for, and returns the exit status.
 fn run<R: Env + Files + Input + AllocGlobal + Print + Eprint + Threads + Wait + Clock + Sync>(
     rt: &R,
     terminals: Terminals,
-) -> Result<(), ExplainedFault> {
+) -> Result<u8, ExplainedFault> {
     let Some(words) = read_words(rt)? else {
         return Err(ExplainedFault::from(Fault::NotText));
     };
     if let Some(asking) = asking_of(words.as_slice()) {
-        let texts = texts_of(rt.alloc(), words.as_slice())?;
-        suggest(rt, texts.as_slice(), asking)?;
-        return Ok(());
+        return tell_types(rt, words.as_slice(), asking);
     }
-    join(rt, words, terminals)
+    join(rt, words, terminals)?;
+    Ok(0)
 }
 
 fn main(rt: HostRuntime) -> ExitCode {
@@ -107,7 +119,7 @@ fn main(rt: HostRuntime) -> ExitCode {
         error: rt.stderr().is_terminal(),
     };
     match run(&rt, terminals) {
-        Ok(()) => ExitCode::SUCCESS,
+        Ok(status) => ExitCode::from(status),
         Err(e) => ExitCode::from(tell_explained(&rt, &e)),
     }
 }

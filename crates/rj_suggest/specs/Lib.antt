@@ -1,2 +1,4 @@
 pub mod Listed
+pub mod Misfits
+pub mod Strict
 pub mod Suggested
