@@ -25,7 +25,7 @@ use std::time::Clock;
 // Does what the words of a line ask for, and shows its progress meanwhile.
 fn write_watched<R: Files + Input + AllocGlobal + Print + Eprint + Threads + Wait + Clock + Sync>(
     rt: &R,
-    line: &Line<'_>,
+    line: &mut Line<'_>,
     terminals: Terminals,
 ) -> Result<Written, ExplainedFault> {
     let progress = Progress::of(rt, line, terminals);
@@ -71,9 +71,9 @@ fn join<R: Files + Input + AllocGlobal + Print + Eprint + Threads + Wait + Clock
     let alloc = rt.alloc();
     let words = read_lists(rt, words)?;
     let texts = texts_of(alloc, words.as_slice())?;
-    let line = read_words_of_line(alloc, texts.as_slice(), processors(rt))?;
+    let mut line = read_words_of_line(alloc, texts.as_slice(), processors(rt))?;
     refuse_inputs(rt, &line)?;
-    match write_watched(rt, &line, terminals)? {
+    match write_watched(rt, &mut line, terminals)? {
         Written::Joined(stats) => tell_joined(rt, &line, &stats),
         Written::Counted(report) => tell_report(rt, &report),
     }

@@ -1,6 +1,7 @@
 -- What becomes of two streams of bytes: what is written of their joined table, or why nothing is.
 use Rattle.std.specs.Prelude.{◌≡◌, ◌≢◌, ◌⊎◌, Bool, true, false, ℕ, List, Option, IfSome}
 use Rattle.std.specs.Io.KnownBytes.{Appends}
+use Rattle.rj_command.specs.Auto.{IsCompleted}
 use Rattle.rj_command.specs.Counts.{IsCountFault, WritesCounts}
 use Rattle.rj_command.specs.Runs.{IsRunFault, WritesJoined}
 use Rattle.rj_command.specs.Sides.{strict_fault}
@@ -40,10 +41,15 @@ WritesAsked line l r before after (Counted report) = (line.count ≡ true) × Wr
 abbrev pub IsAskedFault : Line → List ℕ → List ℕ → Fault → Type 0
 IsAskedFault line l r f = (line.count ≡ false → IsRunFault l r line.request f) × (line.count ≡ true → IsCountFault l r line.request f)
 
+-- the line by which two tables' bytes are joined: this one, or with the types that it takes from their cells
+abbrev pub IsCompletedLine : List ℕ → List ℕ → Line → Line → Type 0
+IsCompletedLine l r line joined = IsCompleted l r line.request joined.request × (record joined { request = line.request } ≡ line)
+
 -- the same of the bytes of two streams
 abbrev pub WritesOf : Line → Option (List ℕ) → Option (List ℕ) → Option (List ℕ) → Option (List ℕ) → Written → Type 0
 WritesOf line left right before after written =
-    (l r : List ℕ) × AreBytesOf left l × AreBytesOf right r × WritesAsked line l r before after written
+    (l r : List ℕ) × AreBytesOf left l × AreBytesOf right r
+    × ((joined : Line) × IsCompletedLine l r line joined × WritesAsked joined l r before after written)
 
 -- it was written to some writer, which may tell nothing
 abbrev pub IsWrittenOf : Line → Option (List ℕ) → Option (List ℕ) → Written → Type 0
@@ -54,7 +60,8 @@ IsWrittenOf line left right written = (before after : Option (List ℕ)) × Writ
 abbrev pub IsFaultOf : Line → Option (List ℕ) → Option (List ℕ) → Fault → Type 0
 IsFaultOf line left right f =
     IsOfWriting f ⊎ (IsUnread side.Left f ⊎ (IsUnread side.Right f
-    ⊎ ((l r : List ℕ) × AreBytesOf left l × AreBytesOf right r × IsAskedFault line l r f)))
+    ⊎ ((l r : List ℕ) × AreBytesOf left l × AreBytesOf right r
+    × ((joined : Line) × IsCompletedLine l r line joined × IsAskedFault joined l r f))))
 
 -- what a file's bytes suggest, read by a delimiter and as strictly as this
 abbrev pub IsSuggestedBy : Strictness → ℕ → List ℕ → List (List ℕ) → Suggestion → Type 0

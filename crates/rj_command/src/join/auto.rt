@@ -24,7 +24,9 @@ use rj_condition::{Clause, Columns, Name, ParseRefused, Word, first_undeclared, 
 use rj_csv_io::{Header, InputFormat, ReadRefused, without_bom};
 use rj_fault::{Fault, Side};
 use rj_line::{Request, Strictness};
-use rj_strict::{Header as Grammar, check, one_derivation, quote_empty_lines, reads_quoted_records};
+use rj_strict::{
+    Header as Grammar, check, one_derivation, quote_empty_lines, reads_quoted_records,
+};
 use rj_suggest::suggested_kinds;
 use rj_types::{Label, TypeEntry, is_open as says_not_all};
 use std::alloc::{AllocError, Global};
