@@ -1,6 +1,6 @@
 //! The types that a request takes from cells.
 
-ghost use Rattle.std.specs.Prelude.{◌≡◌, ◌<◌, ◌∷◌, ◌++◌, [], ℕ, false, true, length, IfOk, IsTrue, List, MatchOption, Ok, OnOk, Some, replicate, slice_get, take};
+ghost use Rattle.std.specs.Prelude.{◌≡◌, ◌<◌, ◌∷◌, ◌++◌, [], ℕ, false, true, is_some, length, IfOk, IsTrue, List, MatchOption, Ok, OnOk, Some, replicate, slice_get, take};
 ghost use Rattle.std.specs.Option.{option_to_list};
 ghost use Rattle.csv.specs.Reading.{records, strip_bom};
 ghost use Rattle.rj_columns.specs.Names.{empty_table};
@@ -8,6 +8,7 @@ ghost use Rattle.rj_columns.specs.Tables.{TableValue};
 ghost use Rattle.rj_csv_io.specs.Pieces.{names_in};
 ghost use Rattle.rj_columns.specs.declared.cell.ColumnType.{ColumnType};
 ghost use Rattle.rj_condition.specs.Clauses.{HasClause};
+ghost use Rattle.rj_condition.specs.Undeclared.{undeclared_in};
 ghost use Rattle.rj_strict.specs.Reading.{config_of};
 ghost use Rattle.rj_types.specs.declared.entry.TypeEntry.{TypeEntry};
 ghost use Rattle.rj_command.specs.Auto as auto;
@@ -24,9 +25,7 @@ use rj_condition::{Clause, Columns, Name, ParseRefused, Word, first_undeclared, 
 use rj_csv_io::{Header, InputFormat, ReadRefused, without_bom};
 use rj_fault::{Fault, Side};
 use rj_line::{Request, Strictness};
-use rj_strict::{
-    Header as Grammar, check, one_derivation, quote_empty_lines, reads_quoted_records,
-};
+use rj_strict::{Header as Grammar, check, quote_empty_lines, reads_quoted_records};
 use rj_suggest::suggested_kinds;
 use rj_types::{Label, TypeEntry, is_open as says_not_all};
 use std::alloc::{AllocError, Global};
@@ -66,7 +65,6 @@ fn kinds_of_strict_text(
         (λ v. AreStrictKinds full request.now side text.now v.items)) }
 {
     reads_quoted_records();
-    one_derivation();
     let delimiter = delimiter_of(request, side);
     if check(text, delimiter, Grammar::First, full).is_err() {
         return Ok(None);
@@ -142,15 +140,17 @@ struct Compared<'a> {
 }
 
 impl Compared<'_> {
-    // Whether the clause compares a column of a side, by an order or with a number.
-    fn compares(&self, alloc: Global, side: Side, column: usize) -> Result<bool, AllocError>
-        ensures { IfOk result (λ b. b ≡ auto.compares self.now.left.now self.now.right.now self.now.clause.now side column) }
+    // Whether the clause has a column without a declared type where its type matters, if these columns
+    // of both tables have none.
+    fn needs_types(
+        &self,
+        alloc: Global,
+        lefts: &[bool],
+        rights: &[bool],
+    ) -> Result<bool, AllocError>
+        ensures { IfOk result (λ b. b ≡ is_some (undeclared_in (record { table = self.now.left.now; undeclared = lefts.now })
+            (record { table = self.now.right.now; undeclared = rights.now }) self.now.clause.now)) }
     {
-        let marks = marks_at(alloc, column)?;
-        let (lefts, rights): (&[bool], &[bool]) = match side {
-            Side::Left => (marks.as_slice(), &[]),
-            Side::Right => (&[], marks.as_slice()),
-        };
         let left = Columns {
             table: self.left,
             undeclared: lefts,
@@ -160,6 +160,17 @@ impl Compared<'_> {
             undeclared: rights,
         };
         Ok(first_undeclared(alloc, self.clause, &left, &right)?.is_some())
+    }
+
+    // Whether the clause compares a column of a side, by an order or with a number.
+    fn compares(&self, alloc: Global, side: Side, column: usize) -> Result<bool, AllocError>
+        ensures { IfOk result (λ b. b ≡ auto.compares self.now.left.now self.now.right.now self.now.clause.now side column) }
+    {
+        let marks = marks_at(alloc, column)?;
+        match side {
+            Side::Left => self.needs_types(alloc, marks.as_slice(), &[]),
+            Side::Right => self.needs_types(alloc, &[], marks.as_slice()),
+        }
     }
 
     // The table of a side.
@@ -351,9 +362,12 @@ fn is_bound(
 fn add_entries(request: &mut Request<'_>, entries: Entries) -> Result<(), AllocError>
     ensures { OnOk result (HasFurther request.old request.new entries.left.items entries.right.items) }
 {
-    let Entries { left, right } = entries;
-    request.left_types.extend(left)?;
-    request.right_types.extend(right)?;
+    let Entries {
+        mut left,
+        mut right,
+    } = entries;
+    request.left_types.append(&mut left)?;
+    request.right_types.append(&mut right)?;
     Ok(())
 }
 
