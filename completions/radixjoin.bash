@@ -51,6 +51,8 @@ _radixjoin() {
             if [[ $word == @* ]]; then
                 compopt -o filenames 2>/dev/null
                 mapfile -t COMPREPLY < <(compgen -P @ -f -- "${word#@}")
+            elif [[ $before == --types ]]; then
+                mapfile -t COMPREPLY < <(compgen -W "auto" -- "$word")
             fi
             ;;
         --join | --null | --left-null | --right-null | --out-null | --workers | -w | --bits1 | --bits2 | --piece | --block | --capacity | --lanes | --retries | --max-rows | --select) ;;

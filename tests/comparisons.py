@@ -24,6 +24,14 @@ def run_join(left, right, join, folder, options=(), delimiters=COMMAS):
     return harness.run([harness.program("radixjoin"), *words, "--join", join.clause, *options], folder)
 
 
+def run_taking(left, right, join, folder, options=(), delimiters=COMMAS):
+    """The same with the types that are taken from cells, and no list."""
+    (folder / "left.csv").write_bytes(left.csv(delimiters[0]))
+    (folder / "right.csv").write_bytes(right.csv(delimiters[1]))
+    words = ["left.csv", "right.csv", join.clause, "--types=auto", "--quiet", "--lenient", "--repeated=keep", *options]
+    return harness.run([harness.program("radixjoin"), *words], folder)
+
+
 def rows_of(text, delimiter=","):
     """The records of CSV text, with nulls for empty fields."""
     return [[cell if cell != "" else None for cell in row] for row in csv.reader(io.StringIO(text, newline=""), delimiter=delimiter)]
@@ -92,10 +100,10 @@ def sqlite_rows(left, right, join):
     return rows_of(ran.stdout.decode())
 
 
-def faults_of(left, right, join, with_sqlite, with_reference=True, options=(), delimiters=COMMAS):
+def faults_of(left, right, join, with_sqlite, with_reference=True, options=(), delimiters=COMMAS, run=run_join):
     """Runs a join everywhere, and says what differs."""
     with harness.folder() as name:
-        ran = run_join(left, right, join, pathlib.Path(name), options, delimiters)
+        ran = run(left, right, join, pathlib.Path(name), options, delimiters)
     if ran.status != 0 or ran.stderr:
         return [f"{join.clause}: status {ran.status}: {ran.stderr!r}"]
     header, *rows = rows_of(ran.stdout.decode(), delimiters[2])
@@ -117,6 +125,18 @@ def random_tables(tally, with_sqlite):
         right = reference.random_table(source, ["b", "c", "t"], ["int", "int", "text"], 8)
         join = reference.random_join(source, left, right)
         tally.check(f"random join {n}: {join.clause}", faults_of(left, right, join, with_sqlite))
+
+
+def random_taken_types(tally, with_sqlite):
+    """The same with types that are taken from cells: a row more has a number in each column of numbers, and a letter in each of texts."""
+    source = random.Random("radixjoin: random taken types")
+    for n in range(CASES):
+        left = reference.random_table(source, ["a", "t", "b"], ["int", "text", "int"], 8)
+        right = reference.random_table(source, ["b", "c", "t"], ["int", "int", "text"], 8)
+        for table in (left, right):
+            table.rows.append([source.randrange(-2, 3) if kind == "int" else "x" for kind in table.types])
+        join = reference.random_join(source, left, right)
+        tally.check(f"random taken types {n}: {join.clause}", faults_of(left, right, join, with_sqlite, run=run_taking))
 
 
 def random_decimals(tally, with_sqlite):
@@ -325,6 +345,7 @@ def run_all(tally):
     if not with_sqlite:
         print("sqlite3 is not installed: compared with the plain nested loop alone")
     random_tables(tally, with_sqlite)
+    random_taken_types(tally, with_sqlite)
     random_decimals(tally, with_sqlite)
     random_bands(tally, with_sqlite)
     random_bands_of_texts(tally, with_sqlite)

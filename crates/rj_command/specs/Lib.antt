@@ -19,3 +19,4 @@ pub mod ReadBack
 pub mod Reported
 pub mod ShownTexts
 pub mod Violations
+pub mod Auto

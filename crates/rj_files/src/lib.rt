@@ -18,6 +18,7 @@ mod reading;
 mod recording;
 mod streams;
 mod suggesting;
+mod taking;
 mod telling;
 mod watched;
 

@@ -8,6 +8,7 @@ use crate::explained::ExplainedFault;
 use crate::joining::{Tables, Written, write_tables};
 use crate::progress::Progress;
 use crate::reading::{Stream, read_stream};
+use crate::taking::complete_line;
 use rj_command::Line;
 use rj_fault::{Fault, Side};
 use std::alloc::{AllocError, Global};
@@ -81,7 +82,8 @@ fn read_both<R: AllocGlobal + Eprint + Clock, L: Stream, S: Stream>(
 /// what the writer already has. That is what is chosen of their joined table, or with `--count` the
 /// line of how many rows of each kind it has. The right stream is opened when the left one was read
 /// to its end, and nothing is written before both are. It returns the writer, and the statistics of
-/// the joined table, or with `--count` the report, if one is asked for.
+/// the joined table, or with `--count` the report, if one is asked for. With `--types auto` the lists
+/// of the line get the types that it takes from the cells.
 ///
 /// # Errors
 ///
@@ -91,7 +93,7 @@ fn read_both<R: AllocGlobal + Eprint + Clock, L: Stream, S: Stream>(
 /// when it is unknown how much it took. `Memory` comes only when memory ran out.
 pub fn write_streams<R, L, S, W>(
     rt: &R,
-    line: &Line<'_>,
+    line: &mut Line<'_>,
     progress: &Progress<'_, R>,
     left: &L,
     right: &S,
@@ -102,12 +104,16 @@ where
     L: Stream,
     S: Stream,
     W: Write,
-    ensures written { IfOk result.0 (WritesOf line.now (L.tells left.now) (S.tells right.now) (W.contents writer) (W.contents result.1)) }
-    ensures fault { IfErr result.0 (λ e. IsFaultOf line.now (L.tells left.now) (S.tells right.now) e.fault) }
+    ensures written { IfOk result.0 (WritesOf line.old (L.tells left.now) (S.tells right.now) (W.contents writer) (W.contents result.1)) }
+    ensures fault { IfErr result.0 (λ e. IsFaultOf line.old (L.tells left.now) (S.tells right.now) e.fault) }
     ensures unchanged { IfErr result.0 (λ e. e.fault ≢ Fault.WriteDevice → result.1 ≡ writer) }
 {
-    match read_both(rt, line, progress, left, right) {
-        Ok(tables) => write_tables(rt, line, progress, tables, writer),
-        Err(e) => (Err(e), writer),
+    let tables = match read_both(rt, line, progress, left, right) {
+        Ok(tables) => tables,
+        Err(e) => return (Err(e), writer),
+    };
+    match complete_line(rt, line, &tables) {
+        Ok(()) => write_tables(rt, line, progress, tables, writer),
+        Err(fault) => (Err(ExplainedFault::from(fault)), writer),
     }
 }
