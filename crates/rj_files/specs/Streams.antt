@@ -10,6 +10,7 @@ use Rattle.rj_fault.specs.declared.fault.Side.{Side}
 use Rattle.rj_fault.specs.declared.fault.Side.TheVariants as side
 use Rattle.rj_line.specs.declared.line.Line.{Line}
 use Rattle.rj_suggest.specs.Suggested.{IsSuggestFault, IsSuggestedList}
+use Rattle.rj_files.specs.Given.{IsGiven}
 use Rattle.rj_files.specs.declared.joining.Written.{Written}
 use Rattle.rj_files.specs.declared.joining.Written.TheVariants.{Counted, Joined}
 
@@ -32,10 +33,15 @@ WritesAsked line l r before after (Counted report) = (line.count ≡ true) × Wr
 abbrev pub IsAskedFault : Line → List ℕ → List ℕ → Fault → Type 0
 IsAskedFault line l r f = (line.count ≡ false → IsRunFault l r line.request f) × (line.count ≡ true → IsCountFault l r line.request f)
 
--- the same of the bytes of two streams
+-- these stand for the bytes of both tables
+abbrev pub AreGiven : Line → List ℕ → List ℕ → List ℕ → List ℕ → Type 0
+AreGiven line l r given_l given_r = IsGiven line side.Left l given_l × IsGiven line side.Right r given_r
+
+-- the same of the bytes of two streams, or of what stands for them
 abbrev pub WritesOf : Line → Option (List ℕ) → Option (List ℕ) → Option (List ℕ) → Option (List ℕ) → Written → Type 0
 WritesOf line left right before after written =
-    (l r : List ℕ) × AreBytesOf left l × AreBytesOf right r × WritesAsked line l r before after written
+    (l r given_l given_r : List ℕ) × AreBytesOf left l × AreBytesOf right r × AreGiven line l r given_l given_r
+    × WritesAsked line given_l given_r before after written
 
 -- it was written to some writer, which may tell nothing
 abbrev pub IsWrittenOf : Line → Option (List ℕ) → Option (List ℕ) → Written → Type 0
@@ -46,7 +52,7 @@ IsWrittenOf line left right written = (before after : Option (List ℕ)) × Writ
 abbrev pub IsFaultOf : Line → Option (List ℕ) → Option (List ℕ) → Fault → Type 0
 IsFaultOf line left right f =
     IsOfWriting f ⊎ (IsUnread side.Left f ⊎ (IsUnread side.Right f
-    ⊎ ((l r : List ℕ) × AreBytesOf left l × AreBytesOf right r × IsAskedFault line l r f)))
+    ⊎ ((l r given_l given_r : List ℕ) × AreBytesOf left l × AreBytesOf right r × AreGiven line l r given_l given_r × IsAskedFault line given_l given_r f)))
 
 -- a list of types that a stream's bytes suggest, read by a delimiter, was written after what the
 -- writer already had
