@@ -5,7 +5,7 @@
 mod join;
 
 pub use join::{
-    PartitionRows, Stats, Step, TextKey, UnkeptRows, Watch, bind_clause, count, fault_of_text,
+    PartitionRows, Sizes, Stats, Step, TextKey, UnkeptRows, Watch, bind_clause, count, early_sizes, fault_of_text,
     first_violation, plain_text, read_strictly, results_are_apart, results_read_back, run,
     types_of_header,
 };

@@ -1,7 +1,9 @@
 pub mod Drafts
 pub mod Entries
 pub mod Identities
+pub mod Explained
 pub mod Labels
+pub mod Memory
 pub mod Outputs
 pub mod Quiet
 pub mod Readers

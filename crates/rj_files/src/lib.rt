@@ -10,6 +10,7 @@ mod explaining;
 mod identities;
 mod joining;
 mod lists;
+mod memory;
 mod message;
 mod named;
 mod outputs;
