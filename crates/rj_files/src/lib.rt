@@ -11,6 +11,7 @@ mod given;
 mod identities;
 mod joining;
 mod lists;
+mod memory;
 mod message;
 mod named;
 mod outputs;
