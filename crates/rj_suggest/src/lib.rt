@@ -29,7 +29,7 @@ pub use crate::strict::{StrictlyRefused, suggest_types_strictly};
 pub use crate::suggestion::{Misfit, Suggestion};
 pub use crate::writing::lines_are_read_back;
 use crate::writing::lines_of;
-use rj_columns::ColumnType;
+use rj_columns::{ColumnType, Table};
 use rj_csv_io::{Header, InputFormat, ReadRefused, read_table, without_bom};
 use rj_fault::{Fault, Side, fault_of_read};
 use rj_strict::Delimiter;
