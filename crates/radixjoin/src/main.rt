@@ -19,13 +19,14 @@ use std::fs::Files;
 use std::io::IsTerminal;
 use std::process::ExitCode;
 use std::sync::Wait;
-use std::thread::Threads;
+use std::thread::{self, Threads};
 use std::time::Clock;
 
-// Does what the words of a line ask for, and shows its progress meanwhile.
+// Does what the words of a line ask for, and shows its progress meanwhile. A thread of its own keeps
+// the line up to date; if none can be started, a line comes only where the run passes a place.
 fn write_watched<R: Files + Input + AllocGlobal + Print + Eprint + Threads + Wait + Clock + Sync>(
     rt: &R,
-    line: &Line<'_>,
+    line: &mut Line<'_>,
     terminals: Terminals,
 ) -> Result<Written, ExplainedFault> {
     let progress = Progress::of(rt, line, terminals);
@@ -33,7 +34,15 @@ fn write_watched<R: Files + Input + AllocGlobal + Print + Eprint + Threads + Wai
         NamedStream::new(rt, line.left),
         NamedStream::new(rt, line.right),
     );
-    let written = write_output(rt, line, &progress, &left, &right);
+    let shown = &progress;
+    let written = thread::scope(thread::scope_env(), rt, |scope| {
+        if shown.is_shown_throughout() {
+            let _keeper = scope.spawn(move || shown.keep_up());
+        }
+        let written = write_output(rt, line, shown, &left, &right);
+        shown.end();
+        written
+    });
     progress.clear();
     written
 }
@@ -71,9 +80,9 @@ fn join<R: Files + Input + AllocGlobal + Print + Eprint + Threads + Wait + Clock
     let alloc = rt.alloc();
     let words = read_lists(rt, words)?;
     let texts = texts_of(alloc, words.as_slice())?;
-    let line = read_words_of_line(alloc, texts.as_slice(), processors(rt))?;
+    let mut line = read_words_of_line(alloc, texts.as_slice(), processors(rt))?;
     refuse_inputs(rt, &line)?;
-    match write_watched(rt, &line, terminals)? {
+    match write_watched(rt, &mut line, terminals)? {
         Written::Joined(stats) => tell_joined(rt, &line, &stats),
         Written::Counted(report) => tell_report(rt, &report),
     }

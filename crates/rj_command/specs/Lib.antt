@@ -11,6 +11,7 @@ pub mod Runs
 pub mod Texts
 pub mod Prepared
 pub mod Sides
+pub mod Sizes
 pub mod Statistics
 pub mod SuchRows
 pub mod Expected
@@ -19,3 +20,4 @@ pub mod ReadBack
 pub mod Reported
 pub mod ShownTexts
 pub mod Violations
+pub mod Auto

@@ -2,3 +2,4 @@ pub mod Listed
 pub mod Misfits
 pub mod Strict
 pub mod Suggested
+pub mod Entries

@@ -11,6 +11,7 @@ ghost use Rattle.rj_suggest.specs.Misfits.{IsSuggestion};
 ghost use Rattle.rj_suggest.specs.Suggested.{AreKindsOf, IsSuggestFault, read_as_texts, texts_for};
 
 mod columns;
+mod entries;
 mod listed;
 mod misfits;
 mod number;
@@ -20,6 +21,7 @@ mod suggestion;
 mod writing;
 
 use crate::columns::kinds_of;
+pub use crate::entries::list_of_entries;
 pub use crate::listed::list_of_lines;
 use crate::misfits::misfits_of;
 pub use crate::numeral::{are_digits, is_unsigned_text, place_of_point, without_sign};
