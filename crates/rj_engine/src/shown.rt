@@ -113,7 +113,7 @@ pub(crate) fn add_shown<'s>(
     requires col { col < length shown.now.origins.items }
     ensures { (o : Origin) → OnOk result (map content_of cells.new.items ≡ map content_of cells.old.items
         ++ map (λ row. joined_cell tables.now.left.now tables.now.right.now (counted_from tables.now.first row) (slice_index_or shown.now.origins.items col o))
-        (rows_between places.entry.start places.entry.end (shown_rows shown.now.chosen joined.now.members))) }
+        (rows_between places.start places.end (shown_rows shown.now.chosen joined.now.members))) }
 {
     let (origin, scale) = (shown.origins[col], shown.scales[col]);
     let (from, to) = (places.start, places.end);
