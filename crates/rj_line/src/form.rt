@@ -54,12 +54,19 @@ pub fn form_of(words: &[&str]) -> Form
     }
 }
 
+// Whether a word asks for all that explains an error.
+fn is_explain_all(word: &str) -> bool
+    ensures { result ≡ forms.is_explain_all word.now }
+{
+    word == "--explain=all"
+}
+
 /// Whether the option that explains errors takes a word in a line of these words: where one of them
 /// is `--explain=all`.
 pub(crate) fn explains_by_word(words: &[&str]) -> bool
-    ensures { result ≡ forms.explains_by_word (map (λ w. w.now) words.now) }
+    ensures { result ≡ list_any (λ w. forms.is_explain_all w.now) words.now }
 {
-    words.iter().any(|word| *word == "--explain=all")
+    words.iter().any(|word| is_explain_all(word))
 }
 
 // A worker for each processor, from 1 to 64.

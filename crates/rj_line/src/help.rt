@@ -26,7 +26,7 @@ Tables:
   --null <TEXT>             Text for NULL in both files and in the result [default: an empty field]
   --left-null <TEXT>        Text for NULL in the left file, up to four times [default: as --null]
   --right-null <TEXT>       Text for NULL in the right file, up to four times [default: as --null]
-  --unnamed                 The first line of each file is a row, and not a header
+  --unnamed                 Name columns without a name (column_4), and repeated ones (name_2)
   --strict [<LEVEL>]        Refuse CSV not of RFC 4180 (on), and a last line without end (full)
   --lenient                 Don't read strictly in the short form
 

@@ -48,7 +48,7 @@ pub struct Line<'a> {
     pub progress: bool,
     /// Whether standard error gets nothing but the line of an error.
     pub quiet: bool,
-    /// Whether the first line of each file is a row, and its columns have no names.
+    /// Whether columns without a name, or with one that is repeated, get names.
     pub unnamed: bool,
 }
 
