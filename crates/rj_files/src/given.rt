@@ -40,7 +40,8 @@ fn tell_given<R: Eprint>(rt: &R, progress: &Progress<'_, R>, side: Side, given: 
         return;
     }
     progress.clear();
-    for GivenName { column, name } in given {
+    for named in given {
+        let (column, name) = (named.column, named.name.as_str());
         let _ = eprintln!(rt;
             "radixjoin: {side} column {column} has no name of its own, and is called {name}"
         );
