@@ -1,6 +1,6 @@
 # Completion of radixjoin for bash: options that were not given yet, files, and the words of options.
 _radixjoin() {
-    local options="--left --right --left-types --right-types --types --join --delimiter --left-delimiter --right-delimiter --out-delimiter --null --left-null --right-null --out-null --strict --stats --order --rows --columns --select --anti --semi --repeated --expect --max-rows --count --report --progress --output --explain --lenient --terse --quiet --workers
+    local options="--left --right --left-types --right-types --types --join --delimiter --left-delimiter --right-delimiter --out-delimiter --null --left-null --right-null --out-null --unnamed --strict --stats --order --rows --columns --select --anti --semi --repeated --expect --max-rows --count --report --progress --output --explain --lenient --terse --quiet --workers
         --bits1 --bits2 --hash --piece --block --capacity --lanes --retries --help --version"
     local word=${COMP_WORDS[COMP_CWORD]} before=${COMP_WORDS[COMP_CWORD - 1]} equals=
     # `--left=a` is three words here: --left, = and a.
@@ -58,6 +58,8 @@ _radixjoin() {
             if [[ $word == @* ]]; then
                 compopt -o filenames 2>/dev/null
                 mapfile -t COMPREPLY < <(compgen -P @ -f -- "${word#@}")
+            elif [[ $before == --types ]]; then
+                mapfile -t COMPREPLY < <(compgen -W "auto" -- "$word")
             fi
             ;;
         --join | --null | --left-null | --right-null | --out-null | --workers | -w | --bits1 | --bits2 | --piece | --block | --capacity | --lanes | --retries | --max-rows | --select) ;;

@@ -24,6 +24,14 @@ def run_join(left, right, join, folder, options=(), delimiters=COMMAS):
     return harness.run([harness.program("radixjoin"), *words, "--join", join.clause, *options], folder)
 
 
+def run_taking(left, right, join, folder, options=(), delimiters=COMMAS):
+    """The same with the types that are taken from cells, and no list."""
+    (folder / "left.csv").write_bytes(left.csv(delimiters[0]))
+    (folder / "right.csv").write_bytes(right.csv(delimiters[1]))
+    words = ["left.csv", "right.csv", join.clause, "--types=auto", "--quiet", "--lenient", "--repeated=keep", *options]
+    return harness.run([harness.program("radixjoin"), *words], folder)
+
+
 def rows_of(text, delimiter=","):
     """The records of CSV text, with nulls for empty fields."""
     return [[cell if cell != "" else None for cell in row] for row in csv.reader(io.StringIO(text, newline=""), delimiter=delimiter)]
@@ -92,10 +100,10 @@ def sqlite_rows(left, right, join):
     return rows_of(ran.stdout.decode())
 
 
-def faults_of(left, right, join, with_sqlite, with_reference=True, options=(), delimiters=COMMAS):
+def faults_of(left, right, join, with_sqlite, with_reference=True, options=(), delimiters=COMMAS, run=run_join):
     """Runs a join everywhere, and says what differs."""
     with harness.folder() as name:
-        ran = run_join(left, right, join, pathlib.Path(name), options, delimiters)
+        ran = run(left, right, join, pathlib.Path(name), options, delimiters)
     if ran.status != 0 or ran.stderr:
         return [f"{join.clause}: status {ran.status}: {ran.stderr!r}"]
     header, *rows = rows_of(ran.stdout.decode(), delimiters[2])
@@ -117,6 +125,18 @@ def random_tables(tally, with_sqlite):
         right = reference.random_table(source, ["b", "c", "t"], ["int", "int", "text"], 8)
         join = reference.random_join(source, left, right)
         tally.check(f"random join {n}: {join.clause}", faults_of(left, right, join, with_sqlite))
+
+
+def random_taken_types(tally, with_sqlite):
+    """The same with types that are taken from cells: a row more has a number in each column of numbers, and a letter in each of texts."""
+    source = random.Random("radixjoin: random taken types")
+    for n in range(CASES):
+        left = reference.random_table(source, ["a", "t", "b"], ["int", "text", "int"], 8)
+        right = reference.random_table(source, ["b", "c", "t"], ["int", "int", "text"], 8)
+        for table in (left, right):
+            table.rows.append([source.randrange(-2, 3) if kind == "int" else "x" for kind in table.types])
+        join = reference.random_join(source, left, right)
+        tally.check(f"random taken types {n}: {join.clause}", faults_of(left, right, join, with_sqlite, run=run_taking))
 
 
 def random_decimals(tally, with_sqlite):
@@ -188,6 +208,53 @@ def random_bands_of_texts(tally, with_sqlite):
         join = reference.Join(f"{kind} JOIN ON {reference.spelled(condition, left, right)}", kind, condition=condition)
         options = source.choice([(), ("--workers=3",), ("--workers=2", "--piece=2")])
         tally.check(f"random band of texts {n}: {join.clause}", faults_of(left, right, join, with_sqlite, options=options))
+
+
+def random_intervals(source, names, kind):
+    """A table of begins and ends: some null, and some ends before their begin."""
+    rows = []
+    for at in range(source.choice([1, 8, 30])):
+        begin = source.randrange(-5, 40)
+        cells = [begin, begin + source.choice([-2, 0, 1, 2, 3, 30])]
+        if kind == "text":
+            cells = [f"2026-11-{cell + 40}" for cell in cells]
+        elif kind != "int":
+            cells = [reference.in_scale(decimal.Decimal(cell) / 2, reference.scale_of(kind)) for cell in cells]
+        rows.append([at, *(None if source.random() < 0.1 else cell for cell in cells)])
+    return reference.Table(names, ["int", kind, kind], rows)
+
+
+def random_overlap(source):
+    """The two conjuncts of intervals that overlap, in either order, strict or not, either way round, or as a BETWEEN with the
+    other column of its side for its further bound. Now and then the two columns of one side are exchanged."""
+    begins, ends = [("column", side, 1) for side in "LR"], [("column", side, 2) for side in "LR"]
+    if source.random() < 0.1:
+        begins[0], ends[0] = ends[0], begins[0]
+    conjuncts = []
+    for begin, end, low in ((begins[0], ends[1], begins[1]), (begins[1], ends[0], begins[0])):
+        shape = source.randrange(9)
+        if shape < 4:
+            conjuncts.append(("compare", source.choice(["<", "<="]), begin, end))
+        elif shape < 8:
+            conjuncts.append(("compare", source.choice([">", ">="]), end, begin))
+        else:
+            conjuncts.append(("between", begin, low, end, False))
+    return source.sample(conjuncts, 2)
+
+
+def random_overlaps(tally, with_sqlite):
+    """Joins of intervals that overlap, of whole numbers, decimals and texts, also with a further conjunct on the rows, with one
+    worker and with several."""
+    source = random.Random("radixjoin: random overlaps")
+    for n in range(CASES):
+        kinds = ["text", "text"] if n % 3 == 0 else [source.choice(["int", "num(4,1)", "num(18,2)"]) for _ in "LR"]
+        left, right = random_intervals(source, ["k", "a", "b"], kinds[0]), random_intervals(source, ["m", "c", "d"], kinds[1])
+        further = [("compare", source.choice(["<", "<>", ">="]), ("column", "L", 0), ("column", "R", 0))] if source.random() < 0.2 else []
+        condition = ("and", [*random_overlap(source), *further])
+        kind = source.choice(["INNER", "LEFT", "RIGHT", "FULL"])
+        join = reference.Join(f"{kind} JOIN ON {reference.spelled(condition, left, right)}", kind, condition=condition)
+        options = source.choice([(), ("--workers=3",), ("--workers=2", "--piece=2"), ("--piece=1",)])
+        tally.check(f"random overlap {n}: {join.clause}", faults_of(left, right, join, with_sqlite, options=options))
 
 
 def random_meeting(source, left, right):
@@ -278,9 +345,11 @@ def run_all(tally):
     if not with_sqlite:
         print("sqlite3 is not installed: compared with the plain nested loop alone")
     random_tables(tally, with_sqlite)
+    random_taken_types(tally, with_sqlite)
     random_decimals(tally, with_sqlite)
     random_bands(tally, with_sqlite)
     random_bands_of_texts(tally, with_sqlite)
+    random_overlaps(tally, with_sqlite)
     random_nulls_that_meet(tally, with_sqlite)
     random_delimiters(tally, with_sqlite)
     large_tables(tally, with_sqlite)

@@ -62,7 +62,7 @@ def words_that_are_no_text(folder):
 def help_of_each_option(folder):
     """Help tells every option, on standard output alone."""
     options = {
-        "radixjoin": ["left", "right", "left-types", "right-types", "types", "join", "null", "left-null", "right-null", "out-null", "delimiter", "left-delimiter", "right-delimiter", "out-delimiter", "strict", "lenient", "bits1", "bits2", "hash", "workers", "block", "lanes", "capacity", "retries", "piece", "stats", "explain", "terse", "output", "order", "rows", "columns", "select", "anti", "semi", "repeated", "expect", "max-rows", "count", "report", "progress", "quiet", "help", "version"],
+        "radixjoin": ["left", "right", "left-types", "right-types", "types", "join", "null", "left-null", "right-null", "out-null", "delimiter", "left-delimiter", "right-delimiter", "out-delimiter", "unnamed", "strict", "lenient", "bits1", "bits2", "hash", "workers", "block", "lanes", "capacity", "retries", "piece", "stats", "explain", "terse", "output", "order", "rows", "columns", "select", "anti", "semi", "repeated", "expect", "max-rows", "count", "report", "progress", "quiet", "help", "version"],
         "arrivals": ["partition", "senders", "block", "gaps", "help", "version"],
         "shards": ["side", "left", "right", "left-types", "right-types", "join", "null", "left-null", "right-null", "strict", "parts", "from", "to", "out", "cuts", "explain", "help", "version"],
         "merges": ["null", "order", "from", "to", "copies", "help", "version"],

@@ -26,7 +26,7 @@ NUMBERS_WORDS = ["--left", "left.csv", "--left-types", "int", "--right", "right.
 
 KINDS = {"REFUSE_ALLOCATION": "allocations", "REFUSE_THREAD": "starts of threads"}
 
-# Name, program, its files, its words, its standard input, what it prints.
+# Name, program, its files, its words, its standard input, what it prints, and perhaps what it tells beside that.
 JOINS = [
     ("basic_inner", "radixjoin", TABLES, WORDS, b"", b"id,name,city\n2,bob,oslo\n"),
     ("full_null_keys", "radixjoin", NULLS, NULLS_WORDS, b"", b"id,a,b\n1,x,q\n,y,\n,,p\n3,,r\n"),
@@ -56,10 +56,10 @@ def totals_of(file):
     return struct.unpack("ll", file.read_bytes())
 
 
-def faults_of(ran, name, stdout):
+def faults_of(ran, name, stdout, told):
     """What isn't as wanted of a run in which something was refused."""
     if ran.status == 0:
-        return harness.differences(ran, stdout)
+        return harness.differences(ran, stdout, told)
     stderr = f"{name}: E18 Memory\n".encode()
     # Where the line itself can't be told for want of memory, nothing else is told in its place.
     return harness.differences(ran, None if name == "arrivals" else b"", stderr, 5)
@@ -67,7 +67,8 @@ def faults_of(ran, name, stdout):
 
 def sweep(tally, refuse, kind, run):
     """Refuses the first, the second, .. until a run meets no refusal. Returns how many it met."""
-    label, name, files, words, stdin, stdout = run
+    label, name, files, words, stdin, stdout, *more = run
+    told = more[0] if more else b""
     for n in range(1, MOST):
         with harness.folder() as at:
             folder = pathlib.Path(at)
@@ -77,9 +78,9 @@ def sweep(tally, refuse, kind, run):
             environment = {**os.environ, "LD_PRELOAD": str(refuse), kind: str(n), "REFUSE_REPORT": str(report)}
             ran = harness.run([harness.program(name), *words], folder, stdin, environment=environment, seconds=SECONDS)
             if not report.exists():
-                tally.check(f"{label}: no refusal", harness.differences(ran, stdout))
+                tally.check(f"{label}: no refusal", harness.differences(ran, stdout, told))
                 return n - 1
-        tally.check(f"{label}: {kind}={n}", faults_of(ran, name, stdout))
+        tally.check(f"{label}: {kind}={n}", faults_of(ran, name, stdout, told))
     tally.check(f"{label}: {kind}", [f"{MOST} refusals, and no end"])
     return MOST
 

@@ -96,12 +96,13 @@ def outputs_that_are_inputs(folder):
         ("written to by --output -", '"$@" >> left.csv', [*words, "--output", "-"], "left"),
         ("counted", '"$@" >> right.csv', [*words, "--count"], "right"),
         ("counted by --output -", '"$@" >> left.csv', [*words, "--count", "--output=-"], "left"),
-        ("of which types are suggested", '"$@" >> left.csv', ["--suggest-types", "left.csv"], "left"),
     ]
     for label, line, asked, side in cases:
         ran = by_shell(folder, line, asked)
         told = f"radixjoin: E29 OutputIsInput {side}\n".encode()
         yield f"output is input: {label}", harness.differences(ran, b"", told, 6) + unchanged(folder, ["left.csv", "right.csv"])
+    ran = by_shell(folder, '"$@" >> left.csv', ["--suggest-types", "left.csv"])
+    yield "output is input: of which types are suggested", harness.differences(ran, b"", b"radixjoin: E29 OutputIsInput\n", 6) + unchanged(folder, ["left.csv"])
     ran = by_shell(folder, '"$@" >> left.csv', [*words[:5], "int;text", *words[6:]])
     yield "output is input: behind the command line", harness.differences(ran, b"", b"radixjoin: bad type list left\n", 2)
     ran = by_shell(folder, '"$@" > left.csv', words)
@@ -179,8 +180,6 @@ SUGGESTED = [
     ("one and 18", "a\n1.234567890123456789\n", "a=text\n"),
     ("19 digits in two cells", "a\n123456789.1\n1.1234567891\n", "a=text\n"),
     ("a large whole number among decimals", "a\n1.5\n1234567890123456789\n", "a=text\n"),
-    ("a zero before a digit", "a\n7\n007\n", "a=text\n"),
-    ("a zero before a digit and a point", "a\n1.5\n01.5\n", "a=text\n"),
     ("a minus and a zero", "a\n-07\n", "a=text\n"),
     ("no digit after the point", "a\n1.\n", "a=text\n"),
     ("no digit before the point", "a\n.5\n", "a=text\n"),
@@ -189,7 +188,6 @@ SUGGESTED = [
     ("two signs", "a\n--1\n", "a=text\n"),
     ("an exponent", "a\n1e5\n", "a=text\n"),
     ("blanks", "a\n1 \n", "a=text\n"),
-    ("a word among numbers", "a\n1\n2\nx\n", "a=text\n"),
     ("nulls among whole numbers", "a,b\n,1\n1,\n,\n", "a=int\nb=int\n"),
     ("nulls alone", "a,b\n,1\n,2\n", "a=text\nb=int\n"),
     ("quoted numbers", 'a\n"1"\n"2"\n', "a=int\n"),
@@ -200,13 +198,52 @@ SUGGESTED = [
     ("a line end in a name", '"a\nb",c\n1,2\n', '"a\nb"=int\nc=int\n'),
 ]
 
+# What is suggested by files of which a line tells the cells that keep columns from being of numbers.
+MISFITS = [
+    ("a word among numbers", "a\n1\n2\nx\n", [], "a=text\n", ['a is text: row 3 has "x"']),
+    ("the first of two words", "a\n1\nn/a\n2.5\nx\n", [], "a=text\n", ['a is text: row 2 has "n/a"']),
+    ("a word above numbers", "a\nn/a\n1\n", [], "a=text\n", ['a is text: row 1 has "n/a"']),
+    ("a number among words", "a,b\nx,1\ny,2\n7,3\n", [], "a=text\nb=int\n", ['a is text: row 1 has "x"']),
+    ("words alone", "a\nx\ny\n", [], "a=text\n", []),
+    ("words and NULLs", "a,b\nx,1\n,2\n", [], "a=text\nb=int\n", []),
+    ("a zero before a digit", "a\n7\n007\n", [], "a=text\n", ['a is text: row 2 has "007"']),
+    ("a zero before a digit and a point", "a\n1.5\n01.5\n", [], "a=text\n", ['a is text: row 2 has "01.5"']),
+    ("a number that is too long is a number", "a\n1\n1234567890123456789.5\n", [], "a=text\n", []),
+    ("a text for NULL", "a\n1\nNA\nx\n", ["--null=NA"], "a=text\n", ['a is text: row 3 has "x"']),
+    ("a text for NULL that isn't given", "a,b\nNA,NA\n1,\n", [], "a=text\nb=text\n", ['a is text: row 1 has "NA"']),
+    ("no byte, if that isn't NULL", 'a,b\n1,""\n,2\n', ["--null=NA"], "a=text\nb=text\n", ['a is text: row 2 has ""', 'b is text: row 1 has ""']),
+    ("two columns", "a,b,c\n1,-,7\nx,2,8\n", [], "a=text\nb=text\nc=int\n", ['a is text: row 2 has "x"', 'b is text: row 1 has "-"']),
+    ("a name with a blank", "a b\n1\nx\n", [], '"a b"=text\n', ['"a b" is text: row 2 has "x"']),
+    ("a line end in a name and in a cell", '"a\nb"\n1\n"x\ny"\n', [], '"a\nb"=text\n', ['"a\\x0Ab" is text: row 2 has "x\\x0Ay"']),
+    ("a long cell", "a\n1\n" + 70 * "x" + "\n", [], "a=text\n", [f'a is text: row 2 has "{60 * "x"}" and 10 more bytes']),
+    ("an empty line of one column, strictly", "a\n\n1\n", ["--strict", "--null=NA"], "a=text\n", ['a is text: row 1 has ""']),
+]
+
 REFUSED = [
-    ("no byte", b"", "E1 NoHeader left", 3),
-    ("a ragged row", b"a,b\n1,2\n3\n", "E5 RaggedRow left row 2", 3),
-    ("a name twice", b"a,A\n1,2\n", "E3 RepeatedName left column 2", 3),
-    ("an empty name", b"a,\n1,2\n", "E2 BadName left column 2", 3),
-    ("a cell that isn't UTF-8", b"a,b\n1,\xff\n", "E7 BadText left row 1 column 2", 3),
-    ("too many columns", b",".join(b"c%d" % n for n in range(257)) + b"\n", "E9 TooManyColumns left", 3),
+    ("no byte", b"", "E1 NoHeader", 3),
+    ("a ragged row", b"a,b\n1,2\n3\n", "E5 RaggedRow row 2", 3),
+    ("a name twice", b"a,A\n1,2\n", "E3 RepeatedName column 2", 3),
+    ("an empty name", b"a,\n1,2\n", "E2 BadName column 2", 3),
+    ("a cell that isn't UTF-8", b"a,b\n1,\xff\n", "E7 BadText row 1 column 2", 3),
+    ("too many columns", b",".join(b"c%d" % n for n in range(257)) + b"\n", "E9 TooManyColumns", 3),
+]
+
+# What is suggested by files that are read strictly, and by the same files if they aren't.
+STRICT = [
+    ("nothing broken", b'a,"b\n"\n1,"2"\n', ["--strict"], b'a=int\n"b\n"=int\n', 0),
+    ("a bare quote", b'a,b\n1,2"\n', ["--strict"], "E23 BareQuote row 1 column 2", 3),
+    ("a bare quote", b'a,b\n1,2"\n', [], b"a=int\nb=text\n", 0),
+    ("an open quote", b'a,b\n1,"2\n', ["--strict=on"], "E21 OpenQuote row 1 column 2", 3),
+    ("a ragged row above a bare quote", b'a,b\n1\n1,2"\n', ["--strict"], "E5 RaggedRow row 1", 3),
+    ("a ragged row below a bare quote", b'a,b\n1,2"\n1\n', ["--strict"], "E23 BareQuote row 1 column 2", 3),
+    ("a bare quote in the header", b'a,b"\n1,2\n', ["--strict"], "E23 BareQuote row 0 column 2", 3),
+    ("an empty line", b"a,b\n\n1,2\n", ["--strict"], "E25 EmptyLine row 1", 3),
+    ("an empty line of one column, not strictly", b"a\n\n1\n", ["--null=NA"], b"a=int\n", 0),
+    ("an empty line that is NULL", b"a\n\n1\n", ["--strict"], b"a=int\n", 0),
+    ("no last line end", b"a\n1", ["--strict"], b"a=int\n", 0),
+    ("no last line end", b"a\n1", ["--strict=full"], "E26 CutShort row 1", 3),
+    ("semicolons", b'a;b\n1;2"\n', ["--strict", "-d;"], "E23 BareQuote row 1 column 2", 3),
+    ("a null text", b"a\n1\n", ["--strict", "--null=1"], "E10 BadNull", 3),
 ]
 
 
@@ -221,7 +258,10 @@ def suggested_types(folder):
     yield "suggested: a null text first", joined(folder, ["--suggest-types", "--null=NA", "table.csv"], b"a=int\nb=text\n")
     for words in (["--null", "NA", "--suggest-types", "table.csv"], ["table.csv", "--null=NA", "--suggest-types"], ["--null=NA", "--suggest-types=table.csv"], ["--suggest-types=table.csv", "--null", "NA"]):
         yield f"suggested: {words}", joined(folder, words, b"a=int\nb=text\n")
-    yield "suggested: no null text", joined(folder, ["--suggest-types", "table.csv"], b"a=text\nb=text\n")
+    for label, content, words, printed, told in MISFITS:
+        (folder / "misfits.csv").write_text(content, newline="")
+        ran = run("radixjoin", ["--suggest-types", "misfits.csv", *words], folder)
+        yield f"suggested, and told: {label}", harness.differences(ran, printed.encode(), "".join(f"radixjoin: {line}\n" for line in told).encode())
     (folder / "table.csv").write_bytes(b'id;"a;b";c\n1;1,5;2\n2;x;\n')
     for words in (["--delimiter", ";"], ["--delimiter=;"], ["-d", ";"], ["-d;"]):
         yield f"suggested: by semicolons, {words}", joined(folder, ["--suggest-types", "table.csv", *words], b'id=int\n"a;b"=text\nc=int\n')
@@ -231,11 +271,14 @@ def suggested_types(folder):
     for word in ("", ";;", "a", "7", '"', "\n", "\u00e9"):
         yield f"not suggested: by {word!r}", joined(folder, ["--suggest-types", "table.csv", f"--delimiter={word}"], "E34 BadDelimiter", 2)
     (folder / "table.csv").write_bytes(b"a,b\nNA,NA\n1,\n")
+    for label, content, words, told, status in STRICT:
+        (folder / "strict.csv").write_bytes(content)
+        yield f"suggested: {words}, {label}", joined(folder, ["--suggest-types", "strict.csv", *words], told, status)
     yield "suggested: a bad null text", joined(folder, ["--suggest-types", "table.csv", "--null", "0"], "E10 BadNull", 3)
     for label, content, told, status in REFUSED:
         (folder / "table.csv").write_bytes(content)
         yield f"not suggested: {label}", joined(folder, ["--suggest-types", "table.csv"], told, status)
-    yield "not suggested: a missing file", joined(folder, ["--suggest-types", "missing"], "E19 ReadDevice left", 6)
+    yield "not suggested: a missing file", joined(folder, ["--suggest-types", "missing"], "E19 ReadDevice", 6)
 
 
 def ends_of_suggesting(folder):
@@ -245,7 +288,7 @@ def ends_of_suggesting(folder):
         ran = run("radixjoin", ["--suggest-types", *words], folder)
         yield f"--suggest-types {words}", harness.differences(ran, b"", None, 2) + ([] if ran.stderr else ["nothing is told"])
     ran = run("radixjoin", ["--suggest-types", "--help"], folder)
-    lacking = [f"no {word}" for word in ("--suggest-types", "FILE", "--null", "--delimiter") if word.encode() not in ran.stdout]
+    lacking = [f"no {word}" for word in ("--suggest-types", "FILE", "--null", "--delimiter", "--strict") if word.encode() not in ran.stdout]
     yield "--suggest-types --help", lacking + harness.differences(ran, None)
     for words in (["--left", "table.csv", "--suggest-types", "table.csv"], ["--suggest-types=table.csv", "table.csv"], ["--suggest-types=table.csv", "--suggest-types"]):
         ran = run("radixjoin", words, folder)
@@ -326,7 +369,16 @@ SWEPT = [
         b"",
         JOINED,
     ),
-    ("suggested types", "radixjoin", {"table.csv": b'id,"a b"\n1,1.5\n2,x\n3,\n'}, ["--suggest-types", "table.csv"], b"", b'id=int\n"a b"=text\n'),
+    (
+        "suggested types",
+        "radixjoin",
+        {"table.csv": b'id,"a b"\n1,1.5\n2,x\n3,\n'},
+        ["--suggest-types", "table.csv"],
+        b"",
+        b'id=int\n"a b"=text\n',
+        b'radixjoin: "a b" is text: row 2 has "x"\n',
+    ),
+    ("suggested types, strictly", "radixjoin", {"table.csv": b"a,b\n1,x\n"}, ["--suggest-types", "table.csv", "--strict=full"], b"", b"a=int\nb=text\n"),
     ("suggested types by tabs", "radixjoin", {"table.tsv": b"id\ta\n1\t1.5\n"}, ["--suggest-types", "table.tsv", "--delimiter=tab"], b"", b"id=int\na=num(4,1)\n"),
     ("suggested numbers", "radixjoin", {}, ["--suggest-types", "-", "--null", "NA"], b"a,b\n1.5,NA\n", b"a=num(4,1)\nb=text\n"),
 ]

@@ -65,6 +65,7 @@ OPTIONS_OF = {
         "left-types": NEEDED_TEXT,
         "right-types": NEEDED_TEXT,
         "join": NEEDED_TEXT,
+        "types": TEXT,
         "null": TEXT,
         "left-null": TEXTS,
         "right-null": TEXTS,
@@ -99,6 +100,7 @@ OPTIONS_OF = {
         "semi": FLAG,
         "select": TEXT,
         "quiet": FLAG,
+        "unnamed": FLAG,
     },
     "arrivals": {"partition": Number(0, 1023), "senders": Number(1, 128), "block": Number(1, 65536), "gaps": FLAG},
 }
@@ -106,7 +108,7 @@ OPTIONS_OF = {
 
 # The options of the short form, without its three words.
 SHORT = {name: TEXT if takes == NEEDED_TEXT else takes for name, takes in OPTIONS_OF["radixjoin"].items() if name not in PLACES}
-SHORT.update({"types": TEXT, "lenient": FLAG, "terse": FLAG})
+SHORT.update({"lenient": FLAG, "terse": FLAG})
 
 
 def is_short(words):
@@ -199,6 +201,10 @@ def read_words(program, words):
         raise BadLine(f"{program}: an argument is not text") from None
     if program == "radixjoin" and is_short(words):
         options, places = SHORT, [*PLACES]
+    is_of_short = options is SHORT
+    if "--explain=all" in words:
+        # (such a line has the flag with its word)
+        options = {**options, "explain": Word(("all",), None)}
     for at, word in enumerate(words):
         if word == "--":
             # No word after it is an option.
@@ -226,7 +232,7 @@ def read_words(program, words):
         end_waiting(found, options, waiting)
     if places or not needed <= set(found):
         raise BadLine
-    return {**found, "is short": options is SHORT}
+    return {**found, "is short": is_of_short}
 
 
 class Request:

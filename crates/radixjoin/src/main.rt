@@ -7,7 +7,7 @@ mod stack;
 mod suggesting;
 
 use crate::stack::{PAGES, take_stack};
-use crate::suggesting::{asking_of, suggest};
+use crate::suggesting::{Asking, asking_of, suggest, tell_alone};
 use rj_command::{Line, Stats, UnkeptRows};
 use rj_fault::{Fault, read_words, texts_of};
 use rj_files::{
@@ -19,13 +19,14 @@ use std::fs::Files;
 use std::io::IsTerminal;
 use std::process::ExitCode;
 use std::sync::Wait;
-use std::thread::Threads;
+use std::thread::{self, Threads};
 use std::time::Clock;
 
-// Does what the words of a line ask for, and shows its progress meanwhile.
+// Does what the words of a line ask for, and shows its progress meanwhile. A thread of its own keeps
+// the line up to date; if none can be started, a line comes only where the run passes a place.
 fn write_watched<R: Files + Input + AllocGlobal + Print + Eprint + Threads + Wait + Clock + Sync>(
     rt: &R,
-    line: &Line<'_>,
+    line: &mut Line<'_>,
     terminals: Terminals,
 ) -> Result<Written, ExplainedFault> {
     let progress = Progress::of(rt, line, terminals);
@@ -33,7 +34,15 @@ fn write_watched<R: Files + Input + AllocGlobal + Print + Eprint + Threads + Wai
         NamedStream::new(rt, line.left),
         NamedStream::new(rt, line.right),
     );
-    let written = write_output(rt, line, &progress, &left, &right);
+    let shown = &progress;
+    let written = thread::scope(thread::scope_env(), rt, |scope| {
+        if shown.is_shown_throughout() {
+            let _keeper = scope.spawn(move || shown.keep_up());
+        }
+        let written = write_output(rt, line, shown, &left, &right);
+        shown.end();
+        written
+    });
     progress.clear();
     written
 }
@@ -71,29 +80,41 @@ fn join<R: Files + Input + AllocGlobal + Print + Eprint + Threads + Wait + Clock
     let alloc = rt.alloc();
     let words = read_lists(rt, words)?;
     let texts = texts_of(alloc, words.as_slice())?;
-    let line = read_words_of_line(alloc, texts.as_slice(), processors(rt))?;
+    let mut line = read_words_of_line(alloc, texts.as_slice(), processors(rt))?;
     refuse_inputs(rt, &line)?;
-    match write_watched(rt, &line, terminals)? {
+    match write_watched(rt, &mut line, terminals)? {
         Written::Joined(stats) => tell_joined(rt, &line, &stats),
         Written::Counted(report) => tell_report(rt, &report),
     }
     Ok(())
 }
 
-// Reads the command line, and does what it asks for.
+// Prints the types that a file's cells suggest, or why there are none, and returns the exit status.
+fn tell_types<R: Env + Files + Input + AllocGlobal + Print + Eprint + Clock>(
+    rt: &R,
+    words: &[String],
+    asking: Asking,
+) -> Result<u8, ExplainedFault> {
+    let texts = texts_of(rt.alloc(), words)?;
+    match suggest(rt, texts.as_slice(), asking) {
+        Ok(()) => Ok(0),
+        Err(fault) => Ok(tell_alone(rt, &fault)),
+    }
+}
+
+// Reads the command line, does what it asks for, and returns the exit status.
 fn run<R: Env + Files + Input + AllocGlobal + Print + Eprint + Threads + Wait + Clock + Sync>(
     rt: &R,
     terminals: Terminals,
-) -> Result<(), ExplainedFault> {
+) -> Result<u8, ExplainedFault> {
     let Some(words) = read_words(rt)? else {
         return Err(ExplainedFault::from(Fault::NotText));
     };
     if let Some(asking) = asking_of(words.as_slice()) {
-        let texts = texts_of(rt.alloc(), words.as_slice())?;
-        suggest(rt, texts.as_slice(), asking)?;
-        return Ok(());
+        return tell_types(rt, words.as_slice(), asking);
     }
-    join(rt, words, terminals)
+    join(rt, words, terminals)?;
+    Ok(0)
 }
 
 fn main(rt: HostRuntime) -> ExitCode {
@@ -107,7 +128,7 @@ fn main(rt: HostRuntime) -> ExitCode {
         error: rt.stderr().is_terminal(),
     };
     match run(&rt, terminals) {
-        Ok(()) => ExitCode::SUCCESS,
+        Ok(status) => ExitCode::from(status),
         Err(e) => ExitCode::from(tell_explained(&rt, &e)),
     }
 }

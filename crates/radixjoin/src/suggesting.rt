@@ -3,9 +3,9 @@
 use clap::error::ErrorKind;
 use clap::{Arg, ArgAction, ArgMatches, Command, Error};
 use rj_csv_io::InputFormat;
-use rj_fault::Fault;
+use rj_fault::{ExitReason, Fault, tell};
 use rj_files::{NamedStream, refuse_printed, write_suggested};
-use rj_line::delimiter_of;
+use rj_line::{Strictness, delimiter_of};
 use std::alloc::{AllocError, Global};
 use std::fs::Files;
 use std::io;
@@ -15,13 +15,18 @@ use std::time::Clock;
 const HELP: &str = "\
 Prints types that the cells of a CSV file suggest: check them, and give them by --left-types @FILE
 
-Usage: radixjoin --suggest-types <FILE> [--null <TEXT>] [--delimiter <CHAR>], in any order
+Usage: radixjoin --suggest-types <FILE> [--null <TEXT>] [--delimiter <CHAR>] [--strict[=full]],
+       in any order
 
   <FILE>                  CSV file of a table; - is standard input
   -d, --delimiter <CHAR>  Delimiter of the file, or tab [default: a comma]
   --null <TEXT>           Text for NULL [default: an empty field]
+  --strict [<HOW>]        Refuse CSV that breaks RFC 4180: on or full [default: no; on if alone]
   -h, --help              Print this help
 ";
+
+// How strictly a file may be read.
+const LEVELS: &[&str] = &["on", "full"];
 
 /// How a line asks for suggested types.
 #[derive(Clone, Copy)]
@@ -77,10 +82,28 @@ fn suggest_command<'a>(alloc: Global, asking: Asking) -> Result<Command<'a>, All
         .long("delimiter")
         .short('d')
         .action(ArgAction::Set);
+    let strict = Arg::new(alloc, "strict")
+        .long("strict")
+        .action(ArgAction::Set)
+        .num_args(0..=1)
+        .default_missing_value("on")
+        .value_parser(LEVELS);
     let command = Command::new(alloc, "radixjoin")
         .override_help(HELP)
         .no_binary_name(true);
-    with_file(alloc, command, asking)?.arg(null)?.arg(delimiter)
+    with_file(alloc, command, asking)?
+        .arg(null)?
+        .arg(delimiter)?
+        .arg(strict)
+}
+
+// How strictly the file is read.
+fn strictness_of(matches: &ArgMatches<'_>) -> Strictness {
+    match matches.get_str("strict") {
+        None => Strictness::Off,
+        Some("full") => Strictness::Full,
+        Some(_) => Strictness::On,
+    }
 }
 
 fn read_matches<'a>(
@@ -104,6 +127,29 @@ fn matches_of<'a>(
     }
 }
 
+// The line of an error of the only file, without its side. None if the error is `clap`'s, or memory
+// ran out.
+fn line_alone(alloc: Global, fault: &Fault) -> Option<String> {
+    if let Fault::CommandLine(_) = fault {
+        return None;
+    }
+    let line = format!(in alloc; "{fault}").ok()?;
+    let (before, behind) = line.split_once(" left")?;
+    format!(in alloc; "{before}{behind}").ok()
+}
+
+/// Prints why no types are suggested, and returns the exit status. There is one file, so the line
+/// doesn't tell its side.
+pub(crate) fn tell_alone<R: AllocGlobal + Print + Eprint>(rt: &R, fault: &Fault) -> u8 {
+    match line_alone(rt.alloc(), fault) {
+        Some(line) => {
+            let _ = eprintln!(rt; "{line}");
+            fault.status()
+        }
+        None => tell(rt, fault),
+    }
+}
+
 /// Prints the types that the cells of the file in these words suggest, which ask for it so.
 pub(crate) fn suggest<'a, R: Files + Input + AllocGlobal + Print + Eprint + Clock>(
     rt: &'a R,
@@ -122,6 +168,7 @@ pub(crate) fn suggest<'a, R: Files + Input + AllocGlobal + Print + Eprint + Cloc
         nulls: &nulls,
     };
     let stream = NamedStream::new(rt, name);
-    let (written, _writer) = write_suggested(rt, &stream, &format, io::writer(rt));
+    let strict = strictness_of(&matches);
+    let (written, _writer) = write_suggested(rt, &stream, &format, strict, io::writer(rt));
     written
 }

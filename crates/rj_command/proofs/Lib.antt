@@ -13,3 +13,4 @@ mod ReportFacts
 mod ShownFacts
 pub mod SideFacts
 pub mod StatisticsFacts
+mod AutoFacts

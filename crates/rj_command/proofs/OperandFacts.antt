@@ -1,5 +1,5 @@
 -- Which fault is the first.
-use Rattle.std.proofs.Common.{◌≡◌, ◌≢◌, ◌∙◌, true, false, true≢false, List, None, Option, Result, Some, ℕ, Err, ap, ap₂, sym, subst}
+use Rattle.std.proofs.Common.{◌≡◌, ◌≢◌, ◌∙◌, ◌⊎◌, Bool, inl, inr, true, false, true≢false, List, None, Option, Result, Some, ℕ, Err, ap, ap₂, sym, subst}
 use Rattle.std.specs.Prelude.{IfErr, IfOk, IsErr, Ok, if◌then◌else◌}
 use Rattle.rj_columns.specs.Tables.{TableValue}
 use Rattle.rj_condition.specs.Bound.{bound}
@@ -13,13 +13,14 @@ use Rattle.rj_fault.specs.declared.fault.Fault.TheVariants as fault
 use Rattle.rj_fault.specs.declared.fault.Side.{Side}
 use Rattle.rj_fault.specs.declared.fault.Side.TheVariants as side
 use Rattle.rj_line.specs.declared.request.Request.{Request}
-use Rattle.rj_command.specs.Operands.{AreHeaders, HasNoHeaderFault, IsClauseFault, IsFirstFault, IsHeaderFault, IsJoinAsked, IsJoinFault, header_table, in_clause, in_headers, in_left, in_right, of_clause, of_text, of_types, shared_fault, unbound, unread}
+use Rattle.rj_command.specs.Operands.{AreHeaders, HasNames, HasNoHeaderFault, IsClauseFault, IsFirstFault, IsHeaderFault, IsJoinAsked, IsJoinFault, IsNameFault, header_table, in_clause, in_headers, in_left, in_right, of_clause, of_text, of_types, shared_fault, unbound, unread}
 use Rattle.rj_command.specs.Refused.{bind_fault, parse_fault}
 use Rattle.rj_command.specs.SuchRows.{asked_for, unkept_side, unless_unkept, with_rows}
 use Rattle.rj_command.specs.Undeclared.{bound_or, undeclared_fault}
 use Rattle.rj_command.specs.Undeclared as specs
 use Rattle.rj_condition.specs.declared.bound.BoundJoin.{BoundJoin}
 use Rattle.rj_command.specs.Sides.{IsTable, IsTableFault, has_lawful_nulls}
+use Rattle.rj_command.specs.declared.join.operands.Operands.{Operands}
 use Rattle.rj_condition.specs.Clauses.{HasClause, IsFault}
 use Rattle.rj_condition.specs.declared.refused.ParseRefused.{ParseRefused}
 use Rattle.rj_condition.specs.declared.refused.ParseRefused.TheVariants as parse
@@ -82,51 +83,70 @@ pub asked_fits : (q : Request) (l r : TableValue) (join : BoundJoin) (u : Option
 asked_fits q l r join u (Ok asked) same fit = subst (λ (x : BoundJoin). fits x l.types r.types ≡ true) (sym (asked_same q join asked u same)) fit
 asked_fits q l r join u (Err f) same fit = tt
 
-module _ (left right : List ℕ) (q : Request) where
+module _ (named : Bool) (left right : List ℕ) (q : Request) where
   -- no clause has a fault over headers in the long form
-  pub none_in_long_form : q.short ≡ false → HasNoHeaderFault left right q
+  pub none_in_long_form : q.short ≡ false → HasNoHeaderFault named left right q
   none_in_long_form long = record { binds = λ short. absurd (true≢false (sym short ∙ long)) }
 
   -- nor where a text for null isn't valid
-  pub none_by_nulls : has_lawful_nulls q ≡ false → HasNoHeaderFault left right q
+  pub none_by_nulls : has_lawful_nulls q ≡ false → HasNoHeaderFault named left right q
   none_by_nulls unlawful = record {
     binds = λ short l r are. let no : ◌≡◌ {A = Result TableValue Fault} (Err fault.BadNull) (Ok l) = rw unlawful at are.left_header in absurd (cc);
   }
 
   -- nor where a header makes no table
-  pub none_by_left : IsErr (header_table q side.Left left) → HasNoHeaderFault left right q
+  pub none_by_left : IsErr (header_table q side.Left left) → HasNoHeaderFault named left right q
   none_by_left refused = record { binds = λ short l r are. let no = rw are.left_header at refused in absurd (true≢false (sym no)) }
 
-  pub none_by_right : IsErr (header_table q side.Right right) → HasNoHeaderFault left right q
+  pub none_by_right : IsErr (header_table q side.Right right) → HasNoHeaderFault named left right q
   none_by_right refused = record { binds = λ short l r are. let no = rw are.right_header at refused in absurd (true≢false (sym no)) }
 
   module _ (l r : TableValue) (are : AreHeaders left right q l r) where
-    -- nor where it is bound to both
-    pub none_where_bound : (join : BoundJoin) → IsJoinAsked q l r join → HasNoHeaderFault left right q
-    none_where_bound join asked = record {
+    -- nor where it is bound to both, and the columns have names
+    pub none_where_bound : (o : Operands) → (o.left ≡ l) × (o.right ≡ r) × IsJoinAsked q l r o.join
+        → (named ≡ true → HasNames q o.join o.left o.right) → HasNoHeaderFault named left right q
+    none_where_bound o bound names = record {
       binds = λ short t u also.
           let lefts : ◌≡◌ {A = Result TableValue Fault} (Ok l) (Ok t) = sym are.left_header ∙ also.left_header in
           let rights : ◌≡◌ {A = Result TableValue Fault} (Ok r) (Ok u) = sym are.right_header ∙ also.right_header in
           let left_same : l ≡ t = cc in
           let right_same : r ≡ u = cc in
-          (join, subst (λ (x : TableValue). IsJoinAsked q x u join) left_same (subst (λ (x : TableValue). IsJoinAsked q l x join) right_same asked));
+          (o.join,
+          subst (λ (x : TableValue). IsJoinAsked q x u o.join) left_same (subst (λ (x : TableValue). IsJoinAsked q l x o.join) right_same bound.2),
+          λ are_named. subst (λ (x : TableValue). HasNames q o.join x u) (bound.0 ∙ left_same)
+              (subst (λ (x : TableValue). HasNames q o.join o.left x) (bound.1 ∙ right_same) (names are_named)));
     }
 
     -- and else it has that of binding it
-    pub fault_of_headers : (f : Fault) → q.short ≡ true → (f ≢ fault.Memory → IsClauseFault q l r f) → f ≢ fault.Memory → IsHeaderFault left right q f
-    fault_of_headers f short told not = record { short = short; l = l; r = r; headers = are; told = told not }
+    pub fault_of_headers : (f : Fault) → q.short ≡ true → (f ≢ fault.Memory → IsClauseFault q l r f) → f ≢ fault.Memory → IsHeaderFault named left right q f
+    fault_of_headers f short told not = record { short = short; l = l; r = r; headers = are; told = inl (told not) }
 
-  pub header_fault : (f : Fault) → (f ≢ fault.Memory → IsHeaderFault left right q f) → f ≢ fault.Memory → IsFirstFault left right q f
+    -- or that of the names
+    pub fault_of_names : (o : Operands) (f : Fault) → q.short ≡ true → (o.left ≡ l) × (o.right ≡ r) × IsJoinAsked q l r o.join
+        → (f ≡ fault.Memory) ⊎ ((named ≡ true) × IsNameFault q o.join o.left o.right f) → f ≢ fault.Memory → IsHeaderFault named left right q f
+    fault_of_names o f short bound told not = elim told [
+      | inl memory ↦ absurd (not memory)
+      | inr nameless ↦ record {
+        short = short;
+        l = l;
+        r = r;
+        headers = are;
+        told = inr (nameless.0, o.join, bound.2, subst (λ (x : TableValue). IsNameFault q o.join x r f) bound.0
+            (subst (λ (x : TableValue). IsNameFault q o.join o.left x f) bound.1 nameless.1));
+      }
+    ]
+
+  pub header_fault : (f : Fault) → (f ≢ fault.Memory → IsHeaderFault named left right q f) → f ≢ fault.Memory → IsFirstFault named left right q f
   header_fault f told not = in_headers f (told not)
 
-  module _ (none : HasNoHeaderFault left right q) where
-    pub left_fault : (f : Fault) → (f ≢ fault.Memory → IsTableFault q side.Left left f) → f ≢ fault.Memory → IsFirstFault left right q f
+  module _ (none : HasNoHeaderFault named left right q) where
+    pub left_fault : (f : Fault) → (f ≢ fault.Memory → IsTableFault q side.Left left f) → f ≢ fault.Memory → IsFirstFault named left right q f
     left_fault f told not = in_left f none (told not)
 
     pub right_fault : (l : TableValue) (f : Fault) → IsTable q side.Left left l → (f ≢ fault.Memory → IsTableFault q side.Right right f)
-        → f ≢ fault.Memory → IsFirstFault left right q f
+        → f ≢ fault.Memory → IsFirstFault named left right q f
     right_fault l f is told not = in_right l f none is (told not)
 
     pub clause_fault : (l r : TableValue) (f : Fault) → IsTable q side.Left left l → IsTable q side.Right right r
-        → (f ≢ fault.Memory → IsClauseFault q l r f) → f ≢ fault.Memory → IsFirstFault left right q f
+        → (f ≢ fault.Memory → IsClauseFault q l r f) → f ≢ fault.Memory → IsFirstFault named left right q f
     clause_fault l r f is ris told not = in_clause l r f none is ris (told not)

@@ -24,12 +24,13 @@ use Rattle.rj_line.specs.declared.request.Request.{Request}
 use Rattle.rj_line.specs.declared.request.Strictness.{Strictness}
 use Rattle.rj_line.specs.declared.request.Strictness.TheVariants as strictness
 use Rattle.rj_command.specs.Expected.{IsExpected, IsUnexpected}
+use Rattle.rj_command.specs.Operands.{IsNameFault}
 use Rattle.rj_command.specs.Refused.{naming_fault}
 use Rattle.rj_command.specs.Prepared.{IsOutcome, IsPrepared}
-use Rattle.rj_command.specs.Runs.{AreNames, IsNameFault, IsNullFault, IsReady, IsUnprepared, IsUnwritten, hash_value}
+use Rattle.rj_command.specs.Runs.{AreNames, IsNullFault, IsReady, IsUnprepared, IsUnwritten, hash_value}
 use Rattle.rj_command.specs.declared.join.operands.Operands.{Operands}
 use Rattle.rj_command.specs.declared.join.running.Prepared.{Prepared}
-use Rattle.rj_command.proofs.RunFacts.{is_device}
+use Rattle.rj_command.proofs.RunFacts.{is_device, naming_apart}
 
 -- what a join by a hash gives, where that is the hash that is asked for
 pub outcome_of : (q : Request) (o : Operands) (h : Hash) (result : Result Outcome AllocError) → q.hash ≡ h
@@ -66,11 +67,6 @@ pub unnamed : (q : Request) (join : BoundJoin) (l r : TableValue) (e : NamingRef
 unnamed q join l r naming.Memory f told is = inl is
 unnamed q join l r (naming.NoFreeName column) f told is = inr (naming.NoFreeName column, told (λ memory. cc), is)
 unnamed q join l r (naming.SelectedName entry) f told is = inr (naming.SelectedName entry, told (λ memory. cc), is)
-
-naming_apart : (e : NamingRefused) → is_device (naming_fault e) ≡ false
-naming_apart (naming.NoFreeName column) = refl
-naming_apart (naming.SelectedName entry) = refl
-naming_apart naming.Memory = refl
 
 -- why nothing is prepared: of the names
 pub of_names : (q : Request) (o : Operands) (f : Fault) → (f ≡ fault.Memory) ⊎ IsNameFault q o.join o.left o.right f → IsUnprepared q o f

@@ -18,7 +18,9 @@ use Rattle.rj_csv_io.specs.declared.refused.ReadRefused.{ReadRefused}
 use Rattle.rj_csv_io.specs.declared.refused.ReadRefused.TheVariants as read
 use Rattle.rj_command.specs.Operands.{AreOperands, IsClauseFault, IsFirstFault, in_clause, in_headers, in_left, in_right}
 use Rattle.rj_command.specs.Operands as operands
-use Rattle.rj_command.specs.Refused.{bind_fault, parse_fault}
+use Rattle.rj_command.specs.Refused.{bind_fault, naming_fault, parse_fault}
+use Rattle.rj_engine.specs.declared.naming.NamingRefused.{NamingRefused}
+use Rattle.rj_engine.specs.declared.naming.NamingRefused.TheVariants as naming
 use Rattle.rj_command.specs.SuchRows.{unkept_side, unless_unkept, with_rows}
 use Rattle.rj_command.specs.Undeclared.{bound_for, bound_or, column_fault, undeclared_column, unbound_fault}
 use Rattle.rj_condition.specs.Bound.{bound}
@@ -70,7 +72,7 @@ pub has_joined : (left right : List ℕ) (q : Request) (o : Operands) → AreOpe
 has_joined left right q o operands h = (h.0, chosen_text q h.1.names o.join o.left o.right, joined_of_ready left right q o h.0 operands h.1)
 
 -- the first fault of the operands is one of a run
-pub of_operands : (left right : List ℕ) (q : Request) (result : Result Stats Fault) (f : Fault) → result ≡ Err f → (f ≢ fault.Memory → IsFirstFault left right q f) → IfErr result (IsRunFault left right q)
+pub of_operands : (left right : List ℕ) (q : Request) (result : Result Stats Fault) (f : Fault) → result ≡ Err f → (f ≢ fault.Memory → IsFirstFault true left right q f) → IfErr result (IsRunFault left right q)
 of_operands left right q result f is told = subst (λ (r : Result Stats Fault). IfErr r (IsRunFault left right q)) (sym is) (λ m d. inl (told m))
 
 -- what holds of a fault holds of the result that it is
@@ -203,14 +205,22 @@ clause_apart q l r _ (operands.of_text e other told named) = parse_apart e
 clause_apart q l r _ (operands.of_clause c f has told named) =
     rows_apart q (bound_for q l r c) f (bound_apart l r (bound c l r) (undeclared_column q l r c) f) told
 
-first_apart : (left right : List ℕ) (q : Request) (f : Fault) → IsFirstFault left right q f → is_device f ≡ false
-first_apart left right q _ (in_headers f told) = clause_apart q told.l told.r f told.told
-first_apart left right q _ (in_left f none told) = table_apart q.strict q side.Left left f told
-first_apart left right q _ (in_right l f none is told) = table_apart q.strict q side.Right right f told
-first_apart left right q _ (in_clause l r f none is also told) = clause_apart q l r f told
+pub naming_apart : (e : NamingRefused) → is_device (naming_fault e) ≡ false
+naming_apart (naming.NoFreeName column) = refl
+naming_apart (naming.SelectedName entry) = refl
+naming_apart naming.Memory = refl
+
+first_apart : (named : Bool) (left right : List ℕ) (q : Request) (f : Fault) → IsFirstFault named left right q f → is_device f ≡ false
+first_apart named left right q _ (in_headers f told) = elim told.told [
+  | inl of_clause ↦ clause_apart q told.l told.r f of_clause
+  | inr nameless ↦ ap is_device nameless.2.2.2.2 ∙ naming_apart nameless.2.2.2.0
+]
+first_apart named left right q _ (in_left f none told) = table_apart q.strict q side.Left left f told
+first_apart named left right q _ (in_right l f none is told) = table_apart q.strict q side.Right right f told
+first_apart named left right q _ (in_clause l r f none is also told) = clause_apart q l r f told
 
 -- the first fault of the operands is none of the device that is written to
-pub not_of_device : (left right : List ℕ) (q : Request) (f : Fault) → (f ≢ fault.Memory → IsFirstFault left right q f) → f ≢ fault.WriteDevice
-not_of_device left right q f told is =
-    let apart : is_device f ≡ false = first_apart left right q f (told (λ memory. true≢false (sym (ap is_device is) ∙ ap is_device memory))) in
+pub not_of_device : (named : Bool) (left right : List ℕ) (q : Request) (f : Fault) → (f ≢ fault.Memory → IsFirstFault named left right q f) → f ≢ fault.WriteDevice
+not_of_device named left right q f told is =
+    let apart : is_device f ≡ false = first_apart named left right q f (told (λ memory. true≢false (sym (ap is_device is) ∙ ap is_device memory))) in
     true≢false (sym (ap is_device is) ∙ apart)

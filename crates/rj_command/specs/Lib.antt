@@ -20,3 +20,4 @@ pub mod ReadBack
 pub mod Reported
 pub mod ShownTexts
 pub mod Violations
+pub mod Auto

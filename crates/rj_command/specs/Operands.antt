@@ -1,5 +1,5 @@
 -- The operands of a run: two tables and a join bound to them, or the first error.
-use Rattle.std.specs.Prelude.{◌≡◌, ◌≢◌, ◌++◌, true, List, ℕ, take, Result, Ok, Err, Option, None, Some, option_map}
+use Rattle.std.specs.Prelude.{◌≡◌, ◌≢◌, ◌⊎◌, ◌++◌, Bool, true, List, ℕ, take, Result, Ok, Err, Option, None, Some, option_map}
 use Rattle.csv.specs.Reading.{records, strip_bom}
 use Rattle.rj_columns.specs.Tables.{TableValue}
 use Rattle.rj_condition.specs.Bound.{bound}
@@ -12,7 +12,9 @@ use Rattle.rj_fault.specs.declared.fault.Side.{Side}
 use Rattle.rj_fault.specs.declared.fault.Side.TheVariants as side
 use Rattle.rj_line.specs.declared.request.Request.{Request}
 use Rattle.rj_strict.specs.Reading.{config_of}
-use Rattle.rj_command.specs.Refused.{bind_fault, parse_fault}
+use Rattle.rj_engine.specs.Naming.{chosen_names}
+use Rattle.rj_engine.specs.declared.naming.NamingRefused.{NamingRefused}
+use Rattle.rj_command.specs.Refused.{bind_fault, naming_fault, parse_fault}
 use Rattle.rj_command.specs.Sides.{IsTable, IsTableFault, delimiter_of, side_records}
 use Rattle.rj_command.specs.SuchRows.{asked_for}
 use Rattle.rj_types.specs.Columns.{name_fault}
@@ -61,24 +63,36 @@ pub record AreHeaders (left right : List ℕ) (q : Request) (l r : TableValue) :
   pub left_header : header_table q side.Left left ≡ Ok l
   pub right_header : header_table q side.Right right ≡ Ok r
 
--- in the short form, the clause has this error over them
-pub record IsHeaderFault (left right : List ℕ) (q : Request) (f : Fault) : Type 0 where
+-- a chosen column is to be renamed and has no free name, or an entry of a list of columns means none
+-- or repeats a name, and this error reports the first one
+abbrev pub IsNameFault : Request → BoundJoin → TableValue → TableValue → Fault → Type 0
+IsNameFault q join l r f = (e : NamingRefused) × (chosen_names q.choice join l r ≡ Err e) × (f ≡ naming_fault e)
+
+-- there is no such column
+abbrev pub HasNames : Request → BoundJoin → TableValue → TableValue → Type 0
+HasNames q join l r = (names : List (List ℕ)) × (chosen_names q.choice join l r ≡ Ok names)
+
+-- in the short form, the clause has this error over them; or it has none, and the chosen columns have
+-- it, if they are to be named
+pub record IsHeaderFault (named : Bool) (left right : List ℕ) (q : Request) (f : Fault) : Type 0 where
   pub short : q.short ≡ true
   pub l : TableValue
   pub r : TableValue
   pub headers : AreHeaders left right q l r
-  pub told : IsClauseFault q l r f
+  pub told : IsClauseFault q l r f ⊎ ((named ≡ true) × (join : BoundJoin) × IsJoinAsked q l r join × IsNameFault q join l r f)
 
--- it has none: in the short form, where both headers make tables, it is bound to them
-pub record HasNoHeaderFault (left right : List ℕ) (q : Request) : Type 0 where
-  pub binds : q.short ≡ true → (l r : TableValue) → AreHeaders left right q l r → (join : BoundJoin) × IsJoinAsked q l r join
+-- they have none: in the short form, where both headers make tables, the clause is bound to them, and
+-- the chosen columns have names, if they are to be named
+pub record HasNoHeaderFault (named : Bool) (left right : List ℕ) (q : Request) : Type 0 where
+  pub binds : q.short ≡ true → (l r : TableValue) → AreHeaders left right q l r
+      → (join : BoundJoin) × IsJoinAsked q l r join × (named ≡ true → HasNames q join l r)
 
--- the first error: in the short form that of the clause over the two headers, before rows are read; then one of the left table, of the
--- right one, of the clause
-pub data IsFirstFault (left right : List ℕ) (q : Request) : Fault → Type 0 where
-  in_headers : (f : Fault) → IsHeaderFault left right q f → IsFirstFault left right q f
-  in_left : (f : Fault) → HasNoHeaderFault left right q → IsTableFault q side.Left left f → IsFirstFault left right q f
-  in_right : (l : TableValue) (f : Fault) → HasNoHeaderFault left right q → IsTable q side.Left left l → IsTableFault q side.Right right f
-      → IsFirstFault left right q f
-  in_clause : (l r : TableValue) (f : Fault) → HasNoHeaderFault left right q → IsTable q side.Left left l → IsTable q side.Right right r
-      → IsClauseFault q l r f → IsFirstFault left right q f
+-- the first error: in the short form that of the clause and of the names over the two headers, before rows are read; then one of the left
+-- table, of the right one, of the clause
+pub data IsFirstFault (named : Bool) (left right : List ℕ) (q : Request) : Fault → Type 0 where
+  in_headers : (f : Fault) → IsHeaderFault named left right q f → IsFirstFault named left right q f
+  in_left : (f : Fault) → HasNoHeaderFault named left right q → IsTableFault q side.Left left f → IsFirstFault named left right q f
+  in_right : (l : TableValue) (f : Fault) → HasNoHeaderFault named left right q → IsTable q side.Left left l → IsTableFault q side.Right right f
+      → IsFirstFault named left right q f
+  in_clause : (l r : TableValue) (f : Fault) → HasNoHeaderFault named left right q → IsTable q side.Left left l → IsTable q side.Right right r
+      → IsClauseFault q l r f → IsFirstFault named left right q f

@@ -20,14 +20,12 @@ use Rattle.rj_settings.specs.declared.choice.SelectedColumn.{SelectedColumn}
 use Rattle.rj_engine.specs.Cells.{header_of, view_of}
 use Rattle.rj_engine.specs.Chosen.{chosen_header, chosen_view}
 use Rattle.rj_engine.specs.Naming.{chosen_names}
-use Rattle.rj_engine.specs.declared.naming.NamingRefused.{NamingRefused}
 use Rattle.rj_engine.specs.Partitioned.{sizes_of}
 use Rattle.rj_engine.specs.Pools.{pieces_of_sizes}
 use Rattle.rj_engine.specs.Results.{joined_of}
 use Rattle.rj_command.specs.Alike.{names_of, text_key_names}
 use Rattle.rj_command.specs.Expected.{IsExpected, IsUnexpected}
-use Rattle.rj_command.specs.Operands.{AreOperands, IsFirstFault}
-use Rattle.rj_command.specs.Refused.{naming_fault}
+use Rattle.rj_command.specs.Operands.{AreOperands, IsFirstFault, IsNameFault}
 use Rattle.rj_command.specs.Reported.{IsReported}
 use Rattle.rj_fault.specs.declared.fault.Fault.{Fault}
 use Rattle.rj_fault.specs.declared.fault.Fault.TheVariants as fault
@@ -117,11 +115,6 @@ CanBeWritten q o = (stats : Stats) × IsReady q o stats
 abbrev pub WritesTables : Request → Operands → Option (List ℕ) → Option (List ℕ) → Stats → Type 0
 WritesTables q o before after stats = (j : IsReady q o stats) × Appends before after (chosen_text q j.names o.join o.left o.right)
 
--- a chosen column is to be renamed and has no free name, or an entry of a list of columns means none
--- or repeats a name, and this error reports the first one
-abbrev pub IsNameFault : Request → BoundJoin → TableValue → TableValue → Fault → Type 0
-IsNameFault q join l r f = (e : NamingRefused) × (chosen_names q.choice join l r ≡ Err e) × (f ≡ naming_fault e)
-
 -- an error of a joined table before what is chosen of it is written: that one first, then that it
 -- isn't as expected, then a cell that can't be told from NULL
 abbrev pub IsResultFault : Request → BoundJoin → TableValue → TableValue → Fault → Type 0
@@ -169,7 +162,7 @@ pub record IsFirstResultFault (left right : List ℕ) (q : Request) (f : Fault) 
   pub operands : AreOperands left right q l r join
   pub told : IsResultFault q join l r f
 
--- the error of a run: out of memory, a failed writer, the first error of the operands, or that of
--- their joined table
+-- the error of a run: out of memory, a failed writer, the first error of the operands, whose columns
+-- are named, or that of their joined table
 abbrev pub IsRunFault : List ℕ → List ℕ → Request → Fault → Type 0
-IsRunFault left right q f = f ≢ fault.Memory → f ≢ fault.WriteDevice → IsFirstFault left right q f ⊎ IsFirstResultFault left right q f
+IsRunFault left right q f = f ≢ fault.Memory → f ≢ fault.WriteDevice → IsFirstFault true left right q f ⊎ IsFirstResultFault left right q f

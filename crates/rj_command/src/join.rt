@@ -1,6 +1,7 @@
 //! A run of the program `radixjoin`, from the bytes of two tables to the bytes of their joined table.
 
 mod alike;
+mod auto;
 mod counting;
 mod early;
 mod expected;
@@ -24,6 +25,7 @@ mod undeclared;
 mod violations;
 mod watching;
 
+pub use self::auto::complete_types;
 pub use self::counting::count;
 pub use self::laws::{plain_text, results_are_apart, results_read_back};
 pub use self::operands::bind_clause;

@@ -1,4 +1,5 @@
 pub mod Drafts
+pub mod Given
 pub mod Entries
 pub mod Identities
 pub mod Explained

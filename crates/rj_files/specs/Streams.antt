@@ -1,15 +1,25 @@
 -- What becomes of two streams of bytes: what is written of their joined table, or why nothing is.
-use Rattle.std.specs.Prelude.{◌≡◌, ◌≢◌, ◌⊎◌, true, false, ℕ, List, Option, IfSome}
+use Rattle.std.specs.Prelude.{◌≡◌, ◌≢◌, ◌⊎◌, Bool, true, false, ℕ, List, Option, IfSome}
 use Rattle.std.specs.Io.KnownBytes.{Appends}
+use Rattle.rj_command.specs.Auto.{IsCompleted}
 use Rattle.rj_command.specs.Counts.{IsCountFault, WritesCounts}
 use Rattle.rj_command.specs.Runs.{IsRunFault, WritesJoined}
+use Rattle.rj_command.specs.Sides.{strict_fault}
 use Rattle.rj_fault.specs.Faults.{IsOfWriting}
 use Rattle.rj_fault.specs.declared.fault.Fault.{Fault}
 use Rattle.rj_fault.specs.declared.fault.Fault.TheVariants as fault
 use Rattle.rj_fault.specs.declared.fault.Side.{Side}
 use Rattle.rj_fault.specs.declared.fault.Side.TheVariants as side
 use Rattle.rj_line.specs.declared.line.Line.{Line}
-use Rattle.rj_suggest.specs.Suggested.{IsSuggestFault, IsSuggestedList}
+use Rattle.rj_line.specs.declared.request.Strictness.{Strictness}
+use Rattle.rj_line.specs.declared.request.Strictness.TheVariants as strictness
+use Rattle.rj_suggest.specs.Misfits.{IsSuggestion}
+use Rattle.rj_suggest.specs.Strict.{IsStrictRefusal, IsStrictSuggestion}
+use Rattle.rj_suggest.specs.Suggested.{IsSuggestFault}
+use Rattle.rj_suggest.specs.declared.suggestion.Suggestion.{Suggestion}
+use Rattle.rj_suggest.specs.declared.strict.StrictlyRefused.{StrictlyRefused}
+use Rattle.rj_suggest.specs.declared.strict.StrictlyRefused.TheVariants as refused
+use Rattle.rj_files.specs.Given.{IsGiven}
 use Rattle.rj_files.specs.declared.joining.Written.{Written}
 use Rattle.rj_files.specs.declared.joining.Written.TheVariants.{Counted, Joined}
 
@@ -32,10 +42,19 @@ WritesAsked line l r before after (Counted report) = (line.count ≡ true) × Wr
 abbrev pub IsAskedFault : Line → List ℕ → List ℕ → Fault → Type 0
 IsAskedFault line l r f = (line.count ≡ false → IsRunFault l r line.request f) × (line.count ≡ true → IsCountFault l r line.request f)
 
--- the same of the bytes of two streams
+-- these stand for the bytes of both tables
+abbrev pub AreGiven : Line → List ℕ → List ℕ → List ℕ → List ℕ → Type 0
+AreGiven line l r given_l given_r = IsGiven line side.Left l given_l × IsGiven line side.Right r given_r
+
+-- the line by which two tables' bytes are joined: this one, or with the types that it takes from their cells
+abbrev pub IsCompletedLine : List ℕ → List ℕ → Line → Line → Type 0
+IsCompletedLine l r line joined = IsCompleted l r line.request joined.request × (record joined { request = line.request } ≡ line)
+
+-- the same of the bytes of two streams, or of what stands for them
 abbrev pub WritesOf : Line → Option (List ℕ) → Option (List ℕ) → Option (List ℕ) → Option (List ℕ) → Written → Type 0
 WritesOf line left right before after written =
-    (l r : List ℕ) × AreBytesOf left l × AreBytesOf right r × WritesAsked line l r before after written
+    (l r given_l given_r : List ℕ) × AreBytesOf left l × AreBytesOf right r × AreGiven line l r given_l given_r
+    × ((joined : Line) × IsCompletedLine given_l given_r line joined × WritesAsked joined given_l given_r before after written)
 
 -- it was written to some writer, which may tell nothing
 abbrev pub IsWrittenOf : Line → Option (List ℕ) → Option (List ℕ) → Written → Type 0
@@ -46,15 +65,35 @@ IsWrittenOf line left right written = (before after : Option (List ℕ)) × Writ
 abbrev pub IsFaultOf : Line → Option (List ℕ) → Option (List ℕ) → Fault → Type 0
 IsFaultOf line left right f =
     IsOfWriting f ⊎ (IsUnread side.Left f ⊎ (IsUnread side.Right f
-    ⊎ ((l r : List ℕ) × AreBytesOf left l × AreBytesOf right r × IsAskedFault line l r f)))
+    ⊎ ((l r given_l given_r : List ℕ) × AreBytesOf left l × AreBytesOf right r × AreGiven line l r given_l given_r
+    × ((joined : Line) × IsCompletedLine given_l given_r line joined × IsAskedFault joined given_l given_r f))))
 
--- a list of types that a stream's bytes suggest, read by a delimiter, was written after what the
--- writer already had
-abbrev pub WritesSuggested : ℕ → List (List ℕ) → Option (List ℕ) → Option (List ℕ) → Option (List ℕ) → Type 0
-WritesSuggested d nulls told before after =
-    (bytes list : List ℕ) × AreBytesOf told bytes × IsSuggestedList d bytes nulls list × Appends before after list
+-- what a file's bytes suggest, read by a delimiter and as strictly as this
+abbrev pub IsSuggestedBy : Strictness → ℕ → List ℕ → List (List ℕ) → Suggestion → Type 0
+IsSuggestedBy strictness.Off d bytes nulls s = IsSuggestion d bytes nulls s
+IsSuggestedBy strictness.On d bytes nulls s = IsStrictSuggestion false d bytes nulls s
+IsSuggestedBy strictness.Full d bytes nulls s = IsStrictSuggestion true d bytes nulls s
+
+-- the error of a file that is read strictly, as that of a left table
+abbrev pub fault_of_refused : StrictlyRefused → Fault
+fault_of_refused (refused.Records f) = f
+fault_of_refused (refused.Text f) = strict_fault side.Left f
+
+abbrev pub IsStrictlyUnsuggested : Bool → ℕ → List ℕ → List (List ℕ) → Fault → Type 0
+IsStrictlyUnsuggested full d bytes nulls f = (r : StrictlyRefused) × IsStrictRefusal full d bytes nulls r × (f ≡ fault_of_refused r)
+
+-- why its bytes suggest nothing
+abbrev pub IsUnsuggestedBy : Strictness → ℕ → List ℕ → List (List ℕ) → Fault → Type 0
+IsUnsuggestedBy strictness.Off d bytes nulls f = IsSuggestFault d bytes nulls f
+IsUnsuggestedBy strictness.On d bytes nulls f = IsStrictlyUnsuggested false d bytes nulls f
+IsUnsuggestedBy strictness.Full d bytes nulls f = IsStrictlyUnsuggested true d bytes nulls f
+
+-- the list that a stream's bytes suggest was written after what the writer already had
+abbrev pub WritesSuggested : Strictness → ℕ → List (List ℕ) → Option (List ℕ) → Option (List ℕ) → Option (List ℕ) → Type 0
+WritesSuggested strict d nulls told before after =
+    (bytes : List ℕ) × (s : Suggestion) × AreBytesOf told bytes × IsSuggestedBy strict d bytes nulls s × Appends before after s.list.items
 
 -- why none is made: the stream can't be read, or the error of its bytes
-abbrev pub IsUnsuggested : ℕ → List (List ℕ) → Option (List ℕ) → Fault → Type 0
-IsUnsuggested d nulls told f =
-    IsUnread side.Left f ⊎ ((bytes : List ℕ) × AreBytesOf told bytes × (f ≢ fault.Memory → IsSuggestFault d bytes nulls f))
+abbrev pub IsUnsuggested : Strictness → ℕ → List (List ℕ) → Option (List ℕ) → Fault → Type 0
+IsUnsuggested strict d nulls told f =
+    IsUnread side.Left f ⊎ ((bytes : List ℕ) × AreBytesOf told bytes × (f ≢ fault.Memory → IsUnsuggestedBy strict d bytes nulls f))

@@ -182,10 +182,10 @@ fn undeclared_lines(
         Side::Left => inputs.left,
         Side::Right => inputs.right,
     };
-    let Ok(list) = suggest_types(alloc, file, &format_of(inputs.request, side)) else {
+    let Ok(suggestion) = suggest_types(alloc, file, &format_of(inputs.request, side)) else {
         return Ok(String::new(alloc));
     };
-    let list = str::from_utf8(list.as_slice()).unwrap_or("");
+    let list = str::from_utf8(suggestion.list.as_slice()).unwrap_or("");
     match entry_for(list, name) {
         Some(entry) => {
             format!(in alloc; "  declare its type; its cells suggest --{side}-types '{entry}'\n")

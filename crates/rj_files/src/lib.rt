@@ -7,6 +7,7 @@
 mod draft;
 mod explained;
 mod explaining;
+mod given;
 mod identities;
 mod joining;
 mod lists;
@@ -19,6 +20,7 @@ mod reading;
 mod recording;
 mod streams;
 mod suggesting;
+mod taking;
 mod telling;
 mod watched;
 

@@ -155,7 +155,7 @@ fn told_of_folder(
 // whole of it, or what it had before.
 fn write_file<R, L, S>(
     rt: &R,
-    line: &Line<'_>,
+    line: &mut Line<'_>,
     progress: &Progress<'_, R>,
     left: &L,
     right: &S,
@@ -165,8 +165,8 @@ where
     R: Files + AllocGlobal + Eprint + Threads + Wait + Clock + Sync,
     L: Stream,
     S: Stream,
-    ensures written { IfOk result (IsWrittenOf line.now (L.tells left.now) (S.tells right.now)) }
-    ensures fault { IfErr result (λ e. IsFaultOf line.now (L.tells left.now) (S.tells right.now) e.fault) }
+    ensures written { IfOk result (IsWrittenOf line.old (L.tells left.now) (S.tells right.now)) }
+    ensures fault { IfErr result (λ e. IsFaultOf line.old (L.tells left.now) (S.tells right.now) e.fault) }
 {
     let (draft, file) = match Draft::open(rt, name) {
         Ok(opened) => opened,
@@ -195,7 +195,7 @@ where
 /// file. A file that can't be made is reported before anything is read.
 pub fn write_output<R, L, S>(
     rt: &R,
-    line: &Line<'_>,
+    line: &mut Line<'_>,
     progress: &Progress<'_, R>,
     left: &L,
     right: &S,
@@ -204,8 +204,8 @@ where
     R: Files + AllocGlobal + Print + Eprint + Threads + Wait + Clock + Sync,
     L: Stream,
     S: Stream,
-    ensures written { IfOk result (IsWrittenOf line.now (L.tells left.now) (S.tells right.now)) }
-    ensures fault { IfErr result (λ e. IsFaultOf line.now (L.tells left.now) (S.tells right.now) e.fault) }
+    ensures written { IfOk result (IsWrittenOf line.old (L.tells left.now) (S.tells right.now)) }
+    ensures fault { IfErr result (λ e. IsFaultOf line.old (L.tells left.now) (S.tells right.now) e.fault) }
 {
     match output_of(line) {
         Some(name) => write_file(rt, line, progress, left, right, name),

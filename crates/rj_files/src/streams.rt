@@ -5,9 +5,11 @@ ghost use Rattle.rj_files.specs.Streams.{AreBytesOf, IsFaultOf, IsUnread, Writes
 ghost use Rattle.rj_files.specs.Texts.{unread_memory_text};
 
 use crate::explained::ExplainedFault;
+use crate::given::given_tables;
 use crate::joining::{Tables, Written, write_tables};
 use crate::progress::Progress;
 use crate::reading::{Stream, read_stream};
+use crate::taking::complete_line;
 use rj_command::Line;
 use rj_fault::{Fault, Side};
 use std::alloc::{AllocError, Global};
@@ -80,8 +82,10 @@ fn read_both<R: AllocGlobal + Eprint + Clock, L: Stream, S: Stream>(
 /// Reads the tables that two streams give, each to its end, and writes what the line asks for after
 /// what the writer already has. That is what is chosen of their joined table, or with `--count` the
 /// line of how many rows of each kind it has. The right stream is opened when the left one was read
-/// to its end, and nothing is written before both are. It returns the writer, and the statistics of
-/// the joined table, or with `--count` the report, if one is asked for.
+/// to its end, and nothing is written before both are. With `--unnamed` their headers are completed
+/// first. With `--types auto` the lists of the line get the types that it takes from the cells. It
+/// returns the writer, and the statistics of the joined table, or with `--count` the report, if one
+/// is asked for.
 ///
 /// # Errors
 ///
@@ -91,7 +95,7 @@ fn read_both<R: AllocGlobal + Eprint + Clock, L: Stream, S: Stream>(
 /// when it is unknown how much it took. `Memory` comes only when memory ran out.
 pub fn write_streams<R, L, S, W>(
     rt: &R,
-    line: &Line<'_>,
+    line: &mut Line<'_>,
     progress: &Progress<'_, R>,
     left: &L,
     right: &S,
@@ -102,12 +106,20 @@ where
     L: Stream,
     S: Stream,
     W: Write,
-    ensures written { IfOk result.0 (WritesOf line.now (L.tells left.now) (S.tells right.now) (W.contents writer) (W.contents result.1)) }
-    ensures fault { IfErr result.0 (λ e. IsFaultOf line.now (L.tells left.now) (S.tells right.now) e.fault) }
+    ensures written { IfOk result.0 (WritesOf line.old (L.tells left.now) (S.tells right.now) (W.contents writer) (W.contents result.1)) }
+    ensures fault { IfErr result.0 (λ e. IsFaultOf line.old (L.tells left.now) (S.tells right.now) e.fault) }
     ensures unchanged { IfErr result.0 (λ e. e.fault ≢ Fault.WriteDevice → result.1 ≡ writer) }
 {
-    match read_both(rt, line, progress, left, right) {
-        Ok(tables) => write_tables(rt, line, progress, tables, writer),
-        Err(e) => (Err(e), writer),
+    let tables = match read_both(rt, line, progress, left, right) {
+        Ok(tables) => tables,
+        Err(e) => return (Err(e), writer),
+    };
+    let tables = match given_tables(rt, line, progress, tables) {
+        Ok(tables) => tables,
+        Err(e) => return (Err(e), writer),
+    };
+    match complete_line(rt, line, &tables) {
+        Ok(()) => write_tables(rt, line, progress, tables, writer),
+        Err(fault) => (Err(ExplainedFault::from(fault)), writer),
     }
 }

@@ -2,63 +2,149 @@
 
 ghost use Rattle.std.specs.Prelude.{◌≡◌, ◌≢◌, ◌⊎◌, ℕ, List, IfOk, IfErr, OnOk};
 ghost use Rattle.rj_csv_io.specs.Typed.{null_texts};
-ghost use Rattle.rj_files.specs.Streams.{AreBytesOf, IsUnsuggested, WritesSuggested};
-ghost use Rattle.rj_suggest.specs.Suggested.{IsSuggestedList};
+ghost use Rattle.rj_files.specs.Streams.{AreBytesOf, IsStrictlyUnsuggested, IsSuggestedBy, IsUnsuggested, IsUnsuggestedBy, WritesSuggested, fault_of_refused};
+ghost use Rattle.rj_suggest.specs.Strict.{IsStrictSuggestion};
 
 use crate::progress::Progress;
 use crate::reading::{Stream, read_stream};
+use rj_command::fault_of_text;
 use rj_csv_io::{CountedWriter, InputFormat, Output};
+use rj_explain::Shown;
 use rj_fault::{Fault, Side};
-use rj_suggest::suggest_types;
+use rj_line::Strictness;
+use rj_suggest::{Misfit, StrictlyRefused, Suggestion, suggest_types, suggest_types_strictly};
+use std::alloc::Global;
 use std::io::Write;
 use std::time::Clock;
 
-// The list that the cells of a stream suggest.
+// The error of a file that is read strictly.
+fn fault_of_refused(refused: StrictlyRefused) -> Fault
+    ensures { result ≡ fault_of_refused refused }
+{
+    match refused {
+        StrictlyRefused::Records(fault) => fault,
+        StrictlyRefused::Text(fault) => fault_of_text(Side::Left, fault),
+    }
+}
+
+// What the cells of a file suggest whose text has to be of RFC 4180's grammar.
+fn suggested_strictly(
+    alloc: Global,
+    bytes: &[u8],
+    format: &InputFormat<'_>,
+    full: bool,
+) -> Result<Suggestion, Fault>
+    ensures suggestion { IfOk result (IsStrictSuggestion full format.now.delimiter bytes.now (null_texts format.now.nulls.now)) }
+    ensures fault { IfErr result (λ f. f ≢ Fault.Memory → IsStrictlyUnsuggested full format.now.delimiter bytes.now (null_texts format.now.nulls.now) f) }
+{
+    match suggest_types_strictly(alloc, bytes, format, full) {
+        Ok(suggestion) => Ok(suggestion),
+        Err(refused) => Err(fault_of_refused(refused)),
+    }
+}
+
+// What the cells of a file suggest, read as strictly as this.
+fn suggested_by(
+    alloc: Global,
+    bytes: &[u8],
+    format: &InputFormat<'_>,
+    strict: Strictness,
+) -> Result<Suggestion, Fault>
+    ensures suggestion { IfOk result (IsSuggestedBy strict format.now.delimiter bytes.now (null_texts format.now.nulls.now)) }
+    ensures fault { IfErr result (λ f. f ≢ Fault.Memory → IsUnsuggestedBy strict format.now.delimiter bytes.now (null_texts format.now.nulls.now) f) }
+{
+    match strict {
+        Strictness::Off => suggest_types(alloc, bytes, format),
+        Strictness::On => suggested_strictly(alloc, bytes, format, false),
+        Strictness::Full => suggested_strictly(alloc, bytes, format, true),
+    }
+}
+
+// What the cells of a stream suggest.
 fn suggested<R: AllocGlobal + Eprint + Clock, S: Stream>(
     rt: &R,
     stream: &S,
     format: &InputFormat<'_>,
-) -> Result<Vec<u8>, Fault>
-    ensures list { IfOk result (λ list. (bytes : List ℕ) × AreBytesOf (S.tells stream.now) bytes
-        × IsSuggestedList format.now.delimiter bytes (null_texts format.now.nulls.now) list.items) }
-    ensures fault { IfErr result (IsUnsuggested format.now.delimiter (null_texts format.now.nulls.now) (S.tells stream.now)) }
+    strict: Strictness,
+) -> Result<Suggestion, Fault>
+    ensures suggestion { IfOk result (λ s. (bytes : List ℕ) × AreBytesOf (S.tells stream.now) bytes
+        × IsSuggestedBy strict format.now.delimiter bytes (null_texts format.now.nulls.now) s) }
+    ensures fault { IfErr result (IsUnsuggested strict format.now.delimiter (null_texts format.now.nulls.now) (S.tells stream.now)) }
 {
     match read_stream(rt.alloc(), stream, Side::Left, &Progress::hidden(rt)) {
-        Ok(bytes) => suggest_types(rt.alloc(), bytes.as_slice(), format),
+        Ok(bytes) => suggested_by(rt.alloc(), bytes.as_slice(), format, strict),
         Err(fault) => Err(fault),
     }
 }
 
+// Whether a name has only letters, digits and underscores.
+fn is_plain(name: &str) -> bool {
+    name.as_bytes()
+        .iter()
+        .all(|b| b.is_ascii_alphanumeric() || *b == b'_')
+}
+
+// Prints on standard error which cell keeps a column from being one of numbers.
+fn tell_misfit<R: Eprint>(rt: &R, misfit: &Misfit) {
+    let (name, row) = (misfit.column.as_str(), misfit.row);
+    let text = Shown {
+        bytes: misfit.text.as_bytes(),
+    };
+    if is_plain(name) {
+        let _ = eprintln!(rt; "radixjoin: {name} is text: row {row} has {text}");
+        return;
+    }
+    let name = Shown {
+        bytes: name.as_bytes(),
+    };
+    let _ = eprintln!(rt; "radixjoin: {name} is text: row {row} has {text}");
+}
+
+// The same of each column that has such a cell.
+fn tell_misfits<R: Eprint>(rt: &R, misfits: &[Option<Misfit>]) {
+    for misfit in misfits {
+        if let Some(misfit) = misfit {
+            tell_misfit(rt, misfit);
+        }
+    }
+}
+
 /// Reads the table that a stream gives in this format, to its end, and writes a list of the types
-/// that its cells suggest after what the writer already has, as [`suggest_types`] makes it. It
-/// returns the writer.
+/// that its cells suggest after what the writer already has, as [`suggest_types`] makes it, or, if
+/// it is to be read strictly, [`suggest_types_strictly`]. Then it prints on standard error, for each
+/// column that one cell or more keep from being one of numbers, the first of these cells. It returns
+/// the writer.
 ///
 /// # Errors
 ///
-/// `ReadDevice` of the left side if the stream can't be opened or read, and else the error of
-/// [`suggest_types`] on its bytes. The writer stays as it was, except after `WriteDevice`. `Memory`
-/// comes only when memory ran out.
+/// `ReadDevice` of the left side if the stream can't be opened or read, and else the error of the
+/// two on its bytes, as that of a left table. The writer stays as it was, except after
+/// `WriteDevice`. `Memory` comes only when memory ran out.
 pub fn write_suggested<R, S, W>(
     rt: &R,
     stream: &S,
     format: &InputFormat<'_>,
+    strict: Strictness,
     writer: W,
 ) -> (Result<(), Fault>, W)
 where
     R: AllocGlobal + Eprint + Clock,
     S: Stream,
     W: Write,
-    ensures written { OnOk result.0 (WritesSuggested format.now.delimiter (null_texts format.now.nulls.now) (S.tells stream.now) (W.contents writer) (W.contents result.1)) }
-    ensures fault { IfErr result.0 (λ f. f ≢ Fault.WriteDevice → IsUnsuggested format.now.delimiter (null_texts format.now.nulls.now) (S.tells stream.now) f) }
+    ensures written { OnOk result.0 (WritesSuggested strict format.now.delimiter (null_texts format.now.nulls.now) (S.tells stream.now) (W.contents writer) (W.contents result.1)) }
+    ensures fault { IfErr result.0 (λ f. f ≢ Fault.WriteDevice → IsUnsuggested strict format.now.delimiter (null_texts format.now.nulls.now) (S.tells stream.now) f) }
     ensures unchanged { IfErr result.0 (λ f. f ≢ Fault.WriteDevice → result.1 ≡ writer) }
 {
-    let list = match suggested(rt, stream, format) {
-        Ok(list) => list,
+    let suggestion = match suggested(rt, stream, format, strict) {
+        Ok(suggestion) => suggestion,
         Err(fault) => return (Err(fault), writer),
     };
     let mut writer = CountedWriter::new(writer);
-    match writer.put(list.as_slice()) {
-        Ok(()) => (Ok(()), writer.into_inner()),
+    match writer.put(suggestion.list.as_slice()) {
+        Ok(()) => {
+            tell_misfits(rt, suggestion.misfits.as_slice());
+            (Ok(()), writer.into_inner())
+        }
         Err(_) => (Err(Fault::WriteDevice), writer.into_inner()),
     }
 }

@@ -13,8 +13,8 @@ use Rattle.rj_fault.specs.declared.fault.Side.TheVariants as side
 use Rattle.rj_line.specs.Choices.{IsChoiceFault}
 use Rattle.rj_line.specs.Delimiters.{AreDelimitersOf}
 use Rattle.rj_line.specs.declared.delimiters.Delimiters.{Delimiters}
-use Rattle.rj_line.specs.Line.{AreTablesGiven, GiveShared, GiveTypes, IsAskedOf, IsChosenFault, IsFaultIn, IsParseError, IsRequestFault, IsRequestOf, IsValueFault, null_word, nulls_or, word_of, words_of}
-use Rattle.rj_line.specs.Options.{OptionWords, line_app}
+use Rattle.rj_line.specs.Line.{AreTablesGiven, GiveShared, GiveTypes, IsAskedOf, IsChosenFault, IsFaultIn, IsParseError, IsRequestFault, IsRequestOf, IsValueFault, app_for, null_word, nulls_or, word_of, words_of}
+use Rattle.rj_line.specs.Options.{OptionWords}
 use Rattle.rj_line.specs.Types.{GivesNoShared, GivesNoTypes, GivesTypes}
 use Rattle.rj_line.specs.declared.form.Form.{Form}
 use Rattle.rj_line.specs.declared.request.Request.{Request}
@@ -103,7 +103,7 @@ asked_of form processors word texts r is =
     )
 
 -- where `clap` has no fault to tell, a fault of the values is one of the line
-pub line_fault : (form : Form) (words : List Text) (h : OptionWords) (f : Fault) → fault_of (line_app form h) words ≡ []
+pub line_fault : (form : Form) (words : List Text) (h : OptionWords) (f : Fault) → fault_of (app_for form h words) words ≡ []
     → IsValueFault form (word_of form h words) (words_of form h words) f → IsFaultIn form words f
 line_fault form words h (fault.CommandLine e) accepted told = absurd told.1.1
 line_fault form words h fault.Memory accepted told = tt
@@ -114,12 +114,12 @@ is_want_of_memory kind.OutOfMemory = true
 is_want_of_memory _ = false
 
 fault_of_kind : (form : Form) (words : List Text) (e : Error) (k : ErrorKind) → kind_of e ≡ k
-    → (k ≡ kind.OutOfMemory) ⊎ ((h : OptionWords) × IsAmong k (fault_of (line_app form h) words)) → IsFaultIn form words (fault_by k e)
+    → (k ≡ kind.OutOfMemory) ⊎ ((h : OptionWords) × IsAmong k (fault_of (app_for form h words) words)) → IsFaultIn form words (fault_by k e)
 fault_of_kind form words e kind.OutOfMemory is told = tt
 fault_of_kind form words e k is (inl memory) = absurd (true≢false (sym (ap is_want_of_memory memory)))
 fault_of_kind form words e k is (inr told) = (
   λ memory. true≢false (sym (ap is_want_of_memory memory) ∙ ap is_want_of_memory is),
-  (told.0, subst (λ j. IsAmong j (fault_of (line_app form told.0) words)) (sym is) told.1),
+  (told.0, subst (λ j. IsAmong j (fault_of (app_for form told.0 words) words)) (sym is) told.1),
 )
 
 -- the fault that an error of `clap`'s is told as is one of the line

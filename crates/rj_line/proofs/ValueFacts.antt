@@ -49,55 +49,57 @@ expected_given : (word : Option Text) → IsNameOf (λ (w : ExpectWord). w.2) wo
 expected_given None is = (None, false, refl)
 expected_given (Some text) is = (is.0.0, is.0.1, is.0.3 ∙ ap Some (sym is.1))
 
-pub all_plain : (f : Form) (h : OptionWords) → list_all fits_option (option_rules f h) ≡ true
-all_plain form.Long h = refl
-all_plain form.Short h = refl
+pub all_plain : (f : Form) (b : Bool) (h : OptionWords) → list_all fits_option (option_rules f b h) ≡ true
+all_plain form.Long true h = refl
+all_plain form.Long false h = refl
+all_plain form.Short true h = refl
+all_plain form.Short false h = refl
 
-pub all_apart : (f : Form) (h : OptionWords) → are_distinct (option_rules f h) ≡ true
-all_apart form.Long h = refl
-all_apart form.Short h = refl
+pub all_apart : (f : Form) (b : Bool) (h : OptionWords) → are_distinct (option_rules f b h) ≡ true
+all_apart form.Long b h = refl
+all_apart form.Short b h = refl
 
-module _ (start command : Command) (h : OptionWords) (m : ArgMatches) (bare : IsBare start) (parsed : IsParsedFrom command m) where
-  pub left_given : (f : Form) → IsChain start (option_rules f h) command → is_some (first_value (found_of m) (codes "left")) ≡ true
-  left_given form.Long chain = wanted_given start command (option_rules form.Long h) m bare chain refl refl 0 (lit< tt) refl parsed
-  left_given form.Short chain = wanted_given start command (option_rules form.Short h) m bare chain refl refl 0 (lit< tt) refl parsed
+module _ (start command : Command) (b : Bool) (h : OptionWords) (m : ArgMatches) (bare : IsBare start) (parsed : IsParsedFrom command m) where
+  pub left_given : (f : Form) → IsChain start (option_rules f b h) command → is_some (first_value (found_of m) (codes "left")) ≡ true
+  left_given form.Long chain = wanted_given start command (option_rules form.Long b h) m bare chain (all_plain form.Long b h) (all_apart form.Long b h) 0 (lit< tt) refl parsed
+  left_given form.Short chain = wanted_given start command (option_rules form.Short b h) m bare chain (all_plain form.Short b h) (all_apart form.Short b h) 0 (lit< tt) refl parsed
 
-  pub right_given : (f : Form) → IsChain start (option_rules f h) command → is_some (first_value (found_of m) (codes "right")) ≡ true
-  right_given form.Long chain = wanted_given start command (option_rules form.Long h) m bare chain refl refl 1 (lit< tt) refl parsed
-  right_given form.Short chain = wanted_given start command (option_rules form.Short h) m bare chain refl refl 1 (lit< tt) refl parsed
+  pub right_given : (f : Form) → IsChain start (option_rules f b h) command → is_some (first_value (found_of m) (codes "right")) ≡ true
+  right_given form.Long chain = wanted_given start command (option_rules form.Long b h) m bare chain (all_plain form.Long b h) (all_apart form.Long b h) 1 (lit< tt) refl parsed
+  right_given form.Short chain = wanted_given start command (option_rules form.Short b h) m bare chain (all_plain form.Short b h) (all_apart form.Short b h) 1 (lit< tt) refl parsed
 
-  long_values : IsChain start (option_rules form.Long h) command → HasValues form.Long (first_value (found_of m))
+  long_values : IsChain start (option_rules form.Long b h) command → HasValues form.Long (first_value (found_of m))
   long_values chain =
-      let rules = option_rules form.Long h in
-      let given = wanted_given start command rules m bare chain refl refl in
-      let number = number_given start command rules m bare chain refl refl in
+      let rules = option_rules form.Long b h in
+      let given = wanted_given start command rules m bare chain (all_plain form.Long b h) (all_apart form.Long b h) in
+      let number = number_given start command rules m bare chain (all_plain form.Long b h) (all_apart form.Long b h) in
       record {
         left_types = λ _. given 2 (lit< tt) refl parsed;
         right_types = λ _. given 3 (lit< tt) refl parsed;
         join = given 4 (lit< tt) refl parsed;
         numbers = record {
-          bits1 = number 14 0 10 (lit< tt) refl parsed;
-          bits2 = number 15 0 10 (lit< tt) refl parsed;
-          workers = number 17 1 64 (lit< tt) refl parsed;
-          block = number 18 1 65536 (lit< tt) refl parsed;
-          capacity = number 19 1 4096 (lit< tt) refl parsed;
-          lanes = number 20 1 4 (lit< tt) refl parsed;
-          retries = number 21 0 3 (lit< tt) refl parsed;
-          piece = number 22 1 1048576 (lit< tt) refl parsed;
+          bits1 = number 15 0 10 (lit< tt) refl parsed;
+          bits2 = number 16 0 10 (lit< tt) refl parsed;
+          workers = number 18 1 64 (lit< tt) refl parsed;
+          block = number 19 1 65536 (lit< tt) refl parsed;
+          capacity = number 20 1 4096 (lit< tt) refl parsed;
+          lanes = number 21 1 4 (lit< tt) refl parsed;
+          retries = number 22 0 3 (lit< tt) refl parsed;
+          piece = number 23 1 1048576 (lit< tt) refl parsed;
         };
-        expect = expected_given (first_value (found_of m) (codes "expect")) (name_given start command rules m bare chain refl refl (λ (w : ExpectWord). w.2) expect_words h.matchings h.are_matchings 32 (lit< tt) refl refl parsed);
+        expect = expected_given (first_value (found_of m) (codes "expect")) (name_given start command rules m bare chain (all_plain form.Long b h) (all_apart form.Long b h) (λ (w : ExpectWord). w.2) expect_words h.matchings h.are_matchings 32 (lit< tt) refl refl parsed);
         most_rows = number 33 0 4294967295 (lit< tt) refl parsed;
-        hash = name_given start command rules m bare chain refl refl hash_name (hash.Plain ∷ hash.Mixed ∷ []) h.hashes h.are_hashes 16 (lit< tt) refl refl parsed;
-        order = name_given start command rules m bare chain refl refl order_name (order.PairsFirst ∷ order.LeftFirst ∷ []) h.orders h.are_orders 26 (lit< tt) refl refl parsed;
-        columns = side_given (first_value (found_of m) (codes "columns")) (name_given start command rules m bare chain refl refl (λ (w : SideWord). w.1) side_words h.sides h.are_sides 28 (lit< tt) refl refl parsed);
-        strict = strict_given start command rules m bare chain refl refl 13 (lit< tt) h refl refl parsed;
+        hash = name_given start command rules m bare chain (all_plain form.Long b h) (all_apart form.Long b h) hash_name (hash.Plain ∷ hash.Mixed ∷ []) h.hashes h.are_hashes 17 (lit< tt) refl refl parsed;
+        order = name_given start command rules m bare chain (all_plain form.Long b h) (all_apart form.Long b h) order_name (order.PairsFirst ∷ order.LeftFirst ∷ []) h.orders h.are_orders 26 (lit< tt) refl refl parsed;
+        columns = side_given (first_value (found_of m) (codes "columns")) (name_given start command rules m bare chain (all_plain form.Long b h) (all_apart form.Long b h) (λ (w : SideWord). w.1) side_words h.sides h.are_sides 28 (lit< tt) refl refl parsed);
+        strict = strict_given start command rules m bare chain (all_plain form.Long b h) (all_apart form.Long b h) 14 (lit< tt) h refl refl parsed;
       }
 
-  short_values : IsChain start (option_rules form.Short h) command → HasValues form.Short (first_value (found_of m))
+  short_values : IsChain start (option_rules form.Short b h) command → HasValues form.Short (first_value (found_of m))
   short_values chain =
-      let rules = option_rules form.Short h in
-      let given = wanted_given start command rules m bare chain refl refl in
-      let number = number_given start command rules m bare chain refl refl in
+      let rules = option_rules form.Short b h in
+      let given = wanted_given start command rules m bare chain (all_plain form.Short b h) (all_apart form.Short b h) in
+      let number = number_given start command rules m bare chain (all_plain form.Short b h) (all_apart form.Short b h) in
       record {
         left_types = λ e. absurd (true≢false e);
         right_types = λ e. absurd (true≢false e);
@@ -112,14 +114,14 @@ module _ (start command : Command) (h : OptionWords) (m : ArgMatches) (bare : Is
           retries = number 24 0 3 (lit< tt) refl parsed;
           piece = number 25 1 1048576 (lit< tt) refl parsed;
         };
-        expect = expected_given (first_value (found_of m) (codes "expect")) (name_given start command rules m bare chain refl refl (λ (w : ExpectWord). w.2) expect_words h.matchings h.are_matchings 35 (lit< tt) refl refl parsed);
-        most_rows = number 36 0 4294967295 (lit< tt) refl parsed;
-        hash = name_given start command rules m bare chain refl refl hash_name (hash.Plain ∷ hash.Mixed ∷ []) h.hashes h.are_hashes 19 (lit< tt) refl refl parsed;
-        order = name_given start command rules m bare chain refl refl order_name (order.PairsFirst ∷ order.LeftFirst ∷ []) h.orders h.are_orders 29 (lit< tt) refl refl parsed;
-        columns = side_given (first_value (found_of m) (codes "columns")) (name_given start command rules m bare chain refl refl (λ (w : SideWord). w.1) side_words h.sides h.are_sides 31 (lit< tt) refl refl parsed);
-        strict = strict_given start command rules m bare chain refl refl 16 (lit< tt) h refl refl parsed;
+        expect = expected_given (first_value (found_of m) (codes "expect")) (name_given start command rules m bare chain (all_plain form.Short b h) (all_apart form.Short b h) (λ (w : ExpectWord). w.2) expect_words h.matchings h.are_matchings 34 (lit< tt) refl refl parsed);
+        most_rows = number 35 0 4294967295 (lit< tt) refl parsed;
+        hash = name_given start command rules m bare chain (all_plain form.Short b h) (all_apart form.Short b h) hash_name (hash.Plain ∷ hash.Mixed ∷ []) h.hashes h.are_hashes 19 (lit< tt) refl refl parsed;
+        order = name_given start command rules m bare chain (all_plain form.Short b h) (all_apart form.Short b h) order_name (order.PairsFirst ∷ order.LeftFirst ∷ []) h.orders h.are_orders 28 (lit< tt) refl refl parsed;
+        columns = side_given (first_value (found_of m) (codes "columns")) (name_given start command rules m bare chain (all_plain form.Short b h) (all_apart form.Short b h) (λ (w : SideWord). w.1) side_words h.sides h.are_sides 30 (lit< tt) refl refl parsed);
+        strict = strict_given start command rules m bare chain (all_plain form.Short b h) (all_apart form.Short b h) 16 (lit< tt) h refl refl parsed;
       }
 
-  pub values_given : (f : Form) → IsChain start (option_rules f h) command → HasValues f (first_value (found_of m))
+  pub values_given : (f : Form) → IsChain start (option_rules f b h) command → HasValues f (first_value (found_of m))
   values_given form.Long chain = long_values chain
   values_given form.Short chain = short_values chain

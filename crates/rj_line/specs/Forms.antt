@@ -49,6 +49,14 @@ default_explain form.Short terse = not terse
 abbrev pub is_explained : Form → Bool → Bool → Bool → Bool
 is_explained f explain terse quiet = not quiet && (explain || default_explain f terse)
 
+-- a word of a line asks for all that explains an error
+abbrev pub is_explain_all : Text → Bool
+is_explain_all word = bytes_eq word (codes "--explain=all")
+
+-- the option that explains errors takes a word in a line that has it with that word, and nothing in others
+abbrev pub explains_by_word : List Text → Bool
+explains_by_word words = list_any is_explain_all words
+
 abbrev pub is_short : Form → Bool
 is_short form.Long = false
 is_short form.Short = true

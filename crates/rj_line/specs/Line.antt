@@ -1,7 +1,7 @@
 -- What the words of the command line say.
 use Rattle.std.specs.Prelude.{◌≡◌, ◌≢◌, ◌≤◌, ◌<◌, ◌⊎◌, ◌&&◌, ◌||◌, Bool, true, false, ℕ, List, [], ◌∷◌, ◌++◌, length, Option, Some, None, option_map, codes, is_some, unwrap_or, pos}
 use Rattle.std.specs.Str.Parse.{IsNumeral, signed_digits_value, without_leading_sign}
-use Rattle.clap.specs.Words.{IsAmong, IsSignedIn, Text, all_of, fault_of, first_of, first_value, found_of, kind_of, matched_of, matches_of, raw_values}
+use Rattle.clap.specs.Words.{App, IsAmong, IsSignedIn, Text, all_of, fault_of, first_of, first_value, found_of, kind_of, matched_of, matches_of, raw_values}
 use Rattle.clap.specs.declared.error.Error.{Error}
 use Rattle.clap.specs.declared.error.kind.ErrorKind.TheVariants.{OutOfMemory}
 use Rattle.clap.specs.declared.parser.matches.ArgMatches.{ArgMatches}
@@ -23,20 +23,24 @@ use Rattle.rj_line.specs.declared.request.Strictness.TheVariants as strictness
 use Rattle.rj_settings.specs.declared.choice.Choice.{Choice}
 use Rattle.rj_line.specs.Choices.{GivesSide, IsChoiceFault, IsChoiceOf, is_looked_for, order_name}
 use Rattle.rj_line.specs.Delimiters.{are_delimiters_given, delimiter_given}
-use Rattle.rj_line.specs.Forms.{default_strictness, default_workers, form_of, is_explained, is_short}
-use Rattle.rj_line.specs.Named.{IsNameOf, IsNamedOr, is_true}
+use Rattle.rj_line.specs.Forms.{default_strictness, default_workers, explains_by_word, form_of, is_explained, is_short}
+use Rattle.rj_line.specs.Named.{IsNameOf, IsNamedOr, is_true, is_word}
 use Rattle.rj_line.specs.Options.{OptionWords, line_app}
-use Rattle.rj_line.specs.Types.{AreTypesOf, GivesNoShared, GivesNoTypes, GivesShared, GivesTypes}
+use Rattle.rj_line.specs.Types.{AreTypesOf, GivesNoShared, GivesNoTypes, GivesShared, GivesTypes, is_auto}
 use Rattle.rj_line.specs.declared.form.Form.{Form}
 use Rattle.rj_types.specs.declared.entry.TypeEntry.{TypeEntry}
 
+-- the options by which the words of a line of this form are read
+abbrev pub app_for : Form → OptionWords → List Text → App
+app_for f h words = line_app f (explains_by_word words) h
+
 -- the value that the words of a line of this form give an option, or a word that is no option
 abbrev pub word_of : Form → OptionWords → List Text → Text → Option Text
-word_of f h words name = first_of name (matches_of (line_app f h) words)
+word_of f h words name = first_of name (matches_of (app_for f h words) words)
 
 -- the values that they give an option, use by use
 abbrev pub words_of : Form → OptionWords → List Text → Text → List Text
-words_of f h words name = unwrap_or (all_of name (matches_of (line_app f h) words)) []
+words_of f h words name = unwrap_or (all_of name (matches_of (app_for f h words) words)) []
 
 -- those that a parse found
 abbrev pub texts_found : Found → Text → List Text
@@ -127,6 +131,7 @@ IsStrictName (Some text) = (text ≡ codes "on") ⊎ (text ≡ codes "full")
 -- the default, by which there may be a worker for each of these processors
 pub record IsRequestOf (f : Form) (processors : ℕ) (word : Text → Option Text) (texts : Text → List Text) (r : Request) : Type 0 where
   pub shared_types : GivesShared (word (codes "types")) r.shared_types.items
+  pub auto_types : r.auto_types ≡ is_auto (word (codes "types"))
   pub left_types : AreTypesOf f r.shared_types.items (word (codes "left-types")) r.left_types.items r.left_undeclared
   pub right_types : AreTypesOf f r.shared_types.items (word (codes "right-types")) r.right_types.items r.right_undeclared
   pub join : word (codes "join") ≡ Some r.clause.now
@@ -146,13 +151,21 @@ pub record IsRequestOf (f : Form) (processors : ℕ) (word : Text → Option Tex
   pub expectation : IsExpectationOf word r.expectation
   pub report : r.report ≡ is_true (word (codes "report"))
 
+-- all that explains an error is asked for
+abbrev pub asks_all : (Text → Option Text) → Bool
+asks_all word = is_word (codes "all") (word (codes "explain"))
+
+-- an error is to be explained, as a flag says or by the word for all
+abbrev pub is_to_explain : (Text → Option Text) → Bool
+is_to_explain word = is_true (word (codes "explain")) || asks_all word
+
 -- whether the values of the options of a line of this form ask for errors to be explained
 abbrev pub asks_explained : Form → (Text → Option Text) → Bool
-asks_explained f word = is_explained f (is_true (word (codes "explain"))) (is_true (word (codes "terse"))) (is_true (word (codes "quiet")))
+asks_explained f word = is_explained f (is_to_explain word) (is_true (word (codes "terse"))) (is_true (word (codes "quiet")))
 
 -- nothing but the line of an error is to be printed, and explanations or the progress too
 abbrev pub is_quiet_twice : (Text → Option Text) → Bool
-is_quiet_twice word = is_true (word (codes "quiet")) && (is_true (word (codes "explain")) || is_true (word (codes "progress")))
+is_quiet_twice word = is_true (word (codes "quiet")) && (is_to_explain word || is_true (word (codes "progress")))
 
 -- rows, columns or their order are chosen
 abbrev pub is_chosen : (Text → Option Text) → Bool
@@ -168,16 +181,18 @@ is_counted_choice word = is_true (word (codes "count")) && is_chosen word
 -- one given or the default, and no two exclude each other
 pub record IsLineIn (f : Form) (processors : ℕ) (words : List Text) (l : Line) : Type 0 where
   pub option_words : OptionWords
-  pub accepted : fault_of (line_app f option_words) words ≡ []
+  pub accepted : fault_of (app_for f option_words words) words ≡ []
   pub left : word_of f option_words words (codes "left") ≡ Some l.left.now
   pub right : word_of f option_words words (codes "right") ≡ Some l.right.now
   pub request : IsRequestOf f processors (word_of f option_words words) (words_of f option_words words) l.request
   pub stats : l.stats ≡ is_true (word_of f option_words words (codes "stats"))
   pub explain : l.explain ≡ asks_explained f (word_of f option_words words)
+  pub explain_all : l.explain_all ≡ asks_all (word_of f option_words words)
   pub output : option_map (λ s. s.now) l.output ≡ word_of f option_words words (codes "output")
   pub count : l.count ≡ is_true (word_of f option_words words (codes "count"))
   pub progress : l.progress ≡ is_true (word_of f option_words words (codes "progress"))
   pub quiet : l.quiet ≡ is_true (word_of f option_words words (codes "quiet"))
+  pub unnamed : l.unnamed ≡ is_true (word_of f option_words words (codes "unnamed"))
   pub quiet_once : is_quiet_twice (word_of f option_words words) ≡ false
   pub counts_all : is_counted_choice (word_of f option_words words) ≡ false
 
@@ -233,15 +248,15 @@ IsValueFault f word texts e = IsRequestFault f word texts e
 
 -- an error of `clap`: out of memory, or one of a kind that it may report of the words
 abbrev pub IsParseError : Form → List Text → Error → Type 0
-IsParseError f words e = (kind_of e ≡ OutOfMemory) ⊎ ((h : OptionWords) × IsAmong (kind_of e) (fault_of (line_app f h) words))
+IsParseError f words e = (kind_of e ≡ OutOfMemory) ⊎ ((h : OptionWords) × IsAmong (kind_of e) (fault_of (app_for f h words) words))
 
 -- read in this form: an error of `clap` of a kind that it may report of the words, other than out of
 -- memory; or if it has none to report, an error of the values; or memory ran out
 abbrev pub IsFaultIn : Form → List Text → Fault → Type 0
-IsFaultIn f words (fault.CommandLine e) = (kind_of e ≢ OutOfMemory) × ((h : OptionWords) × IsAmong (kind_of e) (fault_of (line_app f h) words))
+IsFaultIn f words (fault.CommandLine e) = (kind_of e ≢ OutOfMemory) × ((h : OptionWords) × IsAmong (kind_of e) (fault_of (app_for f h words) words))
 IsFaultIn f words fault.Memory = Unit {0}
 IsFaultIn f words e =
-    (h : OptionWords) × (fault_of (line_app f h) words ≡ []) × IsValueFault f (word_of f h words) (words_of f h words) e
+    (h : OptionWords) × (fault_of (app_for f h words) words ≡ []) × IsValueFault f (word_of f h words) (words_of f h words) e
 
 abbrev pub IsLineFault : List Text → Fault → Type 0
 IsLineFault words e = IsFaultIn (form_of words) words e
@@ -274,7 +289,7 @@ pub record HasValues (f : Form) (word : Text → Option Text) : Type 0 where
 -- the parsed words, with the names of both files, and the values from which a request is read
 pub record IsParseOf (f : Form) (words : List Text) (m : ArgMatches) : Type 0 where
   pub option_words : OptionWords
-  pub accepted : fault_of (line_app f option_words) words ≡ []
+  pub accepted : fault_of (app_for f option_words words) words ≡ []
   pub values : (name : Text) → first_value (found_of m) name ≡ word_of f option_words words name
   pub texts : (name : Text) → texts_found (found_of m) name ≡ words_of f option_words words name
   pub left : is_some (first_value (found_of m) (codes "left")) ≡ true

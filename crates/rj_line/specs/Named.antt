@@ -13,7 +13,11 @@ abbrev pub IsNameOf : {X : Type 0} → (X → Text) → Option Text → Type 0
 IsNameOf name None = Unit {0}
 IsNameOf {X} name (Some text) = (x : X) × (text ≡ name x)
 
+-- an option's value is this word
+abbrev pub is_word : Text → Option Text → Bool
+is_word word None = false
+is_word word (Some text) = bytes_eq text word
+
 -- a flag's value is `true` if it is given
 abbrev pub is_true : Option Text → Bool
-is_true None = false
-is_true (Some text) = bytes_eq text (codes "true")
+is_true word = is_word (codes "true") word

@@ -1,5 +1,5 @@
 -- The options of the command line, as `clap` has them.
-use Rattle.std.specs.Prelude.{◌≡◌, ℕ, true, false, List, [], ◌∷◌, ◌++◌, Option, None, Some, codes, map, pos}
+use Rattle.std.specs.Prelude.{◌≡◌, if◌then◌else◌, ℕ, Bool, true, false, List, [], ◌∷◌, ◌++◌, Option, None, Some, codes, map, pos}
 use Rattle.std.specs.Borrow.{Bor}
 use Rattle.clap.specs.Words.{App, Rule, Text, AddsArg, app_of, args_of, groups_of, new_app, new_rule, rule_of, with_rule}
 use Rattle.clap.specs.Built.{AddsInTurn}
@@ -63,6 +63,8 @@ pub record OptionWords : Type 0 where
   pub are_sides : map (λ w. w.now) sides.now ≡ codes "all" ∷ codes "left" ∷ codes "right" ∷ []
   pub matchings : Bor (List (Bor Text))
   pub are_matchings : map (λ w. w.now) matchings.now ≡ expect_words
+  pub explained : Bor (List (Bor Text))
+  pub are_explained : map (λ w. w.now) explained.now ≡ codes "all" ∷ []
 
 -- the options of each form alone; in the short one the first three words that are no options are
 -- the left table, the right table and the clause
@@ -80,15 +82,15 @@ own_rules form.Short =
     ∷ rule_for (codes "join") None takes.Place
     ∷ rule_for (codes "left-types") None takes.Text
     ∷ rule_for (codes "right-types") None takes.Text
-    ∷ rule_for (codes "types") None takes.Text
     ∷ rule_for (codes "lenient") None takes.Nothing
     ∷ rule_for (codes "terse") None takes.Nothing
     ∷ []
 
--- the options of both forms, in order; 100 is d, 111 is o, 113 is q and 119 is w
+-- the options of both forms, in order, but for the one that explains errors; 100 is d, 111 is o, 113 is q and 119 is w
 abbrev pub common_rules : OptionWords → List Rule
 common_rules h =
-    rule_for (codes "null") None takes.Text
+    rule_for (codes "types") None takes.Text
+    ∷ rule_for (codes "null") None takes.Text
     ∷ rule_for (codes "left-null") None takes.Texts
     ∷ rule_for (codes "right-null") None takes.Texts
     ∷ rule_for (codes "out-null") None takes.Text
@@ -107,7 +109,6 @@ common_rules h =
     ∷ rule_for (codes "retries") None (takes.Number 0 3)
     ∷ rule_for (codes "piece") None (takes.Number 1 1048576)
     ∷ rule_for (codes "stats") None takes.Nothing
-    ∷ rule_for (codes "explain") None takes.Nothing
     ∷ rule_for (codes "output") (Some 111) takes.Text
     ∷ rule_for (codes "order") None (takes.Word h.orders)
     ∷ rule_for (codes "rows") None takes.Text
@@ -122,10 +123,15 @@ common_rules h =
     ∷ rule_for (codes "progress") None takes.Nothing
     ∷ rule_for (codes "select") None takes.Text
     ∷ rule_for (codes "quiet") (Some 113) takes.Nothing
+    ∷ rule_for (codes "unnamed") None takes.Nothing
     ∷ []
 
-abbrev pub option_rules : Form → OptionWords → List Rule
-option_rules f h = own_rules f ++ common_rules h
+-- the option that explains errors: by a word, or a flag
+abbrev pub explain_rules : Bool → OptionWords → List Rule
+explain_rules by_word h = rule_for (codes "explain") None (if by_word then takes.Word h.explained else takes.Nothing) ∷ []
+
+abbrev pub option_rules : Form → Bool → OptionWords → List Rule
+option_rules f by_word h = own_rules f ++ (common_rules h ++ explain_rules by_word h)
 
 -- a command with these further rules
 abbrev pub with_rules : App → List Rule → App
@@ -133,8 +139,9 @@ with_rules app [] = app
 with_rules app (r ∷ rules) = with_rules (with_rule app r) rules
 
 -- the program's command line in a form, which has a version, and whose words begin after its name
-abbrev pub line_app : Form → OptionWords → App
-line_app f h = with_rules (on_top (λ s. record s { has_version = true; no_binary_name = true }) (new_app (codes "radixjoin"))) (option_rules f h)
+abbrev pub line_app : Form → Bool → OptionWords → App
+line_app f by_word h =
+    with_rules (on_top (λ s. record s { has_version = true; no_binary_name = true }) (new_app (codes "radixjoin"))) (option_rules f by_word h)
 
 -- a command with the arguments of these further rules, each added in turn
 abbrev pub IsChain : Command → List Rule → Command → Type 0
@@ -147,10 +154,10 @@ pub record IsBare (c : Command) : Type 0 where
   pub globals : (out-Command c).has_globals ≡ false
   pub negates : (out-Command c).subcommand_negates_reqs ≡ false
 
--- a bare command with the options of a form in turn
-pub record IsLineCommand (f : Form) (c : Command) : Type 0 where
+-- a bare command with the options of a form in turn, of which one explains errors by a word or as a flag
+pub record IsLineCommand (f : Form) (by_word : Bool) (c : Command) : Type 0 where
   pub start : Command
   pub option_words : OptionWords
   pub bare : IsBare start
-  pub chain : IsChain start (option_rules f option_words) c
-  pub app : app_of c ≡ line_app f option_words
+  pub chain : IsChain start (option_rules f by_word option_words) c
+  pub app : app_of c ≡ line_app f by_word option_words

@@ -1,7 +1,8 @@
 -- The types of a side's columns, by the value of an option.
-use Rattle.std.specs.Prelude.{◌≡◌, ◌&&◌, Bool, true, List, [], Option, Some, None}
+use Rattle.std.specs.Prelude.{◌≡◌, ◌&&◌, ◌⊎◌, Bool, true, List, [], Option, Some, None, codes}
 use Rattle.clap.specs.Words.{Text}
 use Rattle.rj_line.specs.Forms.{is_short}
+use Rattle.rj_line.specs.Named.{is_word}
 use Rattle.rj_line.specs.declared.form.Form.{Form}
 use Rattle.rj_line.specs.declared.form.Form.TheVariants as form
 use Rattle.rj_types.specs.Columns.{is_open, with_shared, with_texts}
@@ -18,19 +19,24 @@ GivesTypes f (Some text) types = IsTypeList text types
 abbrev pub GivesNoTypes : Option Text → Type 0
 GivesNoTypes word = (text : Text) × (word ≡ Some text) × ((types : List TypeEntry) → IsTypeList text types → ⊥)
 
--- an option's value is a list of these types for both tables; it may be missing, and then lists none
+-- in place of a list for both tables, an option's value asks for the types that the cells suggest
+abbrev pub is_auto : Option Text → Bool
+is_auto word = is_word (codes "auto") word
+
+-- an option's value is a list of these types for both tables; it may be missing, or ask for those that
+-- the cells suggest, and then lists none
 abbrev pub GivesShared : Option Text → List TypeEntry → Type 0
 GivesShared None shared = shared ≡ []
-GivesShared (Some text) shared = IsSharedList text shared
+GivesShared (Some text) shared = ((text ≡ codes "auto") × (shared ≡ [])) ⊎ IsSharedList text shared
 
 -- an option's value isn't a type list for both tables
 abbrev pub GivesNoShared : Option Text → Type 0
-GivesNoShared word = (text : Text) × (word ≡ Some text) × ((shared : List TypeEntry) → IsSharedList text shared → ⊥)
+GivesNoShared word = (text : Text) × (word ≡ Some text) × ((types : List TypeEntry) → GivesShared word types → ⊥)
 
--- in the short form, columns of which a side's list says nothing have the types of the list for both
--- tables, and those of which neither does are of texts
+-- columns of which a side's list says nothing have the types of the list for both tables, and in the
+-- short form those of which neither does are of texts
 abbrev pub completed : Form → List TypeEntry → List TypeEntry → List TypeEntry
-completed form.Long shared listed = listed
+completed form.Long shared listed = with_shared listed shared
 completed form.Short shared listed = with_texts (with_shared listed shared)
 
 -- the types of a side's columns by those for both tables and by an option's value, and whether the

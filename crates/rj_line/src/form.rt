@@ -54,6 +54,21 @@ pub fn form_of(words: &[&str]) -> Form
     }
 }
 
+// Whether a word asks for all that explains an error.
+fn is_explain_all(word: &str) -> bool
+    ensures { result ≡ forms.is_explain_all word.now }
+{
+    word == "--explain=all"
+}
+
+/// Whether the option that explains errors takes a word in a line of these words: where one of them
+/// is `--explain=all`.
+pub(crate) fn explains_by_word(words: &[&str]) -> bool
+    ensures { result ≡ list_any (λ w. forms.is_explain_all w.now) words.now }
+{
+    words.iter().any(|word| is_explain_all(word))
+}
+
 // A worker for each processor, from 1 to 64.
 fn workers_for(processors: usize) -> u32
     ensures workers { result ≡ forms.workers_for processors }

@@ -8,7 +8,7 @@ Joins two CSV files as SQL-92 says, and writes the joined table as CSV
 Usage: radixjoin <LEFT FILE> <RIGHT FILE> <CLAUSE> [OPTIONS]
        radixjoin --left <FILE> --left-types <TYPES> --right <FILE> --right-types <TYPES>
                  --join <CLAUSE> [OPTIONS]
-       radixjoin --suggest-types <FILE> [--null <TEXT>] [--delimiter <CHAR>]
+       radixjoin --suggest-types <FILE> [--null <TEXT>] [--delimiter <CHAR>] [--strict]
 
 The short form, without --left, --right and --join, is for people: by default it reads strictly,
 explains errors, qualifies repeated names and has a worker for each processor. A column of which no
@@ -19,13 +19,14 @@ Tables:
   --right <FILE>            CSV file of the right table, R in the clause; - is standard input
   --left-types <TYPES>      Left column types: 'int,num(9,2),text', by name 'id=int,*=text', @FILE
   --right-types <TYPES>     Right column types, in the same forms
-  --types <TYPES>           Types of both, by name, in the short form: 'id=int,qty=num(9,2)', @FILE
+  --types <TYPES>           Types of both by name: 'id=int,qty=num(9,2)', @FILE; auto: suggested
   -d, --delimiter <CHAR>    Delimiter of both files and of the result, or tab [default: a comma]
   --left-delimiter <CHAR>   Delimiter of the left file [default: as --delimiter]
   --right-delimiter <CHAR>  Delimiter of the right file [default: as --delimiter]
   --null <TEXT>             Text for NULL in both files and in the result [default: an empty field]
   --left-null <TEXT>        Text for NULL in the left file, up to four times [default: as --null]
   --right-null <TEXT>       Text for NULL in the right file, up to four times [default: as --null]
+  --unnamed                 Name columns without a name (column_4), and repeated ones (name_2)
   --strict [<LEVEL>]        Refuse CSV not of RFC 4180 (on), and a last line without end (full)
   --lenient                 Don't read strictly in the short form
 
@@ -50,7 +51,7 @@ Checks (--report and --stats print on standard error):
   --count                   Write one line of counts in place of the rows, to --output if given
   --report                  Count matches, NULL keys, repeated keys; largest group of equal keys
   --stats                   Count rows by partition and by kind, and with --piece the pieces
-  --explain                 Say where an error is, what is there, and what was perhaps meant
+  --explain[=all]           Say where an error is, what is there, and what was perhaps meant
   --terse                   Don't explain errors in the short form
   -q, --quiet               Print no explanation, note or progress, only the line of an error
   --progress                Show the progress on a terminal at once, not only after two seconds

@@ -12,12 +12,14 @@ ghost use Rattle.rj_line.specs.Line.{AreNumbersIn, AreSettings, HasValues, IsCho
 use crate::choice::{choice_of, is_looked_for};
 use crate::delimiters::{Delimiters, delimiters_of};
 use crate::expecting::{expectation_of, number_of};
-use crate::flags::{has_value, is_given};
-use crate::form::{Form, default_strictness, default_workers, form_of, is_explained, is_short};
+use crate::flags::{has_value, is_given, is_word};
+use crate::form::{
+    Form, default_strictness, default_workers, explains_by_word, form_of, is_explained, is_short,
+};
 use crate::nulls::read_nulls;
 use crate::options::line_command;
 use crate::request::{Hash, Request, Strictness};
-use crate::types::{shared_types_of, types_of};
+use crate::types::{is_auto, shared_types_of, types_of};
 use clap::{ArgMatches, Error};
 use rj_fault::{Fault, Side};
 use rj_settings::{Choice, Settings};
@@ -36,6 +38,8 @@ pub struct Line<'a> {
     pub stats: bool,
     /// Whether an error is explained by further lines.
     pub explain: bool,
+    /// Whether all that explains it is asked for. Then it is explained, too.
+    pub explain_all: bool,
     /// The name of the file to which the result is written, in place of standard output.
     pub output: Option<&'a str>,
     /// Whether the numbers of rows are asked for in place of the rows.
@@ -44,6 +48,8 @@ pub struct Line<'a> {
     pub progress: bool,
     /// Whether standard error gets nothing but the line of an error.
     pub quiet: bool,
+    /// Whether columns without a name, or with one that is repeated, get names.
+    pub unnamed: bool,
 }
 
 // The parsed words of a line of this form, as `clap` matches them.
@@ -51,7 +57,7 @@ fn parse_words<'a>(alloc: Global, words: &'a [&'a str], form: Form) -> Result<Ar
     ensures ok { IfOk result (IsParseOf form (map (λ w. w.now) words.entry.now)) }
     ensures error { IfErr result (IsParseError form (map (λ w. w.now) words.entry.now)) }
 {
-    let command = line_command(alloc, form)?;
+    let command = line_command(alloc, form, explains_by_word(words))?;
     match command.try_get_matches_from(words) {
         Ok(matches) => Ok(matches),
         Err(error) => Err(error),
@@ -129,13 +135,27 @@ fn strictness_of(matches: &ArgMatches<'_>, form: Form) -> Strictness
     )
 }
 
+// Whether all that explains an error is asked for.
+fn asks_all(matches: &ArgMatches<'_>) -> bool
+    ensures { result ≡ lines.asks_all (first_value (found_of matches.now)) }
+{
+    is_word(matches, "explain", "all")
+}
+
+// Whether an error is to be explained, as a flag says or by the word for all.
+fn is_to_explain(matches: &ArgMatches<'_>) -> bool
+    ensures { result ≡ lines.is_to_explain (first_value (found_of matches.now)) }
+{
+    is_given(matches, "explain") || asks_all(matches)
+}
+
 // Whether a line of this form asks for errors to be explained.
 fn asks_explained(matches: &ArgMatches<'_>, form: Form) -> bool
     ensures { result ≡ lines.asks_explained form (first_value (found_of matches.now)) }
 {
     is_explained(
         form,
-        is_given(matches, "explain"),
+        is_to_explain(matches),
         is_given(matches, "terse"),
         is_given(matches, "quiet"),
     )
@@ -145,7 +165,7 @@ fn asks_explained(matches: &ArgMatches<'_>, form: Form) -> bool
 fn is_quiet_twice(matches: &ArgMatches<'_>) -> bool
     ensures { result ≡ lines.is_quiet_twice (first_value (found_of matches.now)) }
 {
-    is_given(matches, "quiet") && (is_given(matches, "explain") || is_given(matches, "progress"))
+    is_given(matches, "quiet") && (is_to_explain(matches) || is_given(matches, "progress"))
 }
 
 // Whether rows, columns or their order are chosen.
@@ -219,6 +239,7 @@ fn request_of<'a>(
         left_types: left.entries,
         right_types: right.entries,
         shared_types: types,
+        auto_types: is_auto(matches),
         left_undeclared: left.undeclared,
         right_undeclared: right.undeclared,
         left_nulls,
@@ -266,10 +287,12 @@ fn read_in_form<'a>(
         request,
         stats: is_given(&matches, "stats"),
         explain: asks_explained(&matches, form),
+        explain_all: asks_all(&matches),
         output: matches.get_str("output"),
         count: is_given(&matches, "count"),
         progress: is_given(&matches, "progress"),
         quiet: is_given(&matches, "quiet"),
+        unnamed: is_given(&matches, "unnamed"),
     })
 }
 

@@ -73,7 +73,7 @@ const LONG: [LineOption; 5] = [
 ];
 
 // Those of the short form, in which three words are no options.
-const SHORT: [LineOption; 8] = [
+const SHORT: [LineOption; 7] = [
     LineOption {
         name: "left",
         letter: None,
@@ -100,11 +100,6 @@ const SHORT: [LineOption; 8] = [
         takes: Takes::Text,
     },
     LineOption {
-        name: "types",
-        letter: None,
-        takes: Takes::Text,
-    },
-    LineOption {
         name: "lenient",
         letter: None,
         takes: Takes::Nothing,
@@ -116,8 +111,13 @@ const SHORT: [LineOption; 8] = [
     },
 ];
 
-// The options of both forms.
-const COMMON: [LineOption; 34] = [
+// The options of both forms, but for the one that explains errors.
+const COMMON: [LineOption; 35] = [
+    LineOption {
+        name: "types",
+        letter: None,
+        takes: Takes::Text,
+    },
     LineOption {
         name: "null",
         letter: None,
@@ -214,11 +214,6 @@ const COMMON: [LineOption; 34] = [
         takes: Takes::Nothing,
     },
     LineOption {
-        name: "explain",
-        letter: None,
-        takes: Takes::Nothing,
-    },
-    LineOption {
         name: "output",
         letter: Some('o'),
         takes: Takes::Text,
@@ -296,7 +291,26 @@ const COMMON: [LineOption; 34] = [
         letter: Some('q'),
         takes: Takes::Nothing,
     },
+    LineOption {
+        name: "unnamed",
+        letter: None,
+        takes: Takes::Nothing,
+    },
 ];
+
+// The option that explains errors, as a flag.
+const EXPLAIN: [LineOption; 1] = [LineOption {
+    name: "explain",
+    letter: None,
+    takes: Takes::Nothing,
+}];
+
+// The same option, with its word.
+const EXPLAIN_BY_WORD: [LineOption; 1] = [LineOption {
+    name: "explain",
+    letter: None,
+    takes: Takes::Word(&["all"]),
+}];
 
 // An argument with the names of an option.
 fn named<'a>(alloc: Global, option: &LineOption) -> Arg<'a>
@@ -367,14 +381,24 @@ fn with_own_options<'a>(
     }
 }
 
-// The command line of the program in this form. Its words begin after the program's name.
-pub(crate) fn line_command<'a>(alloc: Global, form: Form) -> Result<Command<'a>, AllocError>
-    ensures { IfOk result (IsLineCommand form) }
+// The command line of the program in this form, in which errors are explained by a word or by a
+// flag. Its words begin after the program's name.
+pub(crate) fn line_command<'a>(
+    alloc: Global,
+    form: Form,
+    by_word: bool,
+) -> Result<Command<'a>, AllocError>
+    ensures { IfOk result (IsLineCommand form by_word) }
 {
     let command = Command::new(alloc, "radixjoin")
         .override_help(HELP)
         .version(VERSION)
         .no_binary_name(true);
     let command = with_own_options(alloc, command, form)?;
-    with_options(alloc, command, &COMMON)
+    let command = with_options(alloc, command, &COMMON)?;
+    if by_word {
+        with_options(alloc, command, &EXPLAIN_BY_WORD)
+    } else {
+        with_options(alloc, command, &EXPLAIN)
+    }
 }

@@ -35,6 +35,9 @@ pub struct Request<'a> {
     /// The types of the columns of both tables, by name, as they are in `left_types` and in
     /// `right_types` too.
     pub shared_types: Vec<TypeEntry>,
+    /// Whether the columns that the clause compares, and that no list names, are to have the types
+    /// that their cells suggest. Then there are no types of both tables.
+    pub auto_types: bool,
     /// Whether the types of those left columns that no entry names aren't declared.
     pub left_undeclared: bool,
     /// The same of the right columns.

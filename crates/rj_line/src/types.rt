@@ -3,10 +3,11 @@
 ghost use Rattle.std.specs.Prelude.{◌≡◌, ◌≢◌, ◌&&◌, IfOk, IfErr, List, codes, false, is_some, true};
 ghost use Rattle.clap.specs.Words.{first_value, found_of};
 ghost use Rattle.rj_line.specs.Forms.{is_short};
-ghost use Rattle.rj_line.specs.Types.{AreTypesOf, GivesNoShared, GivesNoTypes, GivesShared, GivesTypes, completed};
+ghost use Rattle.rj_line.specs.Types.{AreTypesOf, GivesNoShared, GivesNoTypes, GivesShared, GivesTypes, completed, is_auto};
 ghost use Rattle.rj_types.specs.Columns.{is_open};
 ghost use Rattle.rj_types.specs.Lists.{IsTypeList};
 
+use crate::flags::is_word;
 use crate::form::{Form, is_short};
 use clap::ArgMatches;
 use rj_fault::{Fault, Side};
@@ -58,11 +59,18 @@ fn listed(
     }
 }
 
-/// The entries of the list for both tables, if the line has one.
+/// Whether the types that the cells suggest are asked for, in place of a list for both tables.
+pub(crate) fn is_auto(matches: &ArgMatches<'_>) -> bool
+    ensures { result ≡ is_auto (first_value (found_of matches.now) (codes "types")) }
+{
+    is_word(matches, "types", "auto")
+}
+
+/// The entries of the list for both tables, if the line has one. The word `auto` lists none.
 ///
 /// # Errors
 ///
-/// `BadSharedTypeList` if the option's value isn't a list of types by name. `Memory` comes only when
+/// `BadSharedTypeList` if the option's value is neither. `Memory` comes only when
 /// memory ran out.
 pub(crate) fn shared_types_of(
     alloc: Global,
@@ -75,6 +83,9 @@ pub(crate) fn shared_types_of(
     let Some(text) = matches.get_str("types") else {
         return Ok(Vec::new(alloc));
     };
+    if text == "auto" {
+        return Ok(Vec::new(alloc));
+    }
     match read_shared_list(alloc, text) {
         Ok(Some(entries)) => Ok(entries),
         Ok(None) => Err(Fault::BadSharedTypeList),
@@ -82,15 +93,21 @@ pub(crate) fn shared_types_of(
     }
 }
 
-// The entries of a side's list with those for both tables, and with that of all other columns.
+// The entries of a side's list with those for both tables, and in the short form with that of all
+// other columns.
 fn completed_entries(
     alloc: Global,
     listed: Vec<TypeEntry>,
     shared: &[TypeEntry],
+    form: Form,
 ) -> Result<Vec<TypeEntry>, AllocError>
-    ensures { IfOk result (λ v. v.items ≡ completed Form.Short shared.now listed.items) }
+    ensures { IfOk result (λ v. v.items ≡ completed form shared.now listed.items) }
 {
-    with_texts(with_shared(alloc, listed, shared)?)
+    let entries = with_shared(alloc, listed, shared)?;
+    match form {
+        Form::Long => Ok(entries),
+        Form::Short => with_texts(entries),
+    }
 }
 
 // The types that these entries and those for both tables give a side's columns.
@@ -104,14 +121,8 @@ fn completed(
     ensures undeclared { IfOk result (λ t. t.undeclared ≡ (is_short form && is_open listed.items)) }
     ensures fault { IfErr result (λ f. f ≡ Fault.Memory) }
 {
-    if !is_short(form) {
-        return Ok(SideTypes {
-            entries: listed,
-            undeclared: false,
-        });
-    }
-    let undeclared = is_open(listed.as_slice());
-    match completed_entries(alloc, listed, shared) {
+    let undeclared = is_short(form) && is_open(listed.as_slice());
+    match completed_entries(alloc, listed, shared, form) {
         Ok(entries) => Ok(SideTypes {
             entries,
             undeclared,
@@ -120,9 +131,9 @@ fn completed(
     }
 }
 
-/// The types of a side's columns: those that the list of an option gives. In the short form, columns
-/// of which it says nothing have those of the list for both tables, and columns of which neither
-/// says anything are of texts, and undeclared.
+/// The types of a side's columns: those that the list of an option gives. Columns of which it says
+/// nothing have those of the list for both tables. In the short form, columns of which neither says
+/// anything are of texts, and undeclared.
 ///
 /// # Errors
 ///

@@ -1,4 +1,5 @@
 pub mod ReadBack
 pub mod ReadTypes
 pub mod RetypedFacts
+pub mod StrictFacts
 pub mod SuggestFacts

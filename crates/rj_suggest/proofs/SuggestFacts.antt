@@ -151,22 +151,19 @@ pub most-step : (t : TableValue) (col row : ℕ) (p : Part) (least most new : �
 most-step t col row p least most new None at is h = let P : ℕ → Type 0 = IsMostAbove t col (row + 1) p least in subst P (sym is) (most-none t col row p least most (sym at) h)
 most-step t col row p least most new (Some s) at is h = most-some t col row p least most new s (sym at) is h
 
--- one type more
-get-pushed : (kinds : List ColumnType) (k : ColumnType) (i : ℕ) (x : ColumnType) → slice_get (kinds ++ k ∷ []) i ≡ Some x → (slice_get kinds i ≡ Some x) ⊎ ((i ≡ length kinds) × (k ≡ x))
-get-pushed [] k zero x e = inr (refl, cc)
-get-pushed [] k (suc i) x e = absurd cc
-get-pushed (y ∷ ys) k zero x e = inl e
-get-pushed (y ∷ ys) k (suc i) x e = elim (get-pushed ys k i x e) [ inl before ↦ inl before | inr last ↦ inr (ap suc last.0, last.1) ]
+-- one item more
+get-pushed : {A : Type 0} (xs : List A) (new : A) (i : ℕ) (x : A) → slice_get (xs ++ new ∷ []) i ≡ Some x → (slice_get xs i ≡ Some x) ⊎ ((i ≡ length xs) × (new ≡ x))
+get-pushed [] new zero x e = inr (refl, cc)
+get-pushed [] new (suc i) x e = absurd cc
+get-pushed (y ∷ ys) new zero x e = inl e
+get-pushed (y ∷ ys) new (suc i) x e = elim (get-pushed ys new i x e) [ inl before ↦ inl before | inr last ↦ inr (ap suc last.0, last.1) ]
 
-pub kinds-pushed : (t : TableValue) (kinds : List ColumnType) (n : ℕ) (k : ColumnType) → length kinds ≡ n → IsSuggested t n k
-    → ((col : ℕ) (kind : ColumnType) → slice_get kinds col ≡ Some kind → IsSuggested t col kind)
-    → (col : ℕ) (kind : ColumnType) → slice_get (kinds ++ k ∷ []) col ≡ Some kind → IsSuggested t col kind
-kinds-pushed t kinds n k size here before col kind is = elim (get-pushed kinds k col kind is) [
-  | inl at ↦ before col kind at
-  | inr last ↦
-      let P : ℕ → Type 0 = λ i. IsSuggested t i k in
-      let Q : ColumnType → Type 0 = IsSuggested t col in
-      subst Q last.1 (subst P (sym (last.0 ∙ size)) here)
+pub each-pushed : {A : Type 0} (P : ℕ → A → Type 0) (xs : List A) (n : ℕ) (new : A) → length xs ≡ n → P n new
+    → ((i : ℕ) (x : A) → slice_get xs i ≡ Some x → P i x)
+    → (i : ℕ) (x : A) → slice_get (xs ++ new ∷ []) i ≡ Some x → P i x
+each-pushed P xs n new size here before i x is = elim (get-pushed xs new i x is) [
+  | inl at ↦ before i x at
+  | inr last ↦ subst (P i) last.1 (subst (λ k. P k new) (sym (last.0 ∙ size)) here)
 ]
 
 -- one line more

@@ -1,2 +1,5 @@
 pub mod Listed
+pub mod Misfits
+pub mod Strict
 pub mod Suggested
+pub mod Entries

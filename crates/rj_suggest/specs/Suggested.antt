@@ -11,7 +11,7 @@ use Rattle.rj_columns.specs.declared.cell.ColumnType.TheVariants as kind
 use Rattle.rj_columns.specs.Contents.{Content, nothing, whole, decimal, word}
 use Rattle.rj_columns.specs.Tables.{TableValue, cell_of}
 use Rattle.rj_condition.specs.Tokens.{begins, in_quotes, is_name_byte}
-use Rattle.rj_csv_io.specs.Tables.{read_of}
+use Rattle.rj_csv_io.specs.Tables.{records_read}
 use Rattle.rj_csv_io.specs.Typed.{is_int_text}
 use Rattle.rj_csv_io.specs.declared.refused.ReadRefused.{ReadRefused}
 use Rattle.rj_fault.specs.Faults.{read_fault}
@@ -31,9 +31,9 @@ abbrev pub texts_for : List (List (List ℕ)) → List ColumnType
 texts_for [] = []
 texts_for (header ∷ rest) = map (λ _. kind.Text) header
 
--- what a file's bytes denote, by a delimiter, if each column is of texts
-abbrev pub read_as_texts : ℕ → List ℕ → List (List ℕ) → Result TableValue ReadRefused
-read_as_texts d bytes nulls = read_of d bytes (texts_for (records (config_of d) (strip_bom bytes))) nulls
+-- what records denote if each column is of texts
+abbrev pub read_as_texts : List (List (List ℕ)) → List (List ℕ) → Result TableValue ReadRefused
+read_as_texts rs nulls = records_read rs (texts_for rs) nulls
 
 -- no zero comes before another digit
 abbrev pub has_no_leading_zero : List ℕ → Bool
@@ -69,6 +69,12 @@ EachText t col P = EachAbove t col (length t.rows) P
 
 abbrev pub SomeText : TableValue → ℕ → (List ℕ → Type 0) → Type 0
 SomeText t col P = SomeAbove t col (length t.rows) P
+
+-- the first row of a column whose text isn't of a form
+pub record IsFirstNotOf (form : Form) (t : TableValue) (col row : ℕ) : Type 0 where
+  pub inside : row < length t.rows
+  pub other : IsSomeAnd (text_in (cell_of t row col)) (λ s. is_of form s ≡ false)
+  pub above : EachAbove t col row (λ s. is_of form s ≡ true)
 
 -- the most digits that a text in the first rows of a column has in this part, and no fewer than `least`
 pub record IsMostAbove (t : TableValue) (col rows : ℕ) (p : Part) (least most : ℕ) : Type 0 where
@@ -153,16 +159,17 @@ entries_of [] kinds = []
 entries_of (name ∷ names) [] = []
 entries_of (name ∷ names) (kind ∷ kinds) = entry_of name kind ∷ entries_of names kinds
 
--- the lines of the types that are suggested for the columns of a file, which reads as texts, and
--- reads with these types too
-pub record IsSuggestedList (d : ℕ) (bytes : List ℕ) (nulls : List (List ℕ)) (text : List ℕ) : Type 0 where
-  pub table : TableValue
-  pub kinds : List ColumnType
-  pub read : read_as_texts d bytes nulls ≡ Ok table
-  pub suggested : AreSuggested table kinds
-  pub typed : (typed_table : TableValue) × (read_of d bytes kinds nulls ≡ Ok typed_table)
-  pub lines : text ≡ column_lines table.names kinds
+-- the types that the cells of records suggest: these read as this table of texts, and read with these
+-- types too
+pub record AreKindsOf (rs : List (List (List ℕ))) (nulls : List (List ℕ)) (t : TableValue) (kinds : List ColumnType) : Type 0 where
+  pub read : read_as_texts rs nulls ≡ Ok t
+  pub suggested : AreSuggested t kinds
+  pub typed : (typed_table : TableValue) × (records_read rs kinds nulls ≡ Ok typed_table)
 
--- the error of a file that doesn't read as texts
+-- the error of records that don't read as texts
+abbrev pub IsFaultOf : List (List (List ℕ)) → List (List ℕ) → Fault → Type 0
+IsFaultOf rs nulls f = (e : ReadRefused) × (read_as_texts rs nulls ≡ Err e) × (f ≡ read_fault side.Left e)
+
+-- that of a file's records, by a delimiter
 abbrev pub IsSuggestFault : ℕ → List ℕ → List (List ℕ) → Fault → Type 0
-IsSuggestFault d bytes nulls f = (e : ReadRefused) × (read_as_texts d bytes nulls ≡ Err e) × (f ≡ read_fault side.Left e)
+IsSuggestFault d bytes nulls f = IsFaultOf (records (config_of d) (strip_bom bytes)) nulls f

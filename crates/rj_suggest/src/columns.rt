@@ -1,8 +1,8 @@
 //! The types that the cells of columns suggest.
 
-ghost use Rattle.std.specs.Prelude.{◌≡◌, ◌<◌, ◌≤◌, ◌+◌, ◌^◌, length, true, false, option_map, IfOk};
+ghost use Rattle.std.specs.Prelude.{◌≡◌, ◌<◌, ◌≤◌, ◌+◌, ◌^◌, length, true, false, option_map, IfNone, IfOk, IfSome};
 ghost use Rattle.rj_columns.specs.Tables.{cell_of};
-ghost use Rattle.rj_suggest.specs.Suggested.{AreSuggested, EachText, IsMost, IsNumericOrText, IsSuggested, SomeText, is_of, most_with, text_in};
+ghost use Rattle.rj_suggest.specs.Suggested.{AreSuggested, EachText, IsFirstNotOf, IsMost, IsNumericOrText, IsSuggested, SomeText, is_of, most_with, text_in};
 
 use crate::number::{Form, Part, count_digits, is_of};
 use rj_columns::{Cell, ColumnType, NumericType, Table};
@@ -16,7 +16,7 @@ const MOST_DIGITS: usize = 18;
 const MARGIN: usize = 2;
 
 // The text in a cell.
-fn text_at(table: &Table, row: u64, col: usize) -> Option<&str>
+pub(crate) fn text_at(table: &Table, row: u64, col: usize) -> Option<&str>
     requires row { row < length table.now.rows }
     requires col { col < length table.now.types }
     ensures { option_map (λ s. s.now) result ≡ text_in (cell_of table.now row col) }
@@ -41,20 +41,29 @@ fn has_text(table: &Table, col: usize) -> bool
     false
 }
 
+// The first row of a column whose text isn't of this form.
+pub(crate) fn first_not_of(form: Form, table: &Table, col: usize) -> Option<u64>
+    requires { col < length table.now.types }
+    ensures none { IfNone result (EachText table.now col (λ s. is_of form s ≡ true)) }
+    ensures some { IfSome result (IsFirstNotOf form table.now col) }
+{
+    for row in 0..table.rows() {
+        if let Some(text) = text_at(table, row, col) {
+            if !is_of(form, text) {
+                return Some(row);
+            }
+        }
+    }
+    None
+}
+
 // Whether each text of a column is of this form.
 fn are_of(form: Form, table: &Table, col: usize) -> bool
     requires { col < length table.now.types }
     ensures each { result ≡ true → EachText table.now col (λ s. is_of form s ≡ true) }
     ensures other { result ≡ false → SomeText table.now col (λ s. is_of form s ≡ false) }
 {
-    for row in 0..table.rows() {
-        if let Some(text) = text_at(table, row, col) {
-            if !is_of(form, text) {
-                return false;
-            }
-        }
-    }
-    true
+    first_not_of(form, table, col).is_none()
 }
 
 // The most digits so far, with those of a text, if there is one.

@@ -2,25 +2,35 @@
 //! text that writes a number.
 #![tactic(auto)]
 
-ghost use Rattle.std.specs.Prelude.{◌≡◌, ◌≢◌, IfOk, IfErr, replicate};
+ghost use Rattle.std.specs.Prelude.{◌≡◌, ◌≢◌, Err, IfOk, IfErr, replicate};
 ghost use Rattle.csv.specs.Reading.{records, strip_bom};
+ghost use Rattle.rj_columns.specs.Tables.{TableValue};
 ghost use Rattle.rj_csv_io.specs.Typed.{null_texts};
 ghost use Rattle.rj_strict.specs.Reading.{config_of};
-ghost use Rattle.rj_suggest.specs.Suggested.{IsSuggestFault, IsSuggestedList, texts_for};
+ghost use Rattle.rj_suggest.specs.Misfits.{IsSuggestion};
+ghost use Rattle.rj_suggest.specs.Suggested.{AreKindsOf, IsSuggestFault, read_as_texts, texts_for};
 
 mod columns;
+mod entries;
 mod listed;
+mod misfits;
 mod number;
 mod numeral;
+mod strict;
+mod suggestion;
 mod writing;
 
 use crate::columns::kinds_of;
+pub use crate::entries::list_of_entries;
 pub use crate::listed::list_of_lines;
+use crate::misfits::misfits_of;
 pub use crate::numeral::{are_digits, is_unsigned_text, place_of_point, without_sign};
+pub use crate::strict::{StrictlyRefused, suggest_types_strictly};
+pub use crate::suggestion::{Misfit, Suggestion};
 pub use crate::writing::lines_are_read_back;
 use crate::writing::lines_of;
-use rj_columns::ColumnType;
-use rj_csv_io::{Header, InputFormat, read_table, without_bom};
+use rj_columns::{ColumnType, Table};
+use rj_csv_io::{Header, InputFormat, ReadRefused, read_table, without_bom};
 use rj_fault::{Fault, Side, fault_of_read};
 use rj_strict::Delimiter;
 use std::alloc::{AllocError, Global};
@@ -46,8 +56,32 @@ fn texts_for(
     }
 }
 
-/// A list of types that the cells of a file suggest, as a text: a line `NAME=TYPE` for each column,
-/// in order. NULLs play no part. The type of a column is:
+// The table of texts that a file reads as, and the types that its cells suggest.
+fn read_columns(
+    alloc: Global,
+    bytes: &[u8],
+    format: &InputFormat<'_>,
+) -> Result<(Table, Vec<ColumnType>), ReadRefused>
+    ensures kinds { IfOk result (λ read. AreKindsOf (records (config_of format.now.delimiter) (strip_bom bytes.now)) (null_texts format.now.nulls.now)
+        read.0 read.1.items) }
+    ensures refused { IfErr result (λ e. e ≢ ReadRefused.Memory
+        → read_as_texts (records (config_of format.now.delimiter) (strip_bom bytes.now)) (null_texts format.now.nulls.now) ≡ Err e) }
+{
+    let Ok(types) = texts_for(alloc, bytes, format.delimiter) else {
+        return Err(ReadRefused::Memory);
+    };
+    let table = match read_table(alloc, bytes, types.as_slice(), format) {
+        Ok(table) => table,
+        Err(refused) => return Err(refused),
+    };
+    match kinds_of(alloc, &table) {
+        Ok(kinds) => Ok((table, kinds)),
+        Err(_) => Err(ReadRefused::Memory),
+    }
+}
+
+/// The types that the cells of a file suggest, one for each column, in order. NULLs play no part.
+/// The type of a column is:
 ///
 /// - `int` if each cell is an optional sign and digits, a number of 64 bits;
 /// - else `num(P,S)` if each is an optional sign, digits, and perhaps a point and digits, where S
@@ -55,29 +89,53 @@ fn texts_for(
 ///   two more than these, or 18, so that somewhat larger numbers fit, too;
 /// - else `text`, also if all cells are NULL.
 ///
-/// A number with a leading zero before other digits is a text. A name is between double quotes
-/// unless it is an identifier.
-///
-/// The file is read as a join reads it in this format if every column is of texts. It is a
-/// proposal: a join's types are declared.
+/// A number with a leading zero before other digits is a text. The file is read as a join reads it
+/// in this format if every column is of texts. It reads with these types, too.
 ///
 /// # Errors
 ///
-/// The first error of that reading, reported of the left table. `Memory` comes only when memory ran
+/// The first error of that reading. `Memory` comes only when memory ran out.
+pub fn suggested_kinds(
+    alloc: Global,
+    bytes: &[u8],
+    format: &InputFormat<'_>,
+) -> Result<Vec<ColumnType>, ReadRefused>
+    ensures kinds { IfOk result (λ kinds. (t : TableValue)
+        × AreKindsOf (records (config_of format.now.delimiter) (strip_bom bytes.now)) (null_texts format.now.nulls.now) t kinds.items) }
+    ensures refused { IfErr result (λ e. e ≢ ReadRefused.Memory
+        → read_as_texts (records (config_of format.now.delimiter) (strip_bom bytes.now)) (null_texts format.now.nulls.now) ≡ Err e) }
+{
+    match read_columns(alloc, bytes, format) {
+        Ok((_table, kinds)) => Ok(kinds),
+        Err(refused) => Err(refused),
+    }
+}
+
+/// What the cells of a file suggest. The list is a text: a line `NAME=TYPE` for each column, in
+/// order, with the type of [`suggested_kinds`]. A name is between double quotes unless it is an
+/// identifier. A column's misfit is its first cell that isn't a number, NULLs aside, if another cell
+/// of it is one.
+///
+/// It is a proposal: a join's types are declared.
+///
+/// # Errors
+///
+/// That of [`suggested_kinds`], reported of the left table. `Memory` comes only when memory ran
 /// out.
 pub fn suggest_types(
     alloc: Global,
     bytes: &[u8],
     format: &InputFormat<'_>,
-) -> Result<Vec<u8>, Fault>
-    ensures list { IfOk result (λ list. IsSuggestedList format.now.delimiter bytes.now (null_texts format.now.nulls.now) list.items) }
+) -> Result<Suggestion, Fault>
+    ensures suggestion { IfOk result (IsSuggestion format.now.delimiter bytes.now (null_texts format.now.nulls.now)) }
     ensures fault { IfErr result (λ f. f ≢ Fault.Memory → IsSuggestFault format.now.delimiter bytes.now (null_texts format.now.nulls.now) f) }
 {
-    let types = texts_for(alloc, bytes, format.delimiter)?;
-    let table = match read_table(alloc, bytes, types.as_slice(), format) {
-        Ok(table) => table,
+    let (table, kinds) = match read_columns(alloc, bytes, format) {
+        Ok(read) => read,
         Err(refused) => return Err(fault_of_read(Side::Left, refused)),
     };
-    let kinds = kinds_of(alloc, &table)?;
-    Ok(lines_of(alloc, &table, kinds.as_slice())?)
+    Ok(Suggestion {
+        list: lines_of(alloc, &table, kinds.as_slice())?,
+        misfits: misfits_of(alloc, &table)?,
+    })
 }

@@ -78,7 +78,7 @@ fn word_of(alloc: Global, kind: ColumnType) -> Result<String, AllocError>
 }
 
 // Adds the line of a column.
-fn push_line(
+pub(crate) fn push_line(
     alloc: Global,
     out: &mut Vec<u8>,
     name: &str,

@@ -1,9 +1,10 @@
 //! The names under which the columns of a joined table are written.
 
-ghost use Rattle.std.specs.Prelude.{◌≡◌, ◌⊎◌, IfErr, IfOk, map, string_bytes, true};
+ghost use Rattle.std.specs.Prelude.{◌≡◌, ◌⊎◌, IfErr, IfOk, OnOk, map, string_bytes, true};
 ghost use Rattle.rj_condition.specs.Fits.{fits};
 ghost use Rattle.rj_command.specs.Refused.{naming_fault};
-ghost use Rattle.rj_command.specs.Runs.{AreNames, IsNameFault};
+ghost use Rattle.rj_command.specs.Operands.{HasNames, IsNameFault};
+ghost use Rattle.rj_command.specs.Runs.{AreNames};
 
 use crate::join::operands::Operands;
 use rj_engine::{NamingRefused, chosen_names, chosen_names_are_lawful};
@@ -38,5 +39,26 @@ pub(crate) fn names_of(
     match chosen_names(alloc, left, right, &operands.join, &request.choice) {
         Ok(names) => Ok(names),
         Err(refused) => Err(fault_of_naming(refused)),
+    }
+}
+
+/// Refuses chosen columns that can't be named, if they are to be named.
+pub(crate) fn refuse_names(
+    alloc: Global,
+    operands: &Operands,
+    request: &Request<'_>,
+    named: bool,
+) -> Result<(), Fault>
+    requires { fits operands.now.join operands.now.left.types operands.now.right.types ≡ true }
+    ensures names { OnOk result (named ≡ true → HasNames request.now operands.now.join operands.now.left operands.now.right) }
+    ensures fault { IfErr result (λ f. (f ≡ Fault.Memory)
+        ⊎ ((named ≡ true) × IsNameFault request.now operands.now.join operands.now.left operands.now.right f)) }
+{
+    if !named {
+        return Ok(());
+    }
+    match names_of(alloc, operands, request) {
+        Ok(_names) => Ok(()),
+        Err(fault) => Err(fault),
     }
 }

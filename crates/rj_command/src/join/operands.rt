@@ -11,6 +11,7 @@ ghost use Rattle.rj_command.specs.SuchRows.{with_rows};
 ghost use Rattle.rj_command.specs.Undeclared.{bound_or, unbound_fault};
 
 use crate::join::headers::header_table;
+use crate::join::naming::refuse_names;
 use crate::join::nulls::has_lawful_nulls;
 use crate::join::shared::refuse_shared_names;
 use crate::join::strict::{read_strictly, read_text};
@@ -173,31 +174,6 @@ fn bind_request(
     }
 }
 
-// Refuses, in the short form, a clause that has an error over the headers of the two texts. A header
-// that has an error itself is left to the reading.
-#[tactic(auto, using(crate::proofs::OperandFacts::none_in_long_form, crate::proofs::OperandFacts::none_by_nulls))]
-fn refuse_by_headers(
-    alloc: Global,
-    request: &Request<'_>,
-    left: &[u8],
-    right: &[u8],
-) -> Result<(), Fault>
-    ensures none { OnOk result (HasNoHeaderFault left.now right.now request.now) }
-    ensures fault { IfErr result (λ f. f ≢ Fault.Memory → IsHeaderFault left.now right.now request.now f) }
-{
-    if !request.short || !has_lawful_nulls(request) {
-        return Ok(());
-    }
-    let Some(left) = header_table(alloc, left, request, Side::Left)? else {
-        return Ok(());
-    };
-    let Some(right) = header_table(alloc, right, request, Side::Right)? else {
-        return Ok(());
-    };
-    bind_request(alloc, request, &left, &right)?;
-    Ok(())
-}
-
 // Both tables with the clause of a request bound to them.
 fn bind_tables(
     alloc: Global,
@@ -213,9 +189,37 @@ fn bind_tables(
     Ok(Operands { left, right, join })
 }
 
+// Refuses, in the short form, a clause that has an error over the headers of the two texts, and
+// then, if the chosen columns are to be named, columns that can't be. A header that has an error
+// itself is left to the reading.
+#[tactic(auto, using(crate::proofs::OperandFacts::none_in_long_form, crate::proofs::OperandFacts::none_by_nulls))]
+fn refuse_by_headers(
+    alloc: Global,
+    request: &Request<'_>,
+    left: &[u8],
+    right: &[u8],
+    named: bool,
+) -> Result<(), Fault>
+    ensures none { OnOk result (HasNoHeaderFault named left.now right.now request.now) }
+    ensures fault { IfErr result (λ f. f ≢ Fault.Memory → IsHeaderFault named left.now right.now request.now f) }
+{
+    if !request.short || !has_lawful_nulls(request) {
+        return Ok(());
+    }
+    let Some(left) = header_table(alloc, left, request, Side::Left)? else {
+        return Ok(());
+    };
+    let Some(right) = header_table(alloc, right, request, Side::Right)? else {
+        return Ok(());
+    };
+    let operands = bind_tables(alloc, request, left, right)?;
+    refuse_names(alloc, &operands, request, named)?;
+    Ok(())
+}
+
 // Reads both tables and binds the clause to them, or reports the first error. In the short form the
-// clause is bound to the headers first, before rows are read. Bytes that it owns are freed as soon
-// as their table is there.
+// clause is bound to the headers first, before rows are read, and the chosen columns have to have
+// names, if they are to be named. Bytes that it owns are freed as soon as their table is there.
 pub(crate) fn read_operands<R: Threads + Sync, B: AsSlice<u8> + Drop, G: Watch>(
     rt: &R,
     alloc: Global,
@@ -223,15 +227,16 @@ pub(crate) fn read_operands<R: Threads + Sync, B: AsSlice<u8> + Drop, G: Watch>(
     right: B,
     request: &Request<'_>,
     gate: &G,
+    named: bool,
 ) -> Result<Operands, Fault>
     ensures operands { IfOk result (λ o. AreOperands (B.items left) (B.items right) request.now o.left o.right o.join) }
-    ensures fault { IfErr result (λ f. f ≢ Fault.Memory → IsFirstFault (B.items left) (B.items right) request.now f) }
+    ensures fault { IfErr result (λ f. f ≢ Fault.Memory → IsFirstFault named (B.items left) (B.items right) request.now f) }
     ensures lawful { OnOk result (IsTrue (is_null_text request.now.out_null.now)) }
     ensures apart { IfOk result (AreReadApart request.now) }
     ensures bound { IfOk result (λ o. fits o.join o.left.types o.right.types ≡ true) }
 {
     null_texts_read_as_null();
-    refuse_by_headers(alloc, request, left.as_slice(), right.as_slice())?;
+    refuse_by_headers(alloc, request, left.as_slice(), right.as_slice(), named)?;
     gate.begin(Step::Read(Side::Left));
     let left = read_side(rt, alloc, left, request, Side::Left)?;
     gate.begin(Step::Read(Side::Right));

@@ -65,8 +65,8 @@ pub fn first_violation<R: Threads + Wait + Clock + Sync, G: Gate + Sync>(
     gate: &G,
 ) -> Result<Option<Violation>, Fault>
     ensures violation { IfOk result (HasViolation left.now right.now request.now) }
-    ensures fault { IfErr result (λ f. f ≢ Fault.Memory → IsFirstFault left.now right.now request.now f) }
+    ensures fault { IfErr result (λ f. f ≢ Fault.Memory → IsFirstFault false left.now right.now request.now f) }
 {
-    let operands = read_operands(rt, alloc, left, right, request, &OpenGate)?;
+    let operands = read_operands(rt, alloc, left, right, request, &OpenGate, false)?;
     violation_of(rt, alloc, &operands, request, gate)
 }

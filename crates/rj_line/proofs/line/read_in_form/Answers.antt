@@ -4,7 +4,7 @@ use Rattle.clap.specs.Words.{Text, first_value, found_of}
 use Rattle.rj_fault.specs.declared.fault.Fault.{Fault}
 use Rattle.rj_fault.specs.declared.fault.Fault.TheVariants as fault
 use Rattle.rj_line.specs.declared.line.Line.{Line}
-use Rattle.rj_line.specs.Line.{IsFaultIn, IsRequestOf, IsValueFault, asks_explained, is_counted_choice, is_quiet_twice, texts_found, word_of, words_of}
+use Rattle.rj_line.specs.Line.{IsFaultIn, IsRequestOf, IsValueFault, asks_all, asks_explained, is_counted_choice, is_quiet_twice, texts_found, word_of, words_of}
 use Rattle.rj_line.specs.Named.{is_true}
 use Rattle.rj_line.proofs.LineFacts.{asked_fault, asked_of, clap_line_fault, line_fault}
 use Rattle.rj_line.proofs.line.read_in_form.Goals as goal
@@ -33,10 +33,12 @@ returns-clause-line c =
           (texts_found found) (words_of f parse.option_words words) parse.values parse.texts c.in-Ok.ensures.request;
       stats = c.is_given.ensures ∙ ap is_true (parse.values (codes "stats"));
       explain = c.asks_explained.ensures ∙ ap (asks_explained f) values;
+      explain_all = c.asks_all.ensures ∙ ap asks_all values;
       output = c.get_str.ensures ∙ parse.values (codes "output");
       count = c.is_given-2.ensures ∙ ap is_true (parse.values (codes "count"));
       progress = c.is_given-3.ensures ∙ ap is_true (parse.values (codes "progress"));
       quiet = c.is_given-4.ensures ∙ ap is_true (parse.values (codes "quiet"));
+      unnamed = c.is_given-5.ensures ∙ ap is_true (parse.values (codes "unnamed"));
       quiet_once = sym (ap is_quiet_twice values) ∙ (sym c.is_quiet_twice.ensures ∙ c.if-is_quiet_twice.false);
       counts_all = sym (ap is_counted_choice values) ∙ (sym c.is_counted_choice.ensures ∙ c.if-is_counted_choice.false);
     }

@@ -31,6 +31,7 @@ returns-clause-request c =
     let null = value-or _ c.get_str.result c.unwrap_or-null.result _ [] c.get_str.ensures c.unwrap_or-null.ensures refl in
     record {
       shared_types = c.in_ok-types.ensures.types;
+      auto_types = c.is_auto.ensures;
       left_types = same-shared c.args.form c.as_slice-shared.result.now c.in_ok-types.types.items (first_value (found_of c.args.matches.now) (codes "left-types"))
           c.in_ok-left.left.entries.items c.in_ok-left.left.undeclared c.as_slice-shared.ensures.value c.in_ok-left.ensures.types;
       right_types = same-shared c.args.form c.as_slice-shared.result.now c.in_ok-types.types.items (first_value (found_of c.args.matches.now) (codes "right-types"))

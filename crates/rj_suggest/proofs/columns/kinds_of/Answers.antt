@@ -1,6 +1,7 @@
 use Rattle.std.proofs.Common.{◌≡◌, ◌++◌, ◌∷◌, [], length, ap, arith}
 use Rattle.std.proofs.lemmas.List.{length-append}
-use Rattle.rj_suggest.proofs.SuggestFacts.{kinds-pushed}
+use Rattle.rj_suggest.proofs.SuggestFacts.{each-pushed}
+use Rattle.rj_suggest.specs.Suggested.{IsSuggested}
 use Rattle.rj_suggest.proofs.columns.kinds_of.Goals as goal
 
 pub loop-col-preserved : goal.loop-col-preserved
@@ -10,7 +11,7 @@ loop-col-preserved c =
     record {
       count = omega (arith, ap length pushed, length-append before (c.kind_of.result ∷ []), c.loop-col.invariant.count);
       each = λ col kind is.
-          kinds-pushed c.args.table.now before c.loop-col.col c.kind_of.result c.loop-col.invariant.count c.kind_of.ensures c.loop-col.invariant.each
+          each-pushed (IsSuggested c.args.table.now) before c.loop-col.col c.kind_of.result c.loop-col.invariant.count c.kind_of.ensures c.loop-col.invariant.each
           col kind (rw (← pushed) is);
       end = c.loop-col.invariant.end;
     }

@@ -12,7 +12,7 @@ use Rattle.rj_command.proofs.join.operands.read_operands.Goals as goal
 pub returns-in_err-refuse_by_headers-clause-fault : goal.returns-in_err-refuse_by_headers-clause-fault
 returns-in_err-refuse_by_headers-clause-fault g c =
     let refused = c.in_err-refuse_by_headers in
-    let told = header_fault (g.B.AsSlice.items c.args.left) (g.B.AsSlice.items c.args.right) c.args.request.now refused.field-0.0
+    let told = header_fault c.args.named (g.B.AsSlice.items c.args.left) (g.B.AsSlice.items c.args.right) c.args.request.now refused.field-0.0
     (rw (c.as_slice.ensures, c.as_slice-2.ensures) at refused.ensures.fault) in
     search (rules, told)
 
@@ -20,7 +20,7 @@ pub returns-in_err-left-clause-fault : goal.returns-in_err-left-clause-fault
 returns-in_err-left-clause-fault g c =
     let left = c.in_err-left in
     let none = rw (c.as_slice.ensures, c.as_slice-2.ensures) at c.in_ok-refuse_by_headers.ensures.none in
-    let told = left_fault (g.B.AsSlice.items c.args.left) (g.B.AsSlice.items c.args.right) c.args.request.now none left.field-0.0 left.ensures.fault in
+    let told = left_fault c.args.named (g.B.AsSlice.items c.args.left) (g.B.AsSlice.items c.args.right) c.args.request.now none left.field-0.0 left.ensures.fault in
     search (rules, told)
 
 pub returns-in_err-right-clause-fault : goal.returns-in_err-right-clause-fault
@@ -28,7 +28,7 @@ returns-in_err-right-clause-fault g c =
     let left = c.in_ok-left in
     let right = c.in_err-right in
     let none = rw (c.as_slice.ensures, c.as_slice-2.ensures) at c.in_ok-refuse_by_headers.ensures.none in
-    let told = right_fault (g.B.AsSlice.items c.args.left) (g.B.AsSlice.items c.args.right) c.args.request.now none left.left right.field-0.0 left.ensures.table right.ensures.fault in
+    let told = right_fault c.args.named (g.B.AsSlice.items c.args.left) (g.B.AsSlice.items c.args.right) c.args.request.now none left.left right.field-0.0 left.ensures.table right.ensures.fault in
     search (rules, told)
 
 pub returns-clause-operands : goal.returns-clause-operands
@@ -50,7 +50,7 @@ returns-clause-fault g c =
     let right = c.in_ok-right in
     let none = rw (c.as_slice.ensures, c.as_slice-2.ensures) at c.in_ok-refuse_by_headers.ensures.none in
     IfErr-weaker c.bind_tables.result _ _
-    (λ f told. clause_fault (g.B.AsSlice.items c.args.left) (g.B.AsSlice.items c.args.right) c.args.request.now none left.left right.right f left.ensures.table right.ensures.table told)
+    (λ f told. clause_fault c.args.named (g.B.AsSlice.items c.args.left) (g.B.AsSlice.items c.args.right) c.args.request.now none left.left right.right f left.ensures.table right.ensures.table told)
     c.bind_tables.ensures.fault
 
 pub returns-clause-apart : goal.returns-clause-apart

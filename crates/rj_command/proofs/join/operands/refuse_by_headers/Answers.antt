@@ -3,6 +3,6 @@ use Rattle.rj_command.proofs.join.operands.refuse_by_headers.Goals as goal
 
 pub returns-clause-none : goal.returns-clause-none
 returns-clause-none c =
-    none_where_bound c.args.left.now c.args.right.now c.args.request.now c.in-Some.left c.in-Some-2.right
+    none_where_bound c.args.named c.args.left.now c.args.right.now c.args.request.now c.in-Some.left c.in-Some-2.right
     (record { left_header = rw c.in-Some.is at c.in_ok-left.ensures; right_header = rw c.in-Some-2.is at c.in_ok-right.ensures })
-    c.in_ok-bind_request.field-0 c.in_ok-bind_request.ensures.join
+    c.in_ok-operands.operands c.in_ok-operands.ensures.tables c.in_ok-refuse_names.ensures.names

@@ -1,6 +1,6 @@
 use Rattle.std.proofs.Common.{◌≡◌, true, length}
 use Rattle.rj_suggest.specs.Suggested.{EachAbove, is_of}
-use Rattle.rj_suggest.proofs.columns.are_of.Given as goal
+use Rattle.rj_suggest.proofs.columns.first_not_of.Given as goal
 
 abbrev pub invariant-loop-row : goal.invariant-loop-row
 invariant-loop-row l = record {

@@ -1,0 +1,65 @@
+//! The types that a line takes from the cells of its tables, and what is told of them.
+
+ghost use Rattle.std.specs.Prelude.{◌≡◌, IfErr, OnOk};
+ghost use Rattle.rj_files.specs.Streams.{IsCompletedLine};
+
+use crate::joining::Tables;
+use rj_command::{Line, TypeEntry, complete_types};
+use rj_fault::Fault;
+use rj_suggest::list_of_entries;
+use std::alloc::{AllocError, Global};
+
+// Tells the types that were taken for the columns of a file.
+fn tell_entries<R: AllocGlobal + Eprint>(rt: &R, name: &str, entries: &[TypeEntry]) {
+    if entries.is_empty() {
+        return;
+    }
+    if let Ok(Some(list)) = list_of_entries(rt.alloc(), entries) {
+        let _ = eprintln!(rt; "radixjoin: {name}: {list}");
+    }
+}
+
+// Tells the types that a line took, behind so many entries of each list.
+fn tell_taken<R: AllocGlobal + Eprint>(rt: &R, line: &Line<'_>, lefts: usize, rights: usize) {
+    let left = entries_behind(line.request.left_types.as_slice(), lefts);
+    let right = entries_behind(line.request.right_types.as_slice(), rights);
+    tell_entries(rt, line.left, left);
+    tell_entries(rt, line.right, right);
+    if left.is_empty() && right.is_empty() {
+        let _ = eprintln!(rt; "radixjoin: --types auto takes no type");
+    }
+}
+
+// The entries behind so many.
+fn entries_behind(entries: &[TypeEntry], count: usize) -> &[TypeEntry] {
+    match entries.get(count..) {
+        Some(behind) => behind,
+        None => &[],
+    }
+}
+
+/// Completes the lists of a line that takes types from the cells of its tables, and tells which,
+/// unless it is quiet. Any other line stays as it is.
+///
+/// # Errors
+///
+/// It fails only when memory runs out.
+pub(crate) fn complete_line<R: AllocGlobal + Eprint>(
+    rt: &R,
+    line: &mut Line<'_>,
+    tables: &Tables,
+) -> Result<(), Fault>
+    ensures completed { OnOk result (IsCompletedLine tables.now.left.items tables.now.right.items line.old line.new) }
+    ensures fault { IfErr result (λ f. f ≡ Fault.Memory) }
+{
+    let (lefts, rights) = (
+        line.request.left_types.len(),
+        line.request.right_types.len(),
+    );
+    let (left, right) = (tables.left.as_slice(), tables.right.as_slice());
+    complete_types(rt.alloc(), left, right, &mut line.request)?;
+    if line.request.auto_types && !line.quiet {
+        tell_taken(rt, line, lefts, rights);
+    }
+    Ok(())
+}
