@@ -3,6 +3,7 @@ use Rattle.std.proofs.Common.{◌≡◌, ◌∙◌, ◌+◌, ◌++◌, ◌∷◌
 use Rattle.std.specs.Prelude.{IsTrue, MatchOption, Result, Ok, Err, is_err, replicate, slice_get}
 use Rattle.std.specs.Option.{option_to_list}
 use Rattle.std.proofs.lemmas.List.{append-nil}
+use Rattle.std.proofs.Math.Seq.{take-append_seam}
 use Rattle.csv.specs.Reading.{records, strip_bom}
 use Rattle.rj_columns.specs.Names.{empty_table}
 use Rattle.rj_columns.specs.Tables.{TableValue}
@@ -18,7 +19,7 @@ use Rattle.rj_strict.specs.declared.fault.StrictFault.{StrictFault}
 use Rattle.rj_strict.specs.declared.header.Header.TheVariants.{First}
 use Rattle.rj_suggest.specs.Suggested.{AreKindsOf, read_as_texts}
 use Rattle.rj_types.specs.declared.entry.TypeEntry.{TypeEntry}
-use Rattle.rj_command.specs.Auto.{AreKindsIn, AreStrictKinds, IsNumberTable, entries_from, entry_at}
+use Rattle.rj_command.specs.Auto.{AreKindsIn, AreStrictKinds, HasFurther, IsNumberTable, entries_from, entry_at}
 use Rattle.rj_command.specs.Sides.{delimiter_of, nulls_of}
 
 -- records that don't read as texts suggest no types
@@ -60,3 +61,20 @@ entry_next q s compared kinds names i name done entry is made =
     append_assoc done (option_to_list entry) (entries_from q s compared kinds (i + 1) (drop (i + 1) names))
     ∙ ap (λ l. done ++ l) (ap (λ e. option_to_list e ++ entries_from q s compared kinds (i + 1) (drop (i + 1) names)) made
     ∙ sym (ap (entries_from q s compared kinds i) (drop_get names i name is)))
+
+-- a request with no further entry
+pub none_further : (q : Request) → HasFurther q q [] []
+none_further q = record { left_types = sym (append-nil _); right_types = sym (append-nil _); same = refl }
+
+taken_back : {A : Type 0} (xs ys : List A) → take (length xs) (xs ++ ys) ≡ xs ++ []
+taken_back xs ys = take-append_seam xs ys ∙ sym (append-nil xs)
+
+-- and so is one whose further entries were taken away
+pub cut_further : (q full p : Request) (lefts rights : List TypeEntry) → HasFurther q full lefts rights
+    → p.left_types.items ≡ take (length q.left_types.items) full.left_types.items → p.right_types.items ≡ take (length q.right_types.items) full.right_types.items
+    → ◌≡◌ {A = Request} (record p { left_types = full.left_types; right_types = full.right_types }) full → HasFurther q p [] []
+cut_further q full p lefts rights added left right same = record {
+  left_types = left ∙ (ap (take (length q.left_types.items)) added.left_types ∙ taken_back q.left_types.items lefts);
+  right_types = right ∙ (ap (take (length q.right_types.items)) added.right_types ∙ taken_back q.right_types.items rights);
+  same = ap (λ (x : Request). record x { left_types = q.left_types; right_types = q.right_types }) same ∙ added.same;
+}

@@ -56,8 +56,10 @@ all_plain form.Short true h = refl
 all_plain form.Short false h = refl
 
 pub all_apart : (f : Form) (b : Bool) (h : OptionWords) → are_distinct (option_rules f b h) ≡ true
-all_apart form.Long b h = refl
-all_apart form.Short b h = refl
+all_apart form.Long true h = refl
+all_apart form.Long false h = refl
+all_apart form.Short true h = refl
+all_apart form.Short false h = refl
 
 module _ (start command : Command) (b : Bool) (h : OptionWords) (m : ArgMatches) (bare : IsBare start) (parsed : IsParsedFrom command m) where
   pub left_given : (f : Form) → IsChain start (option_rules f b h) command → is_some (first_value (found_of m) (codes "left")) ≡ true

@@ -133,6 +133,7 @@ fn marks_at(alloc: Global, column: usize) -> Result<Vec<bool>, AllocError>
 }
 
 // A clause over two tables without rows, whose columns are all of numbers.
+#[derive(Clone, Copy)]
 struct Compared<'a> {
     clause: &'a Clause,
     left: &'a Table,
@@ -398,9 +399,10 @@ fn take_suggested(
     };
     let (lefts, rights) = (request.left_types.len(), request.right_types.len());
     add_entries(request, entries)?;
-    if !is_bound(alloc, left, right, request)? {
-        cut_entries(request, lefts, rights);
+    if is_bound(alloc, left, right, request)? {
+        return Ok(());
     }
+    cut_entries(request, lefts, rights);
     Ok(())
 }
 

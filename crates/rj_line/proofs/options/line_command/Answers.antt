@@ -10,7 +10,7 @@ use Rattle.rj_line.proofs.ValueFacts.{all_plain}
 use Rattle.rj_line.proofs.options.line_command.Goals as goal
 
 -- the word of that option, where it takes none
-no_words : Bor (List (Bor Text))
+abbrev no_words : Bor (List (Bor Text))
 no_words = record { ref_ptr = (0, 0); now = record { ref_ptr = (0, 0); now = codes "all" } ∷ [] }
 
 -- the command with a last option is the line's
@@ -36,11 +36,11 @@ returns-then-by_word c =
     ap app_of_fields c.version.ensures ∙ ap (on_top (λ s. record s { has_version = true })) (ap app_of_fields c.override_help.ensures ∙ c.new.ensures.app) in
     let base : app_of start ≡ on_top (λ s. record s { has_version = true; no_binary_name = true }) (new_app (codes "radixjoin")) =
     ap app_of_fields c.no_binary_name-command.ensures ∙ ap (on_top (λ s. record s { no_binary_name = true })) versioned in
-    IfOk-weaker c.with_options.result _ (IsLineCommand f c.args.by_word) (λ r h.
+    IfOk-weaker c.with_options-then-by_word.result _ (IsLineCommand f c.args.by_word) (λ r h.
     subst (λ b. IsLineCommand f b r) (sym c.if-by_word.true)
     (whole f true words start c.in_ok-command.command c.in_ok-command-2.command r
     (record { args = search rules; groups = search rules; globals = search rules; negates = search rules }) base
-    c.in_ok-command.ensures c.in_ok-command-2.ensures h)) c.with_options.ensures
+    c.in_ok-command.ensures c.in_ok-command-2.ensures h)) c.with_options-then-by_word.ensures
 
 pub returns-else-by_word : goal.returns-else-by_word
 returns-else-by_word c =
@@ -51,8 +51,8 @@ returns-else-by_word c =
     ap app_of_fields c.version.ensures ∙ ap (on_top (λ s. record s { has_version = true })) (ap app_of_fields c.override_help.ensures ∙ c.new.ensures.app) in
     let base : app_of start ≡ on_top (λ s. record s { has_version = true; no_binary_name = true }) (new_app (codes "radixjoin")) =
     ap app_of_fields c.no_binary_name-command.ensures ∙ ap (on_top (λ s. record s { no_binary_name = true })) versioned in
-    IfOk-weaker c.with_options.result _ (IsLineCommand f c.args.by_word) (λ r h.
+    IfOk-weaker c.with_options-else-by_word.result _ (IsLineCommand f c.args.by_word) (λ r h.
     subst (λ b. IsLineCommand f b r) (sym c.if-by_word.false)
     (whole f false words start c.in_ok-command.command c.in_ok-command-2.command r
     (record { args = search rules; groups = search rules; globals = search rules; negates = search rules }) base
-    c.in_ok-command.ensures c.in_ok-command-2.ensures h)) c.with_options.ensures
+    c.in_ok-command.ensures c.in_ok-command-2.ensures h)) c.with_options-else-by_word.ensures
