@@ -1,6 +1,7 @@
 //! Further cells of a column that aren't of its type, below the first one.
 
 ghost use Rattle.std.specs.Prelude.{◌≡◌, ◌≤◌, ◌+◌, ◌-◌, IfOk, IfSome, MatchOption, None, Some, is_none, length, slice_get, string_bytes};
+ghost use Rattle.std.specs.Str.{is_utf8};
 ghost use Rattle.rj_csv_io.specs.Pieces.{names_in};
 ghost use Rattle.rj_csv_io.specs.Typed.{is_int_text, null_texts, read_cell};
 ghost use Rattle.rj_types.specs.Columns.{types_under};
@@ -61,6 +62,13 @@ fn is_integer(field: &[u8]) -> bool
     }
 }
 
+// Whether a field is UTF-8.
+fn is_text(field: &[u8]) -> bool
+    ensures { result ≡ is_utf8 field.now }
+{
+    str::from_utf8(field).is_ok()
+}
+
 // Whether a field is neither NULL nor of a type.
 fn is_bad(field: &[u8], kind: ColumnType, nulls: &[&str]) -> bool
     ensures { result ≡ is_none (read_cell (null_texts nulls.now) kind field.now) }
@@ -71,7 +79,7 @@ fn is_bad(field: &[u8], kind: ColumnType, nulls: &[&str]) -> bool
     match kind {
         ColumnType::Int => !is_integer(field),
         ColumnType::Num(numeric) => read_numeric(field, numeric).is_none(),
-        ColumnType::Text => str::from_utf8(field).is_err(),
+        ColumnType::Text => !is_text(field),
     }
 }
 
@@ -104,17 +112,19 @@ fn first_bad(
     let mut at = from.at;
     for row in from.row..u64::MAX {
         let rest = &column.text[at..];
-        let (Some(record), Some(size)) = (
-            Header::of(alloc, rest, column.delimiter)?,
-            first_record(rest, column.delimiter.byte()),
-        ) else {
+        let Some(fields) = Header::of(alloc, rest, column.delimiter)? else {
             return Ok(None);
         };
-        if has_bad(alloc, column, &record)? {
-            let line = line_from(column.text, at);
+        let Some(size) = first_record(rest, column.delimiter.byte()) else {
+            return Ok(None);
+        };
+        if has_bad(alloc, column, &fields)? {
             return Ok(Some(BadRow {
                 number: row,
-                row: Row { line, record },
+                row: Row {
+                    line: line_from(column.text, at),
+                    record: fields,
+                },
                 below: RowPlace {
                     row: row + 1,
                     at: at + size,
@@ -166,9 +176,10 @@ fn bad_lines(
         lines.push_str(line.as_str())?;
         place = found.below;
     }
-    if first_bad(alloc, column, place)?.is_some() {
-        lines.push_str("  .. and more\n")?;
-    }
+    let Some(_next) = first_bad(alloc, column, place)? else {
+        return Ok(lines);
+    };
+    lines.push_str("  .. and more\n")?;
     Ok(lines)
 }
 

@@ -1,0 +1,24 @@
+use Rattle.std.proofs.Common.{inl, inr}
+use Rattle.std.proofs.lemmas.Result.{IfOk-weaker}
+use Rattle.rj_csv_io.specs.Pieces.{names_in}
+use Rattle.rj_explain.proofs.further.lines_of_text.Goals as goal
+
+pub returns-in_default : goal.returns-in_default
+returns-in_default c =
+    let none = rw (c.in_default.is, c.delimiter.ensures) at c.in_ok-header.ensures in
+    inl (none, c.new.ensures.bytes)
+
+pub returns-in-Some-2 : goal.returns-in-Some-2
+returns-in-Some-2 c =
+    let header = c.in-Some.header in
+    let column = c.in-Some-2.column in
+    let found = rw (c.in-Some.is, c.delimiter.ensures) at c.in_ok-header.ensures in
+    let typed = rw c.in-Some-2.is at c.in_ok-column.ensures in
+    IfOk-weaker c.lines_below.result _ _ (λ s told. inr (header.line, names_in header.record, found, rw typed.0 (column, typed.1, told))) c.lines_below.ensures
+
+pub returns-in-None : goal.returns-in-None
+returns-in-None c =
+    let header = c.in-Some.header in
+    let found = rw (c.in-Some.is, c.delimiter.ensures) at c.in_ok-header.ensures in
+    let none = rw c.in-None.is at c.in_ok-column.ensures in
+    inr (header.line, names_in header.record, found, rw none c.new-in-None.ensures.bytes)
