@@ -70,6 +70,7 @@ PARTS = (
     "streams",
     "people",
     "comparisons",
+    "naming",
 )
 TABLES = ("examples.toml", "arrivals.toml", "ends.toml", "merges.toml")
 
