@@ -1,16 +1,20 @@
 # Completion of radixjoin for bash: options that were not given yet, files, and the words of options.
 _radixjoin() {
-    local options="--left --right --left-types --right-types --types --join --delimiter --left-delimiter --right-delimiter --out-delimiter --null --left-null --right-null --out-null --strict --stats --order --rows --columns --select --anti --semi --repeated --expect --max-rows --count --report --progress --output --explain --lenient --terse --quiet --workers
+    local options="--left --right --left-types --right-types --types --join --delimiter --left-delimiter --right-delimiter --out-delimiter --null --left-null --right-null --out-null --unnamed --strict --stats --order --rows --columns --select --anti --semi --repeated --expect --max-rows --count --report --progress --output --explain --lenient --terse --quiet --workers
         --bits1 --bits2 --hash --piece --block --capacity --lanes --retries --help --version"
-    local word=${COMP_WORDS[COMP_CWORD]} before=${COMP_WORDS[COMP_CWORD - 1]}
+    local word=${COMP_WORDS[COMP_CWORD]} before=${COMP_WORDS[COMP_CWORD - 1]} equals=
     # `--left=a` is three words here: --left, = and a.
     if [[ $word == = ]]; then
-        word=
+        word= equals=yes
     elif [[ $before == = ]]; then
-        before=${COMP_WORDS[COMP_CWORD - 2]}
+        before=${COMP_WORDS[COMP_CWORD - 2]} equals=yes
     fi
     # `--strict` may stand without a word of its own.
     if [[ $before == --strict && $word == -* ]]; then
+        before=
+    fi
+    # `--explain` has its word behind = alone.
+    if [[ $before == --explain && -z $equals ]]; then
         before=
     fi
     # Few options go with `--suggest-types`, so it is proposed as the first word alone.
@@ -40,6 +44,9 @@ _radixjoin() {
             ;;
         --hash)
             mapfile -t COMPREPLY < <(compgen -W "plain mixed" -- "$word")
+            ;;
+        --explain)
+            mapfile -t COMPREPLY < <(compgen -W "all" -- "$word")
             ;;
         --strict)
             mapfile -t COMPREPLY < <(compgen -W "on full" -- "$word")

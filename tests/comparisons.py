@@ -210,6 +210,53 @@ def random_bands_of_texts(tally, with_sqlite):
         tally.check(f"random band of texts {n}: {join.clause}", faults_of(left, right, join, with_sqlite, options=options))
 
 
+def random_intervals(source, names, kind):
+    """A table of begins and ends: some null, and some ends before their begin."""
+    rows = []
+    for at in range(source.choice([1, 8, 30])):
+        begin = source.randrange(-5, 40)
+        cells = [begin, begin + source.choice([-2, 0, 1, 2, 3, 30])]
+        if kind == "text":
+            cells = [f"2026-11-{cell + 40}" for cell in cells]
+        elif kind != "int":
+            cells = [reference.in_scale(decimal.Decimal(cell) / 2, reference.scale_of(kind)) for cell in cells]
+        rows.append([at, *(None if source.random() < 0.1 else cell for cell in cells)])
+    return reference.Table(names, ["int", kind, kind], rows)
+
+
+def random_overlap(source):
+    """The two conjuncts of intervals that overlap, in either order, strict or not, either way round, or as a BETWEEN with the
+    other column of its side for its further bound. Now and then the two columns of one side are exchanged."""
+    begins, ends = [("column", side, 1) for side in "LR"], [("column", side, 2) for side in "LR"]
+    if source.random() < 0.1:
+        begins[0], ends[0] = ends[0], begins[0]
+    conjuncts = []
+    for begin, end, low in ((begins[0], ends[1], begins[1]), (begins[1], ends[0], begins[0])):
+        shape = source.randrange(9)
+        if shape < 4:
+            conjuncts.append(("compare", source.choice(["<", "<="]), begin, end))
+        elif shape < 8:
+            conjuncts.append(("compare", source.choice([">", ">="]), end, begin))
+        else:
+            conjuncts.append(("between", begin, low, end, False))
+    return source.sample(conjuncts, 2)
+
+
+def random_overlaps(tally, with_sqlite):
+    """Joins of intervals that overlap, of whole numbers, decimals and texts, also with a further conjunct on the rows, with one
+    worker and with several."""
+    source = random.Random("radixjoin: random overlaps")
+    for n in range(CASES):
+        kinds = ["text", "text"] if n % 3 == 0 else [source.choice(["int", "num(4,1)", "num(18,2)"]) for _ in "LR"]
+        left, right = random_intervals(source, ["k", "a", "b"], kinds[0]), random_intervals(source, ["m", "c", "d"], kinds[1])
+        further = [("compare", source.choice(["<", "<>", ">="]), ("column", "L", 0), ("column", "R", 0))] if source.random() < 0.2 else []
+        condition = ("and", [*random_overlap(source), *further])
+        kind = source.choice(["INNER", "LEFT", "RIGHT", "FULL"])
+        join = reference.Join(f"{kind} JOIN ON {reference.spelled(condition, left, right)}", kind, condition=condition)
+        options = source.choice([(), ("--workers=3",), ("--workers=2", "--piece=2"), ("--piece=1",)])
+        tally.check(f"random overlap {n}: {join.clause}", faults_of(left, right, join, with_sqlite, options=options))
+
+
 def random_meeting(source, left, right):
     """A conjunct by which the nulls of two columns meet, in any order, or one that looks so: with a further alternative, with
     nulls of another column, or with a null on one side alone."""
@@ -302,6 +349,7 @@ def run_all(tally):
     random_decimals(tally, with_sqlite)
     random_bands(tally, with_sqlite)
     random_bands_of_texts(tally, with_sqlite)
+    random_overlaps(tally, with_sqlite)
     random_nulls_that_meet(tally, with_sqlite)
     random_delimiters(tally, with_sqlite)
     large_tables(tally, with_sqlite)

@@ -22,7 +22,8 @@ MOST_BYTES = 2**62
 
 
 class Option:
-    """An option: whether it takes a value, its text in help, the words that it may take, and the numbers of its limits and default.
+    """An option: whether it takes a value, its text in help, the words that it may take, and the numbers of its limits and default;
+    of a flag the word that may stand behind it and =.
     The words are those that the program itself tells, where it refuses a value."""
 
     def __init__(self, takes_value, text, refusal):
@@ -33,6 +34,8 @@ class Option:
         self.words = words[1].split(", ") if words else []
         # (what help and the pages tell of them: a word may be two with a comma between)
         self.told = list(dict.fromkeys(part for word in self.words for part in word.split(",")))
+        # (the word that a flag may have behind =)
+        self.own_word = next(iter(re.findall(r"^\[=(\w+)\]", text)), None)
         limits = re.search(r"\b(\d[\d,]*) to (\d[\d,]*)", text)
         default = re.search(r"\[default: ([\w,-]+)\]", text)
         self.limits = [number.replace(",", "") for number in limits.groups()] if limits else []
@@ -94,9 +97,10 @@ def manual_faults(program, options):
         faults.append("help and page differ in the order of the options")
     for name, option in options.items():
         entry = entries.get(name, "")
-        if option.takes_value != (" Ar " in entry.split("\n")[0] or " Cm " in entry.split("\n")[0]):
+        if (option.takes_value or bool(option.own_word)) != (" Ar " in entry.split("\n")[0] or " Cm " in entry.split("\n")[0]):
             faults.append(f"--{name}: help and page differ in whether it takes a value")
-        missing = [word for word in option.told + option.numbers if not re.search(rf"\b{word}\b", entry.replace(",", ""))]
+        own = [option.own_word] if option.own_word else []
+        missing = [word for word in option.told + option.numbers + own if not re.search(rf"\b{word}\b", entry.replace(",", ""))]
         faults += [f"--{name}: the page doesn't tell {word}" for word in missing]
     synopsis = (harness.ROOT / "man" / f"{program}.1").read_text().split(".Sh DESCRIPTION")[0]
     return faults + [f"--{name} is not in the synopsis" for name in options if not re.search(rf"Fl Fl {name}\b(?!-)", synopsis)]
@@ -132,22 +136,22 @@ def zsh_faults(program, options, folder):
     rules = rules_of_zsh(program, folder)
     found = {}
     for rule in rules:
-        parts = re.fullmatch(r"(?:\(.*?\))?\*?--([\w-]+)(=?)\[.*?\](.*)", rule)
+        parts = re.fullmatch(r"(?:\(.*?\))?\*?--([\w-]+)(=?-?)\[.*?\](.*)", rule)
         if parts:
             found[parts[1]] = (parts[2], parts[3])
     faults = difference(found, options)
     for name, option in options.items():
         equals, action = found.get(name, ("", ""))
-        if option.takes_value != bool(equals):
+        if option.takes_value != (equals == "=") or bool(option.own_word) != (equals == "=-"):
             faults.append(f"--{name}: help and completion differ in whether it takes a value")
-        faults += [f"--{name} doesn't complete {word}" for word in option.words if word not in action]
+        faults += [f"--{name} doesn't complete {word}" for word in [*option.words, option.own_word or ""] if word not in action]
         faults += [f"--{name} doesn't tell {number}" for number in option.numbers[:2] if not re.search(rf"\b{number}\b", action)]
     return faults + [f"--{name} doesn't complete files" for name in ("left", "right") if name in options and "_files" not in found[name][1]]
 
 
 def shell_faults(complete, program, options, folder):
     """Where the completion of bash or fish, called by `complete`, differs from help."""
-    faults = difference([word[2:] for word in complete(program, ["--"], folder) if word.startswith("--")], options)
+    faults = difference([word[2:].rstrip("=") for word in complete(program, ["--"], folder) if word.startswith("--")], options)
     for name, option in options.items():
         for word in option.words:
             if word not in [got.split("=")[-1] for got in complete(program, [f"--{name}", word[:1]], folder)]:
@@ -182,6 +186,9 @@ def bash_details(folder):
     yield "an option that was given", ["--left-types", "--left-delimiter", "--left-null"], completed_by_bash("radixjoin", ["--left", "left.csv", "--lef"], folder)
     yield "a delimiter", ["tab"], completed_by_bash("radixjoin", ["-d", "t"], folder)
     yield "one that may be given again", ["--left-null"], completed_by_bash("radixjoin", ["--left-null", "a", "--left-n"], folder)
+    yield "the word of --explain, behind =", ["all"], completed_by_bash("radixjoin", ["--explain", "=", "a"], folder)
+    yield "right after --explain=", ["all"], completed_by_bash("radixjoin", ["--explain", "="], folder)
+    yield "a file behind --explain", ["left.csv"], completed_by_bash("radixjoin", ["--explain", "le"], folder)
     yield "a file that is a word by itself", ["left.csv"], completed_by_bash("radixjoin", ["--count", "le"], folder)
     yield "a file for -o", ["left.csv"], completed_by_bash("radixjoin", ["-o", "le"], folder)
     yield "a clause", [""], completed_by_bash("radixjoin", ["--join", ""], folder)

@@ -12,7 +12,7 @@ import tty
 import ends
 import harness
 
-CITIES, JOINED, WORDS, two_files = ends.CITIES, ends.JOINED, ends.WORDS, ends.two_files
+CITIES, JOINED, PEOPLE, WORDS, two_files = ends.CITIES, ends.JOINED, ends.PEOPLE, ends.WORDS, ends.two_files
 # What is written in the place of a line, with the cursor at its beginning then.
 CLEARED = b"\r" + b" " * 72 + b"\r"
 # The steps in their order, and what their lines look like.
@@ -223,8 +223,22 @@ def until_shown():
     return after, feed
 
 
+def when_shown():
+    """What writes a left table once something is shown, and after how many seconds that was."""
+    after = []
+
+    def feed(stdin, terminal):
+        start = time.monotonic()
+        while not terminal.told and time.monotonic() < start + ends.SECONDS:
+            time.sleep(0.05)
+        after.append(time.monotonic() - start)
+        stdin.write(PEOPLE)
+
+    return after, feed
+
+
 def slow_joins(folder):
-    """A line is shown from the beginning where that is asked for, and else after two seconds."""
+    """A line is shown from the beginning where that is asked for, and else after two seconds, also while nothing comes."""
     words = ["--left", "-", *two_files(folder)[2:]]
     after, feed = until_shown()
     ran = on_terminal([*words, "--progress"], folder, subprocess.PIPE, feed)
@@ -233,6 +247,10 @@ def slow_joins(folder):
     ran = on_terminal(words, folder, subprocess.PIPE, feed)
     early = [] if after[0] > PATIENCE - 0.2 else [f"shown after {after[0]} seconds"]
     yield "after two seconds", run_faults(ran, JOINED, steps=["left file", "left table", "writing"]) + early
+    after, feed = when_shown()
+    ran = on_terminal(words, folder, subprocess.PIPE, feed)
+    late = [] if PATIENCE - 0.2 < after[0] < PATIENCE + 20 else [f"shown after {after[0]} seconds"]
+    yield "while nothing comes", run_faults(ran, JOINED, steps=["left file", "left table", "writing"]) + late
 
 
 def tables_written_by_hand(folder):

@@ -118,10 +118,18 @@ def sweep(tally, refuse, run):
     return MOST
 
 
-def explained(tally, refuse, label, options):
-    """What `--explain` adds where an allocation is refused in turn: while which file was read, or how many bytes the tables have."""
+# What `--explain` adds to E18 for files of 16 and 8 bytes, and for their joined table of two matches, whose rows have about 5 and 8 bytes.
+FILES = b"  the files have 16 bytes and 8 bytes, and their tables take about as much again\n"
+MATCHES = (
+    b"  the joined table has 2 rows, and its matches take 16 bytes\n"
+    b"  the text of what is written takes about 26 bytes, if it has all columns\n"
+    b"  so the likely cause is the text of the result\n"
+)
+
+
+def explained(tally, refuse, label, options, tables):
+    """What `--explain` adds where an allocation is refused in turn: while which file was read, or what the tables and their joined table take."""
     left, right = b"k,a\n1,5\n1,9\n2,7\n", b"k,b\n1,7\n"
-    tables = b"  while tables of %d and %d bytes were joined; with what is written that takes about three times as many\n" % (len(left), len(right))
     reading = re.compile(rb"(?:  while the (?:left|right) file was read\n)?")
     run = joined(f"explained, {label}", left, right, ["int,int", "int,int"], "JOIN USING (k)", None, "--explain", *options)
     with harness.folder() as at:
@@ -147,8 +155,8 @@ def run_all(tally):
     """Sweeps each run."""
     with harness.folder() as at:
         refuse = refused_allocations.library(pathlib.Path(at))
-        for label, options in (("joined", []), ("counted", ["--count"])):
-            explained(tally, refuse, label, options)
+        for label, options, tables in (("joined", [], FILES + MATCHES), ("counted", ["--count"], FILES)):
+            explained(tally, refuse, label, options, tables)
         found = harness.side_by_side(tally, [functools.partial(sweep, refuse=refuse, run=run) for run in RUNS])
         counts = [f"{run.name} {count}" for run, count in zip(RUNS, found)]
     print("allocations refused in turn:", ", ".join(counts))

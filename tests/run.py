@@ -70,6 +70,7 @@ PARTS = (
     "streams",
     "people",
     "comparisons",
+    "max_rows",
 )
 TABLES = ("examples.toml", "arrivals.toml", "ends.toml", "merges.toml")
 

@@ -19,10 +19,11 @@ use std::fs::Files;
 use std::io::IsTerminal;
 use std::process::ExitCode;
 use std::sync::Wait;
-use std::thread::Threads;
+use std::thread::{self, Threads};
 use std::time::Clock;
 
-// Does what the words of a line ask for, and shows its progress meanwhile.
+// Does what the words of a line ask for, and shows its progress meanwhile. A thread of its own keeps
+// the line up to date; if none can be started, a line comes only where the run passes a place.
 fn write_watched<R: Files + Input + AllocGlobal + Print + Eprint + Threads + Wait + Clock + Sync>(
     rt: &R,
     line: &mut Line<'_>,
@@ -33,7 +34,15 @@ fn write_watched<R: Files + Input + AllocGlobal + Print + Eprint + Threads + Wai
         NamedStream::new(rt, line.left),
         NamedStream::new(rt, line.right),
     );
-    let written = write_output(rt, line, &progress, &left, &right);
+    let shown = &progress;
+    let written = thread::scope(thread::scope_env(), rt, |scope| {
+        if shown.is_shown_throughout() {
+            let _keeper = scope.spawn(move || shown.keep_up());
+        }
+        let written = write_output(rt, line, shown, &left, &right);
+        shown.end();
+        written
+    });
     progress.clear();
     written
 }

@@ -11,6 +11,7 @@ pub mod Runs
 pub mod Texts
 pub mod Prepared
 pub mod Sides
+pub mod Sizes
 pub mod Statistics
 pub mod SuchRows
 pub mod Expected

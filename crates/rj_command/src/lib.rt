@@ -5,9 +5,9 @@
 mod join;
 
 pub use join::{
-    PartitionRows, Stats, Step, TextKey, UnkeptRows, Watch, bind_clause, complete_types, count,
-    fault_of_text, first_violation, plain_text, read_strictly, results_are_apart,
-    results_read_back, run, types_of_header,
+    PartitionRows, Sizes, Stats, Step, TextKey, UnkeptRows, Watch, bind_clause, complete_types,
+    count, early_sizes, fault_of_text, first_violation, plain_text, read_strictly,
+    results_are_apart, results_read_back, run, types_of_header,
 };
 pub use rj_engine::{Gate, OpenGate, Place, Violation};
 pub use rj_fault::{ExitReason, Fault, Side, VERSION, fault_of_read, read_words, tell, texts_of};

@@ -33,7 +33,7 @@ mod typing;
 mod undeclared;
 mod word;
 
-pub use band::Band;
+pub use band::{Band, Reach};
 pub use binding::bind;
 pub use bound::{BoundJoin, BoundOperand};
 pub use decimal::DecimalLiteral;

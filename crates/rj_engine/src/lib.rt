@@ -33,7 +33,7 @@ mod violations;
 
 pub use choices::{chosen_names_are_lawful, left_order, plain_choice};
 pub use closes::nothing_after_close;
-pub use counts::{Counts, early_counts};
+pub use counts::{Counts, early_counts, rows_beyond};
 pub use expected::is_as_expected;
 pub use gathering::gather;
 pub use groups::{Group, KeyReport};

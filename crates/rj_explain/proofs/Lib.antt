@@ -1,4 +1,5 @@
 pub mod EntryFacts
+pub mod FurtherFacts
 pub mod HintFacts
 pub mod InputFacts
 pub mod JoinFacts

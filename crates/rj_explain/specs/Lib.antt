@@ -1,5 +1,6 @@
 pub mod Entries
 pub mod Explained
+pub mod Further
 pub mod Hints
 pub mod Lines
 pub mod Listed

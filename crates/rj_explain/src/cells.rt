@@ -16,8 +16,12 @@ use rj_fault::Side;
 use rj_strict::Delimiter;
 use std::alloc::{AllocError, Global};
 
-// The type of a header's column, counted from 1.
-fn kind_at(
+/// The type of a header's column, counted from 1.
+///
+/// # Errors
+///
+/// It fails only when memory runs out.
+pub(crate) fn kind_at(
     alloc: Global,
     inputs: &Inputs<'_, '_>,
     side: Side,

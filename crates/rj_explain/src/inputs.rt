@@ -3,9 +3,11 @@
 ghost use Rattle.std.specs.Prelude.{◌≡◌, IfOk};
 ghost use Rattle.csv.specs.Reading.{strip_bom};
 ghost use Rattle.rj_csv_io.specs.Pieces.{names_in};
+ghost use Rattle.rj_csv_io.specs.Typed.{null_texts};
 ghost use Rattle.rj_types.specs.Columns as columns;
 ghost use Rattle.rj_explain.specs.Explained as explained;
 ghost use Rattle.rj_explain.specs.Explained.{IsQuotedText, IsSideText, delimiter_of, file_of, names_of, side_names, text_in, types_of};
+ghost use Rattle.rj_explain.specs.Further.{nulls_of};
 
 use rj_columns::ColumnType;
 use rj_csv_io::{Header as Names, without_bom};
@@ -54,6 +56,16 @@ impl<'a, 'r> Inputs<'a, 'r> {
         match side {
             Side::Left => self.request.left_types.as_slice(),
             Side::Right => self.request.right_types.as_slice(),
+        }
+    }
+
+    /// The texts that stand for NULL in a side's file.
+    pub(crate) fn nulls(&self, side: Side) -> &'a [&'r str]
+        ensures { null_texts result.now ≡ nulls_of side self.now }
+    {
+        match side {
+            Side::Left => self.request.left_nulls.as_slice(),
+            Side::Right => self.request.right_nulls.as_slice(),
         }
     }
 

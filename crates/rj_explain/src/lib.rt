@@ -11,6 +11,7 @@ mod cells;
 mod clause;
 mod entries;
 mod explanation;
+mod further;
 mod headers;
 mod hints;
 mod inputs;
@@ -30,6 +31,7 @@ mod unknown;
 mod words;
 
 pub use explanation::explain;
+pub use further::explain_further;
 pub use inputs::Inputs;
 pub use joined::explain_row;
 pub use lists::explain_list;

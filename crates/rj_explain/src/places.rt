@@ -102,12 +102,16 @@ fn ends_at_end(standing: Standing) -> bool
     }
 }
 
-// How many bytes the first record of a text takes, with the line ends before it; none if there is
-// no record.
-fn first_record(text: &[u8], delimiter: u8) -> Option<usize>
+/// How many bytes the first record of a text takes, with the line ends before it; none if there is
+/// no record.
+pub(crate) fn first_record(text: &[u8], delimiter: u8) -> Option<usize>
     ensures within { IfSome result (λ end. end ≤ length text.now) }
+    ensures size { IfSome result (λ end. 0 < end) }
     ensures record { MatchOption result (next_record (config_of delimiter) st.StartRecord [] [] text.now ≡ None) (EndsFirst delimiter text.now) }
 {
+    if text.is_empty() {
+        return None;
+    }
     let mut standing = Standing::Record;
     for at in 0..text.len() {
         if ends_record(delimiter, standing, text[at]) {
@@ -126,6 +130,7 @@ fn first_record(text: &[u8], delimiter: u8) -> Option<usize>
 /// 0. The text's byte order mark was left out already. `None` if the text has fewer records.
 pub(crate) fn place_of_row(text: &[u8], delimiter: u8, row: u64) -> Option<usize>
     ensures within { IfSome result (λ at. at ≤ length text.now) }
+    ensures rows { IfSome result (λ at. row ≤ at) }
     ensures place { MatchOption result (HasNoRow delimiter text.now row) (StandsAt delimiter text.now row) }
 {
     let mut at = 0;

@@ -1,7 +1,10 @@
 pub mod Drafts
+pub mod Given
 pub mod Entries
 pub mod Identities
+pub mod Explained
 pub mod Labels
+pub mod Memory
 pub mod Outputs
 pub mod Quiet
 pub mod Readers

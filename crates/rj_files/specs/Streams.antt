@@ -19,6 +19,7 @@ use Rattle.rj_suggest.specs.Suggested.{IsSuggestFault}
 use Rattle.rj_suggest.specs.declared.suggestion.Suggestion.{Suggestion}
 use Rattle.rj_suggest.specs.declared.strict.StrictlyRefused.{StrictlyRefused}
 use Rattle.rj_suggest.specs.declared.strict.StrictlyRefused.TheVariants as refused
+use Rattle.rj_files.specs.Given.{IsGiven}
 use Rattle.rj_files.specs.declared.joining.Written.{Written}
 use Rattle.rj_files.specs.declared.joining.Written.TheVariants.{Counted, Joined}
 
@@ -41,15 +42,19 @@ WritesAsked line l r before after (Counted report) = (line.count ≡ true) × Wr
 abbrev pub IsAskedFault : Line → List ℕ → List ℕ → Fault → Type 0
 IsAskedFault line l r f = (line.count ≡ false → IsRunFault l r line.request f) × (line.count ≡ true → IsCountFault l r line.request f)
 
+-- these stand for the bytes of both tables
+abbrev pub AreGiven : Line → List ℕ → List ℕ → List ℕ → List ℕ → Type 0
+AreGiven line l r given_l given_r = IsGiven line side.Left l given_l × IsGiven line side.Right r given_r
+
 -- the line by which two tables' bytes are joined: this one, or with the types that it takes from their cells
 abbrev pub IsCompletedLine : List ℕ → List ℕ → Line → Line → Type 0
 IsCompletedLine l r line joined = IsCompleted l r line.request joined.request × (record joined { request = line.request } ≡ line)
 
--- the same of the bytes of two streams
+-- the same of the bytes of two streams, or of what stands for them
 abbrev pub WritesOf : Line → Option (List ℕ) → Option (List ℕ) → Option (List ℕ) → Option (List ℕ) → Written → Type 0
 WritesOf line left right before after written =
-    (l r : List ℕ) × AreBytesOf left l × AreBytesOf right r
-    × ((joined : Line) × IsCompletedLine l r line joined × WritesAsked joined l r before after written)
+    (l r given_l given_r : List ℕ) × AreBytesOf left l × AreBytesOf right r × AreGiven line l r given_l given_r
+    × ((joined : Line) × IsCompletedLine given_l given_r line joined × WritesAsked joined given_l given_r before after written)
 
 -- it was written to some writer, which may tell nothing
 abbrev pub IsWrittenOf : Line → Option (List ℕ) → Option (List ℕ) → Written → Type 0
@@ -60,8 +65,8 @@ IsWrittenOf line left right written = (before after : Option (List ℕ)) × Writ
 abbrev pub IsFaultOf : Line → Option (List ℕ) → Option (List ℕ) → Fault → Type 0
 IsFaultOf line left right f =
     IsOfWriting f ⊎ (IsUnread side.Left f ⊎ (IsUnread side.Right f
-    ⊎ ((l r : List ℕ) × AreBytesOf left l × AreBytesOf right r
-    × ((joined : Line) × IsCompletedLine l r line joined × IsAskedFault joined l r f))))
+    ⊎ ((l r given_l given_r : List ℕ) × AreBytesOf left l × AreBytesOf right r × AreGiven line l r given_l given_r
+    × ((joined : Line) × IsCompletedLine given_l given_r line joined × IsAskedFault joined given_l given_r f))))
 
 -- what a file's bytes suggest, read by a delimiter and as strictly as this
 abbrev pub IsSuggestedBy : Strictness → ℕ → List ℕ → List (List ℕ) → Suggestion → Type 0

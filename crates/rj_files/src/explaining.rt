@@ -10,15 +10,17 @@ ghost use Rattle.rj_csv_io.specs.Typed.{null_texts};
 ghost use Rattle.rj_line.specs.Forms.{form_of, is_explained};
 ghost use Rattle.rj_line.specs.Line.{IsLineFault, IsLineOf};
 ghost use Rattle.rj_files.specs.Entries.{entry_for, is_entry_for};
+ghost use Rattle.rj_files.specs.Explained.{IsPlaceExplained, IsToldOf};
 ghost use Rattle.rj_files.specs.Quiet.{is_quiet};
-ghost use Rattle.rj_files.specs.Texts.{memory_text, unkept_lines};
+ghost use Rattle.rj_files.specs.Texts.{unkept_lines};
 
 use crate::explained::ExplainedFault;
+use crate::memory::memory_lines;
 use crate::named::told_by_system;
 use crate::outputs::output_of;
 use rj_command::{Line, OpenGate, UnkeptRows, Violation, first_violation, read_line};
 use rj_csv_io::InputFormat;
-use rj_explain::{Inputs, explain, explain_row, explain_words};
+use rj_explain::{Inputs, explain, explain_further, explain_row, explain_words};
 use rj_fault::{Fault, Side};
 use rj_line::{Request, form_of, is_explained};
 use rj_suggest::suggest_types;
@@ -137,15 +139,6 @@ fn violation_lines<R: AllocGlobal + Threads + Wait + Clock + Sync>(
     }
 }
 
-// The lines for running out of memory in a join of two tables of these numbers of bytes.
-fn memory_lines(alloc: Global, left: usize, right: usize) -> Result<String, AllocError>
-    ensures { IfOk result (λ text. string_bytes text ≡ memory_text left right) }
-{
-    format!(in alloc;
-        "  while tables of {left} and {right} bytes were joined; with what is written that takes about three times as many\n"
-    )
-}
-
 // Whether an entry begins with a name and `=`.
 fn is_entry_for(entry: &[u8], name: &[u8]) -> bool
     ensures { result ≡ is_entry_for name.now entry.now }
@@ -209,37 +202,55 @@ fn unkept_lines(alloc: Global, side: Side) -> Result<String, AllocError>
     format!(in alloc; "  {rows}\n")
 }
 
-// The lines that explain an error of a join of two tables.
-fn lines_of<R: AllocGlobal + Threads + Wait + Clock + Sync>(
-    rt: &R,
+// The lines for the place of an error, with those for further cells if all is asked for.
+fn place_lines(
+    alloc: Global,
+    all: bool,
     fault: &Fault,
     inputs: &Inputs<'_, '_>,
 ) -> Result<String, AllocError>
-    ensures { fault.now ≡ Fault.Memory
-        → IfOk result (λ text. string_bytes text ≡ memory_text (length inputs.now.left.now) (length inputs.now.right.now)) }
+    ensures { IfOk result (λ text. IsPlaceExplained all fault.now inputs.now (string_bytes text)) }
+{
+    let mut lines = explain(alloc, fault, inputs)?;
+    if !all {
+        return Ok(lines);
+    }
+    let further = explain_further(alloc, fault, inputs)?;
+    lines.push_str(further.as_str())?;
+    Ok(lines)
+}
+
+// The lines that explain an error of what a line asks for of two tables.
+fn lines_of<R: AllocGlobal + Threads + Wait + Clock + Sync>(
+    rt: &R,
+    line: &Line<'_>,
+    fault: &Fault,
+    inputs: &Inputs<'_, '_>,
+) -> Result<String, AllocError>
+    ensures { IfOk result (λ text. IsToldOf line.now fault.now inputs.now (string_bytes text)) }
 {
     match fault {
-        Fault::Memory => memory_lines(rt.alloc(), inputs.left.len(), inputs.right.len()),
+        Fault::Memory => memory_lines(rt, line, inputs),
         Fault::NotAsExpected => violation_lines(rt, inputs),
         Fault::UndeclaredType(side, name) => {
             undeclared_lines(rt.alloc(), *side, name.as_str(), inputs)
         }
         Fault::NoSuchRows(side) => unkept_lines(rt.alloc(), *side),
-        _ => explain(rt.alloc(), fault, inputs),
+        _ => place_lines(rt.alloc(), line.explain_all, fault, inputs),
     }
 }
 
-/// An error of a join of two tables, explained.
+/// An error of what a line asks for of two tables, explained.
 pub(crate) fn explained<R: AllocGlobal + Threads + Wait + Clock + Sync>(
     rt: &R,
+    line: &Line<'_>,
     fault: Fault,
     inputs: &Inputs<'_, '_>,
 ) -> ExplainedFault
     ensures fault { result.fault ≡ fault }
-    ensures memory { fault ≡ Fault.Memory
-        → IfSome result.lines (λ text. string_bytes text ≡ memory_text (length inputs.now.left.now) (length inputs.now.right.now)) }
+    ensures lines { IfSome result.lines (λ text. IsToldOf line.now fault inputs.now (string_bytes text)) }
 {
-    let lines = lines_of(rt, &fault, inputs);
+    let lines = lines_of(rt, line, &fault, inputs);
     ExplainedFault::new(fault, lines)
 }
 

@@ -80,7 +80,7 @@ where
     let (left, right) = (inputs.left, inputs.right);
     match run(rt, alloc, left, right, request, progress, writer) {
         Ok(stats) => Ok(stats),
-        Err(fault) => Err(explained(rt, fault, &inputs)),
+        Err(fault) => Err(explained(rt, line, fault, &inputs)),
     }
 }
 
@@ -113,7 +113,7 @@ where
     let (left, right) = (inputs.left, inputs.right);
     match count(rt, alloc, left, right, request, progress, writer) {
         Ok(report) => Ok(report),
-        Err(fault) => Err(explained(rt, fault, &inputs)),
+        Err(fault) => Err(explained(rt, line, fault, &inputs)),
     }
 }
 

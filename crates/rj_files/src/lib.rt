@@ -7,9 +7,11 @@
 mod draft;
 mod explained;
 mod explaining;
+mod given;
 mod identities;
 mod joining;
 mod lists;
+mod memory;
 mod message;
 mod named;
 mod outputs;

@@ -10,8 +10,10 @@ use crate::named::is_standard_stream;
 use crate::outputs::output_of;
 use rj_command::{Gate, Line, Place, Step, Watch};
 use rj_fault::Side;
+use std::sync::Wait;
 use std::sync::atomic::{AtomicBool, AtomicU64, Ordering};
-use std::time::Clock;
+use std::thread::Parker;
+use std::time::{Clock, Duration};
 
 // Milliseconds after which it is shown if that isn't asked for.
 const PATIENCE: u64 = 2000;
@@ -28,6 +30,18 @@ pub struct Terminals {
     pub output: bool,
     /// Standard error.
     pub error: bool,
+}
+
+// The steps of a run, in their order, as lines show them.
+#[derive(Clone, Copy)]
+enum Stage {
+    LeftFile,
+    RightFile,
+    LeftTable,
+    RightTable,
+    Partitioning,
+    Joining,
+    Writing,
 }
 
 // Into what the tables of a join are cut. The numbers are those of its settings.
@@ -55,17 +69,54 @@ pub struct Progress<'a, R> {
     // Whether a line is there, and whether none is shown any more.
     stands: AtomicBool,
     is_over: AtomicBool,
-    // The bytes that were read from each file.
+    // Whether the run has ended, and where a thread that waits for that is parked.
+    has_ended: AtomicBool,
+    parker: Parker,
+    // The number of the current step, or 0 before the first.
+    stage: AtomicU64,
+    // The bytes that were read from each file, and about how many it has, or 0.
     left_bytes: AtomicU64,
     right_bytes: AtomicU64,
-    // The rows of each table, the parcels that were posted, and the partition of the first piece,
-    // plus one.
+    left_size: AtomicU64,
+    right_size: AtomicU64,
+    // The rows of each table, the parcels that were posted, the partition of the first piece, plus
+    // one, and the last piece with its partition.
     left_rows: AtomicU64,
     right_rows: AtomicU64,
     posted: AtomicU64,
     first: AtomicU64,
-    // The rows that are written.
+    partition: AtomicU64,
+    piece: AtomicU64,
+    // The rows that are written, and the bytes of them that were.
     written_rows: AtomicU64,
+    written_bytes: AtomicU64,
+}
+
+// The number of a step, by which threads share it.
+fn number_of(stage: Stage) -> u64 {
+    match stage {
+        Stage::LeftFile => 1,
+        Stage::RightFile => 2,
+        Stage::LeftTable => 3,
+        Stage::RightTable => 4,
+        Stage::Partitioning => 5,
+        Stage::Joining => 6,
+        Stage::Writing => 7,
+    }
+}
+
+// The step of a number.
+fn stage_of(number: u64) -> Option<Stage> {
+    match number {
+        1 => Some(Stage::LeftFile),
+        2 => Some(Stage::RightFile),
+        3 => Some(Stage::LeftTable),
+        4 => Some(Stage::RightTable),
+        5 => Some(Stage::Partitioning),
+        6 => Some(Stage::Joining),
+        7 => Some(Stage::Writing),
+        _ => None,
+    }
 }
 
 // How many parts of `size` rows the rows make.
@@ -180,13 +231,21 @@ impl<'a, R: Clock> Progress<'a, R> {
             next: AtomicU64::new(from),
             stands: AtomicBool::new(false),
             is_over: AtomicBool::new(!is_shown),
+            has_ended: AtomicBool::new(false),
+            parker: Parker::new(),
+            stage: AtomicU64::new(0),
             left_bytes: AtomicU64::new(0),
             right_bytes: AtomicU64::new(0),
+            left_size: AtomicU64::new(0),
+            right_size: AtomicU64::new(0),
             left_rows: AtomicU64::new(0),
             right_rows: AtomicU64::new(0),
             posted: AtomicU64::new(0),
             first: AtomicU64::new(0),
+            partition: AtomicU64::new(0),
+            piece: AtomicU64::new(0),
             written_rows: AtomicU64::new(0),
+            written_bytes: AtomicU64::new(0),
         }
     }
 
@@ -224,12 +283,89 @@ impl<'a, R: Clock> Progress<'a, R> {
         now >= self.from
     }
 
+    // Notes that a step begins.
+    fn reach(&self, stage: Stage) {
+        self.stage.store(number_of(stage), Ordering::SeqCst);
+    }
+
     // The bytes that were read from a side's file.
     fn bytes_of(&self, side: Side) -> &AtomicU64 {
         match side {
             Side::Left => &self.left_bytes,
             Side::Right => &self.right_bytes,
         }
+    }
+
+    // About how many bytes a side's file has, or 0.
+    fn size_of(&self, side: Side) -> &AtomicU64 {
+        match side {
+            Side::Left => &self.left_size,
+            Side::Right => &self.right_size,
+        }
+    }
+
+    // The line of a side's file, unless its table is typed by hand.
+    fn file_line(&self, side: Side) -> Option<Message> {
+        if self.is_written_by_hand(side) {
+            return None;
+        }
+        let bytes = self.bytes_of(side).load(Ordering::SeqCst);
+        let size = self.size_of(side).load(Ordering::SeqCst);
+        Some(Message::File { side, bytes, size })
+    }
+
+    // The line of a table that is read from the bytes of its file.
+    fn table_line(&self, side: Side) -> Message {
+        let bytes = self.bytes_of(side).load(Ordering::SeqCst);
+        Message::NamedStream { side, bytes }
+    }
+
+    // The line of the rows that were handed to partitions.
+    fn partitioning_line(&self) -> Message {
+        let (done, rows) = self.partitioned(self.posted.load(Ordering::SeqCst));
+        Message::Partitioned { done, rows }
+    }
+
+    // The line of the rows that were joined.
+    fn joining_line(&self) -> Message {
+        let partition = self.partition.load(Ordering::SeqCst);
+        let piece = self.piece.load(Ordering::SeqCst);
+        let (done, rows) = self.joined(partition, piece);
+        Message::Joined { done, rows }
+    }
+
+    // The line of the rows that are written.
+    fn writing_line(&self) -> Message {
+        let rows = self.written_rows.load(Ordering::SeqCst);
+        match self.written_bytes.load(Ordering::SeqCst) {
+            0 => Message::Writing { rows },
+            bytes => Message::Written { rows, bytes },
+        }
+    }
+
+    // The line of the current step, if there is one.
+    fn current_line(&self) -> Option<Message> {
+        match stage_of(self.stage.load(Ordering::SeqCst))? {
+            Stage::LeftFile => self.file_line(Side::Left),
+            Stage::RightFile => self.file_line(Side::Right),
+            Stage::LeftTable => Some(self.table_line(Side::Left)),
+            Stage::RightTable => Some(self.table_line(Side::Right)),
+            Stage::Partitioning => Some(self.partitioning_line()),
+            Stage::Joining => Some(self.joining_line()),
+            Stage::Writing => Some(self.writing_line()),
+        }
+    }
+
+    /// Whether lines may be shown until the run ends. If rows go to a terminal, they may only until
+    /// these come.
+    pub fn is_shown_throughout(&self) -> bool {
+        !self.shares_terminal && !self.is_over.load(Ordering::SeqCst)
+    }
+
+    /// The run has ended: whoever [keeps the line up to date](Progress::keep_up) returns.
+    pub fn end(&self) {
+        self.has_ended.store(true, Ordering::SeqCst);
+        self.parker.unpark();
     }
 
     // About how many rows of both tables were handed to partitions, when this many parcels were
@@ -251,10 +387,10 @@ impl<'a, R: Clock> Progress<'a, R> {
     // About how many rows of the larger table were joined before a piece of a partition, and how
     // many it has. Pieces are joined in the order of their partitions. (Without a key the first
     // partition is the only one.)
-    fn joined(&self, partition: u32, piece: u64) -> (u64, u64) {
+    fn joined(&self, partition: u64, piece: u64) -> (u64, u64) {
         let left = self.left_rows.load(Ordering::SeqCst);
         let rows = left.max(self.right_rows.load(Ordering::SeqCst));
-        let number = u64::from(partition).saturating_add(1);
+        let number = partition.saturating_add(1);
         let behind = number.saturating_sub(self.first.load(Ordering::SeqCst));
         (joined_rows(self.cuts, rows, behind, piece), rows)
     }
@@ -267,6 +403,13 @@ impl<R: Clock + Eprint> Progress<'_, R> {
         let _ = eprint!(self.rt; "{CLEARED}{message}");
     }
 
+    // Shows the line of the current step, if there is one.
+    fn show_current(&self) {
+        if let Some(line) = self.current_line() {
+            self.show(line);
+        }
+    }
+
     /// Clears the current line, so that something else can be written.
     pub fn clear(&self) {
         if self.stands.swap(false, Ordering::SeqCst) {
@@ -276,6 +419,11 @@ impl<R: Clock + Eprint> Progress<'_, R> {
 
     /// The table of a side is being read. It has about `size` bytes, or 0 if that isn't known.
     pub(crate) fn begin_file(&self, side: Side, size: u64) {
+        self.size_of(side).store(size, Ordering::SeqCst);
+        self.reach(match side {
+            Side::Left => Stage::LeftFile,
+            Side::Right => Stage::RightFile,
+        });
         if self.is_written_by_hand(side) {
             self.clear();
             return;
@@ -311,9 +459,27 @@ impl<R: Clock + Eprint> Progress<'_, R> {
 
     /// This many bytes were written.
     pub(crate) fn wrote(&self, bytes: u64) {
+        self.written_bytes.store(bytes, Ordering::SeqCst);
         let rows = self.written_rows.load(Ordering::SeqCst);
         if rows > 0 && self.is_due() {
             self.show(Message::Written { rows, bytes });
+        }
+    }
+}
+
+impl<R: Clock + Eprint + Wait> Progress<'_, R> {
+    /// Shows the current step, and again while it lasts, until the run [ends](Progress::end). So a
+    /// step is shown too that takes long and passes no place. A thread of its own does this.
+    pub fn keep_up(&self) {
+        let pause = Duration::from_millis(PAUSE);
+        for _ in self.rt.forever() {
+            self.parker.park_timeout(self.rt, pause);
+            if self.has_ended.load(Ordering::SeqCst) {
+                break;
+            }
+            if self.is_due() {
+                self.show_current();
+            }
         }
     }
 }
@@ -329,14 +495,17 @@ impl<R: Clock + Eprint> Gate for Progress<'_, R> {
                 }
             }
             Place::Piece(partition, piece) => {
+                self.partition
+                    .store(u64::from(partition), Ordering::SeqCst);
+                self.piece.store(piece, Ordering::SeqCst);
                 let is_shown = if self.is_first_piece(partition) {
+                    self.reach(Stage::Joining);
                     self.is_begun()
                 } else {
                     self.is_due()
                 };
                 if is_shown {
-                    let (done, rows) = self.joined(partition, piece);
-                    self.show(Message::Joined { done, rows });
+                    self.show(self.joining_line());
                 }
             }
             Place::Stripe(_) | Place::Take(_) | Place::Partition(_) => {}
@@ -348,8 +517,11 @@ impl<R: Clock + Eprint> Watch for Progress<'_, R> {
     fn begin(&self, step: Step) {
         let message = match step {
             Step::Read(side) => {
-                let bytes = self.bytes_of(side).load(Ordering::SeqCst);
-                Message::NamedStream { side, bytes }
+                self.reach(match side {
+                    Side::Left => Stage::LeftTable,
+                    Side::Right => Stage::RightTable,
+                });
+                self.table_line(side)
             }
             Step::Join {
                 left_rows,
@@ -357,11 +529,13 @@ impl<R: Clock + Eprint> Watch for Progress<'_, R> {
             } => {
                 self.left_rows.store(left_rows, Ordering::SeqCst);
                 self.right_rows.store(right_rows, Ordering::SeqCst);
+                self.reach(Stage::Partitioning);
                 let (done, rows) = self.partitioned(0);
                 Message::Partitioned { done, rows }
             }
             Step::Write { rows } => {
                 self.written_rows.store(rows, Ordering::SeqCst);
+                self.reach(Stage::Writing);
                 Message::Writing { rows }
             }
         };

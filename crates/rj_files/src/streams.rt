@@ -5,6 +5,7 @@ ghost use Rattle.rj_files.specs.Streams.{AreBytesOf, IsFaultOf, IsUnread, Writes
 ghost use Rattle.rj_files.specs.Texts.{unread_memory_text};
 
 use crate::explained::ExplainedFault;
+use crate::given::given_tables;
 use crate::joining::{Tables, Written, write_tables};
 use crate::progress::Progress;
 use crate::reading::{Stream, read_stream};
@@ -81,9 +82,10 @@ fn read_both<R: AllocGlobal + Eprint + Clock, L: Stream, S: Stream>(
 /// Reads the tables that two streams give, each to its end, and writes what the line asks for after
 /// what the writer already has. That is what is chosen of their joined table, or with `--count` the
 /// line of how many rows of each kind it has. The right stream is opened when the left one was read
-/// to its end, and nothing is written before both are. It returns the writer, and the statistics of
-/// the joined table, or with `--count` the report, if one is asked for. With `--types auto` the lists
-/// of the line get the types that it takes from the cells.
+/// to its end, and nothing is written before both are. With `--unnamed` their headers are completed
+/// first. With `--types auto` the lists of the line get the types that it takes from the cells. It
+/// returns the writer, and the statistics of the joined table, or with `--count` the report, if one
+/// is asked for.
 ///
 /// # Errors
 ///
@@ -109,6 +111,10 @@ where
     ensures unchanged { IfErr result.0 (λ e. e.fault ≢ Fault.WriteDevice → result.1 ≡ writer) }
 {
     let tables = match read_both(rt, line, progress, left, right) {
+        Ok(tables) => tables,
+        Err(e) => return (Err(e), writer),
+    };
+    let tables = match given_tables(rt, line, progress, tables) {
         Ok(tables) => tables,
         Err(e) => return (Err(e), writer),
     };

@@ -85,15 +85,27 @@ fn tells_the_byte_of_a_syntax_fault(rt: HostRuntime) {
     assert_eq!(rt; parsed_otherwise(rt.alloc(), TEXTS.as_slice()), "-");
 }
 
-// The fields of a band.
-type Bounds = (bool, usize, Option<usize>, Option<usize>);
+// The fields of a band, and those of its reach.
+type Bounds = (
+    bool,
+    usize,
+    Option<usize>,
+    Option<usize>,
+    Option<(usize, usize)>,
+);
 
 // A clause, and the band and the null-safe keys of its remainder.
 type Found<'a> = (&'a str, Option<Bounds>, &'a [(usize, usize)]);
 
 fn bounds_of(remainder: &Remainder<'_>) -> Option<Bounds> {
     match remainder.band() {
-        Some(band) => Some((band.of_left, band.column, band.low, band.high)),
+        Some(band) => Some((
+            band.of_left,
+            band.column,
+            band.low,
+            band.high,
+            band.reach.map(|reach| (reach.column, reach.low)),
+        )),
         None => None,
     }
 }
@@ -139,21 +151,42 @@ const FIVE_MEETINGS: &str = concat!(
     "(R.b = L.a OR L.a IS NULL AND R.b IS NULL)",
 );
 
-// One bound or two of either table, and NULLs that meet in each order; of five keys the first four.
-const REMAINDERS: [Found<'static>; 8] = [
+// One bound or two of either table, intervals that overlap, and NULLs that meet in each order; of
+// five keys the first four.
+const REMAINDERS: [Found<'static>; 12] = [
     (
         "JOIN ON L.a BETWEEN R.a AND R.b",
-        Some((true, 0, Some(0), Some(1))),
+        Some((true, 0, Some(0), Some(1), None)),
         &[],
     ),
     (
         "JOIN ON R.b > L.a AND L.b IS NOT NULL",
-        Some((true, 0, None, Some(1))),
+        Some((true, 0, None, Some(1), None)),
         &[],
     ),
     (
         "JOIN ON R.a >= L.a AND R.a < L.b",
-        Some((false, 0, Some(0), Some(1))),
+        Some((false, 0, Some(0), Some(1), None)),
+        &[],
+    ),
+    (
+        "JOIN ON L.a <= R.b AND R.a < L.b",
+        Some((true, 0, None, Some(1), Some((1, 0)))),
+        &[],
+    ),
+    (
+        "JOIN ON L.b >= R.a AND R.b >= L.a",
+        Some((true, 0, None, Some(1), Some((1, 0)))),
+        &[],
+    ),
+    (
+        "JOIN ON L.b > R.b AND L.a BETWEEN 1 AND R.b AND L.a IS NOT NULL",
+        Some((true, 0, None, Some(1), Some((1, 1)))),
+        &[],
+    ),
+    (
+        "JOIN ON L.b > R.a AND L.a BETWEEN R.a AND R.b",
+        Some((true, 0, Some(0), Some(1), Some((1, 0)))),
         &[],
     ),
     ("JOIN ON L.a NOT BETWEEN R.a AND R.b", None, &[]),

@@ -1,0 +1,6 @@
+mod EndFacts
+mod RecordFacts
+mod ColumnFacts
+mod NumberFacts
+mod FreeFacts
+mod LawfulFacts

@@ -1,0 +1,4 @@
+pub mod Named
+pub mod Ends
+pub mod Completed
+pub mod Columns

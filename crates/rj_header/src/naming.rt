@@ -1,0 +1,141 @@
+//! The names of a header's columns.
+
+ghost use Rattle.std.specs.Prelude.{◌≡◌, ◌+◌, ◌++◌, ◌<◌, ◌^◌, IfOk, length, map, slice_index_or, string_bytes, []};
+ghost use Rattle.rj_header.specs.Columns.{column_in, columns_in, told_of};
+ghost use Rattle.rj_header.specs.Named as named;
+
+use crate::column::{GivenName, NamedColumn};
+use std::alloc::{AllocError, Global};
+use std::str;
+
+// The longest field that may stand before a number.
+const MOST_STEM: usize = 100;
+
+// Whether a name is among these, ignoring ASCII case.
+fn is_taken(taken: &[&[u8]], name: &[u8]) -> bool
+    ensures { result ≡ named.is_taken (map (λ t. t.now) taken.now) name.now }
+{
+    taken.iter().any(|other| name.eq_ignore_ascii_case(other))
+}
+
+// Whether a name is that of one of these columns, ignoring ASCII case.
+fn is_given(columns: &[NamedColumn<'_>], name: &[u8]) -> bool
+    ensures { result ≡ named.is_taken (named.names_of (columns_in columns.now)) name.now }
+{
+    columns
+        .iter()
+        .any(|column| name.eq_ignore_ascii_case(column.name()))
+}
+
+// Whether a field has no name, or one of those to its left.
+fn needs_name(left: &[&[u8]], field: &[u8]) -> bool
+    ensures { result ≡ named.needs_name (map (λ f. f.now) left.now) field.now }
+{
+    field.is_empty() || is_taken(left, field)
+}
+
+/// Whether each field has a name of its own.
+pub(crate) fn have_names(fields: &[&[u8]]) -> bool
+    ensures { result ≡ named.have_names [] (map (λ f. f.now) fields.now) }
+{
+    for i in 0..fields.len() {
+        if needs_name(&fields[..i], fields[i]) {
+            return false;
+        }
+    }
+    true
+}
+
+// What a column's name begins with.
+fn stem_of(alloc: Global, column: u64, field: &[u8]) -> Result<String, AllocError>
+    ensures { IfOk result (λ s. string_bytes s ≡ named.stem_of column field.now) }
+{
+    if !field.is_empty() && field.len() <= MOST_STEM {
+        if let Ok(text) = str::from_utf8(field) {
+            return String::from_str(alloc, text);
+        }
+    }
+    format!(in alloc; "column_{column}")
+}
+
+// A stem with a number behind it, if that is more than 1.
+fn numbered(alloc: Global, stem: &str, number: u64) -> Result<String, AllocError>
+    ensures { IfOk result (λ s. string_bytes s ≡ named.numbered stem.now number) }
+{
+    if number <= 1 {
+        return String::from_str(alloc, stem);
+    }
+    format!(in alloc; "{stem}_{number}")
+}
+
+// The stem with the first number that makes it none of the fields and none of the columns' names.
+fn free_name(
+    alloc: Global,
+    fields: &[&[u8]],
+    columns: &[NamedColumn<'_>],
+    stem: &str,
+) -> Result<String, AllocError>
+    ensures { IfOk result (λ s. string_bytes s ≡ named.free_name (map (λ f. f.now) fields.now ++ named.names_of (columns_in columns.now)) stem.now) }
+{
+    let most = fields.len() as u64 + columns.len() as u64;
+    for number in 1..=most {
+        let name = numbered(alloc, stem, number)?;
+        if !is_taken(fields, name.as_bytes()) && !is_given(columns, name.as_bytes()) {
+            return Ok(name);
+        }
+    }
+    numbered(alloc, stem, most + 1)
+}
+
+// The column of the next field, behind these columns.
+fn next_column<'a>(
+    alloc: Global,
+    fields: &[&'a [u8]],
+    columns: &[NamedColumn<'a>],
+) -> Result<NamedColumn<'a>, AllocError>
+    requires { length columns.now < length fields.now }
+    ensures { IfOk result (λ c. column_in c ≡ named.column_of (map (λ f. f.now) fields.now) (columns_in columns.now)
+        (slice_index_or (map (λ f. f.now) fields.now) (length columns.now) [])) }
+{
+    let at = columns.len();
+    let field = fields[at];
+    if !needs_name(&fields[..at], field) {
+        return Ok(NamedColumn::Written(field));
+    }
+    let stem = stem_of(alloc, at as u64 + 1, field)?;
+    let name = free_name(alloc, fields, columns, stem.as_str())?;
+    Ok(NamedColumn::Given(name))
+}
+
+/// The columns of a header.
+pub(crate) fn columns_of<'a>(
+    alloc: Global,
+    fields: &[&'a [u8]],
+) -> Result<Vec<NamedColumn<'a>>, AllocError>
+    ensures { IfOk result (λ v. columns_in v.items ≡ named.columns_of (map (λ f. f.now) fields.now)) }
+{
+    let mut columns = Vec::new(alloc);
+    for _field in 0..fields.len() {
+        let column = next_column(alloc, fields, columns.as_slice())?;
+        columns.push(column)?;
+    }
+    Ok(columns)
+}
+
+/// The names that were given to columns.
+pub(crate) fn given_names(
+    alloc: Global,
+    columns: &[NamedColumn<'_>],
+) -> Result<Vec<GivenName>, AllocError>
+    ensures { IfOk result (λ v. told_of v.items ≡ named.given_from 1 (columns_in columns.now)) }
+{
+    let mut given = Vec::new(alloc);
+    for i in 0..columns.len() {
+        if let NamedColumn::Given(name) = &columns[i] {
+            let column = i as u64 + 1;
+            let name = name.clone()?;
+            given.push(GivenName { column, name })?;
+        }
+    }
+    Ok(given)
+}
