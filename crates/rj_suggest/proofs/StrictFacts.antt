@@ -1,5 +1,5 @@
 -- What a text suggests, and why it doesn't, by its one derivation.
-use Rattle.std.proofs.Common.{◌≡◌, ◌≢◌, ◌∙◌, true, List, ℕ, Option, Some, None, Result, Ok, Err, refl, ap, sym}
+use Rattle.std.proofs.Common.{◌≡◌, ◌≢◌, ◌∙◌, true, List, ℕ, Some, None, Result, Ok, Err, refl, ap, sym}
 use Rattle.std.specs.Prelude.{option_map}
 use Rattle.std.specs.Result.{IfErr, IfOk, result_err}
 use Rattle.std.proofs.lemmas.List.{append-nil}
@@ -15,7 +15,7 @@ use Rattle.rj_strict.specs.declared.fault.StrictFault.{StrictFault}
 use Rattle.rj_strict.specs.declared.header.Header.TheVariants.{First}
 use Rattle.rj_suggest.specs.Strict.{fault_in, refused_below}
 use Rattle.rj_suggest.specs.Misfits.{IsSuggestionOf}
-use Rattle.rj_suggest.specs.Suggested.{IsFaultOf, read_as_texts}
+use Rattle.rj_suggest.specs.Suggested.{IsFaultOf}
 use Rattle.rj_suggest.specs.declared.strict.StrictlyRefused.TheVariants.{Records}
 use Rattle.rj_suggest.specs.declared.suggestion.Suggestion.{Suggestion}
 

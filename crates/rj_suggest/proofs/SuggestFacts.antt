@@ -1,6 +1,6 @@
 -- What a suggested type reads: each number of its column.
 use Rattle.std.proofs.Common.{◌≡◌, ◌∙◌, ℕ, ◌+◌, ◌-◌, ◌*◌, ◌^◌, ◌<◌, ◌≤◌, Bool, true, false, List, [], ◌∷◌, ◌++◌, length, take, drop, Option, Some, None, is_some, refl, ap, sym, subst, lit<, inl, inr, ◌⊎◌, zero, suc, get_or, append_assoc, below_more, arith}
-use Rattle.std.specs.Prelude.{◌==◌, if◌then◌else◌, max, IfSome}
+use Rattle.std.specs.Prelude.{◌==◌, if◌then◌else◌, max, not, IfSome}
 use Rattle.std.specs.Option.{IsSomeAnd}
 use Rattle.std.specs.Str.{all_ascii_digits}
 use Rattle.std.specs.Str.Parse.{digits_value, without_leading_sign}
@@ -20,7 +20,8 @@ use Rattle.rj_columns.specs.declared.cell.ColumnType.{ColumnType}
 use Rattle.rj_columns.specs.Tables.{TableValue, cell_of}
 use Rattle.rj_csv_io.specs.Typed.{is_int_text, typed_cell}
 use Rattle.rj_suggest.proofs.RetypedFacts.{ReadColumns, ReadsText}
-use Rattle.rj_suggest.specs.Suggested.{AreSuggested, IsMostAbove, IsSuggested, column_line, column_lines, digits_of, is_of, most_with, text_in}
+use Rattle.rj_suggest.specs.Suggested.{AreSuggested, IsFirstNotOf, IsMostAbove, IsSuggested, SomeText, column_line, column_lines, digits_of, is_of, most_with, text_in}
+use Rattle.rj_suggest.specs.declared.number.Form.{Form}
 use Rattle.rj_suggest.specs.declared.number.Form.TheVariants as form
 use Rattle.rj_suggest.specs.declared.number.Part.{Part}
 use Rattle.rj_suggest.specs.declared.number.Part.TheVariants as part
@@ -99,6 +100,12 @@ kind-reads t row col kind.Text inside h = any-text (text_in (cell_of t row col))
 
 pub suggested-read : (t : TableValue) (kinds : List ColumnType) → AreSuggested t kinds → ReadColumns kinds t.rows
 suggested-read t kinds are row col k inside is = kind-reads t row col k inside (are.each col k is)
+
+-- a column with a first text that isn't of a form has one
+pub has-other : (form : Form) (t : TableValue) (col : ℕ) (o : Option ℕ) (b : Bool) → is_some o ≡ not b → IfSome o (IsFirstNotOf form t col) → b ≡ false
+    → SomeText t col (λ s. is_of form s ≡ false)
+has-other form t col (Some row) b is first none = (row, first.inside, first.other)
+has-other form t col None b is first none = let no : false ≡ true = rw none at is in absurd cc
 
 -- the most digits, one row on
 bound-step : (t : TableValue) (col row : ℕ) (p : Part) (most new : ℕ) → most ≤ new → IfSome (text_in (cell_of t row col)) (λ s. length (digits_of p s) ≤ new)

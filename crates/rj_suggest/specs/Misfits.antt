@@ -1,5 +1,5 @@
 -- The cells that keep a column from being one of numbers, and what the cells of records suggest.
-use Rattle.std.specs.Prelude.{ℕ, ◌≡◌, ◌+◌, ◌<◌, ◌⊎◌, true, false, List, length, Option, Some, None, string_bytes}
+use Rattle.std.specs.Prelude.{ℕ, ◌≡◌, ◌+◌, ◌⊎◌, true, false, List, length, Option, Some, None, string_bytes}
 use Rattle.std.specs.List.{slice_get}
 use Rattle.csv.specs.Reading.{records, strip_bom}
 use Rattle.rj_columns.specs.Tables.{TableValue, cell_of}

@@ -11,15 +11,15 @@ use crate::suggestion::Misfit;
 use rj_columns::Table;
 use std::alloc::{AllocError, Global};
 
-// Whether a text of a column is a number.
-fn has_number(table: &Table, col: usize) -> bool
+// Whether a text of a column is of this form.
+fn has_one_of(form: Form, table: &Table, col: usize) -> bool
     requires { col < length table.now.types }
-    ensures some { result ≡ true → SomeText table.now col (λ s. is_of form.Number s ≡ true) }
-    ensures none { result ≡ false → EachText table.now col (λ s. is_of form.Number s ≡ false) }
+    ensures some { result ≡ true → SomeText table.now col (λ s. is_of form s ≡ true) }
+    ensures none { result ≡ false → EachText table.now col (λ s. is_of form s ≡ false) }
 {
     for row in 0..table.rows() {
         if let Some(text) = text_at(table, row, col) {
-            if is_of(Form::Number, text) {
+            if is_of(form, text) {
                 return true;
             }
         }
@@ -34,6 +34,7 @@ fn misfit_at(alloc: Global, table: &Table, row: u64, col: usize) -> Result<Misfi
     requires others { SomeText table.now col (λ s. is_of form.Number s ≡ true) }
     ensures { IfOk result (IsMisfit table.now col) }
 {
+    let _rows = table.rows();
     let text = text_at(table, row, col).unwrap_or("");
     Ok(Misfit {
         column: String::from_str(alloc, table.name(col))?,
@@ -50,17 +51,14 @@ fn misfit_of(alloc: Global, table: &Table, col: usize) -> Result<Option<Misfit>,
     let Some(row) = first_not_of(Form::Number, table, col) else {
         return Ok(None);
     };
-    if !has_number(table, col) {
+    if !has_one_of(Form::Number, table, col) {
         return Ok(None);
     }
     Ok(Some(misfit_at(alloc, table, row, col)?))
 }
 
 /// That cell of each column of a table, in order.
-pub(crate) fn misfits_of(
-    alloc: Global,
-    table: &Table,
-) -> Result<Vec<Option<Misfit>>, AllocError>
+pub(crate) fn misfits_of(alloc: Global, table: &Table) -> Result<Vec<Option<Misfit>>, AllocError>
     ensures { IfOk result (λ misfits. AreMisfits table.now misfits.items) }
 {
     let mut misfits = Vec::new(alloc);

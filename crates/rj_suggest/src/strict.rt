@@ -28,7 +28,11 @@ pub enum StrictlyRefused {
 
 // What all records of a text that is derived suggest. `""` is written into each of its
 // empty lines first.
-fn suggest_derived(alloc: Global, text: &[u8], format: &InputFormat<'_>) -> Result<Suggestion, Fault>
+fn suggest_derived(
+    alloc: Global,
+    text: &[u8],
+    format: &InputFormat<'_>,
+) -> Result<Suggestion, Fault>
     requires { (full : Bool) × (file : File) × Derives format.now.delimiter First full (body_of First text.now) file }
     ensures suggestion { (full : Bool) (file : File) → Derives format.now.delimiter First full (body_of First text.now) file
         → IfOk result (IsSuggestionOf (records_of file) (null_texts format.now.nulls.now)) }

@@ -6,15 +6,15 @@ use Rattle.rj_suggest.proofs.RetypedFacts.{file-retyped}
 use Rattle.rj_suggest.proofs.SuggestFacts.{suggested-read}
 use Rattle.rj_suggest.proofs.read_columns.Goals as goal
 
-pub returns-in-Ok-clause-kinds : goal.returns-in-Ok-clause-kinds
-returns-in-Ok-clause-kinds c =
+pub returns-in-Ok-kinds_of-clause-kinds : goal.returns-in-Ok-kinds_of-clause-kinds
+returns-in-Ok-kinds_of-clause-kinds c =
     let bytes = c.args.bytes.now in
     let d = c.args.format.now.delimiter in
     let nulls = null_texts c.args.format.now.nulls.now in
-    let table = c.in-Ok.table in
+    let table = c.in-Ok-read_table.table in
     let kinds = c.in-Ok-kinds_of.kinds.items in
-    let types : c.as_slice.result.now ≡ c.in-Ok-texts_for.types.items = search rules in
-    let read = ap (λ (ts : List ColumnType). read_of d bytes ts nulls) (sym (types ∙ c.in-Ok-texts_for.ensures)) ∙ c.in-Ok.ensures.table in
+    let types : c.as_slice.result.now ≡ c.in-Ok.types.items = search rules in
+    let read = ap (λ (ts : List ColumnType). read_of d bytes ts nulls) (sym (types ∙ c.in-Ok.ensures)) ∙ c.in-Ok-read_table.ensures.table in
     let suggested = c.in-Ok-kinds_of.ensures in
     record {
       read = read;

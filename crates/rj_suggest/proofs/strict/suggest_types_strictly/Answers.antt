@@ -1,4 +1,4 @@
-use Rattle.std.proofs.Common.{◌≡◌, ◌∙◌, ap, subst, sym, true, None}
+use Rattle.std.proofs.Common.{◌∙◌, ap, subst, sym, true, None}
 use Rattle.csv.specs.Reading.{strip_bom}
 use Rattle.rj_csv_io.specs.Typed.{null_texts}
 use Rattle.rj_strict.specs.Faults.{row_at}
