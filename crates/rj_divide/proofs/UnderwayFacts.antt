@@ -1,6 +1,6 @@
 -- Divisions that go on.
 use Rattle.std.proofs.Common.{◌≡◌, ◌∙◌, ◌<◌, ◌≤◌, ◌+◌, ◌⊎◌, inl, inr, ℕ, List, [], ◌++◌, Option, Some, Bool, true, false, refl, sym, ap, subst, arith, append_assoc, length, take, drop}
-use Rattle.std.specs.Prelude.{◌-◌, ◌||◌, not, slice_index_or, None}
+use Rattle.std.specs.Prelude.{◌-◌, ◌||◌, not, slice_index_or}
 use Rattle.std.specs.Io.KnownBytes.{Consumes, IsAtEnd}
 use Rattle.std.proofs.lemmas.List.{append-nil, drop_all, get_or-take, length-append, length-take-le, take_all}
 use Rattle.csv.specs.Reading.{records}
@@ -104,8 +104,8 @@ module _ (d : Dividing) (text taken old bytes left : List ℕ) (end : ℕ) (done
       let more = header-prefix a (records (config_of D) piece) (records (config_of D) tail) in (
         more.0,
         b ∙ (ap (λ (l : List ℕ). done ++ piece_records D a l) same
-        ∙ (ap (λ (x : Records). done ++ x) (piece-as D a (bytes ++ left) ∙ (ap (behind_header a) split ∙ (more.1 ∙ ap (λ (l : Records). l ++ more.0) (sym (is ∙ piece-as D a piece)))))
-        ∙ sym (append_assoc done xs more.0))),
+            ∙ (ap (λ (x : Records). done ++ x) (piece-as D a (bytes ++ left) ∙ (ap (behind_header a) split ∙ (more.1 ∙ ap (λ (l : Records). l ++ more.0) (sym (is ∙ piece-as D a piece)))))
+            ∙ sym (append_assoc done xs more.0))),
       )
   begin-on (reading.Strict f) (reading.Strict s) last b stops xs is =
       subst (λ (x : Records). BeginIn D N (reading.Strict f) text (x ++ xs)) (sym b.3)

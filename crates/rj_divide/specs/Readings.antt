@@ -1,12 +1,12 @@
 -- The first error of records, whatever number its row has, and when a division ends with which
 -- error.
-use Rattle.std.specs.Prelude.{ℕ, ◌+◌, ◌-◌, ◌^◌, ◌==◌, ◌≡◌, ◌≤◌, ◌<◌, ◌⊎◌, if◌then◌else◌, Bool, List, [], ◌∷◌, ◌++◌, length, Result, Ok, Err}
+use Rattle.std.specs.Prelude.{ℕ, ◌+◌, ◌^◌, ◌==◌, ◌≡◌, ◌≤◌, ◌<◌, ◌⊎◌, if◌then◌else◌, List, [], ◌∷◌, ◌++◌, length, Result, Err}
 use Rattle.rj_columns.specs.declared.cell.ColumnType.{ColumnType}
 use Rattle.rj_columns.specs.declared.refused.BuildRefused.{BuildRefused}
 use Rattle.rj_columns.specs.Contents.{Content}
 use Rattle.rj_csv_io.specs.declared.refused.ReadRefused.{ReadRefused}
 use Rattle.rj_csv_io.specs.declared.refused.ReadRefused.TheVariants as read
-use Rattle.rj_csv_io.specs.Pieces.{AreRows, piece_records}
+use Rattle.rj_csv_io.specs.Pieces.{AreRows}
 use Rattle.rj_csv_io.specs.Tables.{of_begun}
 use Rattle.rj_csv_io.specs.Typed.{read_cells}
 use Rattle.rj_divide.specs.declared.refused.DivideRefused.{DivideRefused}

@@ -1,11 +1,12 @@
 use Rattle.std.proofs.Common.{rules, ◌≡◌, ◌≤◌, ℕ, List, arith, inl, inr, length, map, refl, subst, take, true, false}
+use Rattle.std.specs.Io.KnownBytes.{IsAtEnd}
 use Rattle.std.proofs.lemmas.Bool.{cases_Bool}
 use Rattle.std.proofs.lemmas.List.{length-map}
 use Rattle.rj_divide.specs.Divisions.{dividing}
 use Rattle.rj_divide.specs.Readings.{IsHeaderRefusal}
 use Rattle.rj_divide.specs.Texts.{AreRecordsOf, IsDivisionFault, IsPieceFault, reading_of_piece}
+use Rattle.rj_divide.specs.Underway.{ReadsOn}
 use Rattle.rj_divide.specs.declared.reading.Reading.{Reading}
-use Rattle.rj_divide.specs.declared.refused.DivideRefused.{DivideRefused}
 use Rattle.rj_divide.proofs.DivisionFacts.{piece-reads}
 use Rattle.rj_divide.proofs.ReadingFacts.{input-fault}
 use Rattle.rj_divide.proofs.UnderwayFacts.{fault-in, finish, go-on}
@@ -22,9 +23,12 @@ returns-clause-more g c = λ e how begin n u.
     let many : length (map g.O.Output.told c.divide_piece.new.outputs) ≡ length (map g.O.Output.told c.args.outputs.now) =
     omega (arith, length-map c.divide_piece.new.outputs g.O.Output.told, length-map c.args.outputs.now g.O.Output.told, c.divide_piece.auto.outputs) in
     let within : p.end ≤ length bytes = search rules in
+    let ends : p.is_last ≡ true → (p.end ≡ length bytes) × IsAtEnd (g.I.Input.tells c.next_piece.new.input) =
+    λ e. let end = c.in-Ok.ensures.last e in let all : p.end ≡ length bytes = search (rules, end.0) in (all, end.1) in
+    let on = subst (λ (t : List ℕ). ReadsOn d.delimiter c.args.rest.now.reading (take p.end t) c.in-Ok-after.after) c.deref.ensures.value c.in-Ok-after.ensures in
     go-on d how begin c.args.rest.now bytes (g.I.Input.tells c.args.input.now) (g.I.Input.tells c.next_piece.new.input) (map g.O.Output.told c.args.outputs.now) n p.end p.is_last u
-    c.in-Ok.ensures.bytes c.in-Ok.ensures.last c.in-Ok.ensures.records found.0 (map g.O.Output.told c.divide_piece.new.outputs) c.in-Ok-divide_piece.rows are found.2
-    _ is many within (c.in-Ok.ensures.line is) (c.in-Ok.ensures.rest is) c.in-Ok-after.ensures c.drop_front.ensures refl
+    c.in-Ok.ensures.bytes ends c.in-Ok.ensures.records found.0 (map g.O.Output.told c.divide_piece.new.outputs) c.in-Ok-divide_piece.rows are found.2
+    _ is many within (c.in-Ok.ensures.line is) (c.in-Ok.ensures.rest is) on c.drop_front.ensures refl
 
 pub returns-clause-last : goal.returns-clause-last
 returns-clause-last g c = λ e how begin n u.
@@ -33,8 +37,10 @@ returns-clause-last g c = λ e how begin n u.
     let found = c.in-Ok-divide_piece.ensures.divided in
     let piece = subst (λ (r : Reading). AreRecordsOf d.delimiter (length d.types) r (take p.end c.deref.result.now) found.0) c.of_piece-reading.ensures found.1 in
     let are = subst (λ (t : List ℕ). AreRecordsOf d.delimiter (length d.types) (reading_of_piece c.args.rest.now.reading p.is_last) (take p.end t) found.0) c.deref.ensures.value piece in
+    let ends : p.is_last ≡ true → (p.end ≡ length bytes) × IsAtEnd (g.I.Input.tells c.next_piece.new.input) =
+    λ e. let end = c.in-Ok.ensures.last e in let all : p.end ≡ length bytes = search (rules, end.0) in (all, end.1) in
     finish d how begin c.args.rest.now bytes (g.I.Input.tells c.args.input.now) (g.I.Input.tells c.next_piece.new.input) (map g.O.Output.told c.args.outputs.now) n p.end p.is_last u
-    c.in-Ok.ensures.bytes c.in-Ok.ensures.last c.in-Ok.ensures.records found.0 (map g.O.Output.told c.divide_piece.new.outputs) c.in-Ok-divide_piece.rows are found.2
+    c.in-Ok.ensures.bytes ends c.in-Ok.ensures.records found.0 (map g.O.Output.told c.divide_piece.new.outputs) c.in-Ok-divide_piece.rows are found.2
     _ is refl
 
 pub returns-in-Err-clause-fault : goal.returns-in-Err-clause-fault
@@ -54,7 +60,9 @@ returns-in-Err-divide_piece-clause-fault g c = λ t how begin n b u.
     let may = subst (λ (x : ℕ). may_delimit x ≡ true) c.byte-byte.ensures.value c.byte-byte.ensures.lawful in
     let outputs = length c.args.outputs.now in
     let piece = subst (λ (r : Reading). IsPieceFault d r (take p.end c.deref.result.now) c.args.rest.now.rows outputs c.in-Err-divide_piece.refused) c.of_piece-reading.ensures (c.in-Err-divide_piece.ensures.fault t b) in
+    let ends : p.is_last ≡ true → (p.end ≡ length bytes) × IsAtEnd (g.I.Input.tells c.next_piece.new.input) =
+    λ e. let end = c.in-Ok.ensures.last e in let all : p.end ≡ length bytes = search (rules, end.0) in (all, end.1) in
     fault-in d how begin c.args.rest.now bytes (g.I.Input.tells c.args.input.now) (g.I.Input.tells c.next_piece.new.input) (map g.O.Output.told c.args.outputs.now) n p.end p.is_last u
-    c.in-Ok.ensures.bytes c.in-Ok.ensures.last c.in-Ok.ensures.records may (λ header whole text file derived. c.reads_records.ensures d.delimiter header whole text file may derived) c.args.block outputs c.in-Err-divide_piece.refused c.in-Ok.ensures.read
+    c.in-Ok.ensures.bytes ends c.in-Ok.ensures.records may (λ header whole text file derived. c.reads_records.ensures d.delimiter header whole text file may derived) c.args.block outputs c.in-Err-divide_piece.refused c.in-Ok.ensures.read
     (elim (cases_Bool p.is_last) [ inl is ↦ inl is | inr is ↦ inr (is, within, c.in-Ok.ensures.line is) ])
     (subst (λ (t : List ℕ). IsPieceFault d (reading_of_piece c.args.rest.now.reading p.is_last) (take p.end t) c.args.rest.now.rows outputs c.in-Err-divide_piece.refused) c.deref.ensures.value piece)
