@@ -188,8 +188,8 @@ fn divide_input<I: Input, W: Route, O: Output>(
     ensures begins { OnOk result ((t : TableValue) × (range_begun range.now ≡ Ok t)) }
 
     // where the header and the types go together, an error comes for this alone
-    ensures fault { IfErr result (λ e. (t : TableValue) → range_begun range.now ≡ Ok t → IfSome (I.tells input.old) (λ text.
-        IsDivisionFault (range_dividing W.part range.now route.now) BLOCK (range_reading range.now.line.now.strict range.now.from) text (length outputs.old) e)) }
+    ensures fault { IfErr result (λ e. (t : TableValue) → range_begun range.now ≡ Ok t → IfSome (I.tells input.old) (λ text. IsDivisionFault
+        (range_dividing W.part range.now route.now) BLOCK (range_reading range.now.line.now.strict range.now.from) text (length outputs.old) e)) }
 {
     let division = Division {
         delimiter: range.delimiter,
