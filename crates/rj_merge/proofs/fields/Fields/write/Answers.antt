@@ -38,7 +38,8 @@ loop-i-preserved c =
           let room : length so_far.0 < 2 ^ 64 - 1 = omega arith in (
             so_far.0 ++ c.in-Some.field.now ∷ [],
             kept-field c.as_ref-whole.result.now.columns c.loop-i.i fields so_far.0 c.in-Some.field.now inside field (sym c.holds_place.ensures ∙ c.if-holds_place.false) so_far.1,
-            c.in_ok-write_field.ensures d text so_far.0 room so_far.2,
+            field-written d c.loop-i.writer c.write_field.new.self text so_far.0 c.in-Some.field.now room so_far.2 (ok-holds c.write_field.result good said.text) (ok-holds c.write_field.result good said.same) (ok-holds c.write_field.result good said.count)
+            (ok-holds c.write_field.result good said.wrote) (ok-holds c.write_field.result good said.stays),
           );
       end = c.loop-i.invariant.end;
     }
