@@ -1,13 +1,12 @@
 -- How files are merged, by the values of options.
-use Rattle.std.specs.Prelude.{◌≡◌, ◌^◌, ◌&&◌, ℕ, nat_lt, if◌then◌else◌, List, length, codes, Option, None, Some, option_map, option_and_then}
-use Rattle.std.specs.Char.{is_ascii_digit}
-use Rattle.std.specs.List.{list_all}
+use Rattle.std.specs.Prelude.{◌≡◌, ℕ, if◌then◌else◌, List, codes, Option, None, Some, option_map, option_and_then}
 use Rattle.std.specs.Str.{bytes_eq}
 use Rattle.std.specs.Str.Parse.{digits_value, without_leading_plus}
 use Rattle.rj_line.specs.Delimiters.{named_or_comma}
 use Rattle.rj_merge.specs.declared.options.MergeOptions.{MergeOptions}
 use Rattle.rj_merge.specs.declared.place.Place.{Place}
 use Rattle.rj_merge.specs.declared.place.Place.TheVariants.{Pair}
+use Rattle.rj_merge.specs.Texts.{is_number}
 use Rattle.rj_settings.specs.declared.choice.RowOrder.{RowOrder}
 use Rattle.rj_settings.specs.declared.choice.RowOrder.TheVariants.{LeftFirst, PairsFirst}
 
@@ -18,7 +17,7 @@ order_named (Some word) = if bytes_eq word (codes "left") then LeftFirst else Pa
 
 -- the number of 64 bits that digits write
 abbrev pub number_of : List ℕ → Option ℕ
-number_of digits = if nat_lt 0 (length digits) && (list_all is_ascii_digit digits && nat_lt (digits_value 10 digits) (2 ^ 64)) then Some (digits_value 10 digits) else None
+number_of digits = if is_number digits then Some (digits_value 10 digits) else None
 
 -- the first place of the left row whose number an option's value writes, perhaps with a plus
 abbrev pub place_named : Option (List ℕ) → Option Place

@@ -18,9 +18,7 @@ const MOST: u32 = 1_048_576;
 fn are_digits(text: &str) -> bool
     ensures { result ≡ list_all is_ascii_digit text.now }
 {
-    text.as_bytes()
-        .iter()
-        .all(|byte| byte.is_ascii_digit())
+    text.as_bytes().iter().all(|byte| byte.is_ascii_digit())
 }
 
 // The number that a text writes without a sign, if it is one of those that an entry may have.

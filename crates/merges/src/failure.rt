@@ -126,11 +126,7 @@ impl Failure {
         }
     }
 
-    fn of_merge(
-        alloc: Global,
-        files: &[&str],
-        refused: MergeRefused,
-    ) -> Result<Failure, AllocError>
+    fn of_merge(alloc: Global, files: &[&str], refused: MergeRefused) -> Result<Failure, AllocError>
         ensures { IfOk result (IsOfMerge (map (λ f. f.now) files.now) refused) }
     {
         Ok(match refused {
@@ -139,10 +135,22 @@ impl Failure {
             MergeRefused::NoHeader(input) => Failure::NoHeader(name_of(alloc, files, input)?),
             MergeRefused::NoPlaces(input) => Failure::NoPlaces(name_of(alloc, files, input)?),
             MergeRefused::OtherHeader(input) => Failure::OtherHeader(name_of(alloc, files, input)?),
-            MergeRefused::RaggedRow(input, row) => Failure::RaggedRow(name_of(alloc, files, input)?, row),
-            MergeRefused::BadPlace(input, row) => Failure::BadPlace(name_of(alloc, files, input)?, row),
-            MergeRefused::NoPlace(input, row) => Failure::NoPlace(name_of(alloc, files, input)?, row),
-            MergeRefused::NotInOrder(input, row) => Failure::NotInOrder(name_of(alloc, files, input)?, row),
+            MergeRefused::RaggedRow(input, row) => Failure::RaggedRow(
+                name_of(alloc, files, input)?,
+                row,
+            ),
+            MergeRefused::BadPlace(input, row) => Failure::BadPlace(
+                name_of(alloc, files, input)?,
+                row,
+            ),
+            MergeRefused::NoPlace(input, row) => Failure::NoPlace(
+                name_of(alloc, files, input)?,
+                row,
+            ),
+            MergeRefused::NotInOrder(input, row) => Failure::NotInOrder(
+                name_of(alloc, files, input)?,
+                row,
+            ),
             MergeRefused::RepeatedPlace(place) => Failure::RepeatedPlace(At(place)),
         })
     }
