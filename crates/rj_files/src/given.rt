@@ -36,7 +36,12 @@ fn delimiter_of(request: &Request<'_>, side: Side) -> Delimiter
 }
 
 // Tells which names the columns of a side were given.
-fn tell_given<R: Clock + Eprint>(rt: &R, progress: &Progress<'_, R>, side: Side, given: &[GivenName]) {
+fn tell_given<R: Clock + Eprint>(
+    rt: &R,
+    progress: &Progress<'_, R>,
+    side: Side,
+    given: &[GivenName],
+) {
     if given.is_empty() {
         return;
     }
