@@ -5,7 +5,7 @@ use Rattle.rj_divide.proofs.PutFacts.{all-may-fail}
 use Rattle.rj_divide.proofs.ReadingFacts.{piece-fault, read-rows, refusal-of}
 use Rattle.rj_csv_io.specs.Typed.{null_texts}
 use Rattle.rj_divide.specs.Divisions.{dividing}
-use Rattle.rj_divide.proofs.piece.divide_piece.Goals as goal
+use Rattle.rj_divide.proofs.piece.divide_records.Goals as goal
 
 pub returns-then-before-gt-MOST_ROWS-clause-fault : goal.returns-then-before-gt-MOST_ROWS-clause-fault
 returns-then-before-gt-MOST_ROWS-clause-fault g c = λ t b. inr (omega (arith, c.if-before-gt-MOST_ROWS.true))
