@@ -135,11 +135,7 @@ fn first_bad(
 }
 
 // The line for a bad cell.
-fn bad_line(
-    alloc: Global,
-    column: &TypedColumn<'_>,
-    found: &BadRow,
-) -> Result<String, AllocError>
+fn bad_line(alloc: Global, column: &TypedColumn<'_>, found: &BadRow) -> Result<String, AllocError>
     ensures { IfOk result (λ s. string_bytes s
         ≡ further.bad_line found.now.number found.now.row.line (at_column column.now.number (names_in found.now.row.record))) }
 {
@@ -154,11 +150,7 @@ fn bad_line(
 }
 
 // The lines for the first bad cells from a row on.
-fn bad_lines(
-    alloc: Global,
-    column: &TypedColumn<'_>,
-    from: RowPlace,
-) -> Result<String, AllocError>
+fn bad_lines(alloc: Global, column: &TypedColumn<'_>, from: RowPlace) -> Result<String, AllocError>
     requires stands { StandsAt column.now.delimiter column.now.text.now from.row from.at }
     requires within { from.at ≤ length column.now.text.now }
     requires rows { from.row ≤ from.at }
