@@ -1,11 +1,9 @@
 //! Further cells of a column that aren't of its type, below the first one.
 
-ghost use Rattle.std.specs.Prelude.{◌≡◌, ◌≤◌, ◌+◌, ◌-◌, IfOk, IfSome, MatchOption, None, Some, is_none, length, slice_get, string_bytes};
+ghost use Rattle.std.specs.Prelude.{◌≡◌, ◌≤◌, ◌+◌, IfOk, IfSome, MatchOption, is_none, length, string_bytes};
 ghost use Rattle.std.specs.Str.{is_utf8};
 ghost use Rattle.rj_csv_io.specs.Pieces.{names_in};
 ghost use Rattle.rj_csv_io.specs.Typed.{is_int_text, null_texts, read_cell};
-ghost use Rattle.rj_types.specs.Columns.{types_under};
-ghost use Rattle.rj_explain.specs.Explained.{types_of};
 ghost use Rattle.rj_explain.specs.Further as further;
 ghost use Rattle.rj_explain.specs.Further.{AreBadTold, AreFurtherTold, AreToldIn, HasNoBad, IsColumnOf, IsFirstBadRow, IsFurtherExplained, has_bad};
 ghost use Rattle.rj_explain.specs.Places.{HasNoRow, StandsAt, at_column};
@@ -200,28 +198,22 @@ fn lines_below(alloc: Global, column: &TypedColumn<'_>, row: u64) -> Result<Stri
     }
 }
 
-// The column with this number of a side's text, if it has a type under the text's header.
+// The column with this number and type of a side's text.
 fn column_of<'a>(
-    alloc: Global,
     inputs: &Inputs<'a, 'a>,
     side: Side,
     text: &'a [u8],
-    header: &Row,
     number: u64,
-) -> Result<Option<TypedColumn<'a>>, AllocError>
-    ensures { IfOk result (λ o. MatchOption o (slice_get (types_under (types_of side inputs.now) (names_in header.now.record)) (number - 1) ≡ None)
-        (λ c. (slice_get (types_under (types_of side inputs.now) (names_in header.now.record)) (number - 1) ≡ Some c.kind)
-        × IsColumnOf side inputs.now text.now number c.kind c)) }
+    kind: ColumnType,
+) -> TypedColumn<'a>
+    ensures { IsColumnOf side inputs.now text.now number kind result }
 {
-    match kind_at(alloc, inputs, side, header, number)? {
-        Some(kind) => Ok(Some(TypedColumn {
-            text,
-            delimiter: inputs.delimiter(side),
-            number,
-            kind,
-            nulls: inputs.nulls(side),
-        })),
-        None => Ok(None),
+    TypedColumn {
+        text,
+        delimiter: inputs.delimiter(side),
+        number,
+        kind,
+        nulls: inputs.nulls(side),
     }
 }
 
@@ -239,8 +231,11 @@ fn lines_of_text<'a>(
     let Some(header) = find_row(alloc, text, inputs.delimiter(side), 0)? else {
         return Ok(String::new(alloc));
     };
-    match column_of(alloc, inputs, side, text, &header, number)? {
-        Some(column) => lines_below(alloc, &column, row),
+    match kind_at(alloc, inputs, side, &header, number)? {
+        Some(kind) => {
+            let column = column_of(inputs, side, text, number, kind);
+            lines_below(alloc, &column, row)
+        }
         None => Ok(String::new(alloc)),
     }
 }

@@ -1,4 +1,4 @@
-use Rattle.std.proofs.Common.{inl, inr}
+use Rattle.std.proofs.Common.{inl, inr, sym}
 use Rattle.std.proofs.lemmas.Result.{IfOk-weaker}
 use Rattle.rj_csv_io.specs.Pieces.{names_in}
 use Rattle.rj_explain.proofs.further.lines_of_text.Goals as goal
@@ -11,14 +11,14 @@ returns-in_default c =
 pub returns-in-Some-2 : goal.returns-in-Some-2
 returns-in-Some-2 c =
     let header = c.in-Some.header in
-    let column = c.in-Some-2.column in
     let found = rw (c.in-Some.is, c.delimiter.ensures) at c.in_ok-header.ensures in
-    let typed = rw c.in-Some-2.is at c.in_ok-column.ensures in
-    IfOk-weaker c.lines_below.result _ _ (λ s told. inr (header.line, names_in header.record, found, rw typed.0 (column, typed.1, told))) c.lines_below.ensures
+    let typed = sym (rw c.in-Some-2.is at c.in_ok-kind.ensures) in
+    IfOk-weaker c.lines_below.result _ _ (λ s told. inr (header.line, names_in header.record, found, rw typed (c.column_of-column.result, c.column_of-column.ensures, told)))
+    c.lines_below.ensures
 
 pub returns-in-None : goal.returns-in-None
 returns-in-None c =
     let header = c.in-Some.header in
     let found = rw (c.in-Some.is, c.delimiter.ensures) at c.in_ok-header.ensures in
-    let none = rw c.in-None.is at c.in_ok-column.ensures in
+    let none = sym (rw c.in-None.is at c.in_ok-kind.ensures) in
     inr (header.line, names_in header.record, found, rw none c.new-in-None.ensures.bytes)
