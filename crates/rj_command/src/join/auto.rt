@@ -57,8 +57,7 @@ fn kinds_of_strict_text(
     request: &Request<'_>,
     side: Side,
     full: bool,
-) -> Result<Option<Vec<ColumnType>>, AllocError>
-{
+) -> Result<Option<Vec<ColumnType>>, AllocError> {
     let delimiter = delimiter_of(request, side);
     if check(text, delimiter, Grammar::First, full).is_err() {
         return Ok(None);
@@ -73,8 +72,7 @@ fn kinds_of(
     text: &[u8],
     request: &Request<'_>,
     side: Side,
-) -> Result<Option<Vec<ColumnType>>, AllocError>
-{
+) -> Result<Option<Vec<ColumnType>>, AllocError> {
     match request.strict {
         Strictness::Off => kinds_of_text(alloc, text, request, side),
         Strictness::On => kinds_of_strict_text(alloc, text, request, side, false),
@@ -238,8 +236,7 @@ fn entries_of(
     request: &Request<'_>,
     side: Side,
     kinds: &[ColumnType],
-) -> Result<Vec<TypeEntry>, AllocError>
-{
+) -> Result<Vec<TypeEntry>, AllocError> {
     let mut entries = Vec::new(alloc);
     for i in 0..compared.table(side).columns() {
         push_some(
@@ -264,8 +261,7 @@ fn entries_by(
     left: &[u8],
     right: &[u8],
     request: &Request<'_>,
-) -> Result<Option<Entries>, AllocError>
-{
+) -> Result<Option<Entries>, AllocError> {
     let Some(left_kinds) = kinds_of(alloc, left, request, Side::Left)? else {
         return Ok(None);
     };
@@ -289,8 +285,7 @@ fn suggested(
     left: &[u8],
     right: &[u8],
     request: &Request<'_>,
-) -> Result<Option<Entries>, AllocError>
-{
+) -> Result<Option<Entries>, AllocError> {
     let clause = match parse(alloc, request.clause) {
         Ok(clause) => clause,
         Err(ParseRefused::Memory) => return Err(AllocError),

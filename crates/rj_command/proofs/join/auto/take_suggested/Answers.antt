@@ -12,7 +12,7 @@ returns c =
       [],
       [],
       cut_further q full p _ _ c.in_ok-add_entries.ensures
-      (subst (λ n. p.left_types.items ≡ take n full.left_types.items) lefts c.cut_entries.ensures.left)
-      (subst (λ n. p.right_types.items ≡ take n full.right_types.items) rights c.cut_entries.ensures.right)
-      c.cut_entries.ensures.same,
+          (subst (λ n. p.left_types.items ≡ take n full.left_types.items) lefts c.cut_entries.ensures.left)
+          (subst (λ n. p.right_types.items ≡ take n full.right_types.items) rights c.cut_entries.ensures.right)
+          c.cut_entries.ensures.same,
     )
