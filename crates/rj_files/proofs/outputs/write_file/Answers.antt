@@ -12,5 +12,5 @@ written_to line left right before after written writes = (before, after, writes)
 
 pub returns-in-Ok-finish-clause-written : goal.returns-in-Ok-finish-clause-written
 returns-in-Ok-finish-clause-written g c =
-    written_to c.args.line.old (g.L.Stream.tells c.args.left.now) (g.S.Stream.tells c.args.right.now) _ _ c.in-Ok-written.written
+    written_to c.args.line.now (g.L.Stream.tells c.args.left.now) (g.S.Stream.tells c.args.right.now) _ _ c.in-Ok-written.written
     (IfOk-at_ok _ c.in-Ok-written.is c.write_streams-written.ensures.written)
