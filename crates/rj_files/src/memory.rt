@@ -113,8 +113,7 @@ fn members_lines(
     files: FileSizes,
     sizes: &Sizes,
     members: Counts,
-) -> Result<String, AllocError>
-{
+) -> Result<String, AllocError> {
     let rows = members
         .pairs
         .saturating_add(members.lone_left)
@@ -129,8 +128,7 @@ fn members_lines(
 }
 
 // The line for a joined table whose members aren't known before it is made.
-fn unknown_line(alloc: Global, files: FileSizes, sizes: &Sizes) -> Result<String, AllocError>
-{
+fn unknown_line(alloc: Global, files: FileSizes, sizes: &Sizes) -> Result<String, AllocError> {
     let left = mean_length(files.left, sizes.left_rows);
     let mean = left.saturating_add(mean_length(files.right, sizes.right_rows));
     format!(in alloc;
@@ -144,8 +142,7 @@ fn sizes_lines(
     request: &Request<'_>,
     files: FileSizes,
     sizes: &Sizes,
-) -> Result<String, AllocError>
-{
+) -> Result<String, AllocError> {
     match sizes.members {
         Some(members) => members_lines(alloc, request, files, sizes, members),
         None => unknown_line(alloc, files, sizes),
@@ -157,8 +154,7 @@ fn more_lines<R: AllocGlobal + Threads + Sync>(
     rt: &R,
     inputs: &Inputs<'_, '_>,
     files: FileSizes,
-) -> Result<String, AllocError>
-{
+) -> Result<String, AllocError> {
     let (alloc, request) = (rt.alloc(), inputs.request);
     match early_sizes(rt, alloc, inputs.left, inputs.right, request) {
         Ok(sizes) => sizes_lines(alloc, request, files, &sizes),
@@ -177,8 +173,7 @@ pub(crate) fn memory_lines<R: AllocGlobal + Threads + Sync>(
     rt: &R,
     line: &Line<'_>,
     inputs: &Inputs<'_, '_>,
-) -> Result<String, AllocError>
-{
+) -> Result<String, AllocError> {
     let files = FileSizes {
         left: inputs.left.len() as u64,
         right: inputs.right.len() as u64,
