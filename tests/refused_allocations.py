@@ -56,7 +56,7 @@ def totals_of(file):
     return struct.unpack("ll", file.read_bytes())
 
 
-def faults_of(ran, name, stdout, told):
+def faults_of(ran, name, stdout, told=b""):
     """What isn't as wanted of a run in which something was refused."""
     if ran.status == 0:
         return harness.differences(ran, stdout, told)
