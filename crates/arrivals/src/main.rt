@@ -4,7 +4,7 @@
 #![tactic(auto)]
 
 ghost use Rattle.std.specs.Prelude.{◌≡◌};
-ghost use Rattle.clap.specs.Words.{found_of, one_text};
+ghost use Rattle.clap.specs.Words.{first_value, found_of};
 ghost use Rattle.arrivals.specs.Lines.{IsLineBy, number_or};
 
 use clap::{Arg, ArgAction, ArgMatches, Command, Error, value_parser};
@@ -118,20 +118,26 @@ fn line_command<'a>(alloc: Global) -> Result<Command<'a>, AllocError> {
 
 // The number of an option, or another one if it has none.
 fn number_or(matches: &ArgMatches<'_>, name: &str, other: u32) -> u32
-    ensures { result ≡ number_or other (one_text (found_of matches.now) name.now) }
+    ensures { result ≡ number_or other (first_value (found_of matches.now) name.now) }
 {
-    matches.get_one(name).unwrap_or(other)
+    let Some(text) = matches.get_str(name) else {
+        return other;
+    };
+    match text.parse::<u32>() {
+        Ok(number) => number,
+        Err(_) => other,
+    }
 }
 
 // What the values of the options say.
 fn line_of(matches: &ArgMatches<'_>) -> Line
-    ensures { IsLineBy (one_text (found_of matches.now)) result }
+    ensures { IsLineBy (first_value (found_of matches.now)) result }
 {
     Line {
         partition: number_or(matches, "partition", 0),
         senders: number_or(matches, "senders", 1),
         block: number_or(matches, "block", 1),
-        gaps: matches.get_flag("gaps"),
+        gaps: matches.get_str("gaps") == Some("true"),
     }
 }
 
