@@ -15,10 +15,3 @@ returns-in-Some-2 c =
     let typed = sym (rw c.in-Some-2.is at c.in_ok-kind.ensures) in
     IfOk-weaker c.lines_below.result _ _ (λ s told. inr (header.line, names_in header.record, found, rw typed (c.column_of-column.result, c.column_of-column.ensures, told)))
     c.lines_below.ensures
-
-pub returns-in-None : goal.returns-in-None
-returns-in-None c =
-    let header = c.in-Some.header in
-    let found = rw (c.in-Some.is, c.delimiter.ensures) at c.in_ok-header.ensures in
-    let none = sym (rw c.in-None.is at c.in_ok-kind.ensures) in
-    inr (header.line, names_in header.record, found, rw none c.new-in-None.ensures.bytes)
