@@ -1,4 +1,1 @@
-pub mod Copies
 pub mod Failures
-pub mod Options
-pub mod Refusals

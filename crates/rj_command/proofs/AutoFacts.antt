@@ -19,23 +19,13 @@ use Rattle.rj_strict.specs.declared.fault.StrictFault.{StrictFault}
 use Rattle.rj_strict.specs.declared.header.Header.TheVariants.{First}
 use Rattle.rj_suggest.specs.Suggested.{AreKindsOf, read_as_texts}
 use Rattle.rj_types.specs.declared.entry.TypeEntry.{TypeEntry}
-use Rattle.rj_command.specs.Auto.{AreKindsIn, AreStrictKinds, HasFurther, IsNumberTable, entries_from, entry_at}
+use Rattle.rj_command.specs.Auto.{HasFurther, IsNumberTable}
 use Rattle.rj_command.specs.Sides.{delimiter_of, nulls_of}
 
 -- records that don't read as texts suggest no types
 pub unread : (rs nulls : List (List (List ℕ))) (ns : List (List ℕ)) (e : ReadRefused) (kinds : List ColumnType) → read_as_texts rs ns ≡ Err e
     → ((t : TableValue) × AreKindsOf rs ns t kinds) → ⊥
 unread rs nulls ns e kinds refused are = let same : ◌≡◌ {A = Result TableValue ReadRefused} (Ok are.0) (Err e) = sym are.1.read ∙ refused in cc
-
-module _ (full : Bool) (q : Request) (s : Side) (text quoted_text : List ℕ) where
-  -- the types that the records of a derivation suggest are those of its text with quotes in empty lines
-  pub of_quoted : (o : Option (List ColumnType)) → ((file : File) → Derives (delimiter_of q s) First full (body_of First text) file → records (config_of (delimiter_of q s)) (strip_bom quoted_text) ≡ records_of file)
-      → ((file : File) × Derives (delimiter_of q s) First full (body_of First text) file)
-      → MatchOption o ((kinds : List ColumnType) → AreKindsIn q s (records (config_of (delimiter_of q s)) (strip_bom quoted_text)) kinds → ⊥)
-      (λ kinds. AreKindsIn q s (records (config_of (delimiter_of q s)) (strip_bom quoted_text)) kinds)
-      → MatchOption o ((kinds : List ColumnType) → AreStrictKinds full q s text kinds → ⊥) (λ kinds. AreStrictKinds full q s text kinds)
-  of_quoted None same derived none = λ kinds are. none kinds (subst (λ rs. AreKindsIn q s rs kinds) (sym (same are.0 are.1)) are.2)
-  of_quoted (Some kinds) same derived are = (derived.0, derived.1, subst (λ rs. AreKindsIn q s rs kinds) (same derived.0 derived.1) are)
 
 -- the table of numbers under the first record of a text
 pub number_under : (d : ℕ) (bytes : List ℕ) (header : List (List ℕ)) (rest : List (List (List ℕ))) (o : Option TableValue)
@@ -52,15 +42,6 @@ number_under d bytes header rest (Some t) is made = (header, rest, is, made)
 -- a text without a record has none
 pub number_missing : (d : ℕ) (bytes : List ℕ) (t : TableValue) → records (config_of d) (strip_bom bytes) ≡ [] → IsNumberTable d bytes t → ⊥
 number_missing d bytes t none table = let same : ◌≡◌ {A = List (List (List ℕ))} (table.0 ∷ table.1) [] = sym table.2 ∙ none in cc
-
--- one more entry, and those of the columns behind
-pub entry_next : (q : Request) (s : Side) (compared : ℕ → Bool) (kinds : List ColumnType) (names : List (List ℕ)) (i : ℕ) (name : List ℕ) (done : List TypeEntry)
-    (entry : Option TypeEntry) → slice_get names i ≡ Some name → entry ≡ entry_at q s compared kinds i name
-    → (done ++ option_to_list entry) ++ entries_from q s compared kinds (i + 1) (drop (i + 1) names) ≡ done ++ entries_from q s compared kinds i (drop i names)
-entry_next q s compared kinds names i name done entry is made =
-    append_assoc done (option_to_list entry) (entries_from q s compared kinds (i + 1) (drop (i + 1) names))
-    ∙ ap (λ l. done ++ l) (ap (λ e. option_to_list e ++ entries_from q s compared kinds (i + 1) (drop (i + 1) names)) made
-    ∙ sym (ap (entries_from q s compared kinds i) (drop_get names i name is)))
 
 -- a request with no further entry
 pub none_further : (q : Request) → HasFurther q q [] []

