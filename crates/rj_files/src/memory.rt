@@ -106,6 +106,40 @@ fn likely_cause(tables: u64, matches: u64, text: u64) -> &'static str
     "the tables, or the stacks of too many --workers"
 }
 
+// The rows of a joined table.
+fn rows_of(members: Counts) -> u64
+    ensures { result ≡ memory.rows_of members }
+{
+    members
+        .pairs
+        .saturating_add(members.lone_left)
+        .saturating_add(members.lone_right)
+}
+
+// How many bytes its list of matches has.
+fn match_bytes(members: Counts) -> u64
+    ensures { result ≡ memory.match_bytes members }
+{
+    members.pairs.saturating_mul(8)
+}
+
+// The lines for so many rows, by the bytes of their matches and of their text, and the likely cause.
+#[tactic(auto, unfolding(crate::specs::Memory::joined_text))]
+fn joined_lines(
+    alloc: Global,
+    rows: u64,
+    matches: u64,
+    text: u64,
+    cause: &str,
+) -> Result<String, AllocError>
+    ensures { IfOk result (λ s. string_bytes s ≡ memory.joined_text rows matches text cause.now) }
+{
+    let (matches, text) = (size_text(alloc, matches)?, size_text(alloc, text)?);
+    format!(in alloc;
+        "  the joined table has {rows} rows, and its matches take {matches}\n  the text of what is written takes about {text}, if it has all columns\n  so the likely cause is {cause}\n"
+    )
+}
+
 // The lines for a joined table whose members are known.
 fn members_lines(
     alloc: Global,
@@ -116,17 +150,10 @@ fn members_lines(
 ) -> Result<String, AllocError>
     ensures { IfOk result (λ s. string_bytes s ≡ members_text request.now files sizes.now members) }
 {
-    let rows = members
-        .pairs
-        .saturating_add(members.lone_left)
-        .saturating_add(members.lone_right);
-    let matches = members.pairs.saturating_mul(8);
+    let (rows, matches) = (rows_of(members), match_bytes(members));
     let text = text_bytes(request, files, sizes, members);
     let cause = likely_cause(files.left.saturating_add(files.right), matches, text);
-    let (matches, text) = (size_text(alloc, matches)?, size_text(alloc, text)?);
-    format!(in alloc;
-        "  the joined table has {rows} rows, and its matches take {matches}\n  the text of what is written takes about {text}, if it has all columns\n  so the likely cause is {cause}\n"
-    )
+    joined_lines(alloc, rows, matches, text, cause)
 }
 
 // The line for a joined table whose members aren't known before it is made.
@@ -155,6 +182,16 @@ fn sizes_lines(
     }
 }
 
+// The line for an error of the second reading: none, unless memory ran out once more.
+fn again_line(alloc: Global, fault: &Fault) -> Result<String, AllocError>
+    ensures { IfOk result (λ s. string_bytes s ≡ memory.again_text fault.now) }
+{
+    match fault {
+        Fault::Memory => String::from_str(alloc, TABLES_TEXT),
+        _ => Ok(String::new(alloc)),
+    }
+}
+
 // The lines behind that for the files. Both tables are read once more for them.
 fn more_lines<R: AllocGlobal + Threads + Sync>(
     rt: &R,
@@ -167,8 +204,7 @@ fn more_lines<R: AllocGlobal + Threads + Sync>(
     let (alloc, request) = (rt.alloc(), inputs.request);
     match early_sizes(rt, alloc, inputs.left, inputs.right, request) {
         Ok(sizes) => sizes_lines(alloc, request, files, &sizes),
-        Err(Fault::Memory) => String::from_str(alloc, TABLES_TEXT),
-        Err(_) => Ok(String::new(alloc)),
+        Err(fault) => again_line(alloc, &fault),
     }
 }
 
