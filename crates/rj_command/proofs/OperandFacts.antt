@@ -110,11 +110,12 @@ module _ (named : Bool) (left right : List ℕ) (q : Request) where
           let lefts : ◌≡◌ {A = Result TableValue Fault} (Ok l) (Ok t) = sym are.left_header ∙ also.left_header in
           let rights : ◌≡◌ {A = Result TableValue Fault} (Ok r) (Ok u) = sym are.right_header ∙ also.right_header in
           let left_same : l ≡ t = cc in
-          let right_same : r ≡ u = cc in
-          (o.join,
-          subst (λ (x : TableValue). IsJoinAsked q x u o.join) left_same (subst (λ (x : TableValue). IsJoinAsked q l x o.join) right_same bound.2),
-          λ are_named. subst (λ (x : TableValue). HasNames q o.join x u) (bound.0 ∙ left_same)
-              (subst (λ (x : TableValue). HasNames q o.join o.left x) (bound.1 ∙ right_same) (names are_named)));
+          let right_same : r ≡ u = cc in (
+            o.join,
+            subst (λ (x : TableValue). IsJoinAsked q x u o.join) left_same (subst (λ (x : TableValue). IsJoinAsked q l x o.join) right_same bound.2),
+            λ are_named. subst (λ (x : TableValue). HasNames q o.join x u) (bound.0 ∙ left_same)
+                (subst (λ (x : TableValue). HasNames q o.join o.left x) (bound.1 ∙ right_same) (names are_named)),
+          );
     }
 
     -- and else it has that of binding it
@@ -131,8 +132,13 @@ module _ (named : Bool) (left right : List ℕ) (q : Request) where
         l = l;
         r = r;
         headers = are;
-        told = inr (nameless.0, o.join, bound.2, subst (λ (x : TableValue). IsNameFault q o.join x r f) bound.0
-            (subst (λ (x : TableValue). IsNameFault q o.join o.left x f) bound.1 nameless.1));
+        told = inr (
+          nameless.0,
+          o.join,
+          bound.2,
+          subst (λ (x : TableValue). IsNameFault q o.join x r f) bound.0
+              (subst (λ (x : TableValue). IsNameFault q o.join o.left x f) bound.1 nameless.1),
+        );
       }
     ]
 
