@@ -24,7 +24,7 @@ STEPS = {
     "right table": rf"reading right table of {NUMBER} MB",
     "partitioning": rf"partitioning, about ({NUMBER}) of ({NUMBER}) rows",
     "joining": rf"joining, about ({NUMBER}) of ({NUMBER}) rows",
-    "writing": rf"writing {NUMBER} rows(?:, {NUMBER} MB so far)?",
+    "writing": rf"writing {NUMBER} rows(?:, {NUMBER} MB so far)?|making text, about ({NUMBER}) of ({NUMBER}) rows",
 }
 ROWS = 300_000
 SECONDS = 60

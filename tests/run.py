@@ -71,6 +71,7 @@ PARTS = (
     "people",
     "comparisons",
     "max_rows",
+    "naming",
 )
 TABLES = ("examples.toml", "arrivals.toml", "ends.toml", "merges.toml")
 

@@ -3,7 +3,11 @@
 //! the ledger delivered of each sender. Errors go to standard error.
 #![tactic(auto)]
 
-use clap::{Arg, ArgAction, Command, Error, value_parser};
+ghost use Rattle.std.specs.Prelude.{◌≡◌};
+ghost use Rattle.clap.specs.Words.{found_of, one_text};
+ghost use Rattle.arrivals.specs.Lines.{IsLineBy, number_or};
+
+use clap::{Arg, ArgAction, ArgMatches, Command, Error, value_parser};
 use rj_csv_io::{CountedReader, CountedWriter, ReadRefused, read_all};
 use rj_fault::{ExitReason, Fault, VERSION, read_words, tell, texts_of};
 use rj_script::arrivals;
@@ -112,16 +116,30 @@ fn line_command<'a>(alloc: Global) -> Result<Command<'a>, AllocError> {
         .arg(gaps)
 }
 
+// The number of an option, or another one if it has none.
+fn number_or(matches: &ArgMatches<'_>, name: &str, other: u32) -> u32
+    ensures { result ≡ number_or other (one_text (found_of matches.now) name.now) }
+{
+    matches.get_one(name).unwrap_or(other)
+}
+
+// What the values of the options say.
+fn line_of(matches: &ArgMatches<'_>) -> Line
+    ensures { IsLineBy (one_text (found_of matches.now)) result }
+{
+    Line {
+        partition: number_or(matches, "partition", 0),
+        senders: number_or(matches, "senders", 1),
+        block: number_or(matches, "block", 1),
+        gaps: matches.get_flag("gaps"),
+    }
+}
+
 // Reads the words after the program's name.
 fn read_line(alloc: Global, words: &[&str]) -> Result<Line, Error> {
     let command = line_command(alloc)?;
     let matches = command.try_get_matches_from(words)?;
-    Ok(Line {
-        partition: matches.get_one("partition").unwrap_or(0),
-        senders: matches.get_one("senders").unwrap_or(1),
-        block: matches.get_one("block").unwrap_or(1),
-        gaps: matches.get_flag("gaps"),
-    })
+    Ok(line_of(&matches))
 }
 
 fn parse_words(alloc: Global, words: &[String]) -> Result<Line, Failure> {

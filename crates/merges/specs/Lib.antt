@@ -1,1 +1,4 @@
+pub mod Copies
 pub mod Failures
+pub mod Options
+pub mod Refusals

@@ -2,7 +2,12 @@
 //! the places. Errors go to standard error.
 #![tactic(auto)]
 
-ghost use Rattle.std.specs.Prelude.{◌≡◌, length};
+ghost use Rattle.std.specs.Prelude.{◌≡◌, Err, IfSome, MatchOption, None, OnOk, codes, false, length, true};
+ghost use Rattle.clap.specs.Words.{first_value, found_of};
+ghost use Rattle.rj_csv_io.specs.Tables.{is_null_text};
+ghost use Rattle.rj_line.specs.Delimiters.{named_or_comma};
+ghost use Rattle.merges.specs.Options.{AreOptionsOf, order_named, place_named};
+ghost use Rattle.merges.specs.declared.failure.Failure.{Failure};
 
 mod copies;
 mod failure;
@@ -87,7 +92,9 @@ fn line_command<'a>(alloc: Global) -> Result<Command<'a>, AllocError> {
 }
 
 // The order that is named, or pairs first if none is.
-fn order_of(matches: &ArgMatches<'_>) -> RowOrder {
+fn order_of(matches: &ArgMatches<'_>) -> RowOrder
+    ensures { result ≡ order_named (first_value (found_of matches.now) (codes "order")) }
+{
     match matches.get_str("order") {
         Some("left") => RowOrder::LeftFirst,
         _ => RowOrder::PairsFirst,
@@ -95,15 +102,20 @@ fn order_of(matches: &ArgMatches<'_>) -> RowOrder {
 }
 
 // The least place of the rows of the left row that an option names, if it is given.
-fn bound_of(matches: &ArgMatches<'_>, name: &str) -> Option<Place> {
-    match matches.get_one::<u64>(name) {
-        Some(left) => Some(Place::Pair(left, 0)),
-        None => None,
+fn bound_of(matches: &ArgMatches<'_>, name: &str) -> Option<Place>
+    ensures { result ≡ place_named (first_value (found_of matches.now) name.now) }
+{
+    match matches.get_str(name)?.parse::<u64>() {
+        Ok(left) => Some(Place::Pair(left, 0)),
+        Err(_) => None,
     }
 }
 
 // How the files are merged, if the text that is to delimit the result may do so.
-fn options_of<'n>(matches: &ArgMatches<'_>, null: &'n str) -> Option<MergeOptions<'n>> {
+fn options_of<'n>(matches: &ArgMatches<'_>, null: &'n str) -> Option<MergeOptions<'n>>
+    ensures { MatchOption result (named_or_comma (first_value (found_of matches.now) (codes "out-delimiter")) ≡ None)
+        (AreOptionsOf (first_value (found_of matches.now)) null.entry.now) }
+{
     match delimiter_of(matches.get_str("out-delimiter").unwrap_or(",")) {
         Some(delimiter) => Some(MergeOptions {
             delimiter,
@@ -138,7 +150,8 @@ fn merge_files<R: Files + AllocGlobal + Print>(
     files: &[&str],
     copies: &[Copies],
 ) -> Result<(), Failure>
-    requires { length copies.now ≡ length files.now }
+    requires copies { length copies.now ≡ length files.now }
+    ensures null { is_null_text null.now ≡ false → result ≡ Err Failure.BadNull }
 {
     if !is_lawful_null(null) {
         return Err(Failure::BadNull);

@@ -20,7 +20,7 @@ use Rattle.rj_strict.specs.declared.fault.StrictFault.TheVariants as fault
 use Rattle.rj_strict.specs.declared.header.Header.{Header}
 use Rattle.rj_strict.specs.declared.header.Header.TheVariants.{Above}
 use Rattle.rj_divide.specs.Blocks.{strict_behind}
-use Rattle.rj_divide.proofs.UnderwayFacts.{records-none}
+use Rattle.rj_divide.proofs.LenientFacts.{records-none}
 
 -- the law of what csv reads of a text that is derived
 abbrev pub Reads : ℕ → Type 0
@@ -126,10 +126,10 @@ never-return block xs feed is =
     let last : slice_index_or block (length block - 1) 0 ≡ 13 = subst (λ (t : List ℕ). slice_index_or t (length t - 1) 0 ≡ 13) (sym is) (last-byte xs 13) in
     omega (arith, feed, last)
 
--- where a block ends: with the text, or where a record does, behind a line feed
+-- where a block ends: with the text, as fully as that has to, or where a record does, behind a line feed
 abbrev pub EndsWell : ℕ → Bool → Bool → List ℕ → List ℕ → Type 0
 EndsWell d full whole block tail =
-    ((tail ≡ []) × (whole ≡ full)) ⊎ ((slice_index_or block (length block - 1) 0 ≡ 10) × (state_after d st.StartRecord block ≡ st.StartRecord))
+    ((tail ≡ []) × (whole ≡ full)) ⊎ ((slice_index_or block (length block - 1) 0 ≡ 10) × (state_after d st.StartRecord block ≡ st.StartRecord) × (whole ≡ true))
 
 module _ (d names : ℕ) (done : List Line) (are : list_all (is_line d names) done ≡ true) (block tail : List ℕ) where
   spelled-behind : (lines : List Line) (fields left all : List ℕ) → block ≡ lines_text d lines ++ (fields ++ left) → left ++ tail ≡ all

@@ -85,16 +85,12 @@ module _ (d : Dividing) where
 
 -- no output failed where the text has a fault
 pub reading-counts : (T : Type 0) (e : DivideRefused) (counts : List ℕ) → IsReadingFault e → counts ≡ counts_after {T = T} (Err e) counts
-reading-counts T (refused.Read f) counts h = refl
-reading-counts T refused.TooLong counts h = refl
 reading-counts T refused.ReadDevice counts h = absurd h
+reading-counts T (refused.Broken f) counts h = absurd h
 reading-counts T (refused.WriteDevice p) counts h = absurd h
-reading-counts T refused.Memory counts h = refl
+reading-counts T e counts h = refl
 
 -- the device that gives bytes did not fail where a piece was not divided
 pub piece-reads : (T : Type 0) (e : DivideRefused) (old new : ℕ) → IsAfterReading e → new ≡ old → new ≡ reads_after {T = T} (Err e) old
-piece-reads T (refused.Read f) old new h same = same
-piece-reads T refused.TooLong old new h same = same
 piece-reads T refused.ReadDevice old new h same = absurd h
-piece-reads T (refused.WriteDevice p) old new h same = same
-piece-reads T refused.Memory old new h same = same
+piece-reads T e old new h same = same

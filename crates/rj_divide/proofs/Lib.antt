@@ -3,6 +3,7 @@ pub mod GroupFacts
 pub mod PutFacts
 pub mod ReadingFacts
 pub mod DivisionFacts
+pub mod LenientFacts
 pub mod UnderwayFacts
 pub mod HeaderFacts
 pub mod ShortFacts

@@ -18,7 +18,7 @@ use Rattle.rj_divide.specs.Underway.{SplitsAs}
 use Rattle.rj_divide.specs.declared.cuts.Cutting.{Cutting}
 use Rattle.rj_divide.proofs.ShortFacts.{line-in, line-out, read-bound, short-more, short-none}
 use Rattle.rj_divide.proofs.TakenFacts.{none-more, order-now, taken-more, taken-none, told-now}
-use Rattle.rj_divide.proofs.UnderwayFacts.{records-none}
+use Rattle.rj_divide.proofs.LenientFacts.{records-none}
 
 -- ---- places that rise
 

@@ -30,18 +30,8 @@ abbrev IsMemory : ReadRefused → Type 0
 IsMemory e = (e ≡ read.Memory) ⊎ (e ≢ read.Memory)
 
 memory-or : (e : ReadRefused) → IsMemory e
-memory-or read.NoHeader = inr (λ h. cc)
-memory-or (read.BadName c) = inr (λ h. cc)
-memory-or (read.RepeatedName c) = inr (λ h. cc)
-memory-or read.TypeCount = inr (λ h. cc)
-memory-or (read.RaggedRow r) = inr (λ h. cc)
-memory-or (read.BadInteger r c) = inr (λ h. cc)
-memory-or (read.BadText r c) = inr (λ h. cc)
-memory-or read.TooManyRows = inr (λ h. cc)
-memory-or read.TooManyColumns = inr (λ h. cc)
-memory-or read.BadNull = inr (λ h. cc)
-memory-or read.ReadDevice = inr (λ h. cc)
 memory-or read.Memory = inl refl
+memory-or e = inr (λ h. cc)
 
 -- what a header is refused for has no row
 refusal-behind : (b : BuildRefused) (n : ℕ) → (row_told (of_begun b) < 2 ^ 63) × IsHeaderRefusal b (fault_behind n (of_begun b))
@@ -70,11 +60,9 @@ refusal-of nulls types names xs n e r b is reading begins = unless-memory (IsHea
 
 -- the device that gives bytes failed, or memory was refused
 pub input-fault : (P : DivideRefused → Type 0) → P refused.ReadDevice → P refused.Memory → (e : DivideRefused) → IsInputFault e → P e
-input-fault P device memory (refused.Read f) h = absurd h
-input-fault P device memory refused.TooLong h = absurd h
 input-fault P device memory refused.ReadDevice h = device
-input-fault P device memory (refused.WriteDevice p) h = absurd h
 input-fault P device memory refused.Memory h = memory
+input-fault P device memory e h = absurd h
 
 -- what the row of a number reads as, and behind so many rows more
 abbrev IsLater : ℕ → ℕ → Row → Row → Type 0

@@ -1,161 +1,243 @@
 -- Divisions that go on.
-use Rattle.std.proofs.Common.{◌≡◌, ◌<◌, ◌≤◌, ◌+◌, ◌⊎◌, inl, inr, ℕ, List, [], ◌∷◌, ◌++◌, Option, Some, None, Bool, true, false, refl, sym, ap, ◌∙◌, arith, append_assoc, length, take, drop}
-use Rattle.std.specs.Prelude.{IfSome}
+use Rattle.std.proofs.Common.{◌≡◌, ◌∙◌, ◌<◌, ◌≤◌, ◌+◌, ◌⊎◌, inl, inr, ℕ, List, [], ◌++◌, Option, Some, Bool, true, false, refl, sym, ap, subst, arith, append_assoc, length, take, drop}
+use Rattle.std.specs.Prelude.{◌-◌, ◌||◌, not, slice_index_or}
 use Rattle.std.specs.Io.KnownBytes.{Consumes, IsAtEnd}
-use Rattle.std.proofs.lemmas.List.{append-nil, drop_all, length-append, take_all}
-use Rattle.csv.specs.Machine.{next_record}
-use Rattle.csv.specs.Reading.{records, records_from}
-use Rattle.rj_columns.specs.declared.cell.ColumnType.{ColumnType}
-use Rattle.rj_csv_io.specs.declared.refused.ReadRefused.{ReadRefused}
-use Rattle.rj_csv_io.specs.Pieces.{IsLineEnd, piece_records}
+use Rattle.std.proofs.lemmas.List.{append-nil, drop_all, get_or-take, length-append, length-take-le, take_all}
+use Rattle.csv.specs.Reading.{records}
+use Rattle.csv.specs.declared.parser.State.TheVariants as st
+use Rattle.rj_columns.specs.Contents.{Content}
+use Rattle.rj_csv_io.specs.Cuts.{state_after}
+use Rattle.rj_csv_io.specs.Pieces.{AreRows, IsLineEnd, piece_records}
+use Rattle.rj_strict.specs.Grammar.{Derives, may_delimit}
 use Rattle.rj_strict.specs.Reading.{config_of}
+use Rattle.rj_strict.specs.declared.header.Header.TheVariants.{Above}
+use Rattle.rj_strict.specs.declared.fault.StrictFault.{StrictFault}
+use Rattle.rj_divide.specs.declared.reading.Reading.{Reading}
+use Rattle.rj_divide.specs.declared.reading.Reading.TheVariants as reading
 use Rattle.rj_divide.specs.declared.whole.Rest.{Rest}
 use Rattle.rj_divide.specs.declared.refused.DivideRefused.{DivideRefused}
 use Rattle.rj_divide.specs.declared.refused.DivideRefused.TheVariants as refused
 use Rattle.rj_divide.specs.Divisions.{Dividing, IsDivided, after_rows}
-use Rattle.rj_divide.specs.Readings.{IsDivisionFault, IsFaultBehind, IsFirstFault}
-use Rattle.rj_divide.specs.Ranges.{IsReadFor}
-use Rattle.rj_divide.specs.Underway.{Beginning, IsUnderway, SplitsAs, behind_header}
+use Rattle.rj_divide.specs.Ranges.{IsPiece, IsReadFor}
+use Rattle.rj_divide.specs.Readings.{IsFaultBehind}
+use Rattle.rj_divide.specs.Texts.{AreRecordsOf, BeginIn, IsBroken, IsDivisionFault, IsPieceFault, IsTextDivided, StandIn, reading_of_piece, with_flag}
+use Rattle.rj_divide.specs.Underway.{AreBehind, Beginning, IsUnderway, ReadsOn, behind_header}
+use Rattle.rj_divide.proofs.BrokenFacts.{EndsWell, Reads}
 use Rattle.rj_divide.proofs.DivisionFacts.{divided-more, divided-none}
+use Rattle.rj_divide.proofs.LenientFacts.{header-prefix, piece-as, piece-split}
 use Rattle.rj_divide.proofs.ReadingFacts.{first-behind, rows-many}
-use Rattle.rj_divide.proofs.TakenFacts.{none-more, piece-read, taken-more, taken-none, told-now}
+use Rattle.rj_divide.proofs.StrictFacts.{begin-in, below, broken-in, full-block, last-block, lines-on, records-below, records-on, whole-on}
+use Rattle.rj_divide.proofs.TakenFacts.{Told, none-more, order-cut, piece-read, taken-more, taken-none, told-now}
 
--- no bytes have no records
-pub records-none : (d : ℕ) → records (config_of d) [] ≡ []
-unfolding records_from next_record
-records-none d = refl
+abbrev Records : Type 0
+Records = List (List (List ℕ))
 
--- the last piece is all that is left
-pub last-records : (d : ℕ) (bytes more : List ℕ) (end : ℕ) → end ≡ length bytes → more ≡ []
-    → records (config_of d) (bytes ++ more) ≡ records (config_of d) (take end bytes) ++ records (config_of d) (drop end bytes ++ more)
-last-records d bytes more end e none =
-    let all : take end bytes ≡ bytes = take_all end bytes (omega (arith, e)) in
-    let rest : drop end bytes ≡ [] = drop_all end bytes (omega (arith, e)) in
-    rw (none, all, rest, append-nil, records-none d, append-nil) refl
+-- nothing is taken yet
+behind-none : (d names : ℕ) (how : Reading) (text all : List ℕ) → all ≡ text → AreBehind d names how text [] [] how all
+behind-none d names (reading.Lenient is_first) text all e = ap (piece_records d is_first) (sym e)
+behind-none d names (reading.Strict full) text all e = (refl, [], record { spelled = refl; lines = refl; rest = refl }, refl)
 
-piece-as : (d : ℕ) (is_first : Bool) (text : List ℕ) → piece_records d is_first text ≡ behind_header is_first (records (config_of d) text)
-piece-as d true text = refl
-piece-as d false text = refl
+-- how a piece is read, with its own flag
+flag-of : (d names : ℕ) (how was : Reading) (last : Bool) (text taken : List ℕ) (done : Records) (left : List ℕ) → AreBehind d names how text taken done was left
+    → (flag : Bool) × (reading_of_piece was last ≡ with_flag how flag)
+flag-of d names (reading.Lenient f) (reading.Lenient a) last text taken done left b = (a, refl)
+flag-of d names (reading.Strict f) (reading.Strict s) last text taken done left b = (s || not last, refl)
+flag-of d names (reading.Lenient f) (reading.Strict s) last text taken done left b = absurd b
+flag-of d names (reading.Strict f) (reading.Lenient a) last text taken done left b = absurd b
 
--- the records of a first piece and of the bytes behind it
-pub piece-split : (d : ℕ) (is_first ahead : Bool) (bytes left : List ℕ) (end : ℕ)
-    → records (config_of d) (bytes ++ left) ≡ records (config_of d) (take end bytes) ++ records (config_of d) (drop end bytes ++ left)
-    → SplitsAs is_first (records (config_of d) (take end bytes)) ahead
-    → piece_records d is_first (bytes ++ left) ≡ piece_records d is_first (take end bytes) ++ piece_records d ahead (drop end bytes ++ left)
-piece-split d is_first ahead bytes left end cut header =
-    let more = records (config_of d) (drop end bytes ++ left) in
-    piece-as d is_first (bytes ++ left) ∙ (ap (behind_header is_first) cut ∙ (header more
-    ∙ (λ i. sym (piece-as d is_first (take end bytes)) i ++ sym (piece-as d ahead (drop end bytes ++ left)) i)))
+-- a piece of a text behind what was divided, and what is left behind the piece
+module _ (d : Dividing) (text taken old bytes left : List ℕ) (end : ℕ) (done : Records) (same : old ≡ bytes ++ left) (cut : text ≡ taken ++ (take end bytes ++ (drop end bytes ++ left)))
+    (split : records (config_of d.delimiter) (bytes ++ left) ≡ records (config_of d.delimiter) (take end bytes) ++ records (config_of d.delimiter) (drop end bytes ++ left)) where
+  abbrev D : ℕ
+  D = d.delimiter
 
--- a division's record of whatever a device tells
-pub if-some : (o : Option (List ℕ)) (P : List ℕ → Type 0) → ((x : List ℕ) → o ≡ Some x → P x) → IfSome o P
-if-some None P h = tt
-if-some (Some x) P h = h x refl
+  abbrev N : ℕ
+  N = length d.types
 
--- records behind others: all but the first one of both
-header-prefix : (is_first : Bool) (a b : List (List (List ℕ))) → (tail : List (List (List ℕ))) × (behind_header is_first (a ++ b) ≡ behind_header is_first a ++ tail)
-header-prefix true [] b = (drop 1 b, refl)
-header-prefix true (x ∷ a) b = (b, refl)
-header-prefix false a b = (b, refl)
+  abbrev piece : List ℕ
+  piece = take end bytes
 
-more-fault : (nulls : List (List ℕ)) (types : List ColumnType) (n : ℕ) (xs ys : List (List (List ℕ))) (f : ReadRefused) → IsFirstFault nulls types n xs f → IsFirstFault nulls types n (xs ++ ys) f
-more-fault nulls types n xs ys f x = record {
-  good = x.good;
-  rows = x.rows;
-  bad = x.bad;
-  rest = x.rest ++ ys;
-  order = ap (λ l. l ++ ys) x.order ∙ append_assoc x.good (x.bad ∷ x.rest) ys;
-  read = x.read;
-  is = x.is;
-}
+  abbrev tail : List ℕ
+  tail = drop end bytes ++ left
 
-module _ (d : Dividing) (is_first : Bool) (begin : Beginning) where
+  -- one piece more
+  behind-on : (how was next : Reading) → AreBehind D N how text taken done was old → ReadsOn D was piece next → (records : Records) → AreRecordsOf D N (reading_of_piece was false) piece records
+      → AreBehind D N how text (taken ++ piece) (done ++ records) next tail
+  behind-on (reading.Lenient f) (reading.Lenient a) (reading.Lenient n) b on records is =
+      b ∙ (ap (λ (l : List ℕ). done ++ piece_records D a l) same
+      ∙ (ap (λ (x : Records). done ++ x) (piece-split D a n bytes left end split on)
+      ∙ (ap (λ (x : Records). done ++ (x ++ piece_records D n tail)) (sym is) ∙ sym (append_assoc done records (piece_records D n tail)))))
+  behind-on (reading.Strict f) (reading.Strict s) (reading.Strict n) b on records is =
+      let derived = subst (λ (w : Bool). Derives D (Above N) w piece is.0) (full-block s) is.1 in (
+        b.0 ∙ on,
+        b.1 ++ is.0.lines,
+        lines-on d text taken piece tail b.1 cut b.2 is.0 derived,
+        (λ i. b.3 i ++ is.2 i) ∙ records-on d text taken piece tail b.1 cut b.2 is.0 derived,
+      )
+  behind-on (reading.Lenient f) (reading.Lenient a) (reading.Strict n) b on records is = absurd on
+  behind-on (reading.Strict f) (reading.Strict s) (reading.Lenient n) b on records is = absurd on
+  behind-on (reading.Lenient f) (reading.Strict s) next b on records is = absurd b
+  behind-on (reading.Strict f) (reading.Lenient a) next b on records is = absurd b
+
+  -- the last piece
+  all-on : (how was : Reading) → AreBehind D N how text taken done was old → tail ≡ [] → bytes ++ left ≡ piece → (records : Records) → AreRecordsOf D N (reading_of_piece was true) piece records
+      → AreRecordsOf D N how text (done ++ records)
+  all-on (reading.Lenient f) (reading.Lenient a) b none whole records is =
+      ap (λ (x : Records). done ++ x) (is ∙ ap (piece_records D a) (sym (same ∙ whole))) ∙ sym b
+  all-on (reading.Strict f) (reading.Strict s) b none whole records is =
+      let derived = subst (λ (w : Bool). Derives D (Above N) w piece is.0) (last-block s ∙ sym b.0) is.1 in
+      (below b.1 is.0, whole-on d text taken piece tail b.1 cut b.2 f is.0 none derived, (λ i. b.3 i ++ is.2 i) ∙ records-below b.1 is.0)
+  all-on (reading.Lenient f) (reading.Strict s) b none whole records is = absurd b
+  all-on (reading.Strict f) (reading.Lenient a) b none whole records is = absurd b
+
+  -- a piece ends with the text, or where a record does, behind a line feed
+  abbrev pub Stops : Bool → Type 0
+  Stops last = ((tail ≡ []) × (last ≡ true)) ⊎ ((slice_index_or piece (length piece - 1) 0 ≡ 10) × (state_after D st.StartRecord piece ≡ st.StartRecord) × (last ≡ false))
+
+  ends-well : (f s last : Bool) → f ≡ s → Stops last → EndsWell D f (s || not last) piece tail
+  ends-well f s last e (inl h) = inl (h.0, ap (λ (l : Bool). s || not l) h.1 ∙ (last-block s ∙ sym e))
+  ends-well f s last e (inr h) = inr (h.0, h.1, ap (λ (l : Bool). s || not l) h.2 ∙ full-block s)
+
+  -- the records of a piece that is not divided
+  begin-on : (how was : Reading) (last : Bool) → AreBehind D N how text taken done was old → Stops last → (xs : Records) → StandIn D N (reading_of_piece was last) piece xs → BeginIn D N how text (done ++ xs)
+  begin-on (reading.Lenient f) (reading.Lenient a) last b stops xs is =
+      let more = header-prefix a (records (config_of D) piece) (records (config_of D) tail) in (
+        more.0,
+        b ∙ (ap (λ (l : List ℕ). done ++ piece_records D a l) same
+            ∙ (ap (λ (x : Records). done ++ x) (piece-as D a (bytes ++ left) ∙ (ap (behind_header a) split ∙ (more.1 ∙ ap (λ (l : Records). l ++ more.0) (sym (is ∙ piece-as D a piece)))))
+            ∙ sym (append_assoc done xs more.0))),
+      )
+  begin-on (reading.Strict f) (reading.Strict s) last b stops xs is =
+      subst (λ (x : Records). BeginIn D N (reading.Strict f) text (x ++ xs)) (sym b.3)
+      (begin-in d text taken piece tail b.1 cut b.2 f (s || not last) (ends-well f s last b.0 stops) xs is)
+  begin-on (reading.Lenient f) (reading.Strict s) last b stops xs is = absurd b
+  begin-on (reading.Strict f) (reading.Lenient a) last b stops xs is = absurd b
+
+  -- the place where the text stops being derived
+  broken-on : may_delimit D ≡ true → Reads D → (rows : List (List Content)) → AreRows d.nulls d.types done rows → (how was : Reading) (last : Bool) → AreBehind D N how text taken done was old → Stops last → (f : StrictFault)
+      → IsBroken d (reading_of_piece was last) piece (length rows) f → IsBroken d how text 0 f
+  broken-on may law rows read (reading.Lenient f) (reading.Lenient a) last b stops at is = absurd is
+  broken-on may law rows read (reading.Strict f) (reading.Strict s) last b stops at is =
+      broken-in d text taken piece tail b.1 cut b.2 may law f (s || not last) (ends-well f s last b.0 stops) rows (subst (λ (x : Records). AreRows d.nulls d.types x rows) b.3 read) at is
+  broken-on may law rows read (reading.Lenient f) (reading.Strict s) last b stops at is = absurd b
+  broken-on may law rows read (reading.Strict f) (reading.Lenient a) last b stops at is = absurd b
+
+module _ (d : Dividing) (how : Reading) (begin : Beginning) where
   -- the start
-  pub start : (rest : Rest) (tells : Option (List ℕ)) → tells ≡ Some begin.text → rest.bytes.items ≡ [] → rest.rows ≡ 0 → rest.is_first ≡ is_first
-      → IsUnderway d is_first begin tells rest begin.told 0
+  pub start : (rest : Rest) (tells : Option (List ℕ)) → tells ≡ Some begin.text → rest.bytes.items ≡ [] → rest.rows ≡ 0 → rest.reading ≡ how
+      → IsUnderway d how begin tells rest begin.told 0
   start rest tells told none zero same = record {
     front = taken-none d.delimiter begin.text rest.bytes.items tells told none;
     done = [];
-    split = rw (none, same) refl;
+    behind = rw (none, same) (behind-none d.delimiter (length d.types) how begin.text begin.text refl);
     divided = rw zero (divided-none d begin.told);
     outputs = refl;
   }
 
-  module _ (rest : Rest) (bytes : List ℕ) (old tells : Option (List ℕ)) (now : List (Option (List ℕ))) (pieces end : ℕ) (last : Bool) (u : IsUnderway d is_first begin old rest now pieces)
+  module _ (rest : Rest) (bytes : List ℕ) (old tells : Option (List ℕ)) (now : List (Option (List ℕ))) (pieces end : ℕ) (last : Bool) (u : IsUnderway d how begin old rest now pieces)
       (reads : (start : Option (List ℕ)) → Consumes start old rest.bytes.items → Consumes start tells bytes)
-      (ends : last ≡ true → IsAtEnd tells)
-      (cut : (more : List ℕ) → (last ≡ true → more ≡ []) → records (config_of d.delimiter) (bytes ++ more) ≡ records (config_of d.delimiter) (take end bytes) ++ records (config_of d.delimiter) (drop end bytes ++ more)) where
+      (ends : last ≡ true → (end ≡ length bytes) × IsAtEnd tells)
+      (splits : (more : List ℕ) → (last ≡ true → more ≡ []) → records (config_of d.delimiter) (bytes ++ more) ≡ records (config_of d.delimiter) (take end bytes) ++ records (config_of d.delimiter) (drop end bytes ++ more)) where
     -- what is told behind the bytes that were read
+    abbrev next : Told rest.bytes.items u.front.left bytes tells
+    next = told-now d.delimiter begin.text rest.bytes.items bytes old tells pieces u.front reads
+
     abbrev left : List ℕ
-    left = (told-now d.delimiter begin.text rest.bytes.items bytes old tells pieces u.front reads).more
-
-    abbrev piece : List (List (List ℕ))
-    piece = piece_records d.delimiter rest.is_first (take end bytes)
-
-    split-more : piece_records d.delimiter is_first begin.text ≡ u.done ++ piece_records d.delimiter rest.is_first (bytes ++ left)
-    split-more = u.split ∙ ap (λ l. u.done ++ piece_records d.delimiter rest.is_first l) (told-now d.delimiter begin.text rest.bytes.items bytes old tells pieces u.front reads).same
+    left = next.more
 
     none-left : last ≡ true → left ≡ []
-    none-left e = none-more d.delimiter begin.text rest.bytes.items bytes old tells pieces u.front reads (ends e)
+    none-left e = none-more d.delimiter begin.text rest.bytes.items bytes old tells pieces u.front reads (ends e).1
 
-    cut-more : records (config_of d.delimiter) (bytes ++ left) ≡ records (config_of d.delimiter) (take end bytes) ++ records (config_of d.delimiter) (drop end bytes ++ left)
-    cut-more = cut left none-left
+    none-behind : last ≡ true → drop end bytes ++ left ≡ []
+    none-behind e =
+        let all : drop end bytes ≡ [] = drop_all end bytes (omega (arith, (ends e).0)) in
+        rw (all, none-left e) refl
 
-    module _ (after : List (Option (List ℕ))) (n : ℕ) (divided : IsDivided (after_rows rest.rows d) piece now after n) where
-      divided-on : IsDivided d (u.done ++ piece) begin.told after (rest.rows + n)
-      divided-on = divided-more d u.done piece begin.told now after rest.rows n u.outputs u.divided divided
+    split : records (config_of d.delimiter) (bytes ++ left) ≡ records (config_of d.delimiter) (take end bytes) ++ records (config_of d.delimiter) (drop end bytes ++ left)
+    split = splits left none-left
+
+    cut : begin.text ≡ u.front.taken ++ (take end bytes ++ (drop end bytes ++ left))
+    cut = order-cut d.delimiter begin.text rest.bytes.items bytes old tells pieces u.front reads end
+
+    module _ (xs : Records) (after : List (Option (List ℕ))) (n : ℕ) (are : AreRecordsOf d.delimiter (length d.types) (reading_of_piece rest.reading last) (take end bytes) xs)
+        (divided : IsDivided (after_rows rest.rows d) xs now after n) where
+      divided-on : IsDivided d (u.done ++ xs) begin.told after (rest.rows + n)
+      divided-on = divided-more d u.done xs begin.told now after rest.rows n u.outputs u.divided divided
 
       -- one piece more
-      pub go-on : (next : Rest) → length after ≡ length now → end ≤ length bytes → IsLineEnd d.delimiter bytes end → ((at : ℕ) → end < at → at ≤ length bytes → IsLineEnd d.delimiter bytes at → ⊥)
-          → SplitsAs rest.is_first (records (config_of d.delimiter) (take end bytes)) next.is_first → next.bytes.items ≡ drop end bytes → next.rows ≡ rest.rows + n
-          → IsUnderway d is_first begin tells next after (pieces + 1)
-      go-on next many within line behind header cut-off rows = record {
-        front = taken-more d.delimiter begin.text rest.bytes.items bytes old tells pieces u.front reads end within line behind next.bytes.items cut-off;
-        done = u.done ++ piece;
-        split = split-more
-            ∙ (ap (λ l. u.done ++ l) (piece-split d.delimiter rest.is_first next.is_first bytes left end cut-more header ∙ ap (λ l. piece ++ piece_records d.delimiter next.is_first (l ++ left)) (sym cut-off))
-            ∙ sym (append_assoc u.done piece (piece_records d.delimiter next.is_first (next.bytes.items ++ left))));
-        divided = rw rows divided-on;
-        outputs = many ∙ u.outputs;
-      }
+      pub go-on : (ahead : Rest) → last ≡ false → length after ≡ length now → end ≤ length bytes → IsLineEnd d.delimiter bytes end
+          → ((at : ℕ) → end < at → at ≤ length bytes → IsLineEnd d.delimiter bytes at → ⊥)
+          → ReadsOn d.delimiter rest.reading (take end bytes) ahead.reading → ahead.bytes.items ≡ drop end bytes → ahead.rows ≡ rest.rows + n
+          → IsUnderway d how begin tells ahead after (pieces + 1)
+      go-on ahead is many within line behind on cut-off rows =
+          let here = subst (λ (b : Bool). AreRecordsOf d.delimiter (length d.types) (reading_of_piece rest.reading b) (take end bytes) xs) is are in
+          record {
+            front = taken-more d.delimiter begin.text rest.bytes.items bytes old tells pieces u.front reads end within line behind ahead.bytes.items cut-off;
+            done = u.done ++ xs;
+            behind = rw cut-off (behind-on d begin.text u.front.taken (rest.bytes.items ++ u.front.left) bytes left end u.done next.same cut split how rest.reading ahead.reading u.behind on xs here);
+            divided = rw rows divided-on;
+            outputs = many ∙ u.outputs;
+          }
 
       -- the last piece
-      pub finish : (rows : ℕ) → last ≡ true → end ≡ length bytes → rows ≡ rest.rows + n → IsDivided d (piece_records d.delimiter is_first begin.text) begin.told after rows
-      finish rows is whole many =
-          let all : bytes ++ left ≡ take end bytes = ap (λ l. bytes ++ l) (none-left is) ∙ (append-nil bytes ∙ sym (take_all end bytes (omega (arith, whole)))) in
-          rw (many, split-more, all) divided-on
+      pub finish : (rows : ℕ) → last ≡ true → rows ≡ rest.rows + n → IsTextDivided d how begin.text begin.told after rows
+      finish rows is many =
+          let here = subst (λ (b : Bool). AreRecordsOf d.delimiter (length d.types) (reading_of_piece rest.reading b) (take end bytes) xs) is are in
+          let all : bytes ++ left ≡ take end bytes = ap (λ (l : List ℕ). bytes ++ l) (none-left is) ∙ (append-nil bytes ∙ sym (take_all end bytes (omega (arith, (ends is).0)))) in (
+            u.done ++ xs,
+            all-on d begin.text u.front.taken (rest.bytes.items ++ u.front.left) bytes left end u.done next.same cut split how rest.reading u.behind (none-behind is) all xs here,
+            rw many divided-on,
+          )
+
+    -- how a piece stops
+    stops-at : (last ≡ true) ⊎ ((last ≡ false) × (end ≤ length bytes) × IsLineEnd d.delimiter bytes end)
+        → Stops d begin.text u.front.taken (rest.bytes.items ++ u.front.left) bytes left end u.done next.same cut split last
+    stops-at (inl e) = inl (none-behind e, e)
+    stops-at (inr e) =
+        let size : length (take end bytes) ≡ end = length-take-le end bytes e.1 in
+        let byte : slice_index_or (take end bytes) (end - 1) 0 ≡ slice_index_or bytes (end - 1) 0 = get_or-take end bytes (end - 1) 0 (omega (arith, e.2.behind)) in
+        inr (ap (λ (k : ℕ). slice_index_or (take end bytes) (k - 1) 0) size ∙ (byte ∙ e.2.feed), e.2.ends, e.0)
+
+    piece-at : (block : ℕ) → IsReadFor d.delimiter block rest.bytes.items bytes → (last ≡ true) ⊎ ((last ≡ false) × (end ≤ length bytes) × IsLineEnd d.delimiter bytes end)
+        → IsPiece d.delimiter block begin.text (take end bytes)
+    piece-at block read (inl e) =
+        piece-read d.delimiter begin.text rest.bytes.items bytes old tells pieces u.front reads block end read (omega (arith, (ends e).0)) (inl (ends e).0)
+    piece-at block read (inr e) = piece-read d.delimiter begin.text rest.bytes.items bytes old tells pieces u.front reads block end read e.1 (inr e.2)
 
     -- a piece that is not divided
-    pub fault-in : (block outputs : ℕ) (e : DivideRefused) → IsReadFor d.delimiter block rest.bytes.items bytes → end ≤ length bytes → (end ≡ length bytes) ⊎ IsLineEnd d.delimiter bytes end
-        → IsFaultBehind d rest.rows outputs piece e → IsDivisionFault d block is_first begin.text outputs e
-    fault-in block outputs e read within stops h =
-        let more = header-prefix rest.is_first (records (config_of d.delimiter) (take end bytes)) (records (config_of d.delimiter) (drop end bytes ++ left)) in
-        let all : piece_records d.delimiter is_first begin.text ≡ u.done ++ (piece ++ more.0) =
-        split-more ∙ ap (λ l. u.done ++ l) (piece-as d.delimiter rest.is_first (bytes ++ left) ∙ (ap (behind_header rest.is_first) cut-more ∙ (more.1 ∙ ap (λ l. l ++ more.0) (sym (piece-as d.delimiter rest.is_first (take end bytes)))))) in
-        go e more.0 all h
+    pub fault-in : may_delimit d.delimiter ≡ true → Reads d.delimiter → (block outputs : ℕ) (e : DivideRefused) → IsReadFor d.delimiter block rest.bytes.items bytes
+        → (last ≡ true) ⊎ ((last ≡ false) × (end ≤ length bytes) × IsLineEnd d.delimiter bytes end)
+        → IsPieceFault d (reading_of_piece rest.reading last) (take end bytes) rest.rows outputs e → IsDivisionFault d block how begin.text outputs e
+    fault-in may law block outputs e read stops (inl h) =
+        let there = subst (λ (k : ℕ). IsBroken d (reading_of_piece rest.reading last) (take end bytes) k h.0) u.divided.many h.2 in
+        subst (IsDivisionFault d block how begin.text outputs) (sym h.1)
+        (broken-on d begin.text u.front.taken (rest.bytes.items ++ u.front.left) bytes left end u.done next.same cut split may law u.divided.rows u.divided.read how rest.reading last u.behind (stops-at stops) h.0 there)
+    fault-in may law block outputs e read stops (inr h) = go e h.2
       where
-        go : (x : DivideRefused) (tail : List (List (List ℕ))) → piece_records d.delimiter is_first begin.text ≡ u.done ++ (piece ++ tail)
-            → IsFaultBehind d rest.rows outputs piece x → IsDivisionFault d block is_first begin.text outputs x
-        go (refused.Read f) tail all h =
-            rw all (first-behind d.nulls d.types u.done (piece ++ tail) u.divided.rows rest.rows f u.divided.read u.divided.many (more-fault d.nulls d.types rest.rows piece tail f h))
-        go refused.TooLong tail all h = elim h [
-          | inl many ↦ inl (
-            piece,
-            record {
-              before = u.done;
-              after = tail;
-              among = all;
-              piece = take end bytes;
-              is_piece = piece-read d.delimiter begin.text rest.bytes.items bytes old tells pieces u.front reads block end read within stops;
-              ahead = rest.is_first;
-              of_piece = refl;
-            },
-            many,
-          )
-          | inr many ↦ (
-              let a = ap length all in let b = length-append u.done (piece ++ tail) in let c = length-append piece tail in let m = rows-many d.nulls d.types u.done u.divided.rows u.divided.read in
-              inr (inl (omega (arith, a, b, c, m, many, u.divided.many))))
-        ]
-        go refused.ReadDevice tail all h = tt
-        go (refused.WriteDevice p) tail all h = h
-        go refused.Memory tail all h = tt
+        begins : BeginIn d.delimiter (length d.types) how begin.text (u.done ++ h.0)
+        begins = begin-on d begin.text u.front.taken (rest.bytes.items ++ u.front.left) bytes left end u.done next.same cut split how rest.reading last u.behind (stops-at stops) h.0 h.1
+
+        go : (x : DivideRefused) → IsFaultBehind d rest.rows outputs h.0 x → IsDivisionFault d block how begin.text outputs x
+        go (refused.Read f) g = (u.done ++ h.0, begins, first-behind d.nulls d.types u.done h.0 u.divided.rows rest.rows f u.divided.read u.divided.many g)
+        go refused.TooLong g =
+            let flag = flag-of d.delimiter (length d.types) how rest.reading last begin.text u.front.taken u.done (rest.bytes.items ++ u.front.left) u.behind in
+            let a = rows-many d.nulls d.types u.done u.divided.rows u.divided.read in let b = length-append u.done h.0 in
+            elim g [
+              | inl many ↦ inl (
+                h.0,
+                record {
+                  before = u.done;
+                  begin = begins;
+                  piece = take end bytes;
+                  is_piece = piece-at block read stops;
+                  flag = flag.0;
+                  of_piece = subst (λ (r : Reading). StandIn d.delimiter (length d.types) r (take end bytes) h.0) flag.1 h.1;
+                },
+                many,
+              )
+              | inr many ↦ inr (inl (u.done ++ h.0, begins, omega (arith, a, b, u.divided.many, many)))
+            ]
+        go refused.ReadDevice g = tt
+        go (refused.Broken f) g = absurd g
+        go (refused.WriteDevice p) g = g
+        go refused.Memory g = tt

@@ -1,5 +1,5 @@
 -- Rows that are divided among the outputs of parts.
-use Rattle.std.specs.Prelude.{ℕ, ◌+◌, ◌≡◌, ◌<◌, List, [], map, length, slice_index_or, slice_set, Option, None, Result, Ok, Err}
+use Rattle.std.specs.Prelude.{ℕ, ◌+◌, ◌≡◌, ◌<◌, List, [], map, length, slice_index_or, slice_set, Option, None, Result, Err}
 use Rattle.std.specs.Io.KnownBytes.{Appends}
 use Rattle.rj_columns.specs.declared.cell.ColumnType.{ColumnType}
 use Rattle.rj_columns.specs.declared.refused.BuildRefused.{BuildRefused}
@@ -59,17 +59,11 @@ pub record IsDivided (d : Dividing) (records : List (List (List ℕ))) (before a
 
 -- the counts of the outputs' failures: one more for the output that failed, if one did
 abbrev pub counts_after : {T : Type 0} → Result T DivideRefused → List ℕ → List ℕ
-counts_after (Ok x) counts = counts
-counts_after (Err (refused.Read f)) counts = counts
-counts_after (Err refused.TooLong) counts = counts
-counts_after (Err refused.ReadDevice) counts = counts
 counts_after (Err (refused.WriteDevice p)) counts = slice_set counts p (slice_index_or counts p 0 + 1)
-counts_after (Err refused.Memory) counts = counts
+counts_after result counts = counts
 
 -- an error of one of this many outputs, or of memory
 abbrev pub IsPutFault : ℕ → DivideRefused → Type 0
-IsPutFault outputs (refused.Read f) = ⊥
-IsPutFault outputs refused.TooLong = ⊥
-IsPutFault outputs refused.ReadDevice = ⊥
 IsPutFault outputs (refused.WriteDevice p) = p < outputs
 IsPutFault outputs refused.Memory = Unit {0}
+IsPutFault outputs e = ⊥

@@ -32,7 +32,6 @@ HaveText text before after = (p : ℕ) → p < length before → Appends (slice_
 -- why a header is not written: the columns don't make a table, or an output failed
 abbrev pub IsHeaderFault : TableValue → List ℕ → ℕ → DivideRefused → Type 0
 IsHeaderFault t name outputs (refused.Read f) = (b : BuildRefused) × (empty_table (names_with t name) (types_with t) ≡ Err b) × (f ≡ of_begun b)
-IsHeaderFault t name outputs refused.TooLong = ⊥
-IsHeaderFault t name outputs refused.ReadDevice = ⊥
 IsHeaderFault t name outputs (refused.WriteDevice p) = p < outputs
 IsHeaderFault t name outputs refused.Memory = Unit {0}
+IsHeaderFault t name outputs e = ⊥

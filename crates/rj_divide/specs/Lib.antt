@@ -6,4 +6,5 @@ pub mod Underway
 pub mod Headers
 pub mod Ranges
 pub mod Blocks
+pub mod Texts
 pub mod Stored

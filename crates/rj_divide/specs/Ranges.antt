@@ -91,8 +91,7 @@ pub record IsCutting (d size block : ℕ) (text : List ℕ) (tells : Option (Lis
 
 -- why a text is not cut: an error of its device or of memory, or its length
 abbrev pub IsCutFault : List ℕ → DivideRefused → Type 0
-IsCutFault text (refused.Read f) = ⊥
 IsCutFault text refused.TooLong = 2 ^ 64 - 1 ≤ length text
 IsCutFault text refused.ReadDevice = Unit {0}
-IsCutFault text (refused.WriteDevice p) = ⊥
 IsCutFault text refused.Memory = Unit {0}
+IsCutFault text e = ⊥

@@ -1,5 +1,6 @@
 -- What a part tells that is open only while something is put to it.
-use Rattle.std.specs.Prelude.{ℕ, List, [], Option, option_map, if◌then◌else◌}
+use Rattle.std.specs.Prelude.{ℕ, string_bytes, List, [], Option, option_map, if◌then◌else◌}
+use Rattle.rj_divide.specs.declared.part_file.PartFile.{PartFile}
 use Rattle.rj_divide.specs.declared.stored.StoredPart.{StoredPart}
 
 -- what was put to a part, if its store tells what it holds: nothing before the first time, whatever
@@ -10,3 +11,7 @@ told_of holds part = if part.is_begun then holds part.store else option_map (λ 
 -- how often it failed
 abbrev pub put_failures_of : {S W : Type 0} → StoredPart S W → ℕ
 put_failures_of part = part.failures
+
+-- where the file of a part is
+abbrev pub path_of : {R F D : Type 0} → PartFile R F D → List ℕ
+path_of part = string_bytes part.path

@@ -6,8 +6,8 @@ ghost use Rattle.rj_divide.specs.Ranges.{AreCuts, IsCutFault, IsCutting};
 ghost use Rattle.rj_divide.specs.Readings.{reads_after};
 
 use crate::next::{drop_front, next_piece};
+use crate::reading::is_header_ahead;
 use crate::refused::DivideRefused;
-use crate::whole::is_header_ahead;
 use rj_csv_io::Input;
 use rj_strict::Delimiter;
 use std::alloc::Global;

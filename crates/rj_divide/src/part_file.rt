@@ -1,7 +1,8 @@
 //! Parts that are stored in files.
 
-ghost use Rattle.std.specs.Prelude.{◌≡◌, true};
+ghost use Rattle.std.specs.Prelude.{◌≡◌, string_bytes, true};
 ghost use Rattle.std.specs.Fs.{new_options, with_append, with_create, with_truncate, with_write};
+ghost use Rattle.rj_divide.specs.Stored.{path_of};
 
 use crate::stored::PartStore;
 use rj_csv_io::Failed;
@@ -34,7 +35,9 @@ pub struct PartFile<'r, R: Files> {
 
 impl<'r, R: Files> PartFile<'r, R> {
     /// The file at this path.
-    pub fn new(rt: &'r R, path: String) -> PartFile<'r, R> {
+    pub fn new(rt: &'r R, path: String) -> PartFile<'r, R>
+        ensures { path_of result ≡ string_bytes path }
+    {
         PartFile { rt, path }
     }
 

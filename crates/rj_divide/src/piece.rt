@@ -1,4 +1,4 @@
-//! A piece of a text, divided among parts.
+//! The records that csv reads from a piece of a text, divided among parts.
 
 ghost use Rattle.std.specs.Prelude.{◌≡◌, ◌<◌, ◌≤◌, ◌+◌, ◌-◌, ◌^◌, length, map, All, IsTrue, IfErr, IfOk, OnOk, Ok, Err};
 ghost use Rattle.rj_columns.specs.declared.refused.BuildRefused.{BuildRefused};
@@ -70,17 +70,9 @@ fn fault_behind(before: u64, fault: ReadRefused) -> DivideRefused
     }
 }
 
-/// Puts each row of a piece of a text, with its place, to the output of its part. The answer is how
-/// many rows it has. `before` rows come before it; the first piece begins with the header. A piece
-/// begins and ends where a record does. The text's own byte order mark was left out already.
-///
-/// # Errors
-///
-/// The reason why the header and the types don't make a table, as [`Header::table`] reports it; the
-/// outputs are unchanged then. Else the first error of the piece's records, whose row counts from
-/// the text's first one; `TooLong`; or `WriteDevice` if an output failed. The outputs may have got
-/// rows. `Memory` may come in place of each of these.
-pub fn divide_piece<O: Output, R: Route>(
+/// Divides the records that csv reads from a piece, as [`crate::divide_piece`] does. If `is_first` is
+/// set, the piece begins with the header.
+pub(crate) fn divide_records<O: Output, R: Route>(
     alloc: Global,
     division: &Division<'_, R>,
     text: &[u8],

@@ -15,6 +15,15 @@ use crate::marks::{PairSide, row_on};
 use rj_columns::{Cell, Table, in_scale};
 use std::alloc::AllocError;
 
+/// The tables of some members: the left table, or a segment of it, which begins with the row of this
+/// number, and the right table.
+#[derive(Clone, Copy)]
+pub(crate) struct Tables<'s> {
+    pub(crate) left: &'s Table,
+    pub(crate) first: u32,
+    pub(crate) right: &'s Table,
+}
+
 // Adds the cells of a column at these rows of a table whose first row has this number.
 fn add_rows<'s>(
     cells: &mut Vec<Cell<'s>>,
@@ -65,20 +74,19 @@ fn add_nulls(cells: &mut Vec<Cell<'_>>, rows: &[u32]) -> Result<(), AllocError>
     Ok(())
 }
 
-/// Adds the cells of a column of the left table, or of a segment of it whose first row has this
-/// number. A member without a left row has NULL.
+/// Adds the cells of a column of the left table. A member without a left row has NULL.
 pub(crate) fn add_left<'s>(
     cells: &mut Vec<Cell<'s>>,
-    left: &'s Table,
-    first: u32,
+    tables: &Tables<'s>,
     col: usize,
     members: Members<'_>,
 ) -> Result<(), AllocError>
-    requires rows { All (λ m. IsLeftRow left.now (counted_from first m)) (members_rows members) }
-    requires col { col < length left.now.types }
+    requires rows { All (λ m. IsLeftRow tables.now.left.now (counted_from tables.now.first m)) (members_rows members) }
+    requires col { col < length tables.now.left.now.types }
     ensures { OnOk result (map content_of cells.new.items
-        ≡ map content_of cells.old.items ++ map (λ m. left_cell left.now (counted_from first m) col) (members_rows members.entry)) }
+        ≡ map content_of cells.old.items ++ map (λ m. left_cell tables.now.left.now (counted_from tables.now.first m) col) (members_rows members.entry)) }
 {
+    let (left, first) = (tables.left, tables.first);
     add_side(cells, left, first, col, members.pairs, PairSide::Left)?;
     add_rows(cells, left, first, col, members.lone_left)?;
     add_nulls(cells, members.lone_right)?;
@@ -160,23 +168,22 @@ fn coalesced_cell<'s>(
     in_scale(first, scale)
 }
 
-// Adds the coalesced cells of these pairs. The left table's first row has this number.
+// Adds the coalesced cells of these pairs.
 fn add_coalesced_pairs<'s>(
     cells: &mut Vec<Cell<'s>>,
-    left: &'s Table,
-    first: u32,
+    tables: &Tables<'s>,
     a: usize,
-    right: &'s Table,
     b: usize,
     pairs: &[(u32, u32)],
     scale: u8,
 ) -> Result<(), AllocError>
-    requires rows { All (λ p. (p.0 - first < length left.now.rows) × (p.1 < length right.now.rows)) pairs.now }
-    requires cols { (a < length left.now.types) × (b < length right.now.types) }
-    requires scale { scale ≡ coalesced_scale left.now right.now a b }
+    requires rows { All (λ p. (p.0 - tables.now.first < length tables.now.left.now.rows) × (p.1 < length tables.now.right.now.rows)) pairs.now }
+    requires cols { (a < length tables.now.left.now.types) × (b < length tables.now.right.now.types) }
+    requires scale { scale ≡ coalesced_scale tables.now.left.now tables.now.right.now a b }
     ensures { OnOk result (map content_of cells.new.items ≡ map content_of cells.old.items
-        ++ map (λ p. in_scale scale (coalesced (cell_of left.now (p.0 - first) a) (cell_of right.now p.1 b))) pairs.now) }
+        ++ map (λ p. in_scale scale (coalesced (cell_of tables.now.left.now (p.0 - tables.now.first) a) (cell_of tables.now.right.now p.1 b))) pairs.now) }
 {
+    let (left, first, right) = (tables.left, tables.first, tables.right);
     for pair in pairs {
         let places = (pair.0.saturating_sub(first), pair.1);
         cells.push(coalesced_cell(left, a, right, b, places, scale))?;
@@ -184,25 +191,23 @@ fn add_coalesced_pairs<'s>(
     Ok(())
 }
 
-/// Adds the cells of two coalesced columns: the first that is not NULL, in the greater scale. The
-/// left table's first row has this number.
+/// Adds the cells of two coalesced columns: the first that is not NULL, in the greater scale.
 pub(crate) fn add_coalesced<'s>(
     cells: &mut Vec<Cell<'s>>,
-    left: &'s Table,
-    first: u32,
+    tables: &Tables<'s>,
     a: usize,
-    right: &'s Table,
     b: usize,
     members: Members<'_>,
     scale: u8,
 ) -> Result<(), AllocError>
-    requires rows { All (λ m. IsMemberOf left.now right.now (counted_from first m)) (members_rows members) }
-    requires cols { (a < length left.now.types) × (b < length right.now.types) }
-    requires scale { scale ≡ coalesced_scale left.now right.now a b }
+    requires rows { All (λ m. IsMemberOf tables.now.left.now tables.now.right.now (counted_from tables.now.first m)) (members_rows members) }
+    requires cols { (a < length tables.now.left.now.types) × (b < length tables.now.right.now.types) }
+    requires scale { scale ≡ coalesced_scale tables.now.left.now tables.now.right.now a b }
     ensures { OnOk result (map content_of cells.new.items ≡ map content_of cells.old.items
-        ++ map (λ m. joined_cell left.now right.now (counted_from first m) (origin.Coalesced a b)) (members_rows members.entry)) }
+        ++ map (λ m. joined_cell tables.now.left.now tables.now.right.now (counted_from tables.now.first m) (origin.Coalesced a b)) (members_rows members.entry)) }
 {
-    add_coalesced_pairs(cells, left, first, a, right, b, members.pairs, scale)?;
+    let (left, first, right) = (tables.left, tables.first, tables.right);
+    add_coalesced_pairs(cells, tables, a, b, members.pairs, scale)?;
     add_rows_in_scale(cells, left, first, a, members.lone_left, scale)?;
     add_rows_in_scale(cells, right, 0, b, members.lone_right, scale)?;
     Ok(())

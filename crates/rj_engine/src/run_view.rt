@@ -4,6 +4,7 @@ ghost use Rattle.std.specs.Prelude.{◌≡◌, ◌<◌, ◌≤◌, ◌+◌, ◌-
 ghost use Rattle.rj_columns.specs.Contents.{content_of};
 ghost use Rattle.rj_engine.specs.Shown.{IsRunWithin, IsShownOf, run_view, shown_view};
 
+use crate::cells::Tables;
 use crate::chosen_rows::{count_of, row_at};
 use crate::joined::Joined;
 use crate::runs::Run;
@@ -106,17 +107,11 @@ impl<'a> RowSource for RunView<'a> {
     ) -> Result<(), AllocError> {
         let _members = count_of(&self.shown.chosen, self.joined); // so the places are numbers that fit
         let (from, to) = (self.run.from + from as usize, self.run.from + to as usize);
-        let (segment, right, joined, shown) = (self.segment, self.right, self.joined, self.shown);
-        add_shown(
-            cells,
-            segment,
-            self.run.first,
-            right,
-            joined,
-            shown,
-            col,
-            from,
-            to,
-        )
+        let tables = Tables {
+            left: self.segment,
+            first: self.run.first,
+            right: self.right,
+        };
+        add_shown(cells, &tables, self.joined, self.shown, col, from..to)
     }
 }

@@ -10,7 +10,7 @@ ghost use Rattle.rj_engine.specs.Results.{joined_of};
 ghost use Rattle.rj_engine.specs.Shown.{HasColumnsOf, IsShownOf, counted_from, rows_between, shown_view};
 ghost use Rattle.rj_engine.specs.declared.origin.Origin.{Origin};
 
-use crate::cells::{add_coalesced, add_left, add_right};
+use crate::cells::{Tables, add_coalesced, add_left, add_right};
 use crate::chosen_columns::chosen_origins;
 use crate::chosen_rows::choose_rows;
 use crate::joined::{Joined, JoinedRow, Members};
@@ -19,6 +19,7 @@ use rj_columns::{Cell, ColumnType, Table, coalesce, in_scale};
 use rj_condition::BoundJoin;
 use rj_settings::Choice;
 use std::alloc::{AllocError, Global};
+use std::ops::Range;
 
 /// What is shown of a joined table: which of its members, in which order, and which of its columns.
 /// It holds no cell and no table, so the left table can be taken apart.
@@ -95,58 +96,51 @@ impl Shown {
     }
 }
 
-/// Adds the cells of a column at the members that are shown, from one place up to another. The left
-/// table is a segment whose first row has this number.
+/// Adds the cells of a column at the members that are shown, at these places.
 pub(crate) fn add_shown<'s>(
     cells: &mut Vec<Cell<'s>>,
-    left: &'s Table,
-    first: u32,
-    right: &'s Table,
-    joined: &'s Joined,
-    shown: &'s Shown,
+    tables: &Tables<'s>,
+    joined: &Joined,
+    shown: &Shown,
     col: usize,
-    from: usize,
-    to: usize,
+    places: Range<usize>,
 ) -> Result<(), AllocError>
-    requires order { from ≤ to }
-    requires within { to ≤ length (shown_rows shown.now.chosen joined.now.members) }
-    requires rows { All (λ row. IsMemberOf left.now right.now (counted_from first row)) (rows_between from to (shown_rows shown.now.chosen joined.now.members)) }
-    requires columns { HasColumnsOf left.now right.now shown.now }
+    requires order { places.start ≤ places.end }
+    requires within { places.end ≤ length (shown_rows shown.now.chosen joined.now.members) }
+    requires rows { All (λ row. IsMemberOf tables.now.left.now tables.now.right.now (counted_from tables.now.first row))
+        (rows_between places.start places.end (shown_rows shown.now.chosen joined.now.members)) }
+    requires columns { HasColumnsOf tables.now.left.now tables.now.right.now shown.now }
     requires col { col < length shown.now.origins.items }
     ensures { (o : Origin) → OnOk result (map content_of cells.new.items ≡ map content_of cells.old.items
-        ++ map (λ row. joined_cell left.now right.now (counted_from first row) (slice_index_or shown.now.origins.items col o))
-        (rows_between from to (shown_rows shown.now.chosen joined.now.members))) }
+        ++ map (λ row. joined_cell tables.now.left.now tables.now.right.now (counted_from tables.now.first row) (slice_index_or shown.now.origins.items col o))
+        (rows_between places.start places.end (shown_rows shown.now.chosen joined.now.members))) }
 {
     let (origin, scale) = (shown.origins[col], shown.scales[col]);
+    let (from, to) = (places.start, places.end);
     match &shown.chosen {
-        Some(rows) => add_chosen(cells, left, first, right, &rows[from..to], origin, scale),
-        None => {
-            let members = joined.members(from, to);
-            add_members(cells, left, first, right, members, origin, scale)
-        }
+        Some(rows) => add_chosen(cells, tables, &rows[from..to], origin, scale),
+        None => add_members(cells, tables, joined.members(from, to), origin, scale),
     }
 }
 
 // Adds the cells of consecutive members in a column that is given in this scale.
 fn add_members<'s>(
     cells: &mut Vec<Cell<'s>>,
-    left: &'s Table,
-    first: u32,
-    right: &'s Table,
+    tables: &Tables<'s>,
     members: Members<'_>,
     origin: Origin,
     scale: u8,
 ) -> Result<(), AllocError>
-    requires rows { All (λ row. IsMemberOf left.now right.now (counted_from first row)) (members_rows members) }
-    requires column { IsColumnOf left.now right.now origin }
-    requires scale { scale ≡ shown_scale left.now right.now origin }
+    requires rows { All (λ row. IsMemberOf tables.now.left.now tables.now.right.now (counted_from tables.now.first row)) (members_rows members) }
+    requires column { IsColumnOf tables.now.left.now tables.now.right.now origin }
+    requires scale { scale ≡ shown_scale tables.now.left.now tables.now.right.now origin }
     ensures { OnOk result (map content_of cells.new.items ≡ map content_of cells.old.items
-        ++ map (λ row. joined_cell left.now right.now (counted_from first row) origin) (members_rows members.entry)) }
+        ++ map (λ row. joined_cell tables.now.left.now tables.now.right.now (counted_from tables.now.first row) origin) (members_rows members.entry)) }
 {
     match origin {
-        Origin::Coalesced(a, b) => add_coalesced(cells, left, first, a, right, b, members, scale),
-        Origin::Left(a) => add_left(cells, left, first, a, members),
-        Origin::Right(b) => add_right(cells, right, b, members),
+        Origin::Coalesced(a, b) => add_coalesced(cells, tables, a, b, members, scale),
+        Origin::Left(a) => add_left(cells, tables, a, members),
+        Origin::Right(b) => add_right(cells, tables.right, b, members),
     }
 }
 
@@ -189,19 +183,18 @@ pub(crate) fn cell_at<'a>(
 // Adds the cells of these members in a column that is given in this scale.
 fn add_chosen<'s>(
     cells: &mut Vec<Cell<'s>>,
-    left: &'s Table,
-    first: u32,
-    right: &'s Table,
+    tables: &Tables<'s>,
     rows: &[JoinedRow],
     origin: Origin,
     scale: u8,
 ) -> Result<(), AllocError>
-    requires rows { All (λ row. IsMemberOf left.now right.now (counted_from first row)) rows.now }
-    requires column { IsColumnOf left.now right.now origin }
-    requires scale { scale ≡ shown_scale left.now right.now origin }
+    requires rows { All (λ row. IsMemberOf tables.now.left.now tables.now.right.now (counted_from tables.now.first row)) rows.now }
+    requires column { IsColumnOf tables.now.left.now tables.now.right.now origin }
+    requires scale { scale ≡ shown_scale tables.now.left.now tables.now.right.now origin }
     ensures { OnOk result (map content_of cells.new.items ≡ map content_of cells.old.items
-        ++ map (λ row. joined_cell left.now right.now (counted_from first row) origin) rows.now) }
+        ++ map (λ row. joined_cell tables.now.left.now tables.now.right.now (counted_from tables.now.first row) origin) rows.now) }
 {
+    let (left, first, right) = (tables.left, tables.first, tables.right);
     for row in rows {
         let counted = counted_from(first, *row);
         cells.push(cell_at(left, right, counted, origin, scale))?;

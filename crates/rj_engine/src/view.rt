@@ -7,6 +7,7 @@ ghost use Rattle.rj_engine.specs.Results.{joined_of};
 ghost use Rattle.rj_engine.specs.Chosen.{chosen_header, chosen_view};
 ghost use Rattle.rj_engine.specs.Cells.{header_of, view_of, columns_of, name_of, IsColumnOf};
 
+use crate::cells::Tables;
 use crate::chosen_columns::chosen_origins;
 use crate::chosen_rows::{count_of, row_at};
 use crate::joined::Joined;
@@ -131,8 +132,12 @@ impl<'a> RowSource for View<'a> {
         to: u64,
     ) -> Result<(), AllocError> {
         let (from, to) = (from as usize, to as usize);
-        let (left, right, joined, shown) = (self.left, self.right, self.joined, &self.shown);
-        add_shown(cells, left, 0, right, joined, shown, col, from, to)
+        let tables = Tables {
+            left: self.left,
+            first: 0,
+            right: self.right,
+        };
+        add_shown(cells, &tables, self.joined, &self.shown, col, from..to)
     }
 }
 

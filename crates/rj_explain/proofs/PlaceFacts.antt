@@ -89,6 +89,11 @@ pub ends-none : (d : ℕ) (s : State) (fields : List (List ℕ)) (field : List �
 unfolding next_record
 ends-none d s fields field e = rw e refl
 
+-- nothing has no record
+pub no-record : (d : ℕ) (text : List ℕ) → length text ≡ 0 → next_record (config_of d) st.StartRecord [] [] text ≡ None
+no-record d [] e = ends-none d st.StartRecord [] [] refl
+no-record d (c ∷ text) e = absurd (omega arith)
+
 drop-none : (k : ℕ) → drop {A = ℕ} k [] ≡ []
 drop-none zero = refl
 drop-none (suc k) = refl

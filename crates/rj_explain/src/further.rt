@@ -1,10 +1,9 @@
 //! Further cells of a column that aren't of its type, below the first one.
 
-ghost use Rattle.std.specs.Prelude.{◌≡◌, ◌≤◌, ◌+◌, ◌-◌, IfOk, IfSome, MatchOption, None, Some, is_none, length, slice_get, string_bytes};
+ghost use Rattle.std.specs.Prelude.{◌≡◌, ◌≤◌, ◌+◌, IfOk, IfSome, MatchOption, is_none, length, string_bytes};
+ghost use Rattle.std.specs.Str.{is_utf8};
 ghost use Rattle.rj_csv_io.specs.Pieces.{names_in};
 ghost use Rattle.rj_csv_io.specs.Typed.{is_int_text, null_texts, read_cell};
-ghost use Rattle.rj_types.specs.Columns.{types_under};
-ghost use Rattle.rj_explain.specs.Explained.{types_of};
 ghost use Rattle.rj_explain.specs.Further as further;
 ghost use Rattle.rj_explain.specs.Further.{AreBadTold, AreFurtherTold, AreToldIn, HasNoBad, IsColumnOf, IsFirstBadRow, IsFurtherExplained, has_bad};
 ghost use Rattle.rj_explain.specs.Places.{HasNoRow, StandsAt, at_column};
@@ -61,6 +60,13 @@ fn is_integer(field: &[u8]) -> bool
     }
 }
 
+// Whether a field is UTF-8.
+fn is_text(field: &[u8]) -> bool
+    ensures { result ≡ is_utf8 field.now }
+{
+    str::from_utf8(field).is_ok()
+}
+
 // Whether a field is neither NULL nor of a type.
 fn is_bad(field: &[u8], kind: ColumnType, nulls: &[&str]) -> bool
     ensures { result ≡ is_none (read_cell (null_texts nulls.now) kind field.now) }
@@ -71,7 +77,7 @@ fn is_bad(field: &[u8], kind: ColumnType, nulls: &[&str]) -> bool
     match kind {
         ColumnType::Int => !is_integer(field),
         ColumnType::Num(numeric) => read_numeric(field, numeric).is_none(),
-        ColumnType::Text => str::from_utf8(field).is_err(),
+        ColumnType::Text => !is_text(field),
     }
 }
 
@@ -104,17 +110,19 @@ fn first_bad(
     let mut at = from.at;
     for row in from.row..u64::MAX {
         let rest = &column.text[at..];
-        let (Some(record), Some(size)) = (
-            Header::of(alloc, rest, column.delimiter)?,
-            first_record(rest, column.delimiter.byte()),
-        ) else {
+        let Some(fields) = Header::of(alloc, rest, column.delimiter)? else {
             return Ok(None);
         };
-        if has_bad(alloc, column, &record)? {
-            let line = line_from(column.text, at);
+        let Some(size) = first_record(rest, column.delimiter.byte()) else {
+            return Ok(None);
+        };
+        if has_bad(alloc, column, &fields)? {
             return Ok(Some(BadRow {
                 number: row,
-                row: Row { line, record },
+                row: Row {
+                    line: line_from(column.text, at),
+                    record: fields,
+                },
                 below: RowPlace {
                     row: row + 1,
                     at: at + size,
@@ -127,11 +135,7 @@ fn first_bad(
 }
 
 // The line for a bad cell.
-fn bad_line(
-    alloc: Global,
-    column: &TypedColumn<'_>,
-    found: &BadRow,
-) -> Result<String, AllocError>
+fn bad_line(alloc: Global, column: &TypedColumn<'_>, found: &BadRow) -> Result<String, AllocError>
     ensures { IfOk result (λ s. string_bytes s
         ≡ further.bad_line found.now.number found.now.row.line (at_column column.now.number (names_in found.now.row.record))) }
 {
@@ -146,11 +150,7 @@ fn bad_line(
 }
 
 // The lines for the first bad cells from a row on.
-fn bad_lines(
-    alloc: Global,
-    column: &TypedColumn<'_>,
-    from: RowPlace,
-) -> Result<String, AllocError>
+fn bad_lines(alloc: Global, column: &TypedColumn<'_>, from: RowPlace) -> Result<String, AllocError>
     requires stands { StandsAt column.now.delimiter column.now.text.now from.row from.at }
     requires within { from.at ≤ length column.now.text.now }
     requires rows { from.row ≤ from.at }
@@ -166,9 +166,10 @@ fn bad_lines(
         lines.push_str(line.as_str())?;
         place = found.below;
     }
-    if first_bad(alloc, column, place)?.is_some() {
-        lines.push_str("  .. and more\n")?;
-    }
+    let Some(_next) = first_bad(alloc, column, place)? else {
+        return Ok(lines);
+    };
+    lines.push_str("  .. and more\n")?;
     Ok(lines)
 }
 
@@ -197,28 +198,22 @@ fn lines_below(alloc: Global, column: &TypedColumn<'_>, row: u64) -> Result<Stri
     }
 }
 
-// The column with this number of a side's text, if it has a type under the text's header.
+// The column with this number and type of a side's text.
 fn column_of<'a>(
-    alloc: Global,
     inputs: &Inputs<'a, 'a>,
     side: Side,
     text: &'a [u8],
-    header: &Row,
     number: u64,
-) -> Result<Option<TypedColumn<'a>>, AllocError>
-    ensures { IfOk result (λ o. MatchOption o (slice_get (types_under (types_of side inputs.now) (names_in header.now.record)) (number - 1) ≡ None)
-        (λ c. (slice_get (types_under (types_of side inputs.now) (names_in header.now.record)) (number - 1) ≡ Some c.kind)
-        × IsColumnOf side inputs.now text.now number c.kind c)) }
+    kind: ColumnType,
+) -> TypedColumn<'a>
+    ensures { IsColumnOf side inputs.now text.now number kind result }
 {
-    match kind_at(alloc, inputs, side, header, number)? {
-        Some(kind) => Ok(Some(TypedColumn {
-            text,
-            delimiter: inputs.delimiter(side),
-            number,
-            kind,
-            nulls: inputs.nulls(side),
-        })),
-        None => Ok(None),
+    TypedColumn {
+        text,
+        delimiter: inputs.delimiter(side),
+        number,
+        kind,
+        nulls: inputs.nulls(side),
     }
 }
 
@@ -236,8 +231,11 @@ fn lines_of_text<'a>(
     let Some(header) = find_row(alloc, text, inputs.delimiter(side), 0)? else {
         return Ok(String::new(alloc));
     };
-    match column_of(alloc, inputs, side, text, &header, number)? {
-        Some(column) => lines_below(alloc, &column, row),
+    match kind_at(alloc, inputs, side, &header, number)? {
+        Some(kind) => {
+            let column = column_of(inputs, side, text, number, kind);
+            lines_below(alloc, &column, row)
+        }
         None => Ok(String::new(alloc)),
     }
 }

@@ -97,7 +97,7 @@ sizes_text q files s = told_of q files s s.members
 abbrev pub IsMoreTold : Inputs → List ℕ → Type 0
 IsMoreTold inputs more =
     (more ≡ tables_text)
-    ⊎ (((f : Fault) × (f ≢ fault.Memory) × IsFirstFault inputs.left.now inputs.right.now inputs.request.now f × (more ≡ []))
+    ⊎ (((f : Fault) × (f ≢ fault.Memory) × IsFirstFault false inputs.left.now inputs.right.now inputs.request.now f × (more ≡ []))
     ⊎ ((s : Sizes) × AreSizes inputs.left.now inputs.right.now inputs.request.now s × (more ≡ sizes_text inputs.request.now (sizes_of inputs) s)))
 
 -- the same where rows are only counted: nothing

@@ -13,6 +13,7 @@ use rj_fault::{Fault, Side};
 use rj_header::{GivenName, complete_header};
 use rj_line::{Request, Strictness};
 use rj_strict::Delimiter;
+use std::time::Clock;
 
 // Whether texts have to be of RFC 4180's grammar.
 fn is_strict(strictness: Strictness) -> bool
@@ -35,12 +36,18 @@ fn delimiter_of(request: &Request<'_>, side: Side) -> Delimiter
 }
 
 // Tells which names the columns of a side were given.
-fn tell_given<R: Eprint>(rt: &R, progress: &Progress<'_, R>, side: Side, given: &[GivenName]) {
+fn tell_given<R: Clock + Eprint>(
+    rt: &R,
+    progress: &Progress<'_, R>,
+    side: Side,
+    given: &[GivenName],
+) {
     if given.is_empty() {
         return;
     }
     progress.clear();
-    for GivenName { column, name } in given {
+    for named in given {
+        let (column, name) = (named.column, named.name.as_str());
         let _ = eprintln!(rt;
             "radixjoin: {side} column {column} has no name of its own, and is called {name}"
         );
@@ -48,7 +55,7 @@ fn tell_given<R: Eprint>(rt: &R, progress: &Progress<'_, R>, side: Side, given: 
 }
 
 // The bytes that are joined in place of those of a side.
-fn given_bytes<R: AllocGlobal + Eprint>(
+fn given_bytes<R: AllocGlobal + Clock + Eprint>(
     rt: &R,
     line: &Line<'_>,
     progress: &Progress<'_, R>,
@@ -80,7 +87,7 @@ fn given_bytes<R: AllocGlobal + Eprint>(
 /// # Errors
 ///
 /// It fails only when memory runs out.
-pub(crate) fn given_tables<R: AllocGlobal + Eprint>(
+pub(crate) fn given_tables<R: AllocGlobal + Clock + Eprint>(
     rt: &R,
     line: &Line<'_>,
     progress: &Progress<'_, R>,

@@ -41,8 +41,13 @@ fn size_text(alloc: Global, bytes: u64) -> Result<String, AllocError>
 fn files_line(alloc: Global, files: FileSizes) -> Result<String, AllocError>
     ensures { IfOk result (λ s. string_bytes s ≡ files_text files) }
 {
-    let (left, right) = (size_text(alloc, files.left)?, size_text(alloc, files.right)?);
-    format!(in alloc; "  the files have {left} and {right}, and their tables take about as much again\n")
+    let (left, right) = (
+        size_text(alloc, files.left)?,
+        size_text(alloc, files.right)?,
+    );
+    format!(in alloc;
+        "  the files have {left} and {right}, and their tables take about as much again\n"
+    )
 }
 
 // The mean length of a file's rows.
@@ -78,7 +83,11 @@ fn text_bytes(request: &Request<'_>, files: FileSizes, sizes: &Sizes, members: C
     let lone_left = count_if(kinds.lone_left, members.lone_left);
     let lone_right = count_if(kinds.lone_right, members.lone_right);
     let left = part_bytes(pairs, lone_left, mean_length(files.left, sizes.left_rows));
-    let right = part_bytes(pairs, lone_right, mean_length(files.right, sizes.right_rows));
+    let right = part_bytes(
+        pairs,
+        lone_right,
+        mean_length(files.right, sizes.right_rows),
+    );
     count_if(kinds.matched_left, files.left)
         .saturating_add(left)
         .saturating_add(right)

@@ -22,7 +22,9 @@ pub(crate) enum Message {
     Partitioned { done: u64, rows: u64 },
     /// About `done` rows of the larger table were joined.
     Joined { done: u64, rows: u64 },
-    /// The text of `rows` rows is made.
+    /// The text of about `done` rows is made.
+    Making { done: u64, rows: u64 },
+    /// The text of `rows` rows is made or written.
     Writing { rows: u64 },
     /// `bytes` bytes of it were written.
     Written { rows: u64, bytes: u64 },
@@ -101,6 +103,7 @@ impl fmt::Display for Message {
             }
             Message::Partitioned { done, rows } => write_share(f, "partitioning", done, rows),
             Message::Joined { done, rows } => write_share(f, "joining", done, rows),
+            Message::Making { done, rows } => write_share(f, "making text", done, rows),
             Message::Writing { rows } => {
                 let rows = Grouped(rows);
                 write!(f, "radixjoin: writing {rows} rows")

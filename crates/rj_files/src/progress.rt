@@ -87,8 +87,10 @@ pub struct Progress<'a, R> {
     first: AtomicU64,
     partition: AtomicU64,
     piece: AtomicU64,
-    // The rows that are written, and the bytes of them that were.
+    // The rows that are written, the left rows whose texts are made, if these are counted, and the
+    // bytes that were written.
     written_rows: AtomicU64,
+    made_rows: AtomicU64,
     written_bytes: AtomicU64,
 }
 
@@ -245,6 +247,7 @@ impl<'a, R: Clock> Progress<'a, R> {
             partition: AtomicU64::new(0),
             piece: AtomicU64::new(0),
             written_rows: AtomicU64::new(0),
+            made_rows: AtomicU64::new(0),
             written_bytes: AtomicU64::new(0),
         }
     }
@@ -334,11 +337,23 @@ impl<'a, R: Clock> Progress<'a, R> {
         Message::Joined { done, rows }
     }
 
-    // The line of the rows that are written.
+    // The line of the rows whose text is made.
+    fn making_line(&self, rows: u64) -> Message {
+        let left = self.left_rows.load(Ordering::SeqCst);
+        match self.made_rows.load(Ordering::SeqCst) {
+            0 => Message::Writing { rows },
+            made => Message::Making {
+                done: share_of(rows, made, left),
+                rows,
+            },
+        }
+    }
+
+    // The line of the rows that are written, once their text is made.
     fn writing_line(&self) -> Message {
         let rows = self.written_rows.load(Ordering::SeqCst);
         match self.written_bytes.load(Ordering::SeqCst) {
-            0 => Message::Writing { rows },
+            0 => self.making_line(rows),
             bytes => Message::Written { rows, bytes },
         }
     }
@@ -495,8 +510,7 @@ impl<R: Clock + Eprint> Gate for Progress<'_, R> {
                 }
             }
             Place::Piece(partition, piece) => {
-                self.partition
-                    .store(u64::from(partition), Ordering::SeqCst);
+                self.partition.store(u64::from(partition), Ordering::SeqCst);
                 self.piece.store(piece, Ordering::SeqCst);
                 let is_shown = if self.is_first_piece(partition) {
                     self.reach(Stage::Joining);
@@ -514,6 +528,10 @@ impl<R: Clock + Eprint> Gate for Progress<'_, R> {
 }
 
 impl<R: Clock + Eprint> Watch for Progress<'_, R> {
+    fn made_rows(&self) -> Option<&AtomicU64> {
+        Some(&self.made_rows)
+    }
+
     fn begin(&self, step: Step) {
         let message = match step {
             Step::Read(side) => {

@@ -118,7 +118,7 @@ where
         Ok(tables) => tables,
         Err(e) => return (Err(e), writer),
     };
-    match complete_line(rt, line, &tables) {
+    match complete_line(rt, line, progress, &tables) {
         Ok(()) => write_tables(rt, line, progress, tables, writer),
         Err(fault) => (Err(ExplainedFault::from(fault)), writer),
     }

@@ -4,10 +4,11 @@ ghost use Rattle.std.specs.Prelude.{◌≡◌, IfErr, OnOk};
 ghost use Rattle.rj_files.specs.Streams.{IsCompletedLine};
 
 use crate::joining::Tables;
+use crate::progress::Progress;
 use rj_command::{Line, TypeEntry, complete_types};
 use rj_fault::Fault;
 use rj_suggest::list_of_entries;
-use std::alloc::{AllocError, Global};
+use std::time::Clock;
 
 // Tells the types that were taken for the columns of a file.
 fn tell_entries<R: AllocGlobal + Eprint>(rt: &R, name: &str, entries: &[TypeEntry]) {
@@ -44,9 +45,10 @@ fn entries_behind(entries: &[TypeEntry], count: usize) -> &[TypeEntry] {
 /// # Errors
 ///
 /// It fails only when memory runs out.
-pub(crate) fn complete_line<R: AllocGlobal + Eprint>(
+pub(crate) fn complete_line<R: AllocGlobal + Clock + Eprint>(
     rt: &R,
     line: &mut Line<'_>,
+    progress: &Progress<'_, R>,
     tables: &Tables,
 ) -> Result<(), Fault>
     ensures completed { OnOk result (IsCompletedLine tables.now.left.items tables.now.right.items line.old line.new) }
@@ -59,6 +61,7 @@ pub(crate) fn complete_line<R: AllocGlobal + Eprint>(
     let (left, right) = (tables.left.as_slice(), tables.right.as_slice());
     complete_types(rt.alloc(), left, right, &mut line.request)?;
     if line.request.auto_types && !line.quiet {
+        progress.clear();
         tell_taken(rt, line, lefts, rights);
     }
     Ok(())

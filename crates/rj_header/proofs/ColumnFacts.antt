@@ -1,7 +1,7 @@
 -- The columns of a header, one by one.
-use Rattle.std.proofs.Common.{◌≡◌, ◌∙◌, ◌<◌, ◌≤◌, ◌+◌, ℕ, zero, suc, List, [], ◌∷◌, ◌++◌, length, map, take, drop, get_or, true, false, refl, sym, ap, append_assoc, append-nil, arith}
-use Rattle.std.proofs.lemmas.List.{get_or-append_right, length-append, length-map, length-take, take-append-le}
-use Rattle.rj_header.specs.Named.{Column, column_of, columns_after, columns_of, completed_names, names_of}
+use Rattle.std.proofs.Common.{◌≡◌, ◌∙◌, ◌<◌, ◌≤◌, ◌+◌, ℕ, zero, suc, List, [], ◌∷◌, ◌++◌, length, take, get_or, refl, sym, ap, subst, arith}
+use Rattle.std.proofs.lemmas.List.{length-append, length-map, take-append-le}
+use Rattle.rj_header.specs.Named.{Column, column_of, columns_after, columns_of, completed_names}
 
 module _ (fields : List (List ℕ)) where
   columns-count : (done : List Column) (rest : List (List ℕ)) → length (columns_after fields done rest) ≡ length done + length rest
@@ -71,10 +71,12 @@ module _ (fields : List (List ℕ)) where
       rw (← size) more
 
   pub column-at : (i : ℕ) (c : Column) → i < length fields → get_or (columns_of fields) i c ≡ column_of fields (take i (columns_of fields)) (get_or fields i [])
-  column-at i c h = columns-at [] fields i c h
+  column-at i c h =
+      let same : 0 + i ≡ i = omega arith in
+      subst (λ (n : ℕ). get_or (columns_after fields [] fields) n c ≡ column_of fields (take n (columns_after fields [] fields)) (get_or fields i [])) same (columns-at [] fields i c h)
 
   pub columns-size : length (columns_of fields) ≡ length fields
-  columns-size = columns-count [] fields
+  columns-size = omega (arith, columns-count [] fields)
 
 pub names-count : (fields : List (List ℕ)) → length (completed_names fields) ≡ length fields
 names-count fields = length-map (columns_of fields) (λ (c : Column). c.name) ∙ columns-size fields

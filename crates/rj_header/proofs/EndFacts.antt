@@ -1,8 +1,9 @@
 -- Where the first record of a text ends, and what csv's machine reads up to there.
-use Rattle.std.proofs.Common.{◌≡◌, ◌∙◌, ◌<◌, ◌≤◌, ◌+◌, ◌-◌, ℕ, zero, suc, List, [], ◌∷◌, ◌++◌, length, take, Bool, true, false, Option, Some, None, refl, sym, ap, subst, append_assoc, append-nil, arith, inl, inr}
+use Rattle.std.proofs.Common.{◌≡◌, ◌∙◌, ◌<◌, ◌≤◌, ◌+◌, ◌-◌, ℕ, List, [], ◌∷◌, ◌++◌, length, take, drop, drop-cons, get_or, add-one, Bool, true, false, Some, None, refl, sym, ap, subst, arith, inl, inr}
 use Rattle.std.specs.Prelude.{◌==◌, ◌||◌, ◌⊎◌, if◌then◌else◌}
-use Rattle.std.proofs.lemmas.Bool.{cases_Bool, eqb-true, false≢true}
-use Rattle.std.proofs.lemmas.List.{length-append}
+use Rattle.std.proofs.Math.Seq.{take-length}
+use Rattle.std.proofs.lemmas.Bool.{eqb-true, false≢true}
+use Rattle.std.proofs.lemmas.List.{drop_all, length-append, length-drop}
 use Rattle.csv.specs.Machine.{Read, after_end, ends_at_end, ends_with, field_after, fields_after, in_field, is_end, next_record, start_field, start_record, step}
 use Rattle.csv.specs.declared.parser.Action.{Action}
 use Rattle.csv.specs.declared.parser.Action.TheVariants as act
@@ -16,8 +17,8 @@ use Rattle.rj_strict.specs.Reading.{config_of}
 use Rattle.rj_header.specs.Ends.{from_end}
 
 -- the state after a line end
-record IsLineEnd (c : ℕ) (s : State) : Type 0 where
-  ends : ((c ≡ 10) × (s ≡ st.StartRecord)) ⊎ ((c ≡ 13) × (s ≡ st.AfterCr))
+pub record IsLineEnd (c : ℕ) (s : State) : Type 0 where
+  pub ends : ((c ≡ 10) × (s ≡ st.StartRecord)) ⊎ ((c ≡ 13) × (s ≡ st.AfterCr))
 
 abbrev EndsLine : ℕ → State × Action → Type 0
 EndsLine c p = is_end p.1 ≡ true → IsLineEnd c p.0
@@ -55,7 +56,7 @@ step-ends d st.InComment c = ends-if c (c == 10) _ _ (λ b e. absurd (false≢tr
 step-ends d st.AfterCr c = ends-if c (c == 10) _ _ (λ b e. absurd (false≢true e)) (record-ends d c)
 
 -- what is left from the line end of the record that was read
-data EndsAs (left : List ℕ) (p : Read) : Type 0 where
+pub data EndsAs (left : List ℕ) (p : Read) : Type 0 where
   at-end : left ≡ [] → p.1 ≡ st.StartRecord → p.2 ≡ [] → EndsAs left p
   at-line : (c : ℕ) → left ≡ c ∷ p.2 → IsLineEnd c p.1 → EndsAs left p
 
@@ -94,16 +95,22 @@ one-byte d s fields field c p e = go (is_end (step (config_of d) s c).1) (ends_a
     go false true e = let q : (fields_after (step (config_of d) s c).1 fields field ++ (field_after (step (config_of d) s c).1 c field ∷ []), st.StartRecord, []) ≡ p = cc in rw (← q) refl
     go false false e = absurd (cc)
 
+unsome : (p q : Read) → Some p ≡ Some q → p ≡ q
+unsome p q e = cc
+
+no-byte : (c : ℕ) (xs : List ℕ) → c ∷ xs ≡ [] → ⊥
+no-byte c xs e = cc
+
 module _ (d : ℕ) (lawful : may_delimit d ≡ true) (names : List (List ℕ)) (u : List ℕ) where
-  abbrev cfg : Config
+  abbrev pub cfg : Config
   cfg = config_of d
 
-  abbrev IsFed : State → List (List ℕ) → List ℕ → List ℕ → Type 0
+  abbrev pub IsFed : State → List (List ℕ) → List ℕ → List ℕ → Type 0
   IsFed s fields field a = next_record cfg s fields field (a ++ 10 ∷ 65 ∷ []) ≡ Some (names, st.StartRecord, 65 ∷ [])
 
-  record OtherEnds (s : State) (fields : List (List ℕ)) (field a : List ℕ) : Type 0 where
-    return : next_record cfg s fields field (a ++ 13 ∷ u) ≡ Some (names, st.AfterCr, u)
-    none : next_record cfg s fields field a ≡ Some (names, st.StartRecord, [])
+  pub record OtherEnds (s : State) (fields : List (List ℕ)) (field a : List ℕ) : Type 0 where
+    pub return : next_record cfg s fields field (a ++ 13 ∷ u) ≡ Some (names, st.AfterCr, u)
+    pub none : next_record cfg s fields field a ≡ Some (names, st.StartRecord, [])
 
   -- where a line feed ends the record, a CR ends it, and the end of the text
   here-ends : (s : State) (fields : List (List ℕ)) (field : List ℕ) → IsFed s fields field [] → OtherEnds s fields field []
@@ -127,14 +134,13 @@ module _ (d : ℕ) (lawful : may_delimit d ≡ true) (names : List (List ℕ)) (
           → OtherEnds s fields field []
       go true h e =
           let o = other s h in
-          let q : fields_after (step cfg s 10).1 fields field ≡ names = cc in
+          let q : fields_after (step cfg s 10).1 fields field ≡ names = ap (λ (p : Read). p.0) (unsome _ _ e) in
           let same : fields ++ (field ∷ []) ≡ names = rw o.3 at q in
           record { return = rw (o.0, o.1, o.2, same) refl; none = rw (o.4, same) refl }
       go false h e =
-          let no = one-byte d (step cfg s 10).0 _ _ 65 _ e in
-          absurd (cc)
+          absurd (no-byte 65 [] (one-byte d (step cfg s 10).0 _ _ 65 _ e))
 
-  other-ends : (s : State) (fields : List (List ℕ)) (field a : List ℕ) → IsFed s fields field a → OtherEnds s fields field a
+  pub other-ends : (s : State) (fields : List (List ℕ)) (field a : List ℕ) → IsFed s fields field a → OtherEnds s fields field a
   unfolding next_record
   other-ends s fields field [] e = here-ends s fields field e
   other-ends s fields field (c ∷ a) e =
@@ -147,9 +153,33 @@ module _ (d : ℕ) (lawful : may_delimit d ≡ true) (names : List (List ℕ)) (
           → OtherEnds (step cfg s c).0 (fields_after (step cfg s c).1 fields field) (field_after (step cfg s c).1 c field) a)
           → OtherEnds s fields field (c ∷ a)
       go true h e again =
-          let q : a ++ 10 ∷ 65 ∷ [] ≡ 65 ∷ [] = cc in
+          let q : a ++ 10 ∷ 65 ∷ [] ≡ 65 ∷ [] = ap (λ (p : Read). p.2) (unsome _ _ e) in
           let size = ap length q in
           absurd (omega (arith, size, length-append a (10 ∷ 65 ∷ [])))
       go false h e again =
           let more = again e in
           record { return = rw h more.return; none = rw h more.none }
+
+-- what is left of a text from the line end on, one more byte at a time
+pub from-stop : (cfg : Config) (s : State) (text : List ℕ) (i : ℕ) → i < length text → is_end (step cfg s (get_or text i 0)).1 ≡ true → from_end cfg s (drop i text) ≡ drop i text
+unfolding from_end
+from-stop cfg s text i h e = rw (drop-cons text i 0 h, e) refl
+
+pub from-on : (cfg : Config) (s next : State) (text : List ℕ) (i : ℕ) → i < length text → is_end (step cfg s (get_or text i 0)).1 ≡ false → (step cfg s (get_or text i 0)).0 ≡ next
+    → from_end cfg s (drop i text) ≡ from_end cfg next (drop (i + 1) text)
+unfolding from_end
+from-on cfg s next text i h e n = rw (drop-cons text i 0 h, e, n, add-one i) refl
+
+pub from-none : (cfg : Config) (s : State) (text : List ℕ) (i : ℕ) → length text ≤ i → from_end cfg s (drop i text) ≡ []
+unfolding from_end
+from-none cfg s text i h = rw (drop_all i text h) refl
+
+-- what is before a place where the rest is known
+pub first-is : (text rest : List ℕ) (end : ℕ) → end ≤ length text → drop end text ≡ rest → take end text ≡ take (length text - length rest) text
+first-is text rest end h e =
+    let size = length-drop end text in
+    let same : length (drop end text) ≡ length rest = ap length e in
+    ap (λ (n : ℕ). take n text) (omega (arith, size, same))
+
+pub whole-rest : (text : List ℕ) (end : ℕ) → take (length text - end) (drop end text) ≡ drop end text
+whole-rest text end = ap (λ (n : ℕ). take n (drop end text)) (sym (length-drop end text)) ∙ take-length (drop end text)

@@ -1,8 +1,9 @@
 -- The first free number is found: so many names can't be among fewer.
-use Rattle.std.proofs.Common.{◌≡◌, ◌∙◌, ◌<◌, ◌≤◌, ◌+◌, ◌^◌, ℕ, zero, suc, List, [], ◌∷◌, ◌++◌, length, map, get_or, Bool, true, false, refl, sym, ap, arith, inl, inr}
+use Rattle.std.proofs.Common.{◌≡◌, ◌∙◌, ◌<◌, ◌≤◌, ◌+◌, ◌^◌, ℕ, zero, suc, List, [], ◌∷◌, length, map, get_or, Bool, true, false, refl, sym, ap, arith, inl, inr}
 use Rattle.std.specs.Prelude.{◌||◌, ◌⊎◌, if◌then◌else◌}
+use Rattle.std.specs.Bool.{Decides}
 use Rattle.std.specs.Char.{to_ascii_lowercase}
-use Rattle.std.specs.Str.{bytes_eq, str_eq_ignore_ascii_case}
+use Rattle.std.specs.Str.{str_eq_ignore_ascii_case}
 use Rattle.std.proofs.lemmas.Bool.{cases_Bool, cases_lt, false≢true}
 use Rattle.std.proofs.lemmas.Slice.Eq.{bytes_eq-Decides}
 use Rattle.indexmap.proofs.IndexTableLemmas.Probe.{pigeonhole}
@@ -18,6 +19,16 @@ alike-lower a b e = (bytes_eq-Decides (lower a) (lower b)).0 e
 
 pub lower-alike : (a b : List ℕ) → lower a ≡ lower b → str_eq_ignore_ascii_case a b ≡ true
 lower-alike a b e = (bytes_eq-Decides (lower a) (lower b)).1 e
+
+-- a test that decides whether the forms in lower case are the same
+pub alike-decided : (a b : List ℕ) (r : Bool) → Decides r (lower a ≡ lower b) → str_eq_ignore_ascii_case a b ≡ r
+alike-decided a b r h = elim (cases_Bool (str_eq_ignore_ascii_case a b)) [
+  | inl same ↦ same ∙ sym (h.1 (alike-lower a b same))
+  | inr apart ↦ elim (cases_Bool r) [
+    | inl is ↦ absurd (false≢true (sym apart ∙ lower-alike a b (h.0 is)))
+    | inr not ↦ apart ∙ sym not
+  ]
+]
 
 pub alike-swap : (a b : List ℕ) → str_eq_ignore_ascii_case a b ≡ false → str_eq_ignore_ascii_case b a ≡ false
 alike-swap a b e = elim (cases_Bool (str_eq_ignore_ascii_case b a)) [
@@ -60,13 +71,18 @@ found taken stem n (suc more) = go (is_taken taken (numbered stem n)) refl (foun
     go : (b : Bool) → is_taken taken (numbered stem n) ≡ b → IsFound taken stem (n + 1) more (free_from taken stem (n + 1) more)
         → IsFound taken stem n (suc more) (if b then free_from taken stem (n + 1) more else numbered stem n)
     go false is again = record { number = n; within = omega arith; is = refl; free = inl is }
-    go true is again = record { number = again.number; within = omega (arith, again.within); is = again.is; free = elim again.free [
-      | inl none ↦ inl none
-      | inr all ↦ inr (λ k a b. elim (cases_lt n k) [
-        | inl above ↦ all k (omega arith) (omega arith)
-        | inr here ↦ let same : n ≡ k = omega arith in rw (← same) is
-      ])
-    ] }
+    go true is again = record {
+      number = again.number;
+      within = omega (arith, again.within);
+      is = again.is;
+      free = elim again.free [
+        | inl none ↦ inl none
+        | inr all ↦ inr (λ k a b. elim (cases_lt n k) [
+          | inl above ↦ all k (omega arith) (omega arith)
+          | inr here ↦ let same : n ≡ k = omega arith in rw (← same) is
+        ])
+      ];
+    }
 
 module _ (taken : List (List ℕ)) (stem : List ℕ) (few : length taken < 2 ^ 39) where
   not-all : ((k : ℕ) → 1 ≤ k → k ≤ 1 + length taken → is_taken taken (numbered stem k) ≡ true) → ⊥
@@ -82,7 +98,7 @@ module _ (taken : List (List ℕ)) (stem : List ℕ) (few : length taken < 2 ^ 3
   pub free-is : (is_taken taken (free_name taken stem) ≡ false) × ((n : ℕ) × (n < 2 ^ 40) × (free_name taken stem ≡ numbered stem n))
   free-is =
       let f = found taken stem 1 (length taken) in
-      let number = (f.number, omega (arith, f.within), f.is) in
+      let number : (n : ℕ) × (n < 2 ^ 40) × (free_name taken stem ≡ numbered stem n) = (f.number, omega (arith, f.within), f.is) in
       elim f.free [
         | inl none ↦ (none, number)
         | inr all ↦ absurd (not-all all)

@@ -1,10 +1,9 @@
 -- Completed names are lawful.
-use Rattle.std.proofs.Common.{◌≡◌, ◌∙◌, ◌<◌, ◌≤◌, ◌+◌, ◌^◌, ℕ, zero, suc, List, [], ◌∷◌, ◌++◌, length, map, take, drop, get_or, All, Bool, true, false, None, Some, refl, sym, ap, append_assoc, append-nil, arith, inl, inr}
-use Rattle.std.specs.Prelude.{◌||◌, ◌==◌, ◌⊎◌, not, if◌then◌else◌, slice_index_or}
-use Rattle.std.specs.List.{list_any}
+use Rattle.std.proofs.Common.{◌≡◌, ◌∙◌, ◌<◌, ◌+◌, ◌^◌, ℕ, zero, suc, List, [], ◌∷◌, ◌++◌, length, take, get_or, All, Bool, true, false, None, refl, sym, ap, subst, append_assoc, append-nil, arith, inl, inr}
+use Rattle.std.specs.Prelude.{◌||◌, ◌==◌, ◌⊎◌, slice_index_or}
 use Rattle.std.specs.Str.{str_eq_ignore_ascii_case}
-use Rattle.std.proofs.lemmas.Bool.{cases_Bool, false≢true, or-false}
-use Rattle.std.proofs.lemmas.List.{get_or-map, length-append, length-map, length-take, take-map}
+use Rattle.std.proofs.lemmas.Bool.{cases_Bool, false≢true}
+use Rattle.std.proofs.lemmas.List.{get_or-map, length-append, length-take, take-map}
 use Rattle.std.proofs.lemmas.List.Folds.{list_any-append}
 use Rattle.std.proofs.lemmas.List.Elements.{All-get_or}
 use Rattle.rj_columns.specs.Names.{is_name, name_fault}
@@ -44,8 +43,8 @@ taken-front (suc i) [] j h = refl
 taken-front (suc i) (n ∷ names) zero h = refl
 taken-front (suc i) (n ∷ names) (suc j) h = taken-front i names j (omega arith)
 
-
-
+less-than : (j i n : ℕ) → j < i → i < n → j < n
+less-than j i n a b = omega arith
 
 module _ (fields : List (List ℕ)) where
   none : Column
@@ -91,28 +90,31 @@ module _ (fields : List (List ℕ)) where
 
     -- no name further left is alike
     fresh-at : (i : ℕ) → i < length fields → is_taken (take i (completed_names fields)) (get_or (completed_names fields) i []) ≡ false
-    fresh-at i h = elim (cases_Bool (needs_name (take i fields) (get_or fields i []))) [
-      | inl needs ↦ (free-at i h needs).1
-      | inr has ↦
-          let parts = or-parts _ _ has in
-          let kept = kept-at i h has in
-          let size : length (take i (completed_names fields)) ≡ i = omega (arith, length-take i (completed_names fields), names-count fields) in
-          let cut : length (take i fields) ≡ i = omega (arith, length-take i fields) in
-          rw kept (none-taken (take i (completed_names fields)) (get_or fields i []) (λ j less.
-          let near : j < i = omega (arith, size) in
-          rw (taken-front i (completed_names fields) j near) (elim (cases_Bool (needs_name (take j fields) (get_or fields j []))) [
-            | inl needs ↦ alike-swap _ _ (taken-none fields _ i h (free-at j (omega arith) needs).0)
-            | inr own ↦ rw (kept-at j (omega arith) own, ← (taken-front i fields j near)) (taken-none (take i fields) (get_or fields i []) j (omega (arith, cut)) parts.1)
-          ])))
-    ]
+    fresh-at i h =
+        elim (cases_Bool (needs_name (take i fields) (get_or fields i []))) [
+          | inl needs ↦ (free-at i h needs).1
+          | inr has ↦
+              let parts = or-parts _ _ has in
+              let kept = kept-at i h has in
+              let size : length (take i (completed_names fields)) ≡ i = omega (arith, length-take i (completed_names fields), names-count fields) in
+              let cut : length (take i fields) ≡ i = omega (arith, length-take i fields) in
+              rw kept (none-taken (take i (completed_names fields)) (get_or fields i []) (λ j less.
+              let near : j < i = subst (λ (n : ℕ). j < n) size less in
+              rw (taken-front i (completed_names fields) j near) (elim (cases_Bool (needs_name (take j fields) (get_or fields j []))) [
+                | inl needs ↦ alike-swap (get_or (completed_names fields) j []) (get_or fields i []) (taken-none fields (get_or (completed_names fields) j []) i h (free-at j (less-than j i (length fields) near h) needs).0)
+                | inr own ↦ rw (kept-at j (less-than j i (length fields) near h) own, ← (taken-front i fields j near)) (taken-none (take i fields) (get_or fields i []) j (subst (λ (n : ℕ). j < n) (sym cut) near) parts.1)
+              ])))
+        ]
 
     pub completed-lawful : All (λ f. (f ≡ []) ⊎ (is_name f ≡ true)) fields → name_fault [] (completed_names fields) ≡ None
     completed-lawful good = names-lawful [] (completed_names fields) (λ i less.
-        let within : i < length fields = omega (arith, names-count fields) in
-        (elim (cases_Bool (needs_name (take i fields) (get_or fields i []))) [
-          | inl needs ↦ (free-at i within needs).2
-          | inr has ↦ rw (kept-at i within has) (named i (or-parts _ _ has).0 (All-get_or (λ f. (f ≡ []) ⊎ (is_name f ≡ true)) fields i [] within good))
-        ], fresh-at i within))
+        let within : i < length fields = omega (arith, names-count fields) in (
+          elim (cases_Bool (needs_name (take i fields) (get_or fields i []))) [
+            | inl needs ↦ (free-at i within needs).2
+            | inr has ↦ rw (kept-at i within has) (named i (or-parts _ _ has).0 (All-get_or (λ f. (f ≡ []) ⊎ (is_name f ≡ true)) fields i [] within good))
+          ],
+          fresh-at i within,
+        ))
       where
         named : (i : ℕ) → (length (get_or fields i []) == 0) ≡ false → (get_or fields i [] ≡ []) ⊎ (is_name (get_or fields i []) ≡ true) → is_name (get_or fields i []) ≡ true
         named i some (inl e) = absurd (false≢true (sym some ∙ ap (λ (f : List ℕ). length f == 0) e))

@@ -4,3 +4,4 @@ mod ColumnFacts
 mod NumberFacts
 mod FreeFacts
 mod LawfulFacts
+mod NamingFacts

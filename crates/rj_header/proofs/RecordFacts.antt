@@ -1,10 +1,10 @@
 -- The records of a text under its completed header.
-use Rattle.std.proofs.Common.{◌≡◌, ◌∙◌, ◌+◌, ◌-◌, ℕ, List, [], ◌∷◌, ◌++◌, length, take, drop, Bool, true, false, Option, Some, None, refl, sym, ap, subst, append_assoc, append-nil, arith, inl, inr}
-use Rattle.std.specs.Prelude.{if◌then◌else◌}
+use Rattle.std.proofs.Common.{◌≡◌, ◌∙◌, ◌-◌, ℕ, List, [], ◌∷◌, ◌++◌, length, take, drop, true, false, Option, Some, None, refl, sym, ap, append_assoc, append-nil, arith, inl, inr}
+use Rattle.std.specs.Prelude.{◌⊎◌, if◌then◌else◌}
 use Rattle.std.proofs.lemmas.Bool.{false≢true}
 use Rattle.std.proofs.lemmas.List.{length-append, take-append-le}
 use Rattle.csv.specs.Machine.{Read, next_record}
-use Rattle.csv.specs.Reading.{records, records_from, strip_bom}
+use Rattle.csv.specs.Reading.{records, strip_bom}
 use Rattle.csv.specs.Writing.{is_blank, read_back, row_body, row_text}
 use Rattle.csv.specs.declared.parser.State.TheVariants as st
 use Rattle.rj_csv_io.proofs.RemainingFacts.{records-more, records-none}
@@ -12,11 +12,11 @@ use Rattle.rj_csv_io.proofs.SwapFacts.{write-read}
 use Rattle.rj_csv_io.specs.Shown.{writer_of}
 use Rattle.rj_strict.specs.Grammar.{may_delimit}
 use Rattle.rj_strict.specs.Reading.{config_of}
-use Rattle.rj_header.specs.Completed.{completed, first_of, header_of, is_left, names_text}
+use Rattle.rj_header.specs.Completed.{IsNamed, completed, first_of, header_of, is_left, mark, names_text}
 use Rattle.rj_header.specs.Ends.{behind_first}
-use Rattle.rj_header.specs.Named.{completed_names, have_names}
+use Rattle.rj_header.specs.Named.{columns_of, completed_names, given_from, have_names}
 use Rattle.rj_header.proofs.ColumnFacts.{names-count}
-use Rattle.rj_header.proofs.EndFacts.{EndsAs, at-end, at-line, IsLineEnd, ends-as, other-ends}
+use Rattle.rj_header.proofs.EndFacts.{EndsAs, at-end, at-line, ends-as, other-ends}
 
 -- the record of names without its line end, and then a line feed
 without-last : (xs : List ℕ) (c : ℕ) → take (length (xs ++ c ∷ []) - 1) (xs ++ c ∷ []) ≡ xs
@@ -50,7 +50,7 @@ module _ (d : ℕ) (lawful : may_delimit d ≡ true) where
       rw (e, s, r, append-nil (names_text d names)) ends.none
   names-read names left p some (at-line c e line) = go line.ends
     where
-      go : _ → next_record (config_of d) st.StartRecord [] [] (names_text d names ++ left) ≡ Some (names, p.1, p.2)
+      go : ((c ≡ 10) × (p.1 ≡ st.StartRecord)) ⊎ ((c ≡ 13) × (p.1 ≡ st.AfterCr)) → next_record (config_of d) st.StartRecord [] [] (names_text d names ++ left) ≡ Some (names, p.1, p.2)
       go (inl is) =
           rw (e, is.0, is.1) (ap (next_record (config_of d) st.StartRecord [] []) (record-parts d names p.2) ∙ write-read d lawful names p.2 ∙ rw (same-back names some) refl)
       go (inr is) =
@@ -87,3 +87,11 @@ module _ (d : ℕ) (lawful : may_delimit d ≡ true) where
       → records (config_of d) (strip_bom (completed d bytes)) ≡ completed_names (header_of d bytes) ∷ drop 1 (records (config_of d) (strip_bom bytes))
   unfolding strip_bom
   completed-records bytes left = under-records (strip_bom bytes) (header_of d bytes) refl left
+
+-- the text of a header of these fields, with this behind it
+pub named-is : (d : ℕ) (bytes : List ℕ) (fields : List (List ℕ)) (rest : List ℕ) → fields ≡ header_of d bytes → rest ≡ behind_first d (strip_bom bytes)
+    → (text : List ℕ) (told : List (ℕ × List ℕ)) → text ≡ mark ++ (names_text d (completed_names fields) ++ rest) → told ≡ given_from 1 (columns_of fields) → IsNamed d bytes text told
+named-is d bytes fields rest header left text told e f = (
+  e ∙ (ap (λ (h : List (List ℕ)). mark ++ (names_text d (completed_names h) ++ rest)) header ∙ ap (λ (r : List ℕ). mark ++ (names_text d (completed_names (header_of d bytes)) ++ r)) left),
+  f ∙ ap (λ (h : List (List ℕ)). given_from 1 (columns_of h)) header,
+)

@@ -1,5 +1,5 @@
 -- Where the first record of a text ends.
-use Rattle.std.specs.Prelude.{ℕ, ◌≡◌, ◌-◌, if◌then◌else◌, Bool, true, false, List, [], ◌∷◌, length, take, Option, Some, None}
+use Rattle.std.specs.Prelude.{ℕ, ◌≡◌, ◌-◌, if◌then◌else◌, true, false, List, [], ◌∷◌, length, take, Option, Some, None}
 use Rattle.csv.specs.Machine.{is_end, step}
 use Rattle.csv.specs.declared.parser.Action.{Action}
 use Rattle.csv.specs.declared.parser.Config.{Config}

@@ -1,8 +1,7 @@
 -- The names of a header's columns, where each field that has no name, or repeats one, is given one.
-use Rattle.std.specs.Prelude.{ℕ, zero, suc, ◌+◌, ◌==◌, ◌&&◌, ◌||◌, not, nat_le, Bool, true, false, if◌then◌else◌, List, [], ◌∷◌, ◌++◌, map, take, length, codes, decimal}
+use Rattle.std.specs.Prelude.{ℕ, zero, suc, ◌+◌, ◌==◌, ◌&&◌, ◌||◌, not, nat_le, nat_lt, Bool, true, false, if◌then◌else◌, List, [], ◌∷◌, ◌++◌, map, take, length, codes, decimal}
 use Rattle.std.specs.List.{list_any}
-use Rattle.std.specs.Str.{str_eq_ignore_ascii_case}
-use Rattle.rj_columns.specs.Names.{is_name}
+use Rattle.std.specs.Str.{is_utf8, str_eq_ignore_ascii_case}
 
 -- a column's name, and whether it was given to a field
 pub record Column : Type 0 where
@@ -25,10 +24,13 @@ unfoldable pub have_names : List (List ℕ) → List (List ℕ) → Bool
 have_names left [] = true
 have_names left (f ∷ fields) = not (needs_name left f) && have_names (left ++ f ∷ []) fields
 
--- what a name begins with: the field, if that is a name and not too long for a number behind it,
--- and else `column_` and the column's number
+-- a name that isn't too long for a number behind it: at most 100 bytes of UTF-8
+abbrev pub is_stem : List ℕ → Bool
+is_stem field = nat_lt 0 (length field) && nat_le (length field) 100 && is_utf8 field
+
+-- what a name begins with: the field, if that may be, and else `column_` and the column's number
 abbrev pub stem_of : ℕ → List ℕ → List ℕ
-stem_of column field = if is_name field && nat_le (length field) 100 then field else codes "column_" ++ decimal column
+stem_of column field = if is_stem field then field else codes "column_" ++ decimal column
 
 -- a stem with a number behind it, such as `name_2`; 1 isn't written
 abbrev pub numbered : List ℕ → ℕ → List ℕ

@@ -6,6 +6,10 @@ ghost use Rattle.csv.specs.Writing.{row_text};
 ghost use Rattle.rj_csv_io.specs.Shown.{writer_of};
 ghost use Rattle.rj_header.specs.Columns.{columns_in, told_of};
 ghost use Rattle.rj_header.specs.Completed.{HasStrictHeader, IsCompleted, IsKept, IsNamed, header_of, is_left, mark, names_text};
+ghost use Rattle.rj_strict.specs.Faults.{HasFault};
+ghost use Rattle.rj_strict.specs.Grammar.{Derives, File};
+ghost use Rattle.rj_strict.specs.declared.fault.StrictFault.{StrictFault};
+ghost use Rattle.rj_strict.specs.declared.header.Header.TheVariants.{Above};
 ghost use Rattle.rj_header.specs.Named.{columns_of as columns_of_fields, completed_names, given_from, names_of};
 
 use crate::column::{GivenName, NamedColumn};
@@ -29,11 +33,7 @@ pub struct Completed {
 }
 
 // The record of these names.
-fn record_of(
-    alloc: Global,
-    names: &[&[u8]],
-    delimiter: Delimiter,
-) -> Result<Vec<u8>, AllocError>
+fn record_of(alloc: Global, names: &[&[u8]], delimiter: Delimiter) -> Result<Vec<u8>, AllocError>
     ensures { IfOk result (λ v. v.items ≡ row_text (writer_of delimiter) (map (λ n. n.now) names.now)) }
 {
     let mut writer = WriterBuilder::new()
@@ -49,15 +49,12 @@ fn record_of(
 }
 
 // The names of columns.
-fn names_of<'c>(
-    alloc: Global,
-    columns: &'c [NamedColumn<'_>],
-) -> Result<Vec<&'c [u8]>, AllocError>
+fn names_of<'c>(alloc: Global, columns: &'c [NamedColumn<'_>]) -> Result<Vec<&'c [u8]>, AllocError>
     ensures { IfOk result (λ v. map (λ n. n.now) v.items ≡ names_of (columns_in columns.now)) }
 {
     let mut names = Vec::new(alloc);
-    for column in columns {
-        names.push(column.name())?;
+    for i in 0..columns.len() {
+        names.push(columns[i].name())?;
     }
     Ok(names)
 }
@@ -99,6 +96,27 @@ fn named(
     Ok(Completed { bytes, given })
 }
 
+// Whether nothing is given to a header of these fields.
+fn is_left(fields: &[&[u8]]) -> bool
+    ensures { result ≡ is_left (map (λ f. f.now) fields.now) }
+{
+    have_names(fields) || fields.len() > MOST_COLUMNS
+}
+
+// Whether the text of a header has to be of RFC 4180's grammar, without empty lines, and isn't.
+fn is_refused(first: &[u8], delimiter: Delimiter, strict: bool) -> bool
+    ensures broken { result ≡ true → (strict ≡ true) × ((f : StrictFault) × HasFault delimiter (Above 2) false first.now f) }
+    ensures whole { result ≡ false → strict ≡ true → (file : File) × Derives delimiter (Above 2) false first.now file }
+{
+    if !strict {
+        return false;
+    }
+    match check(first, delimiter, Place::Above(2), false) {
+        Ok(()) => false,
+        Err(_) => true,
+    }
+}
+
 // A text under its completed header. None if it stays as it is.
 fn completion(
     alloc: Global,
@@ -111,18 +129,19 @@ fn completion(
         × IsNamed delimiter bytes.now c.bytes.items (told_of c.given.items))) }
 {
     let text = without_bom(bytes);
-    let Some(header) = Header::of(alloc, text, delimiter)? else {
-        return Ok(None);
+    let header = match Header::of(alloc, text, delimiter)? {
+        Some(header) => header,
+        None => return Ok(None),
     };
     let fields = header.names(alloc)?;
-    if fields.len() > MOST_COLUMNS || have_names(fields.as_slice()) {
+    if is_left(fields.as_slice()) {
         return Ok(None);
     }
-    let (first, rest) = text.split_at(first_end(text, delimiter));
-    if strict && check(first, delimiter, Place::Above(2), false).is_err() {
+    let end = first_end(text, delimiter);
+    if is_refused(&text[..end], delimiter, strict) {
         return Ok(None);
     }
-    let completed = named(alloc, fields.as_slice(), rest, delimiter)?;
+    let completed = named(alloc, fields.as_slice(), &text[end..], delimiter)?;
     Ok(Some(completed))
 }
 

@@ -4,12 +4,12 @@
 //! [`complete_header`] makes them.
 #![tactic(auto)]
 
-mod completing;
 mod column;
+mod completing;
 mod laws;
 mod line_end;
 mod naming;
 
-pub use completing::{Completed, complete_header};
 pub use column::GivenName;
+pub use completing::{Completed, complete_header};
 pub use laws::{completed_names_are_lawful, completed_records};

@@ -1,8 +1,8 @@
 //! The names of a header's columns.
 
-ghost use Rattle.std.specs.Prelude.{◌≡◌, ◌+◌, ◌++◌, ◌<◌, ◌^◌, IfOk, length, map, slice_index_or, string_bytes, []};
+ghost use Rattle.std.specs.Prelude.{◌≡◌, ◌+◌, ◌++◌, ◌∷◌, ◌<◌, ◌^◌, IfNone, IfOk, IfSome, OnOk, false, length, map, slice_index_or, string_bytes, true, []};
 ghost use Rattle.rj_header.specs.Columns.{column_in, columns_in, told_of};
-ghost use Rattle.rj_header.specs.Named as named;
+ghost use Rattle.rj_header.specs.Named as names;
 
 use crate::column::{GivenName, NamedColumn};
 use std::alloc::{AllocError, Global};
@@ -13,30 +13,38 @@ const MOST_STEM: usize = 100;
 
 // Whether a name is among these, ignoring ASCII case.
 fn is_taken(taken: &[&[u8]], name: &[u8]) -> bool
-    ensures { result ≡ named.is_taken (map (λ t. t.now) taken.now) name.now }
+    ensures { result ≡ names.is_taken (map (λ t. t.now) taken.now) name.now }
 {
-    taken.iter().any(|other| name.eq_ignore_ascii_case(other))
+    for i in 0..taken.len() {
+        if name.eq_ignore_ascii_case(taken[i]) {
+            return true;
+        }
+    }
+    false
 }
 
 // Whether a name is that of one of these columns, ignoring ASCII case.
 fn is_given(columns: &[NamedColumn<'_>], name: &[u8]) -> bool
-    ensures { result ≡ named.is_taken (named.names_of (columns_in columns.now)) name.now }
+    ensures { result ≡ names.is_taken (names.names_of (columns_in columns.now)) name.now }
 {
-    columns
-        .iter()
-        .any(|column| name.eq_ignore_ascii_case(column.name()))
+    for i in 0..columns.len() {
+        if name.eq_ignore_ascii_case(columns[i].name()) {
+            return true;
+        }
+    }
+    false
 }
 
 // Whether a field has no name, or one of those to its left.
 fn needs_name(left: &[&[u8]], field: &[u8]) -> bool
-    ensures { result ≡ named.needs_name (map (λ f. f.now) left.now) field.now }
+    ensures { result ≡ names.needs_name (map (λ f. f.now) left.now) field.now }
 {
     field.is_empty() || is_taken(left, field)
 }
 
 /// Whether each field has a name of its own.
 pub(crate) fn have_names(fields: &[&[u8]]) -> bool
-    ensures { result ≡ named.have_names [] (map (λ f. f.now) fields.now) }
+    ensures { result ≡ names.have_names [] (map (λ f. f.now) fields.now) }
 {
     for i in 0..fields.len() {
         if needs_name(&fields[..i], fields[i]) {
@@ -46,21 +54,33 @@ pub(crate) fn have_names(fields: &[&[u8]]) -> bool
     true
 }
 
+// The field as text, if a number may stand behind it.
+fn stem_in(field: &[u8]) -> Option<&str>
+    ensures some { IfSome result (λ s. (names.is_stem field.now ≡ true) × (s.now ≡ field.now)) }
+    ensures none { IfNone result (names.is_stem field.now ≡ false) }
+{
+    if field.is_empty() || field.len() > MOST_STEM {
+        return None;
+    }
+    match str::from_utf8(field) {
+        Ok(text) => Some(text),
+        Err(_) => None,
+    }
+}
+
 // What a column's name begins with.
 fn stem_of(alloc: Global, column: u64, field: &[u8]) -> Result<String, AllocError>
-    ensures { IfOk result (λ s. string_bytes s ≡ named.stem_of column field.now) }
+    ensures { IfOk result (λ s. string_bytes s ≡ names.stem_of column field.now) }
 {
-    if !field.is_empty() && field.len() <= MOST_STEM {
-        if let Ok(text) = str::from_utf8(field) {
-            return String::from_str(alloc, text);
-        }
+    match stem_in(field) {
+        Some(text) => String::from_str(alloc, text),
+        None => format!(in alloc; "column_{column}"),
     }
-    format!(in alloc; "column_{column}")
 }
 
 // A stem with a number behind it, if that is more than 1.
 fn numbered(alloc: Global, stem: &str, number: u64) -> Result<String, AllocError>
-    ensures { IfOk result (λ s. string_bytes s ≡ named.numbered stem.now number) }
+    ensures { IfOk result (λ s. string_bytes s ≡ names.numbered stem.now number) }
 {
     if number <= 1 {
         return String::from_str(alloc, stem);
@@ -75,10 +95,11 @@ fn free_name(
     columns: &[NamedColumn<'_>],
     stem: &str,
 ) -> Result<String, AllocError>
-    ensures { IfOk result (λ s. string_bytes s ≡ named.free_name (map (λ f. f.now) fields.now ++ named.names_of (columns_in columns.now)) stem.now) }
+    ensures { IfOk result (λ s. string_bytes s ≡ names.free_name (map (λ f. f.now) fields.now ++ names.names_of (columns_in columns.now)) stem.now) }
 {
     let most = fields.len() as u64 + columns.len() as u64;
-    for number in 1..=most {
+    for tried in 0..most {
+        let number = tried + 1;
         let name = numbered(alloc, stem, number)?;
         if !is_taken(fields, name.as_bytes()) && !is_given(columns, name.as_bytes()) {
             return Ok(name);
@@ -94,7 +115,7 @@ fn next_column<'a>(
     columns: &[NamedColumn<'a>],
 ) -> Result<NamedColumn<'a>, AllocError>
     requires { length columns.now < length fields.now }
-    ensures { IfOk result (λ c. column_in c ≡ named.column_of (map (λ f. f.now) fields.now) (columns_in columns.now)
+    ensures { IfOk result (λ c. column_in c ≡ names.column_of (map (λ f. f.now) fields.now) (columns_in columns.now)
         (slice_index_or (map (λ f. f.now) fields.now) (length columns.now) [])) }
 {
     let at = columns.len();
@@ -112,7 +133,7 @@ pub(crate) fn columns_of<'a>(
     alloc: Global,
     fields: &[&'a [u8]],
 ) -> Result<Vec<NamedColumn<'a>>, AllocError>
-    ensures { IfOk result (λ v. columns_in v.items ≡ named.columns_of (map (λ f. f.now) fields.now)) }
+    ensures { IfOk result (λ v. columns_in v.items ≡ names.columns_of (map (λ f. f.now) fields.now)) }
 {
     let mut columns = Vec::new(alloc);
     for _field in 0..fields.len() {
@@ -122,20 +143,32 @@ pub(crate) fn columns_of<'a>(
     Ok(columns)
 }
 
+// Adds the name of a column, if it was given to it.
+fn add_given(
+    given: &mut Vec<GivenName>,
+    column: u64,
+    named: &NamedColumn<'_>,
+) -> Result<(), AllocError>
+    ensures { OnOk result (told_of given.new.items ≡ told_of given.old.items ++ names.given_from column (column_in named.now ∷ [])) }
+{
+    let name = match named {
+        NamedColumn::Given(name) => name.clone()?,
+        NamedColumn::Written(_) => return Ok(()),
+    };
+    given.push(GivenName { column, name })?;
+    Ok(())
+}
+
 /// The names that were given to columns.
 pub(crate) fn given_names(
     alloc: Global,
     columns: &[NamedColumn<'_>],
 ) -> Result<Vec<GivenName>, AllocError>
-    ensures { IfOk result (λ v. told_of v.items ≡ named.given_from 1 (columns_in columns.now)) }
+    ensures { IfOk result (λ v. told_of v.items ≡ names.given_from 1 (columns_in columns.now)) }
 {
     let mut given = Vec::new(alloc);
     for i in 0..columns.len() {
-        if let NamedColumn::Given(name) = &columns[i] {
-            let column = i as u64 + 1;
-            let name = name.clone()?;
-            given.push(GivenName { column, name })?;
-        }
+        add_given(&mut given, i as u64 + 1, &columns[i])?;
     }
     Ok(given)
 }

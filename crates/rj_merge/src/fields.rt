@@ -36,28 +36,6 @@ impl Model for Fields {
     ghost view = { λ f. others f.whole.value.columns (fields_of f.whole.value.fields) };
 }
 
-// Writes one more field of a record.
-fn write_field(writer: &mut Writer<Vec<u8>>, field: &[u8]) -> Result<(), AllocError>
-    ensures { (d : ℕ) (text : List ℕ) → (fields : List (List ℕ)) → length fields < 2 ^ 64 - 1 → HasWritten d writer.old text fields
-        → OnOk result (HasWritten d writer.new text (fields ++ field.now ∷ [])) }
-{
-    if writer.write_field(field).is_err() {
-        return Err(AllocError);
-    }
-    Ok(())
-}
-
-// Ends a record.
-fn end_record(writer: &mut Writer<Vec<u8>>) -> Result<(), AllocError>
-    ensures { (d : ℕ) (text : List ℕ) → (fields : List (List ℕ)) → HasWritten d writer.old text fields
-        → OnOk result (HasWritten d writer.new (text ++ row_text (writer_of d) fields) []) }
-{
-    if writer.end_record().is_err() {
-        return Err(AllocError);
-    }
-    Ok(())
-}
-
 impl Fields {
     /// The fields of a record without those of its place.
     pub(crate) fn without_place(whole: Box<WholeRow>) -> Fields
@@ -85,8 +63,13 @@ impl Fields {
             if whole.columns.holds_place(i) {
                 continue;
             }
-            write_field(writer, field)?;
+            if writer.write_field(field).is_err() {
+                return Err(AllocError);
+            }
         }
-        end_record(writer)
+        if writer.end_record().is_err() {
+            return Err(AllocError);
+        }
+        Ok(())
     }
 }

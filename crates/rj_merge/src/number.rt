@@ -15,25 +15,11 @@ use csv::ByteRecord;
 use rj_settings::RowOrder;
 use std::str;
 
-fn are_digits(field: &[u8]) -> bool
-    ensures { result ≡ all_ascii_digits field.now }
+// The number that a field of digits writes, if it fits 64 bits.
+fn whole_number(field: &[u8]) -> Option<u64>
+    ensures { result ≡ (if is_number field.now then Some (digits_value 10 field.now) else None) }
 {
-    for i in 0..field.len() {
-        if !field[i].is_ascii_digit() {
-            return false;
-        }
-    }
-    true
-}
-
-// Each number of this many digits fits 64 bits.
-const MOST_DIGITS: usize = 19;
-
-// The number that a field of digits writes, or none if it has another byte or more digits.
-fn plain_number(field: &[u8]) -> Option<u64>
-    ensures { IfSome result (λ n. (is_number field.now ≡ true) × (n ≡ digits_value 10 field.now)) }
-{
-    if field.is_empty() || field.len() > MOST_DIGITS {
+    if field.is_empty() {
         return None;
     }
     let mut value = 0u64;
@@ -42,28 +28,9 @@ fn plain_number(field: &[u8]) -> Option<u64>
         if !byte.is_ascii_digit() {
             return None;
         }
-        value = value * 10 + (byte - b'0') as u64;
+        value = value.checked_mul(10)?.checked_add((byte - b'0') as u64)?;
     }
     Some(value)
-}
-
-// The number that a field of digits writes, if it fits 64 bits.
-fn whole_number(field: &[u8]) -> Option<u64>
-    ensures { result ≡ (if is_number field.now then Some (digits_value 10 field.now) else None) }
-{
-    if let Some(n) = plain_number(field) {
-        return Some(n);
-    }
-    if !are_digits(field) {
-        return None;
-    }
-    match str::from_utf8(field) {
-        Err(_) => None,
-        Ok(text) => match text.parse::<u64>() {
-            Ok(n) => Some(n),
-            Err(_) => None,
-        },
-    }
 }
 
 // The content of a field of a place: no number if it is NULL, or a number; or nothing if it is

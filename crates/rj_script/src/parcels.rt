@@ -43,13 +43,7 @@ fn number_of(word: &[u8]) -> Option<u64>
 fn small_number_of(word: &[u8]) -> Option<u32>
     ensures { result ≡ number_of (2 ^ 32) word.now }
 {
-    if !is_numeral(word) {
-        return None;
-    }
-    match str::from_utf8(word) {
-        Ok(digits) => digits.parse::<u32>().ok(),
-        Err(_) => None,
-    }
+    u32::try_from(number_of(word)?).ok()
 }
 
 // The row numbers of the words, if each word is one.

@@ -6,7 +6,7 @@ ghost use Rattle.rj_columns.specs.Contents.{nothing};
 
 use rj_columns::{ColumnType, Table};
 use rj_csv_io::{Failed, Header, Input, Output, is_lawful_null};
-use rj_divide::{DivideRefused, Division, Route, divide, find_cuts};
+use rj_divide::{DivideRefused, Division, Reading, Route, divide, find_cuts};
 use rj_strict::Delimiter;
 use std::alloc::Global;
 
@@ -127,7 +127,14 @@ fn divided(
         return Err(DivideRefused::Memory);
     }
     let mut source = Source { bytes: TEXT, step };
-    divide(alloc, &mut source, &division, true, block, outputs)
+    divide(
+        alloc,
+        &mut source,
+        &division,
+        Reading::Lenient(true),
+        block,
+        outputs,
+    )
 }
 
 // Whether the text gives five rows and these outputs, in this many calls each.

@@ -8,4 +8,6 @@ mod columns;
 #[cfg(test)]
 mod csv_io;
 #[cfg(test)]
+mod header;
+#[cfg(test)]
 mod radix;

@@ -1,17 +1,15 @@
 -- How a range of a side's file is divided, and why it isn't.
-use Rattle.std.specs.Prelude.{ℕ, Bool, true, false, List, Option, Result, codes}
+use Rattle.std.specs.Prelude.{ℕ, ◌==◌, true, false, List, Result, codes}
 use Rattle.rj_columns.specs.Contents.{Content}
 use Rattle.rj_columns.specs.Names.{empty_table}
 use Rattle.rj_columns.specs.Tables.{TableValue}
 use Rattle.rj_columns.specs.declared.refused.BuildRefused.{BuildRefused}
 use Rattle.rj_command.specs.Sides.{strict_fault}
-use Rattle.rj_csv_io.specs.Pieces.{names_in, piece_records}
+use Rattle.rj_csv_io.specs.Pieces.{names_in}
 use Rattle.rj_csv_io.specs.Typed.{null_texts}
-use Rattle.rj_divide.specs.Blocks.{IsRangeDivided, IsRangeFault}
-use Rattle.rj_divide.specs.Divisions.{Dividing, IsDivided}
-use Rattle.rj_divide.specs.Readings.{IsDivisionFault}
-use Rattle.rj_divide.specs.declared.refused.BlockRefused.{BlockRefused}
-use Rattle.rj_divide.specs.declared.refused.BlockRefused.TheVariants as refused
+use Rattle.rj_divide.specs.Divisions.{Dividing}
+use Rattle.rj_divide.specs.declared.reading.Reading.{Reading}
+use Rattle.rj_divide.specs.declared.reading.Reading.TheVariants as reading
 use Rattle.rj_divide.specs.declared.refused.DivideRefused.{DivideRefused}
 use Rattle.rj_divide.specs.declared.refused.DivideRefused.TheVariants as divide
 use Rattle.rj_fault.specs.Faults.{read_fault}
@@ -36,28 +34,17 @@ range_dividing part range route = record { delimiter = range.delimiter; nulls = 
 abbrev pub range_begun : Range → Result TableValue BuildRefused
 range_begun range = empty_table (names_in range.head.now.header) range.types.now
 
--- the rows of a text are divided, so many, as strictly as is asked for
-abbrev pub IsDividedBy : Strictness → Bool → Dividing → List ℕ → List (Option (List ℕ)) → List (Option (List ℕ)) → ℕ → Type 0
-IsDividedBy strictness.Off is_first d text before after rows = IsDivided d (piece_records d.delimiter is_first text) before after rows
-IsDividedBy strictness.On is_first d text before after rows = IsRangeDivided d false text before after rows
-IsDividedBy strictness.Full is_first d text before after rows = IsRangeDivided d true text before after rows
-
--- why the rows of a text that is read by such blocks are not divided among so many outputs, as strictly as is asked for
-abbrev pub IsRefusedBy : Strictness → Bool → Dividing → ℕ → List ℕ → ℕ → BlockRefused → Type 0
-IsRefusedBy strictness.Off is_first d block text outputs (refused.Broken f) = ⊥
-IsRefusedBy strictness.Off is_first d block text outputs (refused.Divided e) = IsDivisionFault d block is_first text outputs e
-IsRefusedBy strictness.On is_first d block text outputs e = IsRangeFault d block false text outputs e
-IsRefusedBy strictness.Full is_first d block text outputs e = IsRangeFault d block true text outputs e
+-- how a range that begins at this byte is read: the first one has the header if it is read leniently
+abbrev pub range_reading : Strictness → ℕ → Reading
+range_reading strictness.Off from = reading.Lenient (from == 0)
+range_reading strictness.On from = reading.Strict false
+range_reading strictness.Full from = reading.Strict true
 
 -- the fault of a side's file that wasn't divided
 abbrev pub division_fault : Side → DivideRefused → Fault
 division_fault s (divide.Read f) = read_fault s f
 division_fault s divide.TooLong = fault.TooManyRows s
 division_fault s divide.ReadDevice = fault.ReadDevice s
+division_fault s (divide.Broken f) = strict_fault s f
 division_fault s (divide.WriteDevice part) = fault.WriteDevice
 division_fault s divide.Memory = fault.Memory
-
--- the same of a range of it
-abbrev pub range_fault : Side → BlockRefused → Fault
-range_fault s (refused.Broken f) = strict_fault s f
-range_fault s (refused.Divided e) = division_fault s e

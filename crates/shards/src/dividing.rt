@@ -1,13 +1,14 @@
 //! Dividing a range of a file.
 
-ghost use Rattle.std.specs.Prelude.{◌≡◌, ◌<◌, ◌≤◌, ◌-◌, ◌^◌, ◌==◌, All, IfErr, IfOk, IfSome, IsTrue, Ok, OnOk, length, map, true};
+ghost use Rattle.std.specs.Prelude.{◌≡◌, ◌<◌, ◌≤◌, ◌-◌, ◌^◌, All, IfErr, IfOk, IfSome, IsTrue, Ok, OnOk, length, map, true};
 ghost use Rattle.rj_columns.specs.Tables.{TableValue};
 ghost use Rattle.rj_condition.specs.Fits.{fits};
 ghost use Rattle.rj_condition.specs.Parts.{split_fits};
 ghost use Rattle.rj_csv_io.specs.Tables.{is_null_text};
 ghost use Rattle.rj_csv_io.specs.Typed.{null_texts};
 ghost use Rattle.rj_divide.specs.Divisions.{written_null};
-ghost use Rattle.shards.specs.Ranges.{IsDividedBy, IsRefusedBy, division_fault, place_name, range_begun, range_dividing, range_fault};
+ghost use Rattle.rj_divide.specs.Texts.{IsDivisionFault, IsTextDivided};
+ghost use Rattle.shards.specs.Ranges.{division_fault, place_name, range_begun, range_dividing, range_reading};
 
 use crate::failure::Failure;
 use crate::files::{Head, open_range, read_head};
@@ -18,8 +19,7 @@ use rj_command::{Strictness, bind_clause, fault_of_text, types_of_header};
 use rj_condition::{BoundJoin, split};
 use rj_csv_io::{CountedWriter, Input, Output};
 use rj_divide::{
-    BlockRefused, DivideRefused, Division, Route, divide, divide_strictly, have_lawful_nulls,
-    write_headers,
+    DivideRefused, Division, Reading, Route, divide, have_lawful_nulls, write_headers,
 };
 use rj_fault::{Fault, Side, fault_of_read};
 use rj_radix::Mixed;
@@ -151,18 +151,20 @@ pub(crate) fn fault_of_division(side: Side, refused: DivideRefused) -> Fault
         DivideRefused::Read(refused) => fault_of_read(side, refused),
         DivideRefused::TooLong => Fault::TooManyRows(side),
         DivideRefused::ReadDevice => Fault::ReadDevice(side),
+        DivideRefused::Broken(fault) => fault_of_text(side, fault),
         DivideRefused::WriteDevice(_) => Fault::WriteDevice,
         DivideRefused::Memory => Fault::Memory,
     }
 }
 
-// The fault of a range that wasn't divided.
-fn fault_of_range(side: Side, refused: BlockRefused) -> Fault
-    ensures { result ≡ range_fault side refused }
+// How a range that begins at this byte is read.
+fn reading_of(strict: Strictness, from: u64) -> Reading
+    ensures { result ≡ range_reading strict from }
 {
-    match refused {
-        BlockRefused::Broken(fault) => fault_of_text(side, fault),
-        BlockRefused::Divided(refused) => fault_of_division(side, refused),
+    match strict {
+        Strictness::Off => Reading::Lenient(from == 0),
+        Strictness::On => Reading::Strict(false),
+        Strictness::Full => Reading::Strict(true),
     }
 }
 
@@ -174,20 +176,20 @@ fn divide_input<I: Input, W: Route, O: Output>(
     route: &W,
     input: &mut I,
     outputs: &mut [O],
-) -> Result<u64, BlockRefused>
+) -> Result<u64, DivideRefused>
     requires types { W.fits route.now range.now.types.now }
     requires outputs { length outputs.old ≡ W.count route.now }
     requires from { range.now.from ≤ 2 ^ 62 }
     requires null { IsTrue (is_null_text (written_null (null_texts range.now.nulls.now))) }
     requires reads { I.count input.old < 2 ^ 64 - 1 }
     requires writes { All (λ o. O.count o < 2 ^ 64 - 1) outputs.old }
-    ensures divided { IfOk result (λ n. IfSome (I.tells input.old) (λ text. IsDividedBy range.now.line.now.strict (range.now.from == 0)
-        (range_dividing W.part range.now route.now) text (map O.told outputs.old) (map O.told outputs.new) n)) }
+    ensures divided { IfOk result (λ n. IfSome (I.tells input.old) (λ text. IsTextDivided (range_dividing W.part range.now route.now)
+        (range_reading range.now.line.now.strict range.now.from) text (map O.told outputs.old) (map O.told outputs.new) n)) }
     ensures begins { OnOk result ((t : TableValue) × (range_begun range.now ≡ Ok t)) }
 
     // where the header and the types go together, an error comes for this alone
-    ensures fault { IfErr result (λ e. (t : TableValue) → range_begun range.now ≡ Ok t → IfSome (I.tells input.old) (λ text.
-        IsRefusedBy range.now.line.now.strict (range.now.from == 0) (range_dividing W.part range.now route.now) BLOCK text (length outputs.old) e)) }
+    ensures fault { IfErr result (λ e. (t : TableValue) → range_begun range.now ≡ Ok t → IfSome (I.tells input.old) (λ text. IsDivisionFault
+        (range_dividing W.part range.now route.now) BLOCK (range_reading range.now.line.now.strict range.now.from) text (length outputs.old) e)) }
 {
     let division = Division {
         delimiter: range.delimiter,
@@ -197,17 +199,8 @@ fn divide_input<I: Input, W: Route, O: Output>(
         route,
         first: range.from,
     };
-    match range.line.strict {
-        Strictness::Off => {
-            let is_first = range.from == 0;
-            match divide(alloc, input, &division, is_first, BLOCK, outputs) {
-                Ok(rows) => Ok(rows),
-                Err(refused) => Err(BlockRefused::Divided(refused)),
-            }
-        }
-        Strictness::On => divide_strictly(alloc, input, &division, false, BLOCK, outputs),
-        Strictness::Full => divide_strictly(alloc, input, &division, true, BLOCK, outputs),
-    }
+    let reading = reading_of(range.line.strict, range.from);
+    divide(alloc, input, &division, reading, BLOCK, outputs)
 }
 
 // Puts each row of a range to the output of its part. The answer is how many rows there are.
@@ -233,7 +226,7 @@ fn divide_rows<R: Files + AllocGlobal, W: Route, O: Output>(
     let mut input = open_range(rt, file, side, begin, range.to)?;
     match divide_input(rt.alloc(), range, route, &mut input, outputs) {
         Ok(rows) => Ok(rows),
-        Err(refused) => Err(Failure::Told(fault_of_range(side, refused))),
+        Err(refused) => Err(Failure::Told(fault_of_division(side, refused))),
     }
 }
 

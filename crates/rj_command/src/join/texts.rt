@@ -18,6 +18,7 @@ use rj_csv_io::{
 use rj_engine::{Joined, Run, RunView, Shown, cut_runs};
 use rj_fault::texts_of;
 use std::alloc::{AllocError, Global};
+use std::sync::atomic::{AtomicU64, Ordering};
 use std::thread::{self, Threads};
 
 // A left table that has at least this many rows for each thread is taken apart, so that there are
@@ -29,7 +30,8 @@ type Texts = Vec<Vec<u8>>;
 
 /// What is written of a joined table, but for its left table: the rows that are shown of it, under
 /// these names, with this delimiter and this text for NULL. At most `workers` threads make their
-/// texts, the calling one among them.
+/// texts, the calling one among them. If the left table is taken apart, the left rows whose texts
+/// are made are added to `made`.
 #[derive(Drop)]
 pub(crate) struct Written<'a> {
     pub(crate) names: &'a [String],
@@ -38,6 +40,7 @@ pub(crate) struct Written<'a> {
     pub(crate) shown: &'a Shown,
     pub(crate) format: OutputFormat<'a>,
     pub(crate) workers: usize,
+    pub(crate) made: Option<&'a AtomicU64>,
 }
 
 // A segment of the left table until the texts of its runs are made, and then these texts.
@@ -68,6 +71,13 @@ fn texts_of_segment(
     Ok(texts)
 }
 
+// Notes that the texts of so many left rows are made.
+fn count_made(written: &Written<'_>, rows: u64) {
+    if let Some(made) = written.made {
+        made.fetch_add(rows, Ordering::SeqCst);
+    }
+}
+
 // Makes the texts of the runs that are in a segment, and frees the segment.
 fn make_texts(alloc: Global, share: &mut Share, number: usize, written: &Written<'_>, runs: &[Run])
     requires { ForSome share.old.segment (λ t. AreWithin written.now t number runs.now) }
@@ -77,6 +87,7 @@ fn make_texts(alloc: Global, share: &mut Share, number: usize, written: &Written
         return;
     };
     share.texts = texts_of_segment(alloc, &segment, number, written, runs);
+    count_made(written, segment.rows());
 }
 
 // A share for each segment, whose texts aren't made yet.

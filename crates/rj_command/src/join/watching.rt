@@ -2,6 +2,7 @@
 
 use rj_engine::{Gate, OpenGate};
 use rj_fault::Side;
+use std::sync::atomic::AtomicU64;
 
 /// A step of a run. The steps come in this order, each after the ones before it have ended without
 /// an error.
@@ -28,6 +29,12 @@ pub enum Step {
 pub trait Watch: Gate {
     /// Called by the thread that runs, before a step begins.
     fn begin(&self, step: Step);
+
+    /// Where it counts the left rows whose part of the result's text is made, if it does. A large
+    /// left table's are counted some ten thousand at a time, before anything is written.
+    fn made_rows(&self) -> Option<&AtomicU64> {
+        None
+    }
 }
 
 impl Watch for OpenGate {

@@ -1,6 +1,6 @@
 use Rattle.std.proofs.Common.{rules, ◌∙◌, refl, arith}
 use Rattle.rj_divide.proofs.RangeFacts.{cutting-none}
-use Rattle.rj_divide.proofs.UnderwayFacts.{if-some}
+use Rattle.rj_divide.proofs.LenientFacts.{if-some}
 use Rattle.rj_divide.proofs.cuts.find_cuts.Goals as goal
 
 pub loop-turn-init : goal.loop-turn-init

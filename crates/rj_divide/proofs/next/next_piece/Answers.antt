@@ -2,7 +2,7 @@ use Rattle.std.specs.Prelude.{vec_len}
 use Rattle.std.proofs.Common.{rules, ◌≡◌, ◌<◌, ◌≤◌, ℕ, List, arith, length, refl, subst, inl, inr}
 use Rattle.rj_csv_io.specs.Pieces.{IsLastEnd, IsLineEnd}
 use Rattle.rj_divide.proofs.ShortFacts.{read-next, read-none, read-plain}
-use Rattle.rj_divide.proofs.UnderwayFacts.{last-records}
+use Rattle.rj_divide.proofs.LenientFacts.{last-records}
 use Rattle.rj_divide.proofs.next.next_piece.Goals as goal
 
 pub reading-init : goal.reading-init

@@ -1,15 +1,16 @@
 use Rattle.std.proofs.Common.{◌≡◌, ◌∙◌, Ok, ap, inr, refl, subst, arith, length, map}
 use Rattle.rj_divide.specs.Divisions.{dividing}
-use Rattle.rj_divide.specs.Readings.{IsDivisionFault}
+use Rattle.rj_divide.specs.Texts.{IsDivisionFault}
 use Rattle.rj_divide.proofs.PutFacts.{all-may-fail}
-use Rattle.rj_divide.proofs.UnderwayFacts.{if-some, start}
+use Rattle.rj_divide.proofs.LenientFacts.{if-some}
+use Rattle.rj_divide.proofs.UnderwayFacts.{start}
 use Rattle.rj_divide.proofs.whole.divide.Goals as goal
 
 pub loop-turn-init : goal.loop-turn-init
 loop-turn-init g c = record {
   underway = λ text e.
-      start (dividing g.R.Route.part c.args.division.now) c.args.is_first (record { text = text; told = map g.O.Output.told c.args.outputs.now })
-      (record { bytes = c.new.result; rows = 0; is_first = c.args.is_first }) (g.I.Input.tells c.args.input.now) e c.new.ensures.items refl refl;
+      start (dividing g.R.Route.part c.args.division.now) c.args.reading (record { text = text; told = map g.O.Output.told c.args.outputs.now })
+      (record { bytes = c.new.result; rows = 0; reading = c.args.reading }) (g.I.Input.tells c.args.input.now) e c.new.ensures.items refl refl;
   reads = refl;
   writes = refl;
   untouched = λ b begins. (refl, refl, refl);
@@ -21,19 +22,19 @@ divide_next-requires-clause-writes g c = all-may-fail g.O.Output.count c.args.ou
 pub returns-in-Ok-true-clause-divided : goal.returns-in-Ok-true-clause-divided
 returns-in-Ok-true-clause-divided g c =
     if-some (g.I.Input.tells c.args.input.now) _ (λ text e.
-    c.in-Ok-true.ensures.last (ap Ok c.in-Ok-true.field-0-test) c.args.is_first (record { text = text; told = map g.O.Output.told c.args.outputs.now }) c.loop-turn._turn (c.loop-turn.invariant.underway text e))
+    c.in-Ok-true.ensures.last (ap Ok c.in-Ok-true.field-0-test) c.args.reading (record { text = text; told = map g.O.Output.told c.args.outputs.now }) c.loop-turn._turn (c.loop-turn.invariant.underway text e))
 
 pub returns-in-Err-clause-fault : goal.returns-in-Err-clause-fault
 returns-in-Err-clause-fault g c = λ t b.
     let same : length c.loop-turn.outputs ≡ length c.args.outputs.now = omega (arith, c.loop-turn.auto.outputs) in
     if-some (g.I.Input.tells c.args.input.now) _ (λ text e.
-    subst (λ k. IsDivisionFault (dividing g.R.Route.part c.args.division.now) c.args.block c.args.is_first text k c.in-Err.e) same
-    (c.in-Err.ensures.fault t c.args.is_first (record { text = text; told = map g.O.Output.told c.args.outputs.now }) c.loop-turn._turn b (c.loop-turn.invariant.underway text e)))
+    subst (λ k. IsDivisionFault (dividing g.R.Route.part c.args.division.now) c.args.block c.args.reading text k c.in-Err.refused) same
+    (c.in-Err.ensures.fault t c.args.reading (record { text = text; told = map g.O.Output.told c.args.outputs.now }) c.loop-turn._turn b (c.loop-turn.invariant.underway text e)))
 
 pub loop-turn-preserved : goal.loop-turn-preserved
 loop-turn-preserved g c = record {
   underway = λ text e.
-      c.in-Ok-false.ensures.more (ap Ok c.in-Ok-false.field-0-test) c.args.is_first (record { text = text; told = map g.O.Output.told c.args.outputs.now }) c.loop-turn._turn (c.loop-turn.invariant.underway text e);
+      c.in-Ok-false.ensures.more (ap Ok c.in-Ok-false.field-0-test) c.args.reading (record { text = text; told = map g.O.Output.told c.args.outputs.now }) c.loop-turn._turn (c.loop-turn.invariant.underway text e);
   reads = c.in-Ok-false.ensures.reads ∙ c.loop-turn.invariant.reads;
   writes = c.in-Ok-false.ensures.writes ∙ c.loop-turn.invariant.writes;
   untouched = λ b begins. let made = c.in-Ok-false.ensures.begins.1 in absurd (cc);

@@ -1,12 +1,17 @@
 use Rattle.std.proofs.Common.{◌≡◌, ◌<◌, ◌++◌, ◌∷◌, ◌+◌, [], List, ℕ, Some, inl, length, drop, get_or, refl, sym, ap, ◌∙◌, arith}
 use Rattle.std.proofs.Math.Seq.{drop-length}
+use Rattle.std.proofs.lemmas.Bool.{eqb-true}
 use Rattle.csv.specs.Machine.{fields_after, field_after, next_record, step}
 use Rattle.csv.specs.declared.parser.State.{State}
 use Rattle.csv.specs.declared.parser.State.TheVariants as st
 use Rattle.rj_strict.specs.Reading.{config_of}
 use Rattle.rj_explain.specs.Places.{state_of}
-use Rattle.rj_explain.proofs.PlaceFacts.{end-between, ends-last, ends-none, reads-end, reads-on}
+use Rattle.rj_explain.proofs.PlaceFacts.{end-between, ends-last, ends-none, no-record, reads-end, reads-on}
 use Rattle.rj_explain.proofs.places.first_record.Goals as goal
+
+pub returns-then-is_empty-clause-record : goal.returns-then-is_empty-clause-record
+returns-then-is_empty-clause-record c =
+    no-record c.args.delimiter c.args.text.now (eqb-true (length c.args.text.now) 0 (sym c.is_empty.ensures ∙ c.if-is_empty.true))
 
 pub loop-at-init : goal.loop-at-init
 loop-at-init c = ([], [], refl)

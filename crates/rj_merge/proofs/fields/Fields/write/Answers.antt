@@ -1,6 +1,8 @@
-use Rattle.std.proofs.Common.{◌<◌, ◌-◌, ◌^◌, ◌∙◌, ◌++◌, ◌∷◌, [], sym, ap, length, arith, rules}
+use Rattle.std.proofs.Common.{◌≡◌, ◌<◌, ◌-◌, ◌^◌, ◌∙◌, ◌++◌, ◌∷◌, [], sym, ap, length, true, arith, rules}
 use Rattle.csv.specs.Records.{fields_of}
+use Rattle.std.specs.Result.{is_ok}
 use Rattle.csv.proofs.RecordFacts.{field-get, field-there}
+use Rattle.rj_csv_io.proofs.WriteFacts.{field-written, ok-holds, record-written}
 use Rattle.rj_merge.specs.Texts.{others}
 use Rattle.rj_merge.proofs.TextFacts.{kept-all, kept-field, kept-none, kept-place}
 use Rattle.rj_merge.proofs.fields.Fields.write.Goals as goal
@@ -31,6 +33,8 @@ loop-i-preserved c =
     let inside : c.loop-i.i < length fields = omega (arith, c.loop-i.invariant.end, c.loop-i-test.true) in
     let bound : c.loop-i.i < 2 ^ 64 - 1 = search rules in
     let field = field-get fields c.loop-i.i c.in-Some.field.now (sym c.in-Some.ensures.value) in
+    let said = c.write_field.ensures in
+    let good : is_ok c.write_field.result ≡ true = search rules in
     record {
       written = λ d text h.
           let so_far = c.loop-i.invariant.written d text h in
@@ -38,7 +42,8 @@ loop-i-preserved c =
           let room : length so_far.0 < 2 ^ 64 - 1 = omega arith in (
             so_far.0 ++ c.in-Some.field.now ∷ [],
             kept-field c.as_ref-whole.result.now.columns c.loop-i.i fields so_far.0 c.in-Some.field.now inside field (sym c.holds_place.ensures ∙ c.if-holds_place.false) so_far.1,
-            c.in_ok-write_field.ensures d text so_far.0 room so_far.2,
+            field-written d c.loop-i.writer c.write_field.new.self text so_far.0 c.in-Some.field.now room so_far.2 (ok-holds c.write_field.result good said.text) (ok-holds c.write_field.result good said.same) (ok-holds c.write_field.result good said.count)
+                (ok-holds c.write_field.result good said.wrote) (ok-holds c.write_field.result good said.stays),
           );
       end = c.loop-i.invariant.end;
     }
@@ -47,7 +52,10 @@ pub returns : goal.returns
 returns c =
     let fields = fields_of c.as_ref-whole.result.now.fields in
     let all = kept-all c.as_ref-whole.result.now.columns c.loop-i.i fields in
+    let said = c.end_record.ensures in
+    let good : is_ok c.end_record.result ≡ true = search rules in
     λ d text h.
     let so_far = c.loop-i.invariant.written d text h in
     let same = all so_far.0 (omega (arith, c.loop-i.invariant.end, c.loop-i-test.false)) so_far.1 ∙ ap (λ w. others w.columns (fields_of w.fields)) c.as_ref-whole.ensures ∙ c.self.view_is in
-    rw (← same) (c.end_record.ensures d text so_far.0 so_far.2)
+    rw (← same) (record-written d c.loop-i.writer c.end_record.new.self text so_far.0 so_far.2 (ok-holds c.end_record.result good said.bytes) (ok-holds c.end_record.result good said.same)
+    (ok-holds c.end_record.result good said.fields) (ok-holds c.end_record.result good said.wrote))

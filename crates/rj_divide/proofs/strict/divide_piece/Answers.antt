@@ -1,0 +1,58 @@
+use Rattle.std.proofs.Common.{◌≡◌, arith, rules, inl, inr, length, refl, subst, sym, true}
+use Rattle.std.specs.Prelude.{None}
+use Rattle.std.proofs.lemmas.Result.{IfErr-weaker}
+use Rattle.rj_strict.specs.Faults.{row_at}
+use Rattle.rj_strict.specs.Grammar.{File}
+use Rattle.rj_csv_io.specs.Typed.{null_texts}
+use Rattle.rj_divide.specs.Blocks.{above, in_all}
+use Rattle.rj_divide.specs.Divisions.{dividing}
+use Rattle.rj_divide.specs.Texts.{IsPieceFault}
+use Rattle.rj_divide.specs.declared.reading.Reading.{Reading}
+use Rattle.rj_divide.specs.declared.reading.Reading.TheVariants as reading
+use Rattle.rj_divide.specs.declared.refused.DivideRefused.TheVariants as refused
+use Rattle.rj_divide.proofs.BlockFacts.{above-derived, row-below}
+use Rattle.rj_divide.proofs.strict.divide_piece.Goals as goal
+
+pub divide_derived-requires-in-Err-clause-derived : goal.divide_derived-requires-in-Err-clause-derived
+divide_derived-requires-in-Err-clause-derived g c =
+    let found = c.above_fault-above.ensures in let d = c.args.division.now in
+    (true, record { lines = found.0; rest = None }, above-derived d.delimiter (length d.types.now) c.args.text.now c.above_fault-above.result.now (row_at c.in-Err.fault) found.0 found.1 found.2)
+
+pub strict_behind-requires : goal.strict_behind-requires
+strict_behind-requires g c =
+    let found = c.above_fault-above.ensures in let d = c.args.division.now in
+    let file : File = record { lines = found.0; rest = None } in
+    let derived = above-derived d.delimiter (length d.types.now) c.args.text.now c.above_fault-above.result.now (row_at c.in-Err.fault) found.0 found.1 found.2 in
+    let rows = c.in-Ok-divide_derived.ensures.divided true file derived in
+    let row = row-below d.delimiter (null_texts d.nulls.now) d.types.now (length d.types.now) c.args.text.now (row_at c.in-Err.fault) found.0 rows.rows _ found.1 rows.read rows.many in
+    omega (arith, row, c.in-Ok-divide_derived.ensures.few)
+
+pub returns-in-Ok-clause-fault : goal.returns-in-Ok-clause-fault
+returns-in-Ok-clause-fault g c =
+    let is : c.args.reading ≡ reading.Strict c.in-Strict.full = search rules in
+    IfErr-weaker c.divide_derived.result _ _ (λ e told t begins. let d = c.in-Ok.ensures.derived in
+    subst (λ (r : Reading). IsPieceFault (dividing g.W.Route.part c.args.division.now) r c.args.text.now c.args.before (length c.args.outputs.now) e) (sym is)
+    (inr (_, in_all d.0 d.1, told t c.in-Strict.full d.0 begins d.1)))
+    c.divide_derived.ensures.fault
+
+pub returns-in-Ok-divide_derived-clause-fault : goal.returns-in-Ok-divide_derived-clause-fault
+returns-in-Ok-divide_derived-clause-fault g c = λ t begins.
+    let found = c.above_fault-above.ensures in let d = c.args.division.now in
+    let file : File = record { lines = found.0; rest = None } in
+    let derived = above-derived d.delimiter (length d.types.now) c.args.text.now c.above_fault-above.result.now (row_at c.in-Err.fault) found.0 found.1 found.2 in
+    let rows = c.in-Ok-divide_derived.ensures.divided true file derived in
+    let is : c.args.reading ≡ reading.Strict c.in-Strict.full = search rules in
+    subst (λ (r : Reading). IsPieceFault (dividing g.W.Route.part c.args.division.now) r c.args.text.now c.args.before (length c.args.outputs.now) (refused.Broken c.strict_behind.result)) (sym is)
+    (inl (c.strict_behind.result, refl, record { at = c.in-Err.fault; has = c.in-Err.ensures.fault; lines = found.0; above = found.1; rows = rows.rows; read = rows.read; is = c.strict_behind.ensures }))
+
+pub returns-in-Err-divide_derived-clause-fault : goal.returns-in-Err-divide_derived-clause-fault
+returns-in-Err-divide_derived-clause-fault g c = λ t begins.
+    let found = c.above_fault-above.ensures in let d = c.args.division.now in
+    let file : File = record { lines = found.0; rest = None } in
+    let derived = above-derived d.delimiter (length d.types.now) c.args.text.now c.above_fault-above.result.now (row_at c.in-Err.fault) found.0 found.1 found.2 in
+    let is : c.args.reading ≡ reading.Strict c.in-Strict.full = search rules in
+    subst (λ (r : Reading). IsPieceFault (dividing g.W.Route.part c.args.division.now) r c.args.text.now c.args.before (length c.args.outputs.now) c.in-Err-divide_derived.earlier) (sym is)
+    (inr (_, above c.in-Err.fault found.0 c.in-Err.ensures.fault found.1, c.in-Err-divide_derived.ensures.fault t true file begins derived))
+
+pub returns-in-Ok-divide_derived-clause-refusal : goal.returns-in-Ok-divide_derived-clause-refusal
+returns-in-Ok-divide_derived-clause-refusal g c = λ b begins none. let made = c.in-Ok-divide_derived.ensures.begins.1 in absurd (cc)

@@ -1,6 +1,0 @@
-use Rattle.std.proofs.Common.{◌≡◌, drop, length}
-use Rattle.std.specs.Str.{all_ascii_digits}
-use Rattle.rj_merge.proofs.number.are_digits.Given as goal
-
-abbrev pub invariant-loop-i : goal.invariant-loop-i
-invariant-loop-i l = record { digits : all_ascii_digits l.field ≡ all_ascii_digits (drop l.i l.field); end : l.i-end ≡ length l.field }
