@@ -212,7 +212,7 @@ naming_apart naming.Memory = refl
 
 first_apart : (named : Bool) (left right : List ℕ) (q : Request) (f : Fault) → IsFirstFault named left right q f → is_device f ≡ false
 first_apart named left right q _ (in_headers f told) = elim told.told [
-  | inl of_clause ↦ clause_apart q told.l told.r f of_clause
+  | inl refused ↦ clause_apart q told.l told.r f refused
   | inr nameless ↦ ap is_device nameless.3.2 ∙ naming_apart nameless.3.0
 ]
 first_apart named left right q _ (in_left f none told) = table_apart q.strict q side.Left left f told
