@@ -37,8 +37,8 @@ def named(fields):
 def record(fields, end):
     """A record as CSV."""
     text = io.StringIO()
-    csv.writer(text, lineterminator="").writerow(fields)
-    return text.getvalue() + end
+    csv.writer(text, lineterminator="\n").writerow(fields)
+    return text.getvalue().removesuffix("\n") + end
 
 
 def check_header(folder, tally, fields, end, mark, lenient):
