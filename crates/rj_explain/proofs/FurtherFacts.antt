@@ -1,5 +1,5 @@
 -- Bad cells of a column, row by row.
-use Rattle.std.proofs.Common.{◌≡◌, ◌≢◌, ◌∙◌, ◌<◌, ◌≤◌, ◌+◌, ◌++◌, ◌∷◌, [], ℕ, zero, suc, List, Bool, true, false, Result, Ok, Err, Option, Some, None, inl, inr, refl, sym, ap, subst, arith, length, w64, ℤ}
+use Rattle.std.proofs.Common.{◌≡◌, ◌<◌, ◌≤◌, ◌+◌, ◌++◌, ℕ, zero, suc, List, Bool, true, false, Result, Ok, Err, Option, Some, None, inl, inr, refl, sym, subst, arith, w64, ℤ}
 use Rattle.std.specs.Prelude.{◌-◌, IsUtf8, MatchResult, is_none, is_ok, if◌then◌else◌, not}
 use Rattle.std.specs.Option.{option_map}
 use Rattle.std.specs.Str.{is_utf8}

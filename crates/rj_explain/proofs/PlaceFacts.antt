@@ -1,17 +1,19 @@
 -- How a place in a text moves on over a record.
 use Rattle.std.proofs.Common.{◌≡◌, ◌<◌, ◌≤◌, ◌+◌, ℕ, zero, suc, List, [], ◌∷◌, ◌++◌, length, take, drop, get_or, slice_get, map, Bor, ◌-◌, true, false, Bool, Some, None, Option, refl, sym, ap, subst, arith, inl, inr, ◌∙◌, add-one}
-use Rattle.std.specs.Prelude.{if◌then◌else◌, ◌==◌}
+use Rattle.std.specs.Prelude.{if◌then◌else◌, ◌==◌, ◌&&◌, ◌⊎◌, is_some, min, not}
+use Rattle.std.specs.List.{list_all}
 use Rattle.std.proofs.lemmas.Bool.{cases_Bool, eqb-true, false≢true}
-use Rattle.std.proofs.lemmas.List.{length-append, length-drop, take_all}
-use Rattle.std.proofs.Math.Seq.{drop-cons}
+use Rattle.std.proofs.lemmas.List.{drop_min, length-append, length-drop, take_all}
 use Rattle.csv.specs.declared.parser.Terminator.TheVariants as term
 use Rattle.csv.specs.declared.parser.State.{State}
 use Rattle.csv.specs.declared.parser.State.TheVariants as st
 use Rattle.csv.specs.declared.parser.Action.{Action}
-use Rattle.csv.specs.Machine.{Read, next_record, step, in_field, start_field, start_record, ends_with, ends_at_end, is_end, fields_after, field_after}
+use Rattle.csv.specs.Machine.{Read, next_record, step, in_field, start_field, ends_with, ends_at_end, is_end, fields_after, field_after}
 use Rattle.csv.specs.Reading.{Reached, records, records_from, records_next}
 use Rattle.rj_strict.specs.Reading.{config_of}
-use Rattle.rj_explain.specs.Places.{EndsFirst, HasNoRow, IsBetween, IsRow, StandsAt, at_column, first_byte, line_of}
+use Rattle.rj_header.specs.Ends.{behind_first}
+use Rattle.rj_header.proofs.EndFacts.{EndsAs, IsLineEnd, at-end, at-line, ends-as}
+use Rattle.rj_explain.specs.Places.{EndsFirst, HasNoRow, IsBetween, IsRow, StandsAt, at_column, first_byte, is_line_end, line_of}
 
 -- a reader behind a CR reads on as one before a record
 behind-return : (d : ℕ) (xs : List ℕ) → next_record (config_of d) st.AfterCr [] [] xs ≡ next_record (config_of d) st.StartRecord [] [] xs
@@ -28,71 +30,72 @@ between-reads d s xs h = elim h [
   | inr e ↦ rw e (behind-return d xs)
 ]
 
-abbrev EndsBetween : State × Action → Type 0
-EndsBetween p = is_end p.1 ≡ true → IsBetween p.0
+-- a state within a record
+abbrev IsWithin : State → Type 0
+IsWithin s = (s ≡ st.StartField) ⊎ (s ≡ st.InField) ⊎ (s ≡ st.InQuoted) ⊎ (s ≡ st.AfterQuote)
 
-between-if : (b : Bool) (p q : State × Action) → EndsBetween p → EndsBetween q → EndsBetween (if b then p else q)
-between-if true p q hp hq = hp
-between-if false p q hp hq = hq
+-- a byte ends the record, or leaves the reader within it
+abbrev GoesOn : State × Action → Type 0
+GoesOn p = is_end p.1 ≡ false → IsWithin p.0
 
-after-between : (b : Bool) → IsBetween (if b then st.AfterCr else st.StartRecord)
-after-between true = inr refl
-after-between false = inl refl
+goes-if : (b : Bool) (p q : State × Action) → GoesOn p → GoesOn q → GoesOn (if b then p else q)
+goes-if true p q hp hq = hp
+goes-if false p q hp hq = hq
 
-field-between : (d c : ℕ) → EndsBetween (in_field (config_of d) c)
-field-between d c =
-    between-if (c == d) _ _ (λ e. absurd (false≢true e))
-    (between-if (ends_with term.CRLF c) _ _ (λ e. after-between (c == 13)) (λ e. absurd (false≢true e)))
+field-goes : (d c : ℕ) → GoesOn (in_field (config_of d) c)
+field-goes d c =
+    goes-if (c == d) _ _ (λ e. inl refl)
+    (goes-if (ends_with term.CRLF c) _ _ (λ e. absurd (false≢true (sym e))) (λ e. inr (inl refl)))
 
-start_field-between : (d c : ℕ) → EndsBetween (start_field (config_of d) c)
-start_field-between d c = between-if (c == 34) _ _ (λ e. absurd (false≢true e)) (field-between d c)
+start-goes : (d c : ℕ) → GoesOn (start_field (config_of d) c)
+start-goes d c = goes-if (c == 34) _ _ (λ e. inr (inr (inl refl))) (field-goes d c)
 
-start_record-between : (d c : ℕ) → EndsBetween (start_record (config_of d) c)
-start_record-between d c = between-if (ends_with term.CRLF c) _ _ (λ e. absurd (false≢true e)) (start_field-between d c)
+step-goes : (d : ℕ) (s : State) (c : ℕ) → IsWithin s → GoesOn (step (config_of d) s c)
+step-goes d s c (inl e) = rw e (start-goes d c)
+step-goes d s c (inr (inl e)) = rw e (field-goes d c)
+step-goes d s c (inr (inr (inl e))) = rw e (goes-if (c == 34) _ _ (λ h. inr (inr (inr refl))) (λ h. inr (inr (inl refl))))
+step-goes d s c (inr (inr (inr e))) = rw e (goes-if (c == 34) _ _ (λ h. inr (inr (inl refl))) (field-goes d c))
 
--- a byte that ends a record leaves the reader between two
-pub end-between : (d : ℕ) (s : State) (c : ℕ) → is_end (step (config_of d) s c).1 ≡ true → IsBetween (step (config_of d) s c).0
-end-between d st.StartRecord c = start_record-between d c
-end-between d st.StartField c = start_field-between d c
-end-between d st.InField c = field-between d c
-end-between d st.InQuoted c = between-if (c == 34) _ _ (λ e. absurd (false≢true e)) (λ e. absurd (false≢true e))
-end-between d st.InEscape c = λ e. absurd (false≢true e)
-end-between d st.AfterQuote c = between-if (c == 34) _ _ (λ e. absurd (false≢true e)) (field-between d c)
-end-between d st.InComment c = between-if (c == 10) _ _ (λ e. absurd (false≢true e)) (λ e. absurd (false≢true e))
-end-between d st.AfterCr c = between-if (c == 10) _ _ (λ e. absurd (false≢true e)) (start_record-between d c)
+ends-within : (s : State) → IsWithin s → ends_at_end s ≡ true
+ends-within s (inl e) = rw e refl
+ends-within s (inr (inl e)) = rw e refl
+ends-within s (inr (inr (inl e))) = rw e refl
+ends-within s (inr (inr (inr e))) = rw e refl
 
--- one more byte of a record
-pub reads-on : (d : ℕ) (text : List ℕ) (at : ℕ) (s : State) (fields : List (List ℕ)) (field : List ℕ) → at < length text
-    → is_end (step (config_of d) s (get_or text at 0)).1 ≡ false
-    → next_record (config_of d) s fields field (drop at text)
-    ≡ next_record (config_of d) (step (config_of d) s (get_or text at 0)).0 (fields_after (step (config_of d) s (get_or text at 0)).1 fields field)
-    (field_after (step (config_of d) s (get_or text at 0)).1 (get_or text at 0) field) (drop (at + 1) text)
+-- a record that has begun is read
+begun-reads : (d : ℕ) (s : State) (fields : List (List ℕ)) (field text : List ℕ) → IsWithin s → is_some (next_record (config_of d) s fields field text) ≡ true
 unfolding next_record
-reads-on d text at s fields field h e = rw (add-one, drop-cons text at 0 h, e) refl
+begun-reads d s fields field [] h = rw (ends-within s h) refl
+begun-reads d s fields field (c ∷ text) h =
+    go (is_end (step (config_of d) s c).1) refl (begun-reads d (step (config_of d) s c).0 (fields_after (step (config_of d) s c).1 fields field) (field_after (step (config_of d) s c).1 c field) text)
+  where
+    go : (b : Bool) → is_end (step (config_of d) s c).1 ≡ b
+        → (IsWithin (step (config_of d) s c).0
+        → is_some (next_record (config_of d) (step (config_of d) s c).0 (fields_after (step (config_of d) s c).1 fields field) (field_after (step (config_of d) s c).1 c field) text) ≡ true)
+        → is_some (next_record (config_of d) s fields field (c ∷ text)) ≡ true
+    go true e again = rw e refl
+    go false e again = rw e (again (step-goes d s c h e))
 
--- the byte that ends it
-pub reads-end : (d : ℕ) (text : List ℕ) (at : ℕ) (s : State) (fields : List (List ℕ)) (field : List ℕ) → at < length text
-    → is_end (step (config_of d) s (get_or text at 0)).1 ≡ true
-    → next_record (config_of d) s fields field (drop at text)
-    ≡ Some (fields_after (step (config_of d) s (get_or text at 0)).1 fields field, (step (config_of d) s (get_or text at 0)).0, drop (at + 1) text)
+-- a text has a record unless it is line ends alone
+pub has-record : (d : ℕ) (text : List ℕ) → is_some (next_record (config_of d) st.StartRecord [] [] text) ≡ not (list_all is_line_end text)
 unfolding next_record
-reads-end d text at s fields field h e = rw (add-one, drop-cons text at 0 h, e) refl
+has-record d [] = refl
+has-record d (c ∷ text) = go (is_line_end c) refl (has-record d text)
+  where
+    begins : is_line_end c ≡ false → next_record (config_of d) st.StartRecord [] [] (c ∷ text) ≡ next_record (config_of d) st.StartField [] [] (c ∷ text)
+    begins e = rw e refl
 
--- the end of the text
-pub ends-last : (d : ℕ) (s : State) (fields : List (List ℕ)) (field : List ℕ) → ends_at_end s ≡ true
-    → next_record (config_of d) s fields field [] ≡ Some (fields ++ field ∷ [], st.StartRecord, [])
-unfolding next_record
-ends-last d s fields field e = rw e refl
+    go : (b : Bool) → is_line_end c ≡ b → is_some (next_record (config_of d) st.StartRecord [] [] text) ≡ not (list_all is_line_end text)
+        → is_some (next_record (config_of d) st.StartRecord [] [] (c ∷ text)) ≡ not (is_line_end c && list_all is_line_end text)
+    go true e again = rw e again
+    go false e again = ap is_some (begins e) ∙ (begun-reads d st.StartField [] [] (c ∷ text) (inl refl) ∙ rw e refl)
 
-pub ends-none : (d : ℕ) (s : State) (fields : List (List ℕ)) (field : List ℕ) → ends_at_end s ≡ false
-    → next_record (config_of d) s fields field [] ≡ None
-unfolding next_record
-ends-none d s fields field e = rw e refl
-
--- nothing has no record
-pub no-record : (d : ℕ) (text : List ℕ) → length text ≡ 0 → next_record (config_of d) st.StartRecord [] [] text ≡ None
-no-record d [] e = ends-none d st.StartRecord [] [] refl
-no-record d (c ∷ text) e = absurd (omega arith)
+pub no-record : (d : ℕ) (text : List ℕ) → list_all is_line_end text ≡ true → next_record (config_of d) st.StartRecord [] [] text ≡ None
+no-record d text e = go (next_record (config_of d) st.StartRecord [] [] text) (has-record d text ∙ ap not e)
+  where
+    go : (o : Option Read) → is_some o ≡ false → o ≡ None
+    go None h = refl
+    go (Some p) h = absurd (false≢true (sym h))
 
 drop-none : (k : ℕ) → drop {A = ℕ} k [] ≡ []
 drop-none zero = refl
@@ -102,6 +105,29 @@ pub drop-drop : (m n : ℕ) (text : List ℕ) → drop m (drop n text) ≡ drop 
 drop-drop m zero text = let e : m ≡ 0 + m = omega arith in ap (λ (k : ℕ). drop k text) e
 drop-drop m (suc n) [] = drop-none m ∙ sym (drop-none (suc n + m))
 drop-drop m (suc n) (c ∷ text) = let e : suc n + m ≡ suc (n + m) = omega arith in rw e (drop-drop m n text)
+
+-- where the first record ends, by where its line end is
+pub first-ends : (d : ℕ) (text : List ℕ) (end : ℕ) → list_all is_line_end text ≡ false → drop end text ≡ behind_first d text → EndsFirst d text (min (end + 1) (length text))
+first-ends d text end some at = go (next_record (config_of d) st.StartRecord [] [] text) refl (has-record d text ∙ ap not some)
+  where
+    rest : drop (min (end + 1) (length text)) text ≡ drop 1 (behind_first d text)
+    rest = drop_min (end + 1) text ∙ (sym (drop-drop 1 end text) ∙ ap (λ (ys : List ℕ). drop 1 ys) at)
+
+    between : (c : ℕ) (s : State) → IsLineEnd c s → IsBetween s
+    between c s h = elim h.ends [
+      | inl e ↦ inl e.1
+      | inr e ↦ inr e.1
+    ]
+
+    left : (p : Read) → EndsAs (behind_first d text) p → IsBetween p.1 × (drop 1 (behind_first d text) ≡ p.2)
+    left p (at-end none s no-more) = (inl s, ap (λ (ys : List ℕ). drop 1 ys) none ∙ sym no-more)
+    left p (at-line c more line) = (between c p.1 line, ap (λ (ys : List ℕ). drop 1 ys) more)
+
+    go : (o : Option Read) → next_record (config_of d) st.StartRecord [] [] text ≡ o → is_some o ≡ true → EndsFirst d text (min (end + 1) (length text))
+    go None e h = absurd (false≢true h)
+    go (Some p) e h =
+        let behind = left p (ends-as d st.StartRecord [] [] text p e) in
+        (p.0, p.1, behind.0, e ∙ ap (λ (ys : List ℕ). Some (p.0, p.1, ys)) (sym (rest ∙ behind.1)))
 
 -- what a text has left from a place on
 pub rest-drop : (text : List ℕ) (at : ℕ) → take (length text - at) (drop at text) ≡ drop at text

@@ -1,21 +1,10 @@
 -- The columns that an entry of a list of columns means, and their names.
-use Rattle.std.proofs.Common.{◌≡◌, ◌∙◌, ℕ, ◌+◌, ◌<◌, ◌≤◌, Bool, true, false, cond, List, [], ◌∷◌, ◌++◌, length, map, take, refl, ap, append-nil, arith}
-use Rattle.std.specs.Prelude.{Option, None, Some, filter, option_map, slice_get}
-use Rattle.std.proofs.lemmas.List.Elements.{filter-append}
+use Rattle.std.proofs.Common.{◌≡◌, ℕ, ◌<◌, ◌≤◌, Bool, true, false, cond, List, [], ◌∷◌, length, map, refl, ap, arith}
+use Rattle.std.specs.Prelude.{Option, None, Some, filter, option_map}
 use Rattle.rj_condition.specs.declared.tree.Name.{Name}
 use Rattle.rj_engine.specs.Naming.{new_or_own}
 use Rattle.rj_explain.specs.Lines.{both_words}
 use Rattle.rj_explain.specs.Selected.{IsWhy, name_among}
-use Rattle.rj_explain.proofs.NameFacts.{take-more}
-
--- one more name
-pub filter-more : (p : List ℕ → Bool) (xs : List (List ℕ)) (i : ℕ) (x : List ℕ) → slice_get xs i ≡ Some x → p x ≡ true
-    → filter p (take (i + 1) xs) ≡ filter p (take i xs) ++ x ∷ []
-filter-more p xs i x at e = ap (filter p) (take-more xs i x at) ∙ (filter-append p (take i xs) (x ∷ []) ∙ rw e refl)
-
-pub filter-less : (p : List ℕ → Bool) (xs : List (List ℕ)) (i : ℕ) (x : List ℕ) → slice_get xs i ≡ Some x → p x ≡ false
-    → filter p (take (i + 1) xs) ≡ filter p (take i xs)
-filter-less p xs i x at e = ap (filter p) (take-more xs i x at) ∙ (filter-append p (take i xs) (x ∷ []) ∙ rw e (append-nil (filter p (take i xs))))
 
 -- the names of those columns whose names pass a test
 pub filter-map : {A : Type 0} (p : List ℕ → Bool) (f : A → List ℕ) (columns : List A) → filter p (map f columns) ≡ map f (filter (λ o. p (f o)) columns)

@@ -7,17 +7,6 @@ use Rattle.csv.specs.Reading.{AreRecords, Reached}
 use Rattle.csv.specs.declared.parser.State.{State}
 use Rattle.csv.specs.declared.parser.State.TheVariants as st
 use Rattle.rj_strict.specs.Reading.{config_of}
-use Rattle.rj_explain.specs.declared.places.Standing.{Standing}
-use Rattle.rj_explain.specs.declared.places.Standing.TheVariants as standing
-
--- the state of csv's machine; it has no comments and no other escape than a second quote
-abbrev pub state_of : Standing → State
-state_of standing.Record = st.StartRecord
-state_of standing.Field = st.StartField
-state_of standing.Inside = st.InField
-state_of standing.Open = st.InQuoted
-state_of standing.Closed = st.AfterQuote
-state_of standing.Return = st.AfterCr
 
 -- between two records
 abbrev pub IsBetween : State → Type 0

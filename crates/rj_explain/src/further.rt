@@ -113,7 +113,7 @@ fn first_bad(
         let Some(fields) = Header::of(alloc, rest, column.delimiter)? else {
             return Ok(None);
         };
-        let Some(size) = first_record(rest, column.delimiter.byte()) else {
+        let Some(size) = first_record(rest, column.delimiter) else {
             return Ok(None);
         };
         if has_bad(alloc, column, &fields)? {
@@ -174,7 +174,7 @@ fn bad_lines(alloc: Global, column: &TypedColumn<'_>, from: RowPlace) -> Result<
 }
 
 // The place below a row, which has the header's number 0 or one behind it.
-fn place_below(text: &[u8], delimiter: u8, row: u64) -> Option<RowPlace>
+fn place_below(text: &[u8], delimiter: Delimiter, row: u64) -> Option<RowPlace>
     ensures place { MatchOption result (HasNoRow delimiter text.now (row + 1)) (λ p. StandsAt delimiter text.now p.row p.at) }
     ensures below { IfSome result (λ p. p.row ≡ row + 1) }
     ensures within { IfSome result (λ p. p.at ≤ length text.now) }
@@ -192,7 +192,7 @@ fn place_below(text: &[u8], delimiter: u8, row: u64) -> Option<RowPlace>
 fn lines_below(alloc: Global, column: &TypedColumn<'_>, row: u64) -> Result<String, AllocError>
     ensures { IfOk result (λ s. AreBadTold column.now (row + 1) 19 (string_bytes s)) }
 {
-    match place_below(column.text, column.delimiter.byte(), row) {
+    match place_below(column.text, column.delimiter, row) {
         Some(place) => bad_lines(alloc, column, place),
         None => Ok(String::new(alloc)),
     }

@@ -51,24 +51,14 @@ pub(crate) fn bad_name_lines(
     }
 }
 
-// Whether two names are the same, ignoring ASCII case.
-fn are_alike(name: &[u8], other: &[u8]) -> bool
-    ensures { result ≡ str_eq_ignore_ascii_case name.now other.now }
-{
-    name.eq_ignore_ascii_case(other)
-}
-
 // The first of these names that is the same as this one.
 fn first_named(names: &[&[u8]], name: &[u8]) -> Option<usize>
     ensures place { result ≡ position_from (str_eq_ignore_ascii_case name.now) 0 (map (λ n. n.now) names.now) }
     ensures within { IfSome result (λ i. i < length names.now) }
 {
-    for i in 0..names.len() {
-        if are_alike(name, names[i]) {
-            return Some(i);
-        }
-    }
-    None
+    names
+        .iter()
+        .position(|other| name.eq_ignore_ascii_case(other))
 }
 
 // The line that shows a name that occurs twice, the column of the first one and its spelling.

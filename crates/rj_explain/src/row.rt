@@ -34,7 +34,7 @@ pub fn find_row(
 ) -> Result<Option<Row>, AllocError>
     ensures { IfOk result (λ o. MatchOption o (HasNoRow delimiter text.now row) (λ r. IsRow delimiter text.now row r.line (names_in r.record))) }
 {
-    let Some(at) = place_of_row(text, delimiter.byte(), row) else {
+    let Some(at) = place_of_row(text, delimiter, row) else {
         return Ok(None);
     };
     match Header::of(alloc, &text[at..], delimiter)? {

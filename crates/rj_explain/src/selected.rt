@@ -40,11 +40,9 @@ fn entries_of(columns: &ColumnChoice) -> Option<&[SelectedColumn]>
 fn names_of(alloc: Global, table: &Table) -> Result<Vec<&str>, AllocError>
     ensures { IfOk result (λ v. map (λ n. n.now) v.items ≡ map (λ i. slice_index_or table.now.names i []) (range_with_len 0 (length table.now.types))) }
 {
-    let mut names = Vec::new(alloc);
-    for column in 0..table.columns() {
-        names.push(table.name(column))?;
-    }
-    Ok(names)
+    (0..table.columns())
+        .map(|column| table.name(column))
+        .collect(alloc)
 }
 
 // The names of the columns among which that of an entry is looked for.
@@ -65,23 +63,6 @@ fn names_from<'c>(
     }
 }
 
-// Those of some names that a name means.
-fn meant_among<'n>(
-    alloc: Global,
-    name: &Name,
-    names: &[&'n str],
-) -> Result<Vec<&'n str>, AllocError>
-    ensures { IfOk result (λ v. map (λ n. n.now) v.items ≡ filter (matches name.now) (map (λ n. n.now) names.now)) }
-{
-    let mut meant = Vec::new(alloc);
-    for i in 0..names.len() {
-        if name.means(names[i].as_bytes()) {
-            meant.push(names[i])?;
-        }
-    }
-    Ok(meant)
-}
-
 // The names of the columns that an entry means.
 fn meant_by<'c>(
     alloc: Global,
@@ -92,8 +73,9 @@ fn meant_by<'c>(
     requires { fits join.now columns.now.left.types columns.now.right.types ≡ true }
     ensures { IfOk result (λ v. map (λ n. n.now) v.items ≡ meant_by join.now columns.now.left columns.now.right entry.now) }
 {
-    let names = names_from(alloc, entry.source, columns, join)?;
-    meant_among(alloc, &entry.name, names.as_slice())
+    let mut names = names_from(alloc, entry.source, columns, join)?;
+    names.retain(|name| entry.name.means(name.as_bytes()));
+    Ok(names)
 }
 
 // The name under which an entry is written that means columns of these names, if that is one.

@@ -1,4 +1,4 @@
-mod EndFacts
+pub mod EndFacts
 mod RecordFacts
 mod ColumnFacts
 mod NumberFacts

@@ -1,7 +1,7 @@
 //! The header of a CSV file, where fields that have no name, or repeat one, are given one.
 //!
 //! `completed_names` says which names, and `completed` which bytes stand for the file then.
-//! [`complete_header`] makes them.
+//! [`complete_header`] makes them. [`first_end`] finds where a header ends.
 #![tactic(auto)]
 
 mod column;
@@ -13,3 +13,4 @@ mod naming;
 pub use column::GivenName;
 pub use completing::{Completed, complete_header};
 pub use laws::{completed_names_are_lawful, completed_records};
+pub use line_end::first_end;

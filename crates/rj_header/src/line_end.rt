@@ -57,7 +57,7 @@ fn behind(place: Place, byte: u8, delimiter: u8) -> Option<Place>
 }
 
 /// Where the first record of a text ends: before its line end, or at the end of the text.
-pub(crate) fn first_end(text: &[u8], delimiter: Delimiter) -> usize
+pub fn first_end(text: &[u8], delimiter: Delimiter) -> usize
     ensures within { result ≤ length text.now }
     ensures rest { drop result text.now ≡ behind_first delimiter text.now }
 {

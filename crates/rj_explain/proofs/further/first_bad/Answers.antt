@@ -1,4 +1,4 @@
-use Rattle.std.proofs.Common.{◌+◌, ◌-◌, ◌∙◌, List, ℕ, arith, drop, length, refl, subst, sym, take}
+use Rattle.std.proofs.Common.{◌∙◌, List, ℕ, arith, refl, subst, sym}
 use Rattle.rj_csv_io.specs.Pieces.{names_in}
 use Rattle.rj_explain.specs.Places.{EndsFirst, first_byte, line_of}
 use Rattle.rj_explain.proofs.FurtherFacts.{good_more}
@@ -21,7 +21,7 @@ returns-in_default-first_record-clause-bad c =
     let column = c.args.column.now in
     let text = column.text.now in
     let row = c.loop-row.row in
-    let none = rw (c.byte.ensures.value, rest-drop text c.loop-row.at) at c.in_default-first_record.ensures.record in record {
+    let none = rw (rest-drop text c.loop-row.at) at c.in_default-first_record.ensures.record in record {
       end = row;
       good = c.loop-row.invariant.good;
       last = no-row column.delimiter text row row c.loop-row.at c.loop-row.invariant.stands (omega arith) none;
@@ -45,8 +45,7 @@ returns-then-branch-clause-below c =
     let text = column.text.now in
     let at = c.loop-row.at in
     let size = c.in-Some-first_record.size in
-    let read = subst (λ (d : ℕ). EndsFirst d (take (length text - at) (drop at text)) size) c.byte.ensures.value c.in-Some-first_record.ensures.record in
-    let more = subst (λ (xs : List ℕ). EndsFirst column.delimiter xs size) (rest-drop text at) read in
+    let more = subst (λ (xs : List ℕ). EndsFirst column.delimiter xs size) (rest-drop text at) c.in-Some-first_record.ensures.record in
     stands-more column.delimiter text c.loop-row.row at size c.loop-row.invariant.stands more
 
 pub loop-row-preserved : goal.loop-row-preserved
@@ -57,8 +56,7 @@ loop-row-preserved c =
     let at = c.loop-row.at in
     let size = c.in-Some-first_record.size in
     let stands = c.loop-row.invariant.stands in
-    let read = subst (λ (d : ℕ). EndsFirst d (take (length text - at) (drop at text)) size) c.byte.ensures.value c.in-Some-first_record.ensures.record in
-    let more = subst (λ (xs : List ℕ). EndsFirst column.delimiter xs size) (rest-drop text at) read in
+    let more = subst (λ (xs : List ℕ). EndsFirst column.delimiter xs size) (rest-drop text at) c.in-Some-first_record.ensures.record in
     let found = rw (c.in-Some.is, rest-drop text at) at c.in_ok-fields.ensures in
     let names = names_in c.in-Some.fields in
     let line = line_of text (first_byte text at) in

@@ -1,6 +1,6 @@
-use Rattle.std.proofs.Common.{◌∙◌, ap}
+use Rattle.std.proofs.Common.{◌∙◌, Bor, List, ℕ, ap, map, rules, sym}
 use Rattle.std.specs.Prelude.{filter}
-use Rattle.std.proofs.lemmas.Result.{IfOk-weaker}
+use Rattle.std.proofs.lemmas.Fn.{filter_same}
 use Rattle.rj_condition.specs.Names.{matches}
 use Rattle.rj_engine.specs.Cells.{name_of}
 use Rattle.rj_engine.specs.Selected.{columns_from}
@@ -9,9 +9,11 @@ use Rattle.rj_explain.proofs.selected.meant_by.Goals as goal
 
 pub returns : goal.returns
 returns c =
-    let left = c.args.columns.now.left in
-    let right = c.args.columns.now.right in
+    let now = λ (n : Bor (List ℕ)). n.now in
     let entry = c.args.entry.now in
-    let named = filter-map (matches entry.name) (name_of left right) (columns_from entry.source c.args.join.now left right) in
-    let names = rw c.as_slice.ensures.value at c.meant_among.ensures in
-    IfOk-weaker c.meant_among.result _ _ (λ v told. told ∙ (ap (filter (matches entry.name)) c.in_ok-names.ensures ∙ named)) names
+    let means = matches entry.name in
+    let columns = columns_from entry.source c.args.join.now c.args.columns.now.left c.args.columns.now.right in
+    let kept = filter_same _ (λ n. means n.now) _ (λ x b f' k. search rules) _ _ c.retain.ensures.filtered in
+    ap (map now) kept
+    ∙ (sym (filter-map means now c.in_ok-names.names.items)
+    ∙ (ap (filter means) c.in_ok-names.ensures ∙ filter-map means (name_of c.args.columns.now.left c.args.columns.now.right) columns))

@@ -1,22 +1,16 @@
-use Rattle.std.proofs.Common.{◌≡◌, ◌∙◌, ◌++◌, ◌∷◌, [], List, ℕ, Bor, ap, map, rules, sym, zero-add}
-use Rattle.std.specs.Prelude.{slice_index_or}
-use Rattle.std.specs.List.{range_with_len}
-use Rattle.std.proofs.lemmas.List.{map-append}
+use Rattle.std.proofs.Common.{◌≡◌, [], Some, arith, length, rules, sym}
+use Rattle.std.specs.Prelude.{slice_get, slice_index_or}
+use Rattle.std.proofs.lemmas.Iterator.{YieldsList-from_map_by, YieldsList-from_range}
+use Rattle.std.proofs.lemmas.Iterator.Consumers.{map_from_collect}
 use Rattle.std.proofs.lemmas.Option.{get_or_from_slice_get}
-use Rattle.std.proofs.lemmas.List.FromFn.{map-range_with_len_more}
 use Rattle.rj_explain.proofs.selected.names_of.Goals as goal
 
-pub loop-column-preserved : goal.loop-column-preserved
-loop-column-preserved c =
-    let so = c.loop-column.invariant in
-    let name = c.name.result in
-    let named = λ (i : ℕ). slice_index_or c.args.table.now.names i [] in
-    let pushed : c.push.new.self.items ≡ c.loop-column.names.items ++ name ∷ [] = search rules in
-    let here : name.now ≡ named c.loop-column.column = sym (get_or_from_slice_get c.args.table.now.names c.loop-column.column name.now [] c.name.ensures) in
-    record {
-      names = ap (map (λ (n : Bor (List ℕ)). n.now)) pushed
-          ∙ (map-append (λ (n : Bor (List ℕ)). n.now) c.loop-column.names.items (name ∷ [])
-          ∙ (ap (λ ns. ns ++ name.now ∷ []) so.names
-          ∙ (ap (λ n. map named (range_with_len 0 c.loop-column.column) ++ n ∷ []) here ∙ sym (map-range_with_len_more named 0 c.loop-column.column c.loop-column.column (zero-add c.loop-column.column)))));
-      all = so.all;
-    }
+pub returns : goal.returns
+returns c =
+    let table = c.args.table.now in
+    let columns = length table.types in
+    map_from_collect _ c.collect.ensures.ran
+    (YieldsList-from_map_by _ (λ n. n.now) (λ i. slice_index_or table.names i [])
+    (YieldsList-from_range 0 c.columns.result columns (cc) (omega (arith, c.columns.ensures.count))) c.map.ensures.closure
+    (λ i name q k. let named : slice_get table.names i ≡ Some name.now = search rules in
+    (search rules, sym (get_or_from_slice_get table.names i name.now [] named))))
