@@ -27,7 +27,7 @@ CONSTANTS = {
     "NULL texts of a side": ("rj_line/src/nulls.rt", r"MOST_NULLS: usize = (\w+);"),
     "a clause": ("rj_condition/src/parsing.rt", r"LONGEST: usize = (\w+);"),
     "nesting": ("rj_condition/src/nesting.rt", r"MOST: usize = (\w+);"),
-    "senders of a ledger": ("arrivals/src/main.rt", r'"senders", 1, (\w+)'),
+    "senders of a ledger": ("arrivals/src/line.rt", r'"senders", 1, (\w+)'),
     "rows of a block": ("rj_line/src/options.rt", r'name: "block",\s+letter: None,\s+takes: Takes::Number\(1, (\w+)\)'),
     "partitions of an exchange": ("rj_exchange/src/boxes/open.rt", r"partitions ≤ (\w+)"),
     "lanes": ("rj_exchange/src/boxes/open.rt", r"lanes ≤ (\w+)"),

@@ -3,8 +3,8 @@ use Rattle.std.specs.Prelude.{ℕ, Option, None, Some}
 use Rattle.clap.specs.Values.{kind_of}
 use Rattle.clap.specs.declared.error.Error.{Error}
 use Rattle.rj_fault.specs.Faults.{refused_status}
-use Rattle.arrivals.specs.declared.Failure.{Failure}
-use Rattle.arrivals.specs.declared.Failure.TheVariants as failure
+use Rattle.arrivals.specs.declared.failure.Failure.{Failure}
+use Rattle.arrivals.specs.declared.failure.Failure.TheVariants as failure
 
 -- 0 help and the version, 2 command line, 5 memory, 6 device
 abbrev pub exit_of : Failure → ℕ

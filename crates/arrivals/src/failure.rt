@@ -1,0 +1,64 @@
+//! Why nothing, or not all, was printed.
+
+ghost use Rattle.std.specs.Prelude.{◌≡◌};
+
+use clap::Error;
+use rj_fault::ExitReason;
+use std::alloc::AllocError;
+
+// Why nothing, or not all, was printed. The text is the line that is printed, without its line end.
+#[derive(Debug, Drop, thiserror::Error)]
+pub enum Failure {
+    // `clap` refused the words, or they ask for help or for the version.
+    #[error("{0}")]
+    CommandLine(Error),
+    #[error("arrivals: an argument is not text")]
+    NotText,
+    #[error("arrivals: E18 Memory")]
+    Memory,
+    #[error("arrivals: E19 ReadDevice")]
+    ReadDevice,
+    #[error("arrivals: E20 WriteDevice")]
+    WriteDevice,
+}
+
+impl From<AllocError> for Failure {
+    ghost use Rattle.arrivals.specs.declared.failure.Failure.TheVariants.{Memory};
+
+    ghost from_gives = { λ _ f. f ≡ Memory };
+
+    fn from(_error: AllocError) -> Failure {
+        Failure::Memory
+    }
+}
+
+impl ExitReason for Failure {
+    ghost use Rattle.arrivals.specs.Failures.{clap_error_of, exit_of};
+    ghost use Rattle.arrivals.specs.declared.failure.Failure.TheVariants.{WriteDevice};
+
+    ghost exit = { exit_of };
+
+    ghost of_clap = { clap_error_of };
+
+    ghost unwritten = { WriteDevice };
+
+    fn status(&self) -> u8 {
+        match self {
+            Failure::CommandLine(error) => { if error.use_stderr() { 2 } else { 0 } }
+            Failure::NotText => 2,
+            Failure::Memory => 5,
+            Failure::ReadDevice | Failure::WriteDevice => 6,
+        }
+    }
+
+    fn by_clap(&self) -> Option<&Error> {
+        match self {
+            Failure::CommandLine(error) => Some(error),
+            _ => None,
+        }
+    }
+
+    fn failed_write() -> Failure {
+        Failure::WriteDevice
+    }
+}

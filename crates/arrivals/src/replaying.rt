@@ -1,0 +1,57 @@
+//! A script that is replayed as the words of the command line say.
+
+ghost use Rattle.std.specs.Prelude.{◌≡◌, ◌≢◌, ◌<◌, ◌+◌, ◌-◌, ◌^◌, Err, IfErr, IfOk, map};
+ghost use Rattle.arrivals.specs.Replays.{IsFailure, IsReplay};
+ghost use Rattle.arrivals.specs.declared.failure.Failure.{Failure};
+
+use crate::failure::Failure;
+use crate::line::{Line, read_line};
+use rj_csv_io::{Input, Output, ReadRefused, read_all};
+use rj_fault::Fault;
+use rj_script::arrivals;
+use std::alloc::Global;
+
+// Reads the words after the program's name, and then the script, and puts the answers. Returns
+// whether every line of the script was readable.
+pub fn replay<I: Input, W: Output>(
+    alloc: Global,
+    words: &[&str],
+    input: &mut I,
+    writer: &mut W,
+) -> Result<bool, Failure>
+    requires reads { I.count input.old < 2 ^ 64 - 1 }
+    requires writes { W.count writer.old < 2 ^ 64 - 1 }
+    ensures replay { IfOk result (IsReplay (map (λ w. w.now) words.now) (I.tells input.old) (W.told writer.old) (W.told writer.new)) }
+    ensures failure { IfErr result (IsFailure (map (λ w. w.now) words.now)) }
+    ensures read { result ≡ Err Failure.ReadDevice → I.count input.new ≡ I.count input.old + 1 }
+    ensures written { result ≡ Err Failure.WriteDevice → W.count writer.new ≡ W.count writer.old + 1 }
+    ensures kept { result ≢ Err Failure.WriteDevice → W.count writer.new ≡ W.count writer.old }
+{
+    let Line {
+        partition,
+        senders,
+        block,
+        gaps,
+    } = match read_line(alloc, words) {
+        Ok(line) => line,
+        Err(failure) => return Err(failure),
+    };
+    let script = match read_all(alloc, input) {
+        Ok(script) => script,
+        Err(ReadRefused::Memory) => return Err(Failure::Memory),
+        Err(_) => return Err(Failure::ReadDevice),
+    };
+    match arrivals(
+        alloc,
+        script.as_slice(),
+        partition,
+        senders,
+        block,
+        gaps,
+        writer,
+    ) {
+        Ok(readable) => Ok(readable),
+        Err(Fault::Memory) => Err(Failure::Memory),
+        Err(_) => Err(Failure::WriteDevice),
+    }
+}
