@@ -46,15 +46,15 @@ IsAskedFault line l r f = (line.count ≡ false → IsRunFault l r line.request 
 abbrev pub AreGiven : Line → List ℕ → List ℕ → List ℕ → List ℕ → Type 0
 AreGiven line l r given_l given_r = IsGiven line side.Left l given_l × IsGiven line side.Right r given_r
 
--- the line by which two tables' bytes are joined: this one or, if it takes types from their cells, with some further entries
-abbrev pub IsCompletedLine : Line → Line → Type 0
-IsCompletedLine line joined = IsCompleted line.request joined.request × (record joined { request = line.request } ≡ line)
+-- the line by which two tables' bytes are joined: this one, or with the types that it takes from their cells
+abbrev pub IsCompletedLine : List ℕ → List ℕ → Line → Line → Type 0
+IsCompletedLine l r line joined = IsCompleted l r line.request joined.request × (record joined { request = line.request } ≡ line)
 
 -- the same of the bytes of two streams, or of what stands for them
 abbrev pub WritesOf : Line → Option (List ℕ) → Option (List ℕ) → Option (List ℕ) → Option (List ℕ) → Written → Type 0
 WritesOf line left right before after written =
     (l r given_l given_r : List ℕ) × AreBytesOf left l × AreBytesOf right r × AreGiven line l r given_l given_r
-    × ((joined : Line) × IsCompletedLine line joined × WritesAsked joined given_l given_r before after written)
+    × ((joined : Line) × IsCompletedLine given_l given_r line joined × WritesAsked joined given_l given_r before after written)
 
 -- it was written to some writer, which may tell nothing
 abbrev pub IsWrittenOf : Line → Option (List ℕ) → Option (List ℕ) → Written → Type 0
@@ -66,7 +66,7 @@ abbrev pub IsFaultOf : Line → Option (List ℕ) → Option (List ℕ) → Faul
 IsFaultOf line left right f =
     IsOfWriting f ⊎ (IsUnread side.Left f ⊎ (IsUnread side.Right f
     ⊎ ((l r given_l given_r : List ℕ) × AreBytesOf left l × AreBytesOf right r × AreGiven line l r given_l given_r
-    × ((joined : Line) × IsCompletedLine line joined × IsAskedFault joined given_l given_r f))))
+    × ((joined : Line) × IsCompletedLine given_l given_r line joined × IsAskedFault joined given_l given_r f))))
 
 -- what a file's bytes suggest, read by a delimiter and as strictly as this
 abbrev pub IsSuggestedBy : Strictness → ℕ → List ℕ → List (List ℕ) → Suggestion → Type 0

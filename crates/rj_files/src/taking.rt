@@ -51,7 +51,7 @@ pub(crate) fn complete_line<R: AllocGlobal + Clock + Eprint>(
     progress: &Progress<'_, R>,
     tables: &Tables,
 ) -> Result<(), Fault>
-    ensures completed { OnOk result (IsCompletedLine line.old line.new) }
+    ensures completed { OnOk result (IsCompletedLine tables.now.left.items tables.now.right.items line.old line.new) }
     ensures fault { IfErr result (λ f. f ≡ Fault.Memory) }
 {
     let (lefts, rights) = (

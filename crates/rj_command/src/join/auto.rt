@@ -1,29 +1,35 @@
 //! The types that a request takes from cells.
 
-ghost use Rattle.std.specs.Prelude.{◌≡◌, ◌<◌, ◌∷◌, ◌++◌, [], false, true, is_some, length, IfOk, IsTrue, List, MatchOption, Ok, OnOk, replicate, take};
+ghost use Rattle.std.specs.Prelude.{◌≡◌, ◌≢◌, ◌<◌, ◌∷◌, ◌++◌, [], ℕ, false, true, is_some, length, IfOk, IsErr, IsTrue, List, MatchOption, Ok, OnOk, Some, replicate, slice_get, take};
 ghost use Rattle.std.specs.Option.{option_to_list};
 ghost use Rattle.csv.specs.Reading.{records, strip_bom};
 ghost use Rattle.rj_columns.specs.Names.{empty_table};
 ghost use Rattle.rj_columns.specs.Tables.{TableValue};
 ghost use Rattle.rj_csv_io.specs.Pieces.{names_in};
 ghost use Rattle.rj_columns.specs.declared.cell.ColumnType.{ColumnType};
+ghost use Rattle.rj_condition.specs.Bound.{bound};
+ghost use Rattle.rj_condition.specs.Clauses.{HasClause};
 ghost use Rattle.rj_condition.specs.Undeclared.{undeclared_in};
+ghost use Rattle.rj_condition.specs.declared.tree.Clause.{Clause};
 ghost use Rattle.rj_strict.specs.Reading.{config_of};
+ghost use Rattle.rj_types.specs.declared.entry.TypeEntry.{TypeEntry};
 ghost use Rattle.rj_command.specs.Auto as auto;
-ghost use Rattle.rj_command.specs.Auto.{AreKindsIn, HasFurther, HasSomeFurther, IsCompleted, IsNumberTable, entry_for, table_of};
+ghost use Rattle.rj_command.specs.Auto.{AreKinds, AreKindsIn, AreStrictKinds, AreSuggestedEntries, HasFurther, IsBound, IsCompleted, IsNumberTable, TakesTypes, entries_from, entry_at, entry_for, table_of};
 ghost use Rattle.rj_command.specs.Sides.{delimiter_of, has_lawful_nulls, nulls_of};
 
 use crate::join::headers::header_table;
 use crate::join::nulls::{delimiter_of, has_lawful_nulls, nulls_of};
-use crate::join::operands::bind_clause;
 use crate::join::types::types_of;
 use crate::join::undeclared::{is_open, is_undeclared};
 use rj_columns::{ColumnType, Table};
-use rj_condition::{Clause, Columns, Name, ParseRefused, Word, first_undeclared, parse};
+use rj_condition::{
+    BindRefused, BoundJoin, Clause, Columns, Name, ParseRefused, Word, bind, first_undeclared,
+    one_clause, parse,
+};
 use rj_csv_io::{Header, InputFormat, ReadRefused, without_bom};
-use rj_fault::{Fault, Side};
+use rj_fault::Side;
 use rj_line::{Request, Strictness};
-use rj_strict::{Header as Grammar, check, quote_empty_lines};
+use rj_strict::{Header as Grammar, check, quote_empty_lines, reads_quoted_records};
 use rj_suggest::suggested_kinds;
 use rj_types::{Label, TypeEntry, is_open as says_not_all};
 use std::alloc::{AllocError, Global};
@@ -57,7 +63,12 @@ fn kinds_of_strict_text(
     request: &Request<'_>,
     side: Side,
     full: bool,
-) -> Result<Option<Vec<ColumnType>>, AllocError> {
+) -> Result<Option<Vec<ColumnType>>, AllocError>
+    ensures { IfOk result (λ o. MatchOption o
+        ((kinds : List ColumnType) → AreStrictKinds full request.now side text.now kinds → ⊥)
+        (λ v. AreStrictKinds full request.now side text.now v.items)) }
+{
+    reads_quoted_records();
     let delimiter = delimiter_of(request, side);
     if check(text, delimiter, Grammar::First, full).is_err() {
         return Ok(None);
@@ -72,7 +83,11 @@ fn kinds_of(
     text: &[u8],
     request: &Request<'_>,
     side: Side,
-) -> Result<Option<Vec<ColumnType>>, AllocError> {
+) -> Result<Option<Vec<ColumnType>>, AllocError>
+    ensures { IfOk result (λ o. MatchOption o
+        ((kinds : List ColumnType) → AreKinds request.now side text.now kinds → ⊥)
+        (λ v. AreKinds request.now side text.now v.items)) }
+{
     match request.strict {
         Strictness::Off => kinds_of_text(alloc, text, request, side),
         Strictness::On => kinds_of_strict_text(alloc, text, request, side, false),
@@ -195,6 +210,16 @@ fn entry_for(alloc: Global, name: &str, kind: ColumnType) -> Result<TypeEntry, A
     })
 }
 
+// The type at a place, if there is one.
+fn kind_at(kinds: &[ColumnType], column: usize) -> Option<ColumnType>
+    ensures { result ≡ slice_get kinds.now column }
+{
+    match kinds.get(column) {
+        Some(kind) => Some(*kind),
+        None => None,
+    }
+}
+
 // The entry of a column, if the clause compares it and no list says anything of it.
 fn entry_at(
     alloc: Global,
@@ -205,6 +230,8 @@ fn entry_at(
     column: usize,
 ) -> Result<Option<TypeEntry>, AllocError>
     requires { column < length (table_of compared.now.left.now compared.now.right.now side).types }
+    ensures { IfOk result (λ o. (name : List ℕ) × (slice_get (table_of compared.now.left.now compared.now.right.now side).names column ≡ Some name)
+        × (o ≡ entry_at request.now side (auto.compares compared.now.left.now compared.now.right.now compared.now.clause.now side) kinds.now column name)) }
 {
     let name = compared.table(side).name(column);
     if !is_undeclared(leaves_open(request, side), types_of(request, side), name) {
@@ -213,8 +240,8 @@ fn entry_at(
     if !compared.compares(alloc, side, column)? {
         return Ok(None);
     }
-    match kinds.get(column) {
-        Some(kind) => Ok(Some(entry_for(alloc, name, *kind)?)),
+    match kind_at(kinds, column) {
+        Some(kind) => Ok(Some(entry_for(alloc, name, kind)?)),
         None => Ok(None),
     }
 }
@@ -236,7 +263,11 @@ fn entries_of(
     request: &Request<'_>,
     side: Side,
     kinds: &[ColumnType],
-) -> Result<Vec<TypeEntry>, AllocError> {
+) -> Result<Vec<TypeEntry>, AllocError>
+    ensures { IfOk result (λ v. v.items ≡ entries_from request.now side
+        (auto.compares compared.now.left.now compared.now.right.now compared.now.clause.now side) kinds.now 0
+        (table_of compared.now.left.now compared.now.right.now side).names) }
+{
     let mut entries = Vec::new(alloc);
     for i in 0..compared.table(side).columns() {
         push_some(
@@ -261,7 +292,15 @@ fn entries_by(
     left: &[u8],
     right: &[u8],
     request: &Request<'_>,
-) -> Result<Option<Entries>, AllocError> {
+) -> Result<Option<Entries>, AllocError>
+    requires lawful { IsTrue (has_lawful_nulls request.now) }
+    requires clause { HasClause request.now.clause.now compared.now.clause.now }
+    requires left { IsNumberTable (delimiter_of request.now Side.Left) left.now compared.now.left.now }
+    requires right { IsNumberTable (delimiter_of request.now Side.Right) right.now compared.now.right.now }
+    ensures { IfOk result (λ o. MatchOption o
+        ((lefts rights : List TypeEntry) → AreSuggestedEntries left.now right.now request.now lefts rights → ⊥)
+        (λ e. AreSuggestedEntries left.now right.now request.now e.left.items e.right.items)) }
+{
     let Some(left_kinds) = kinds_of(alloc, left, request, Side::Left)? else {
         return Ok(None);
     };
@@ -279,17 +318,43 @@ fn entries_by(
     Ok(Some(Entries { left, right }))
 }
 
+// Fails if a text was refused since memory ran out.
+fn refuse_memory(refused: ParseRefused) -> Result<(), AllocError>
+    ensures { OnOk result (refused ≢ ParseRefused.Memory) }
+{
+    match refused {
+        ParseRefused::Memory => Err(AllocError),
+        _ => Ok(()),
+    }
+}
+
+// The clause of a text; none if the text has an error.
+fn clause_of(alloc: Global, text: &str) -> Result<Option<Clause>, AllocError>
+    ensures { IfOk result (λ o. MatchOption o ((c : Clause) → HasClause text.now c → ⊥) (HasClause text.now)) }
+{
+    match parse(alloc, text) {
+        Ok(clause) => Ok(Some(clause)),
+        Err(refused) => {
+            refuse_memory(refused)?;
+            Ok(None)
+        }
+    }
+}
+
 // The entries that the cells of both files suggest; none if a file or the clause has an error.
 fn suggested(
     alloc: Global,
     left: &[u8],
     right: &[u8],
     request: &Request<'_>,
-) -> Result<Option<Entries>, AllocError> {
-    let clause = match parse(alloc, request.clause) {
-        Ok(clause) => clause,
-        Err(ParseRefused::Memory) => return Err(AllocError),
-        Err(_) => return Ok(None),
+) -> Result<Option<Entries>, AllocError>
+    requires { IsTrue (has_lawful_nulls request.now) }
+    ensures { IfOk result (λ o. MatchOption o
+        ((lefts rights : List TypeEntry) → AreSuggestedEntries left.now right.now request.now lefts rights → ⊥)
+        (λ e. AreSuggestedEntries left.now right.now request.now e.left.items e.right.items)) }
+{
+    let Some(clause) = clause_of(alloc, request.clause)? else {
+        return Ok(None);
     };
     let Some(left_table) = number_table(alloc, left, request, Side::Left)? else {
         return Ok(None);
@@ -305,6 +370,22 @@ fn suggested(
     entries_by(alloc, &compared, left, right, request)
 }
 
+// A clause bound to two tables; none if it has an error over them.
+fn join_of(
+    alloc: Global,
+    clause: &Clause,
+    left: &Table,
+    right: &Table,
+) -> Result<Option<BoundJoin>, AllocError>
+    ensures { IfOk result (λ o. MatchOption o (IsErr (bound clause.now left.now right.now)) (λ join. bound clause.now left.now right.now ≡ Ok join)) }
+{
+    match bind(alloc, clause, left, right) {
+        Ok(join) => Ok(Some(join)),
+        Err(BindRefused::Memory) => Err(AllocError),
+        Err(_) => Ok(None),
+    }
+}
+
 // Whether the clause of a request is bound to the headers of both files.
 fn is_bound(
     alloc: Global,
@@ -313,17 +394,22 @@ fn is_bound(
     request: &Request<'_>,
 ) -> Result<bool, AllocError>
     requires { IsTrue (has_lawful_nulls request.now) }
+    ensures bound { IfOk result (λ b. b ≡ true → IsBound left.now right.now request.now) }
+    ensures unbound { IfOk result (λ b. b ≡ false → IsBound left.now right.now request.now → ⊥) }
 {
+    one_clause();
+    let Some(clause) = clause_of(alloc, request.clause)? else {
+        return Ok(false);
+    };
     let Some(left) = header_table(alloc, left, request, Side::Left)? else {
         return Ok(false);
     };
     let Some(right) = header_table(alloc, right, request, Side::Right)? else {
         return Ok(false);
     };
-    match bind_clause(alloc, request.clause, &left, &right) {
-        Ok(_) => Ok(true),
-        Err(Fault::Memory) => Err(AllocError),
-        Err(_) => Ok(false),
+    match join_of(alloc, &clause, &left, &right)? {
+        Some(_join) => Ok(true),
+        None => Ok(false),
     }
 }
 
@@ -351,14 +437,13 @@ fn cut_entries(request: &mut Request<'_>, lefts: usize, rights: usize)
 }
 
 // Puts the entries that cells suggest behind the lists of a request, if its clause is bound by them.
-#[tactic(auto, using(crate::proofs::AutoFacts::none_further, crate::proofs::AutoFacts::cut_further))]
 fn take_suggested(
     alloc: Global,
     left: &[u8],
     right: &[u8],
     request: &mut Request<'_>,
 ) -> Result<(), AllocError>
-    ensures { OnOk result (HasSomeFurther request.old request.new) }
+    ensures { OnOk result (TakesTypes left.now right.now request.old request.new) }
 {
     if !has_lawful_nulls(request) {
         return Ok(());
@@ -366,7 +451,8 @@ fn take_suggested(
     let Some(entries) = suggested(alloc, left, right, request)? else {
         return Ok(());
     };
-    let (lefts, rights) = (request.left_types.len(), request.right_types.len());
+    let lefts = request.left_types.as_slice().len();
+    let rights = request.right_types.as_slice().len();
     add_entries(request, entries)?;
     if is_bound(alloc, left, right, request)? {
         return Ok(());
@@ -380,20 +466,18 @@ fn take_suggested(
 /// list says anything. A clause compares a column where its type matters: by an order, or with
 /// anything but a text literal. The types are those of `--suggest-types`. If the clause can't be
 /// bound to both headers by them, no type is taken, nor if the clause or a file has an error. Any
-/// other request stays as it is. The clause says that nothing but entries behind the lists is new;
-/// which entries these are is tested.
+/// other request stays as it is.
 ///
 /// # Errors
 ///
 /// It fails only when memory runs out. Then some of the entries may be there.
-#[tactic(auto, using(crate::proofs::AutoFacts::none_further))]
 pub fn complete_types(
     alloc: Global,
     left: &[u8],
     right: &[u8],
     request: &mut Request<'_>,
 ) -> Result<(), AllocError>
-    ensures { OnOk result (IsCompleted request.old request.new) }
+    ensures { OnOk result (IsCompleted left.now right.now request.old request.new) }
 {
     if !request.auto_types {
         return Ok(());

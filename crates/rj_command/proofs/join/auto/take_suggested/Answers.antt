@@ -1,18 +1,20 @@
-use Rattle.std.proofs.Common.{◌≡◌, [], length, rules, subst, take}
+use Rattle.std.proofs.Common.{◌∙◌, ap, length, take}
+use Rattle.rj_command.specs.Auto.{taken, unbound}
 use Rattle.rj_command.proofs.AutoFacts.{cut_further}
 use Rattle.rj_command.proofs.join.auto.take_suggested.Goals as goal
 
+pub returns-then-branch : goal.returns-then-branch
+returns-then-branch c =
+    let found = rw c.in-Some.is at c.in_ok-entries.ensures in
+    taken c.in-Some.entries.left.items c.in-Some.entries.right.items found c.in_ok-add_entries.ensures (c.in_ok-is_bound.ensures.bound c.if-branch.true)
+
 pub returns : goal.returns
 returns c =
-    let q = c.args.request.now in
+    let found = rw c.in-Some.is at c.in_ok-entries.ensures in
+    let lefts = c.in-Some.entries.left.items in
+    let rights = c.in-Some.entries.right.items in
     let full = c.add_entries.new.request in
-    let p = c.cut_entries.new.request in
-    let lefts : c.len-lefts.result ≡ length q.left_types.items = search rules in
-    let rights : c.len-rights.result ≡ length q.right_types.items = search rules in (
-      [],
-      [],
-      cut_further q full p _ _ c.in_ok-add_entries.ensures
-          (subst (λ n. p.left_types.items ≡ take n full.left_types.items) lefts c.cut_entries.ensures.left)
-          (subst (λ n. p.right_types.items ≡ take n full.right_types.items) rights c.cut_entries.ensures.right)
-          c.cut_entries.ensures.same,
-    )
+    unbound lefts rights full found c.in_ok-add_entries.ensures (c.in_ok-is_bound.ensures.unbound c.if-branch.false)
+    (cut_further c.args.request.now full c.cut_entries.new.request lefts rights c.in_ok-add_entries.ensures
+    (c.cut_entries.ensures.left ∙ ap (λ xs. take (length xs) full.left_types.items) c.as_slice-lefts.ensures.value)
+    (c.cut_entries.ensures.right ∙ ap (λ xs. take (length xs) full.right_types.items) c.as_slice-rights.ensures.value) c.cut_entries.ensures.same)
