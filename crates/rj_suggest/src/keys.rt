@@ -1,19 +1,23 @@
 //! Columns that can be a key of their table, and what is listed of these.
 
 ghost use Rattle.std.specs.Prelude.{◌≡◌, ◌≢◌, ◌<◌, ◌↔◌, ◌++◌, [], Err, Ok, Some, if◌then◌else◌, length, slice_get, true, IfErr, IfOk, OnOk};
+ghost use Rattle.csv.specs.Reading.{records, strip_bom};
 ghost use Rattle.rj_columns.specs.Contents.{IsInLimits, content_of};
 ghost use Rattle.rj_columns.specs.Tables.{TableValue};
 ghost use Rattle.rj_csv_io.specs.Tables.{read_of};
 ghost use Rattle.rj_csv_io.specs.Typed.{null_texts};
-ghost use Rattle.rj_suggest.specs.Keys.{AreKeyMisfits, AreKeys, IsKeyColumn, IsKeyMisfit, key_lines, units_in};
-ghost use Rattle.rj_suggest.specs.Suggested.{column_line};
+ghost use Rattle.rj_strict.specs.Reading.{config_of};
+ghost use Rattle.rj_suggest.specs.Keys.{AreKeyMisfits, AreKeys, IsKeyColumn, IsKeyMisfit, IsKeySuggestionOf, key_lines, units_in};
+ghost use Rattle.rj_suggest.specs.Suggested.{IsSuggestFault, column_line};
 
 use crate::columns::text_at;
 use crate::misfits::misfit_of;
-use crate::suggestion::Misfit;
+use crate::read_columns;
+use crate::suggestion::{Misfit, Suggestion};
 use crate::writing::push_line;
 use rj_columns::{Cell, ColumnType, Table};
 use rj_csv_io::{InputFormat, ReadRefused, read_table};
+use rj_fault::{Fault, Side, fault_of_read};
 use std::alloc::{AllocError, Global};
 use std::collections::HashSet;
 
@@ -91,7 +95,7 @@ fn keys_of(alloc: Global, table: &Table) -> Result<Vec<bool>, AllocError>
 }
 
 // The same of a file that is read with these types.
-pub(crate) fn keys_of_file(
+fn keys_of_file(
     alloc: Global,
     bytes: &[u8],
     kinds: &[ColumnType],
@@ -130,7 +134,7 @@ fn push_key_line(
 }
 
 // A line for each column of a table that can be a key, with its name and one of the types, in order.
-pub(crate) fn lines_of_keys(
+fn lines_of_keys(
     alloc: Global,
     table: &Table,
     kinds: &[ColumnType],
@@ -164,7 +168,7 @@ fn misfit_of_key(
 }
 
 // That cell of each column of a table that can be a key, in order, and none of the others.
-pub(crate) fn misfits_of_keys(
+fn misfits_of_keys(
     alloc: Global,
     table: &Table,
     keys: &[bool],
@@ -178,4 +182,27 @@ pub(crate) fn misfits_of_keys(
         misfits.push(misfit)?;
     }
     Ok(misfits)
+}
+
+// What the cells of a file suggest of the columns that can be a key of its table.
+pub(crate) fn suggest_keys(
+    alloc: Global,
+    bytes: &[u8],
+    format: &InputFormat<'_>,
+) -> Result<Suggestion, Fault>
+    ensures suggestion { IfOk result (IsKeySuggestionOf (records (config_of format.now.delimiter) (strip_bom bytes.now)) (null_texts format.now.nulls.now)) }
+    ensures fault { IfErr result (λ f. f ≢ Fault.Memory → IsSuggestFault format.now.delimiter bytes.now (null_texts format.now.nulls.now) f) }
+{
+    let (table, kinds) = match read_columns(alloc, bytes, format) {
+        Ok(read) => read,
+        Err(refused) => return Err(fault_of_read(Side::Left, refused)),
+    };
+    let keys = match keys_of_file(alloc, bytes, kinds.as_slice(), format) {
+        Ok(keys) => keys,
+        Err(refused) => return Err(fault_of_read(Side::Left, refused)),
+    };
+    Ok(Suggestion {
+        list: lines_of_keys(alloc, &table, kinds.as_slice(), keys.as_slice())?,
+        misfits: misfits_of_keys(alloc, &table, keys.as_slice())?,
+    })
 }

@@ -7,7 +7,7 @@ ghost use Rattle.csv.specs.Reading.{records, strip_bom};
 ghost use Rattle.rj_columns.specs.Tables.{TableValue};
 ghost use Rattle.rj_csv_io.specs.Typed.{null_texts};
 ghost use Rattle.rj_strict.specs.Reading.{config_of};
-ghost use Rattle.rj_suggest.specs.Keys.{IsKeySuggestionOf, IsListing};
+ghost use Rattle.rj_suggest.specs.Keys.{IsListing};
 ghost use Rattle.rj_suggest.specs.Misfits.{IsSuggestion};
 ghost use Rattle.rj_suggest.specs.Suggested.{AreKindsOf, IsSuggestFault, read_as_texts, texts_for};
 
@@ -24,7 +24,7 @@ mod writing;
 
 use crate::columns::kinds_of;
 pub use crate::entries::list_of_entries;
-use crate::keys::{keys_of_file, lines_of_keys, misfits_of_keys};
+use crate::keys::suggest_keys;
 pub use crate::listed::list_of_lines;
 use crate::misfits::misfits_of;
 pub use crate::numeral::{are_digits, is_unsigned_text, place_of_point, without_sign};
@@ -140,25 +140,6 @@ pub fn suggest_types(
     Ok(Suggestion {
         list: lines_of(alloc, &table, kinds.as_slice())?,
         misfits: misfits_of(alloc, &table)?,
-    })
-}
-
-// What the cells of a file suggest of the columns that can be a key of its table.
-fn suggest_keys(alloc: Global, bytes: &[u8], format: &InputFormat<'_>) -> Result<Suggestion, Fault>
-    ensures suggestion { IfOk result (IsKeySuggestionOf (records (config_of format.now.delimiter) (strip_bom bytes.now)) (null_texts format.now.nulls.now)) }
-    ensures fault { IfErr result (λ f. f ≢ Fault.Memory → IsSuggestFault format.now.delimiter bytes.now (null_texts format.now.nulls.now) f) }
-{
-    let (table, kinds) = match read_columns(alloc, bytes, format) {
-        Ok(read) => read,
-        Err(refused) => return Err(fault_of_read(Side::Left, refused)),
-    };
-    let keys = match keys_of_file(alloc, bytes, kinds.as_slice(), format) {
-        Ok(keys) => keys,
-        Err(refused) => return Err(fault_of_read(Side::Left, refused)),
-    };
-    Ok(Suggestion {
-        list: lines_of_keys(alloc, &table, kinds.as_slice(), keys.as_slice())?,
-        misfits: misfits_of_keys(alloc, &table, keys.as_slice())?,
     })
 }
 
