@@ -13,7 +13,7 @@ use rj_explain::Shown;
 use rj_fault::{Fault, Side};
 use rj_line::Strictness;
 use rj_suggest::{
-    ListedColumns, Misfit, StrictlyRefused, Suggestion, suggest_listed, suggest_types_strictly,
+    ListedColumns, Misfit, StrictlyRefused, Suggestion, suggest_listed, suggest_listed_strictly,
 };
 use std::alloc::Global;
 use std::io::Write;
@@ -40,7 +40,7 @@ fn suggested_strictly(
     ensures suggestion { IfOk result (IsStrictListing listed full format.now.delimiter bytes.now (null_texts format.now.nulls.now)) }
     ensures fault { IfErr result (λ f. f ≢ Fault.Memory → IsStrictlyUnsuggested full format.now.delimiter bytes.now (null_texts format.now.nulls.now) f) }
 {
-    match suggest_types_strictly(alloc, bytes, format, full, listed) {
+    match suggest_listed_strictly(alloc, bytes, format, full, listed) {
         Ok(suggestion) => Ok(suggestion),
         Err(refused) => Err(fault_of_refused(refused)),
     }
@@ -125,7 +125,7 @@ fn tell_beside<R: Eprint>(rt: &R, suggestion: &Suggestion, listed: ListedColumns
 
 /// Reads the table that a stream gives in this format, to its end, and writes a list of the types
 /// that the cells of these columns suggest after what the writer already has, as [`suggest_listed`]
-/// makes it, or, if it is to be read strictly, [`suggest_types_strictly`]. Then it prints on
+/// makes it, or, if it is to be read strictly, [`suggest_listed_strictly`]. Then it prints on
 /// standard error, for each listed column that one cell or more keep from being one of numbers, the
 /// first of these cells; or that no column can be a key, if only such columns are listed and there
 /// is none. It returns the writer.
