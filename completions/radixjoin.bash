@@ -20,6 +20,8 @@ _radixjoin() {
     # Few options go with `--suggest-types`, so it is proposed as the first word alone.
     if ((COMP_CWORD == 1)); then
         options+=" --suggest-types"
+    elif [[ " ${COMP_WORDS[*]:1:COMP_CWORD-1} " == *" --suggest-types"[\ =]* ]]; then
+        options="--null --delimiter --strict --keys-only --help"
     fi
     COMPREPLY=()
     case $before in

@@ -196,6 +196,7 @@ def bash_details(folder):
     yield "a file with a list of types", ["@left.csv"], completed_by_bash("radixjoin", ["--left-types", "@le"], folder)
     yield "suggested types, first", ["--suggest-types"], completed_by_bash("radixjoin", ["--su"], folder)
     yield "suggested types, later", [""], completed_by_bash("radixjoin", ["--stats", "--su"], folder)
+    yield "options of suggested types", ["--keys-only"], completed_by_bash("radixjoin", ["--suggest-types", "left.csv", "--k"], folder)
     yield "of which types are suggested", ["left.csv"], completed_by_bash("radixjoin", ["--suggest-types", "le"], folder)
 
 

@@ -219,6 +219,40 @@ MISFITS = [
     ("an empty line of one column, strictly", "a\n\n1\n", ["--strict", "--null=NA"], "a=text\n", ['a is text: row 1 has ""']),
 ]
 
+# The columns that can be a key, and what a line on standard error tells.
+NO_KEY = "no column is a key: each has a NULL or a repeated cell"
+KEYS = [
+    ("each column", "a,b\n1,x\n2,y\n", [], "a=int\nb=text\n", []),
+    ("a repeated number and a repeated text", "a,b,c\n1,x,1\n2,x,2\n1,y,3\n", [], "c=int\n", []),
+    ("the last two rows", "a,b\n1,3\n2,4\n3,4\n", [], "a=int\n", []),
+    ("the first row and the last one", "a,b\n7,x\n2,y\n7,z\n", [], "b=text\n", []),
+    ("a NULL", "a,b,c\n1,,x\n2,y,\n", [], "a=int\n", []),
+    ("two NULLs", "a,b\n1,\n2,\n", [], "a=int\n", []),
+    ("NULL alone in one row", "a,b\n1,\n", [], "a=int\n", []),
+    ("a text for NULL", "a,b\n1,NA\n2,x\n", ["--null=NA"], "a=int\n", []),
+    ("a text for NULL that isn't given", "a,b\n1,NA\n2,x\n", [], "a=int\nb=text\n", []),
+    ("an empty text", 'a,b\n1,""\n2,x\n', ["--null=NA"], "a=int\nb=text\n", []),
+    ("whole numbers by value", "a,b\n1,7\n2,+7\n", [], "a=int\n", []),
+    ("zero with a sign", "a,b\n1,0\n2,-0\n", [], "a=int\n", []),
+    ("numbers by value", "a,b\n1,1.5\n2,1.50\n", [], "a=int\n", []),
+    ("numbers of several scales", "a,b\n1,1.5\n2,15\n3,0.15\n", [], "a=int\nb=num(6,2)\n", []),
+    ("texts by bytes", "a\nx\nX\nx \n\u00e9\ne\u0301\n", [], "a=text\n", []),
+    ("codes are texts", "a\n7\n007\n", [], "a=text\n", ['a is text: row 2 has "007"']),
+    ("numbers of a column of texts are texts", "a\n1.5\n1.50\nx\n", [], "a=text\n", ['a is text: row 3 has "x"']),
+    ("the largest and the least number", "a\n9223372036854775807\n-9223372036854775808\n", [], "a=int\n", []),
+    ("a number that is too long", "a\n1\n1.0\n1234567890123456789.5\n", [], "a=text\n", []),
+    ("a misfit of a listed column alone", "a,b\n1,1\nx,x\n2,1\n", [], "a=text\n", ['a is text: row 2 has "x"']),
+    ("one row", "a,b\n1,x\n", [], "a=int\nb=text\n", []),
+    ("no rows", "a,b\n", [], "a=text\nb=text\n", []),
+    ("no column", "a,b\n1,\n1,x\n", [], "", [NO_KEY]),
+    ("no column of one", "a\n1\n1\n", [], "", [NO_KEY]),
+    ("a name in quotes", '"a b"\n1\n2\n', [], '"a b"=int\n', []),
+    ("semicolons", "a;b\n1;1,5\n1;2,5\n", ["-d;"], "b=text\n", []),
+    ("strictly", "a,b\n1,x\n1,y\n", ["--strict=full"], "b=text\n", []),
+    ("an empty line of one column, strictly", "a\n\n1\n", ["--strict", "--null=NA"], "a=text\n", ['a is text: row 1 has ""']),
+    ("an empty line that is NULL, strictly", "a\n\n1\n", ["--strict"], "", [NO_KEY]),
+]
+
 REFUSED = [
     ("no byte", b"", "E1 NoHeader", 3),
     ("a ragged row", b"a,b\n1,2\n3\n", "E5 RaggedRow row 2", 3),
@@ -281,14 +315,43 @@ def suggested_types(folder):
     yield "not suggested: a missing file", joined(folder, ["--suggest-types", "missing"], "E19 ReadDevice", 6)
 
 
+def suggested_keys(folder):
+    """The columns that can be a key of their table, and errors, which are those of the whole list."""
+    for label, content, words, printed, told in KEYS:
+        (folder / "keys.csv").write_text(content, newline="")
+        ran = run("radixjoin", ["--suggest-types", "keys.csv", "--keys-only", *words], folder)
+        yield f"keys only: {label}", harness.differences(ran, printed.encode(), "".join(f"radixjoin: {line}\n" for line in told).encode())
+    (folder / "keys.csv").write_text("a,b\n1,x\n2,x\n", newline="")
+    for words in (["--keys-only", "--suggest-types", "keys.csv"], ["keys.csv", "--suggest-types", "--keys-only"], ["--suggest-types=keys.csv", "--keys-only"]):
+        yield f"keys only: {words}", joined(folder, words, b"a=int\n")
+    for label, content, told, status in REFUSED:
+        (folder / "keys.csv").write_bytes(content)
+        yield f"keys only, refused: {label}", joined(folder, ["--suggest-types", "keys.csv", "--keys-only"], told, status)
+    for label, content, words, told, status in STRICT:
+        if status != 0:
+            (folder / "keys.csv").write_bytes(content)
+            yield f"keys only, refused: {words}, {label}", joined(folder, ["--suggest-types", "keys.csv", "--keys-only", *words], told, status)
+
+
+def many_keys(folder):
+    """Two columns of many rows, which differ in the last row alone."""
+    rows = 200_000
+    content = "a,b,c\n" + "".join(f"{n},{n}.5,k{n}\n" for n in range(rows))
+    (folder / "many.csv").write_text(content)
+    words = ["--suggest-types", "many.csv", "--keys-only"]
+    yield "keys only: many rows", joined(folder, words, b"a=int\nb=num(9,1)\nc=text\n")
+    (folder / "many.csv").write_text(content + f"{rows},0.50,k{rows}\n")
+    yield "keys only: a repeated last row", joined(folder, words, b"a=int\nc=text\n")
+
+
 def ends_of_suggesting(folder):
     """The command line of the mode, and an output that fails."""
     (folder / "table.csv").write_bytes(b"a\n1\n")
-    for words in ([], ["table.csv", "table.csv"], ["table.csv", "--left", "x"], ["table.csv", "--null"], ["table.csv", "--nonsense"]):
+    for words in ([], ["table.csv", "table.csv"], ["table.csv", "--left", "x"], ["table.csv", "--null"], ["table.csv", "--nonsense"], ["table.csv", "--keys-only=no"], ["table.csv", "--keys-only", "--keys-only"]):
         ran = run("radixjoin", ["--suggest-types", *words], folder)
         yield f"--suggest-types {words}", harness.differences(ran, b"", None, 2) + ([] if ran.stderr else ["nothing is told"])
     ran = run("radixjoin", ["--suggest-types", "--help"], folder)
-    lacking = [f"no {word}" for word in ("--suggest-types", "FILE", "--null", "--delimiter", "--strict") if word.encode() not in ran.stdout]
+    lacking = [f"no {word}" for word in ("--suggest-types", "FILE", "--null", "--delimiter", "--strict", "--keys-only") if word.encode() not in ran.stdout]
     yield "--suggest-types --help", lacking + harness.differences(ran, None)
     for words in (["--left", "table.csv", "--suggest-types", "table.csv"], ["--suggest-types=table.csv", "table.csv"], ["--suggest-types=table.csv", "--suggest-types"]):
         ran = run("radixjoin", words, folder)
@@ -353,6 +416,8 @@ PARTS = [
     lists_that_cannot_be_read,
     signs_that_name_no_list,
     suggested_types,
+    suggested_keys,
+    many_keys,
     ends_of_suggesting,
     suggested_lists_given,
     suggested_margins,
@@ -377,6 +442,14 @@ SWEPT = [
         b"",
         b'id=int\n"a b"=text\n',
         b'radixjoin: "a b" is text: row 2 has "x"\n',
+    ),
+    (
+        "suggested keys",
+        "radixjoin",
+        {"table.csv": b"id,a,b,c\n1,1,x,1.5\n2,1,y,\n3,z,z,2\n"},
+        ["--suggest-types", "table.csv", "--keys-only"],
+        b"",
+        b"id=int\nb=text\n",
     ),
     ("suggested types, strictly", "radixjoin", {"table.csv": b"a,b\n1,x\n"}, ["--suggest-types", "table.csv", "--strict=full"], b"", b"a=int\nb=text\n"),
     ("suggested types by tabs", "radixjoin", {"table.tsv": b"id\ta\n1\t1.5\n"}, ["--suggest-types", "table.tsv", "--delimiter=tab"], b"", b"id=int\na=num(4,1)\n"),

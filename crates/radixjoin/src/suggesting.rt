@@ -6,6 +6,7 @@ use rj_csv_io::InputFormat;
 use rj_fault::{ExitReason, Fault, tell};
 use rj_files::{NamedStream, refuse_printed, write_suggested};
 use rj_line::{Strictness, delimiter_of};
+use rj_suggest::ListedColumns;
 use std::alloc::{AllocError, Global};
 use std::fs::Files;
 use std::io;
@@ -15,13 +16,14 @@ use std::time::Clock;
 const HELP: &str = "\
 Prints types that the cells of a CSV file suggest: check them, and give them by --left-types @FILE
 
-Usage: radixjoin --suggest-types <FILE> [--null <TEXT>] [--delimiter <CHAR>] [--strict[=full]],
-       in any order
+Usage: radixjoin --suggest-types <FILE> [--null <TEXT>] [--delimiter <CHAR>] [--strict[=full]]
+                 [--keys-only], in any order
 
   <FILE>                  CSV file of a table; - is standard input
   -d, --delimiter <CHAR>  Delimiter of the file, or tab [default: a comma]
   --null <TEXT>           Text for NULL [default: an empty field]
   --strict [<HOW>]        Refuse CSV that breaks RFC 4180: on or full [default: no; on if alone]
+  --keys-only             List only columns without NULL and without equal cells
   -h, --help              Print this help
 ";
 
@@ -88,13 +90,17 @@ fn suggest_command<'a>(alloc: Global, asking: Asking) -> Result<Command<'a>, All
         .num_args(0..=1)
         .default_missing_value("on")
         .value_parser(LEVELS);
+    let keys = Arg::new(alloc, "keys-only")
+        .long("keys-only")
+        .action(ArgAction::SetTrue);
     let command = Command::new(alloc, "radixjoin")
         .override_help(HELP)
         .no_binary_name(true);
     with_file(alloc, command, asking)?
         .arg(null)?
         .arg(delimiter)?
-        .arg(strict)
+        .arg(strict)?
+        .arg(keys)
 }
 
 // How strictly the file is read.
@@ -103,6 +109,14 @@ fn strictness_of(matches: &ArgMatches<'_>) -> Strictness {
         None => Strictness::Off,
         Some("full") => Strictness::Full,
         Some(_) => Strictness::On,
+    }
+}
+
+// Which columns are listed.
+fn listed_of(matches: &ArgMatches<'_>) -> ListedColumns {
+    match matches.get_str("keys-only") {
+        Some("true") => ListedColumns::Keys,
+        _ => ListedColumns::All,
     }
 }
 
@@ -169,6 +183,7 @@ pub(crate) fn suggest<'a, R: Files + Input + AllocGlobal + Print + Eprint + Cloc
     };
     let stream = NamedStream::new(rt, name);
     let strict = strictness_of(&matches);
-    let (written, _writer) = write_suggested(rt, &stream, &format, strict, io::writer(rt));
+    let listed = listed_of(&matches);
+    let (written, _writer) = write_suggested(rt, &stream, &format, strict, listed, io::writer(rt));
     written
 }

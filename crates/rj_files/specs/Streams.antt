@@ -13,9 +13,10 @@ use Rattle.rj_fault.specs.declared.fault.Side.TheVariants as side
 use Rattle.rj_line.specs.declared.line.Line.{Line}
 use Rattle.rj_line.specs.declared.request.Strictness.{Strictness}
 use Rattle.rj_line.specs.declared.request.Strictness.TheVariants as strictness
-use Rattle.rj_suggest.specs.Misfits.{IsSuggestion}
-use Rattle.rj_suggest.specs.Strict.{IsStrictRefusal, IsStrictSuggestion}
+use Rattle.rj_suggest.specs.Keys.{IsListing}
+use Rattle.rj_suggest.specs.Strict.{IsStrictListing, IsStrictRefusal}
 use Rattle.rj_suggest.specs.Suggested.{IsSuggestFault}
+use Rattle.rj_suggest.specs.declared.suggestion.ListedColumns.{ListedColumns}
 use Rattle.rj_suggest.specs.declared.suggestion.Suggestion.{Suggestion}
 use Rattle.rj_suggest.specs.declared.strict.StrictlyRefused.{StrictlyRefused}
 use Rattle.rj_suggest.specs.declared.strict.StrictlyRefused.TheVariants as refused
@@ -68,11 +69,11 @@ IsFaultOf line left right f =
     ⊎ ((l r given_l given_r : List ℕ) × AreBytesOf left l × AreBytesOf right r × AreGiven line l r given_l given_r
     × ((joined : Line) × IsCompletedLine given_l given_r line joined × IsAskedFault joined given_l given_r f))))
 
--- what a file's bytes suggest, read by a delimiter and as strictly as this
-abbrev pub IsSuggestedBy : Strictness → ℕ → List ℕ → List (List ℕ) → Suggestion → Type 0
-IsSuggestedBy strictness.Off d bytes nulls s = IsSuggestion d bytes nulls s
-IsSuggestedBy strictness.On d bytes nulls s = IsStrictSuggestion false d bytes nulls s
-IsSuggestedBy strictness.Full d bytes nulls s = IsStrictSuggestion true d bytes nulls s
+-- what a file's bytes suggest of these columns, read by a delimiter and as strictly as this
+abbrev pub IsSuggestedBy : ListedColumns → Strictness → ℕ → List ℕ → List (List ℕ) → Suggestion → Type 0
+IsSuggestedBy listed strictness.Off d bytes nulls s = IsListing listed d bytes nulls s
+IsSuggestedBy listed strictness.On d bytes nulls s = IsStrictListing listed false d bytes nulls s
+IsSuggestedBy listed strictness.Full d bytes nulls s = IsStrictListing listed true d bytes nulls s
 
 -- the error of a file that is read strictly, as that of a left table
 abbrev pub fault_of_refused : StrictlyRefused → Fault
@@ -88,10 +89,10 @@ IsUnsuggestedBy strictness.Off d bytes nulls f = IsSuggestFault d bytes nulls f
 IsUnsuggestedBy strictness.On d bytes nulls f = IsStrictlyUnsuggested false d bytes nulls f
 IsUnsuggestedBy strictness.Full d bytes nulls f = IsStrictlyUnsuggested true d bytes nulls f
 
--- the list that a stream's bytes suggest was written after what the writer already had
-abbrev pub WritesSuggested : Strictness → ℕ → List (List ℕ) → Option (List ℕ) → Option (List ℕ) → Option (List ℕ) → Type 0
-WritesSuggested strict d nulls told before after =
-    (bytes : List ℕ) × (s : Suggestion) × AreBytesOf told bytes × IsSuggestedBy strict d bytes nulls s × Appends before after s.list.items
+-- the list that a stream's bytes suggest of these columns was written after what the writer already had
+abbrev pub WritesSuggested : ListedColumns → Strictness → ℕ → List (List ℕ) → Option (List ℕ) → Option (List ℕ) → Option (List ℕ) → Type 0
+WritesSuggested listed strict d nulls told before after =
+    (bytes : List ℕ) × (s : Suggestion) × AreBytesOf told bytes × IsSuggestedBy listed strict d bytes nulls s × Appends before after s.list.items
 
 -- why none is made: the stream can't be read, or the error of its bytes
 abbrev pub IsUnsuggested : Strictness → ℕ → List (List ℕ) → Option (List ℕ) → Fault → Type 0

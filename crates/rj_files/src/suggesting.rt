@@ -3,7 +3,7 @@
 ghost use Rattle.std.specs.Prelude.{◌≡◌, ◌≢◌, ◌⊎◌, ℕ, List, IfOk, IfErr, OnOk};
 ghost use Rattle.rj_csv_io.specs.Typed.{null_texts};
 ghost use Rattle.rj_files.specs.Streams.{AreBytesOf, IsStrictlyUnsuggested, IsSuggestedBy, IsUnsuggested, IsUnsuggestedBy, WritesSuggested, fault_of_refused};
-ghost use Rattle.rj_suggest.specs.Strict.{IsStrictSuggestion};
+ghost use Rattle.rj_suggest.specs.Strict.{IsStrictListing};
 
 use crate::progress::Progress;
 use crate::reading::{Stream, read_stream};
@@ -12,7 +12,9 @@ use rj_csv_io::{CountedWriter, InputFormat, Output};
 use rj_explain::Shown;
 use rj_fault::{Fault, Side};
 use rj_line::Strictness;
-use rj_suggest::{Misfit, StrictlyRefused, Suggestion, suggest_types, suggest_types_strictly};
+use rj_suggest::{
+    ListedColumns, Misfit, StrictlyRefused, Suggestion, suggest_listed, suggest_listed_strictly,
+};
 use std::alloc::Global;
 use std::io::Write;
 use std::time::Clock;
@@ -27,52 +29,55 @@ fn fault_of_refused(refused: StrictlyRefused) -> Fault
     }
 }
 
-// What the cells of a file suggest whose text has to be of RFC 4180's grammar.
+// What the cells of a file suggest of these columns. Its text has to be of RFC 4180's grammar.
 fn suggested_strictly(
     alloc: Global,
     bytes: &[u8],
     format: &InputFormat<'_>,
     full: bool,
+    listed: ListedColumns,
 ) -> Result<Suggestion, Fault>
-    ensures suggestion { IfOk result (IsStrictSuggestion full format.now.delimiter bytes.now (null_texts format.now.nulls.now)) }
+    ensures suggestion { IfOk result (IsStrictListing listed full format.now.delimiter bytes.now (null_texts format.now.nulls.now)) }
     ensures fault { IfErr result (λ f. f ≢ Fault.Memory → IsStrictlyUnsuggested full format.now.delimiter bytes.now (null_texts format.now.nulls.now) f) }
 {
-    match suggest_types_strictly(alloc, bytes, format, full) {
+    match suggest_listed_strictly(alloc, bytes, format, full, listed) {
         Ok(suggestion) => Ok(suggestion),
         Err(refused) => Err(fault_of_refused(refused)),
     }
 }
 
-// What the cells of a file suggest, read as strictly as this.
+// What the cells of a file suggest of these columns, read as strictly as this.
 fn suggested_by(
     alloc: Global,
     bytes: &[u8],
     format: &InputFormat<'_>,
     strict: Strictness,
+    listed: ListedColumns,
 ) -> Result<Suggestion, Fault>
-    ensures suggestion { IfOk result (IsSuggestedBy strict format.now.delimiter bytes.now (null_texts format.now.nulls.now)) }
+    ensures suggestion { IfOk result (IsSuggestedBy listed strict format.now.delimiter bytes.now (null_texts format.now.nulls.now)) }
     ensures fault { IfErr result (λ f. f ≢ Fault.Memory → IsUnsuggestedBy strict format.now.delimiter bytes.now (null_texts format.now.nulls.now) f) }
 {
     match strict {
-        Strictness::Off => suggest_types(alloc, bytes, format),
-        Strictness::On => suggested_strictly(alloc, bytes, format, false),
-        Strictness::Full => suggested_strictly(alloc, bytes, format, true),
+        Strictness::Off => suggest_listed(alloc, bytes, format, listed),
+        Strictness::On => suggested_strictly(alloc, bytes, format, false, listed),
+        Strictness::Full => suggested_strictly(alloc, bytes, format, true, listed),
     }
 }
 
-// What the cells of a stream suggest.
+// What the cells of a stream suggest of these columns.
 fn suggested<R: AllocGlobal + Eprint + Clock, S: Stream>(
     rt: &R,
     stream: &S,
     format: &InputFormat<'_>,
     strict: Strictness,
+    listed: ListedColumns,
 ) -> Result<Suggestion, Fault>
     ensures suggestion { IfOk result (λ s. (bytes : List ℕ) × AreBytesOf (S.tells stream.now) bytes
-        × IsSuggestedBy strict format.now.delimiter bytes (null_texts format.now.nulls.now) s) }
+        × IsSuggestedBy listed strict format.now.delimiter bytes (null_texts format.now.nulls.now) s) }
     ensures fault { IfErr result (IsUnsuggested strict format.now.delimiter (null_texts format.now.nulls.now) (S.tells stream.now)) }
 {
     match read_stream(rt.alloc(), stream, Side::Left, &Progress::hidden(rt)) {
-        Ok(bytes) => suggested_by(rt.alloc(), bytes.as_slice(), format, strict),
+        Ok(bytes) => suggested_by(rt.alloc(), bytes.as_slice(), format, strict, listed),
         Err(fault) => Err(fault),
     }
 }
@@ -109,11 +114,21 @@ fn tell_misfits<R: Eprint>(rt: &R, misfits: &[Option<Misfit>]) {
     }
 }
 
+// Prints on standard error what is to be told beside a list: the cells that keep its columns from
+// being of numbers, or that no column can be a key.
+fn tell_beside<R: Eprint>(rt: &R, suggestion: &Suggestion, listed: ListedColumns) {
+    tell_misfits(rt, suggestion.misfits.as_slice());
+    if matches!(listed, ListedColumns::Keys) && suggestion.list.is_empty() {
+        let _ = eprintln!(rt; "radixjoin: no column is a key: each has a NULL or a repeated cell");
+    }
+}
+
 /// Reads the table that a stream gives in this format, to its end, and writes a list of the types
-/// that its cells suggest after what the writer already has, as [`suggest_types`] makes it, or, if
-/// it is to be read strictly, [`suggest_types_strictly`]. Then it prints on standard error, for each
-/// column that one cell or more keep from being one of numbers, the first of these cells. It returns
-/// the writer.
+/// that the cells of these columns suggest after what the writer already has, as [`suggest_listed`]
+/// makes it, or, if it is to be read strictly, [`suggest_listed_strictly`]. Then it prints on
+/// standard error, for each listed column that one cell or more keep from being one of numbers, the
+/// first of these cells; or that no column can be a key, if only such columns are listed and there
+/// is none. It returns the writer.
 ///
 /// # Errors
 ///
@@ -125,24 +140,25 @@ pub fn write_suggested<R, S, W>(
     stream: &S,
     format: &InputFormat<'_>,
     strict: Strictness,
+    listed: ListedColumns,
     writer: W,
 ) -> (Result<(), Fault>, W)
 where
     R: AllocGlobal + Eprint + Clock,
     S: Stream,
     W: Write,
-    ensures written { OnOk result.0 (WritesSuggested strict format.now.delimiter (null_texts format.now.nulls.now) (S.tells stream.now) (W.contents writer) (W.contents result.1)) }
+    ensures written { OnOk result.0 (WritesSuggested listed strict format.now.delimiter (null_texts format.now.nulls.now) (S.tells stream.now) (W.contents writer) (W.contents result.1)) }
     ensures fault { IfErr result.0 (λ f. f ≢ Fault.WriteDevice → IsUnsuggested strict format.now.delimiter (null_texts format.now.nulls.now) (S.tells stream.now) f) }
     ensures unchanged { IfErr result.0 (λ f. f ≢ Fault.WriteDevice → result.1 ≡ writer) }
 {
-    let suggestion = match suggested(rt, stream, format, strict) {
+    let suggestion = match suggested(rt, stream, format, strict, listed) {
         Ok(suggestion) => suggestion,
         Err(fault) => return (Err(fault), writer),
     };
     let mut writer = CountedWriter::new(writer);
     match writer.put(suggestion.list.as_slice()) {
         Ok(()) => {
-            tell_misfits(rt, suggestion.misfits.as_slice());
+            tell_beside(rt, &suggestion, listed);
             (Ok(()), writer.into_inner())
         }
         Err(_) => (Err(Fault::WriteDevice), writer.into_inner()),

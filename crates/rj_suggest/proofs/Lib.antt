@@ -1,3 +1,4 @@
+pub mod KeyFacts
 pub mod ReadBack
 pub mod ReadTypes
 pub mod RetypedFacts

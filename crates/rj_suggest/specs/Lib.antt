@@ -3,3 +3,4 @@ pub mod Misfits
 pub mod Strict
 pub mod Suggested
 pub mod Entries
+pub mod Keys

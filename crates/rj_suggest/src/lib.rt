@@ -7,11 +7,13 @@ ghost use Rattle.csv.specs.Reading.{records, strip_bom};
 ghost use Rattle.rj_columns.specs.Tables.{TableValue};
 ghost use Rattle.rj_csv_io.specs.Typed.{null_texts};
 ghost use Rattle.rj_strict.specs.Reading.{config_of};
+ghost use Rattle.rj_suggest.specs.Keys.{IsListing};
 ghost use Rattle.rj_suggest.specs.Misfits.{IsSuggestion};
 ghost use Rattle.rj_suggest.specs.Suggested.{AreKindsOf, IsSuggestFault, read_as_texts, texts_for};
 
 mod columns;
 mod entries;
+mod keys;
 mod listed;
 mod misfits;
 mod number;
@@ -22,11 +24,12 @@ mod writing;
 
 use crate::columns::kinds_of;
 pub use crate::entries::list_of_entries;
+use crate::keys::suggest_keys;
 pub use crate::listed::list_of_lines;
 use crate::misfits::misfits_of;
 pub use crate::numeral::{are_digits, is_unsigned_text, place_of_point, without_sign};
-pub use crate::strict::{StrictlyRefused, suggest_types_strictly};
-pub use crate::suggestion::{Misfit, Suggestion};
+pub use crate::strict::{StrictlyRefused, suggest_listed_strictly, suggest_types_strictly};
+pub use crate::suggestion::{ListedColumns, Misfit, Suggestion};
 pub use crate::writing::lines_are_read_back;
 use crate::writing::lines_of;
 use rj_columns::{ColumnType, Table};
@@ -138,4 +141,26 @@ pub fn suggest_types(
         list: lines_of(alloc, &table, kinds.as_slice())?,
         misfits: misfits_of(alloc, &table)?,
     })
+}
+
+/// What the cells of a file suggest of these columns of it: of all, as [`suggest_types`], or of
+/// those that can be a key of the table. Of the lines and misfits of all columns it has those of
+/// the listed ones, in the same order. In a table without rows each column can be a key.
+///
+/// # Errors
+///
+/// Those of [`suggest_types`]. `Memory` comes only when memory ran out.
+pub fn suggest_listed(
+    alloc: Global,
+    bytes: &[u8],
+    format: &InputFormat<'_>,
+    listed: ListedColumns,
+) -> Result<Suggestion, Fault>
+    ensures suggestion { IfOk result (IsListing listed format.now.delimiter bytes.now (null_texts format.now.nulls.now)) }
+    ensures fault { IfErr result (λ f. f ≢ Fault.Memory → IsSuggestFault format.now.delimiter bytes.now (null_texts format.now.nulls.now) f) }
+{
+    match listed {
+        ListedColumns::All => suggest_types(alloc, bytes, format),
+        ListedColumns::Keys => suggest_keys(alloc, bytes, format),
+    }
 }

@@ -44,7 +44,11 @@ fn misfit_at(alloc: Global, table: &Table, row: u64, col: usize) -> Result<Misfi
 }
 
 // The first cell of a column that isn't a number, if another one is.
-fn misfit_of(alloc: Global, table: &Table, col: usize) -> Result<Option<Misfit>, AllocError>
+pub(crate) fn misfit_of(
+    alloc: Global,
+    table: &Table,
+    col: usize,
+) -> Result<Option<Misfit>, AllocError>
     requires { col < length table.now.types }
     ensures { IfOk result (IsMisfitOf table.now col) }
 {

@@ -5,12 +5,12 @@ ghost use Rattle.rj_csv_io.specs.Typed.{null_texts};
 ghost use Rattle.rj_strict.specs.Grammar.{Derives, File, records_of};
 ghost use Rattle.rj_strict.specs.Reading.{body_of};
 ghost use Rattle.rj_strict.specs.declared.header.Header.TheVariants.{First};
-ghost use Rattle.rj_suggest.specs.Misfits.{IsSuggestionOf};
-ghost use Rattle.rj_suggest.specs.Strict.{IsStrictRefusal, IsStrictSuggestion, refused_below};
+ghost use Rattle.rj_suggest.specs.Keys.{IsListingOf};
+ghost use Rattle.rj_suggest.specs.Strict.{IsStrictListing, IsStrictRefusal, IsStrictSuggestion, refused_below};
 ghost use Rattle.rj_suggest.specs.Suggested.{IsFaultOf};
 
-use crate::suggest_types;
-use crate::suggestion::Suggestion;
+use crate::suggest_listed;
+use crate::suggestion::{ListedColumns, Suggestion};
 use rj_csv_io::InputFormat;
 use rj_fault::Fault;
 use rj_strict::{Header, StrictFault, above_fault, check, quote_empty_lines, reads_quoted_records};
@@ -26,23 +26,24 @@ pub enum StrictlyRefused {
     Text(StrictFault),
 }
 
-// What all records of a text that is derived suggest. `""` is written into each of its
-// empty lines first.
+// What all records of a text that is derived suggest of these columns. `""` is written into each of
+// its empty lines first.
 fn suggest_derived(
     alloc: Global,
     text: &[u8],
     format: &InputFormat<'_>,
+    listed: ListedColumns,
 ) -> Result<Suggestion, Fault>
     requires { (full : Bool) × (file : File) × Derives format.now.delimiter First full (body_of First text.now) file }
     ensures suggestion { (full : Bool) (file : File) → Derives format.now.delimiter First full (body_of First text.now) file
-        → IfOk result (IsSuggestionOf (records_of file) (null_texts format.now.nulls.now)) }
+        → IfOk result (IsListingOf listed (records_of file) (null_texts format.now.nulls.now)) }
     ensures fault { (full : Bool) (file : File) → Derives format.now.delimiter First full (body_of First text.now) file
         → IfErr result (λ f. f ≢ Fault.Memory → IsFaultOf (records_of file) (null_texts format.now.nulls.now) f) }
 {
     reads_quoted_records();
     let _byte = format.delimiter.byte();
     let quoted = quote_empty_lines(alloc, text, format.delimiter)?;
-    suggest_types(alloc, quoted.as_slice(), format)
+    suggest_listed(alloc, quoted.as_slice(), format, listed)
 }
 
 // Why a text that isn't of the grammar suggests nothing, given the error of the records above it.
@@ -55,7 +56,7 @@ fn refused_below(fault: StrictFault, above: Option<Fault>) -> StrictlyRefused
     }
 }
 
-/// What [`suggest_types`] gives, for a file whose text has to be of RFC 4180's grammar, with the
+/// What [`suggest_listed`] gives, for a file whose text has to be of RFC 4180's grammar, with the
 /// format's delimiter in place of the comma. It goes by exactly the records of the text's one
 /// derivation. If `full` is set, the last record needs its line end.
 ///
@@ -63,6 +64,35 @@ fn refused_below(fault: StrictFault, above: Option<Fault>) -> StrictlyRefused
 ///
 /// Errors come in the order of the file: those of the records above the place where the text stops
 /// being of the grammar, and then that one. `Memory` comes only when memory ran out.
+pub fn suggest_listed_strictly(
+    alloc: Global,
+    bytes: &[u8],
+    format: &InputFormat<'_>,
+    full: bool,
+    listed: ListedColumns,
+) -> Result<Suggestion, StrictlyRefused>
+    ensures suggestion { IfOk result (IsStrictListing listed full format.now.delimiter bytes.now (null_texts format.now.nulls.now)) }
+    ensures refused { IfErr result (λ e. e ≢ StrictlyRefused.Records Fault.Memory
+        → IsStrictRefusal full format.now.delimiter bytes.now (null_texts format.now.nulls.now) e) }
+{
+    match check(bytes, format.delimiter, Header::First, full) {
+        Ok(()) => match suggest_derived(alloc, bytes, format, listed) {
+            Ok(list) => Ok(list),
+            Err(fault) => Err(StrictlyRefused::Records(fault)),
+        },
+        Err(fault) => {
+            let above = above_fault(bytes, format.delimiter, Header::First, fault);
+            let found = suggest_derived(alloc, above, format, ListedColumns::All).err();
+            Err(refused_below(fault, found))
+        }
+    }
+}
+
+/// The same of all columns: what [`suggest_types`](crate::suggest_types) gives.
+///
+/// # Errors
+///
+/// Those of [`suggest_listed_strictly`].
 pub fn suggest_types_strictly(
     alloc: Global,
     bytes: &[u8],
@@ -73,15 +103,5 @@ pub fn suggest_types_strictly(
     ensures refused { IfErr result (λ e. e ≢ StrictlyRefused.Records Fault.Memory
         → IsStrictRefusal full format.now.delimiter bytes.now (null_texts format.now.nulls.now) e) }
 {
-    match check(bytes, format.delimiter, Header::First, full) {
-        Ok(()) => match suggest_derived(alloc, bytes, format) {
-            Ok(list) => Ok(list),
-            Err(fault) => Err(StrictlyRefused::Records(fault)),
-        },
-        Err(fault) => {
-            let above = above_fault(bytes, format.delimiter, Header::First, fault);
-            let found = suggest_derived(alloc, above, format).err();
-            Err(refused_below(fault, found))
-        }
-    }
+    suggest_listed_strictly(alloc, bytes, format, full, ListedColumns::All)
 }

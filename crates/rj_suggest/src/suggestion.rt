@@ -14,8 +14,19 @@ pub struct Misfit {
 /// What the cells of a file suggest.
 #[derive(Debug, Drop)]
 pub struct Suggestion {
-    /// The list of types: a line for each column.
+    /// The list of types: a line for each listed column.
     pub list: Vec<u8>,
-    /// For each column the first cell of it that isn't a number, if another cell of it is one.
+    /// For each listed column the first cell of it that isn't a number, if another cell of it is
+    /// one. A column that isn't listed has none.
     pub misfits: Vec<Option<Misfit>>,
+}
+
+/// Which columns of a table are listed.
+#[derive(Clone, Copy)]
+pub enum ListedColumns {
+    /// All columns.
+    All,
+    /// Those that can be a key of the table: no cell is NULL, and no two rows have equal cells
+    /// (SQL-92 11.7, UNIQUE and NOT NULL). Cells compare as those of the suggested type.
+    Keys,
 }

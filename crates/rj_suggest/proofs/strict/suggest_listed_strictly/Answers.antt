@@ -7,7 +7,7 @@ use Rattle.rj_suggest.specs.Strict.{IsStrictRefusal, of_records, of_text, refuse
 use Rattle.rj_suggest.specs.declared.strict.StrictlyRefused.{StrictlyRefused}
 use Rattle.rj_suggest.specs.declared.strict.StrictlyRefused.TheVariants.{Records}
 use Rattle.rj_suggest.proofs.StrictFacts.{lines-derived, refused-by-lines}
-use Rattle.rj_suggest.proofs.strict.suggest_types_strictly.Goals as goal
+use Rattle.rj_suggest.proofs.strict.suggest_listed_strictly.Goals as goal
 
 pub suggest_derived-requires-in-Err : goal.suggest_derived-requires-in-Err
 suggest_derived-requires-in-Err c =
