@@ -53,6 +53,7 @@ impl ExplainedFault {
     /// An error of which nothing is printed: whoever reads the output has gone.
     pub(crate) fn unheard(fault: Fault) -> ExplainedFault
         ensures fault { result.fault ≡ fault }
+        ensures lines { result.lines ≡ None }
         ensures told { result.is_told ≡ false }
     {
         ExplainedFault {

@@ -1,6 +1,6 @@
 //! `--explain`: the lines that are added after the line of an error.
 
-ghost use Rattle.std.specs.Prelude.{◌≡◌, ◌≢◌, ◌↔◌, ◌<◌, IfErr, IfOk, IfSome, IsTrue, false, map, nat_eq, option_map, string_bytes, true};
+ghost use Rattle.std.specs.Prelude.{◌≡◌, ◌≢◌, ◌↔◌, ◌<◌, IfErr, IfOk, IfSome, IsTrue, None, Ok, false, map, nat_eq, option_map, string_bytes, true};
 ghost use Rattle.std.specs.IoError.{error_kind};
 ghost use Rattle.std.specs.List.{starts_with};
 ghost use Rattle.std.specs.Option.{IsSomeAnd};
@@ -87,11 +87,9 @@ pub(crate) fn ask_for_lines(words: &[&str]) -> bool
 
 // The lines that explain an error of the command line, if it can be explained and the words ask for
 // it.
-fn explain_line(
-    alloc: Global,
-    words: &[&str],
-    fault: &Fault,
-) -> Result<Option<String>, AllocError> {
+fn explain_line(alloc: Global, words: &[&str], fault: &Fault) -> Result<Option<String>, AllocError>
+    ensures unasked { ask_for_lines (map (λ w. w.now) words.now) ≡ false → result ≡ Ok None }
+{
     if !ask_for_lines(words) {
         return Ok(None);
     }
@@ -120,6 +118,7 @@ pub fn read_words_of_line<'a>(
 ) -> Result<Line<'a>, ExplainedFault>
     ensures line { IfOk result (IsLineOf processors (map (λ w. w.now) words.entry.now)) }
     ensures fault { IfErr result (λ e. IsLineFault (map (λ w. w.now) words.entry.now) e.fault) }
+    ensures unasked { ask_for_lines (map (λ w. w.now) words.entry.now) ≡ false → IfErr result (λ e. e.lines ≡ None) }
 {
     match read_line(alloc, words, processors) {
         Ok(line) => Ok(line),

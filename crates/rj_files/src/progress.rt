@@ -220,7 +220,7 @@ impl<'a, R: Clock> Progress<'a, R> {
     /// the line is quiet, and else after two seconds. If rows go to a terminal, nothing is shown
     /// once they come.
     pub fn of(rt: &'a R, line: &Line<'_>, terminals: Terminals) -> Progress<'a, R>
-        ensures runtime { result.rt ≡ rt }
+        ensures runtime { result.rt ≡ rt.entry }
         ensures cuts { result.cuts ≡ cuts_of line.now.request }
         ensures terminal { result.shares_terminal ≡ shares_terminal terminals (option_map (λ name. name.now) line.now.output) }
         ensures by_hand { result.by_hand ≡ side_by_hand terminals line.now.left.now line.now.right.now }
@@ -247,7 +247,7 @@ impl<'a, R: Clock> Progress<'a, R> {
 
     // Progress that is shown from a time of the clock on, if it is shown at all.
     fn from(rt: &'a R, from: u64, cuts: Cuts, is_shown: bool) -> Progress<'a, R>
-        ensures runtime { result.rt ≡ rt }
+        ensures runtime { result.rt ≡ rt.entry }
         ensures cuts { result.cuts ≡ cuts }
     {
         Progress {
@@ -346,7 +346,7 @@ impl<'a, R: Clock> Progress<'a, R> {
     // The line of a table that is read from the bytes of its file.
     fn table_line(&self, side: Side) -> Message {
         let bytes = self.bytes_of(side).load(Ordering::SeqCst);
-        Message::NamedStream { side, bytes }
+        Message::Table { side, bytes }
     }
 
     // The line of the rows that were handed to partitions.
