@@ -1,2 +1,3 @@
 pub mod DraftFacts
 pub mod ListFacts
+pub mod TextFacts

@@ -1,3 +1,4 @@
+pub mod Asking
 pub mod Drafts
 pub mod Given
 pub mod Entries
@@ -6,9 +7,9 @@ pub mod Explained
 pub mod Labels
 pub mod Memory
 pub mod Outputs
-pub mod Quiet
 pub mod Readers
 pub mod Shares
 pub mod Streams
 pub mod Telling
+pub mod Terminals
 pub mod Texts

@@ -65,3 +65,51 @@ likely_cause tables matches text =
     if nat_lt tables text && nat_lt matches text then codes "the text of the result"
     else (if nat_lt tables matches then codes "the matches"
     else codes "the tables, or the stacks of too many --workers")
+
+-- of a joined table with these members
+abbrev pub cause_of : Request → FileSizes → Sizes → Counts → List ℕ
+cause_of q files s c = likely_cause (bounded (files.left + files.right)) (match_bytes c) (text_bytes q files s c)
+
+abbrev pub rows_of : Counts → ℕ
+rows_of c = bounded (bounded (c.pairs + c.lone_left) + c.lone_right)
+
+-- the lines for so many rows, by the bytes of their matches and of their text, and the likely cause
+unfoldable pub joined_text : ℕ → ℕ → ℕ → List ℕ → List ℕ
+joined_text rows matches text cause = codes "  the joined table has " ++ (decimal rows ++ (codes " rows, and its matches take " ++ (size_text matches
+    ++ (10 ∷ [] ++ (codes "  the text of what is written takes about " ++ (size_text text ++ (codes ", if it has all columns"
+    ++ (10 ∷ [] ++ (codes "  so the likely cause is " ++ (cause ++ 10 ∷ []))))))))))
+
+abbrev pub members_text : Request → FileSizes → Sizes → Counts → List ℕ
+members_text q files s c = joined_text (rows_of c) (match_bytes c) (text_bytes q files s c) (cause_of q files s c)
+
+-- the line for one whose members aren't known before it is made
+abbrev pub unknown_text : FileSizes → Sizes → List ℕ
+unknown_text files s =
+    codes "  how many rows match isn't known before the join, since the clause has more than equalities" ++ (10 ∷ [] ++ (codes "  each match takes 8 bytes, and about "
+    ++ (decimal (bounded (mean_length files.left s.left_rows + mean_length files.right s.right_rows)) ++ (codes " bytes of text" ++ 10 ∷ []))))
+
+-- the lines for either
+abbrev pub told_of : Request → FileSizes → Sizes → Option Counts → List ℕ
+told_of q files s None = unknown_text files s
+told_of q files s (Some c) = members_text q files s c
+
+abbrev pub sizes_text : Request → FileSizes → Sizes → List ℕ
+sizes_text q files s = told_of q files s s.members
+
+-- the line for an error of the second reading: none, unless memory ran out once more
+abbrev pub again_text : Fault → List ℕ
+again_text fault.Memory = tables_text
+again_text _ = []
+
+-- What is told beside the files: the sizes of the tables and of their joined table, or an error for
+-- which these can't be had.
+abbrev pub IsMoreTold : Inputs → List ℕ → Type 0
+IsMoreTold inputs more =
+    ((f : Fault) × (f ≢ fault.Memory → IsFirstFault false inputs.left.now inputs.right.now inputs.request.now f) × (more ≡ again_text f))
+    ⊎ ((s : Sizes) × AreSizes inputs.left.now inputs.right.now inputs.request.now s × (more ≡ sizes_text inputs.request.now (sizes_of inputs) s))
+
+-- the lines behind its own, when two files were joined, or the rows of their joined table counted
+abbrev pub IsMemoryTold : Bool → Inputs → List ℕ → Type 0
+IsMemoryTold count inputs text =
+    ((count ≡ true) × (text ≡ files_text (sizes_of inputs)))
+    ⊎ ((count ≡ false) × ((more : List ℕ) × IsMoreTold inputs more × (text ≡ files_text (sizes_of inputs) ++ more)))

@@ -1,7 +1,12 @@
 -- About how much of a step of a run is done.
 use Rattle.std.specs.Prelude.{ℕ, ◌+◌, ◌-◌, ◌*◌, ◌/◌, ◌^◌, min, if◌then◌else◌, ◌==◌}
 use Rattle.std.specs.Int.{div_ceil}
+use Rattle.rj_line.specs.declared.request.Request.{Request}
 use Rattle.rj_files.specs.declared.progress.Cuts.{Cuts}
+
+-- into what a join cuts its tables, by its settings
+abbrev pub cuts_of : Request → Cuts
+cuts_of q = record { workers = q.settings.workers; partitions = 2 ^ q.settings.bits1; block = q.settings.block; piece = q.settings.piece }
 
 -- a number that stops at the most that 64 bits hold
 abbrev pub bounded : ℕ → ℕ

@@ -1,6 +1,6 @@
 //! Why a run ended without its output, and the lines that explain it.
 
-ghost use Rattle.std.specs.Prelude.{◌≡◌, ◌⊎◌, IfOk, IfErr, None, Some, false};
+ghost use Rattle.std.specs.Prelude.{◌≡◌, ◌⊎◌, IfOk, IfErr, None, Some, false, true};
 ghost use Rattle.rj_fault.specs.Faults.{IsAskedFor, clap_error_of, status_of};
 
 use rj_fault::{Fault, tell};
@@ -16,7 +16,7 @@ pub struct ExplainedFault {
 }
 
 impl From<Fault> for ExplainedFault {
-    ghost from_gives = { λ fault e. e.fault ≡ fault };
+    ghost from_gives = { λ fault e. (e.fault ≡ fault) × (e.lines ≡ None) × (e.is_told ≡ true) };
 
     fn from(fault: Fault) -> ExplainedFault {
         ExplainedFault {
@@ -30,7 +30,7 @@ impl From<Fault> for ExplainedFault {
 impl From<AllocError> for ExplainedFault {
     ghost use Rattle.rj_fault.specs.declared.fault.Fault.TheVariants.{Memory};
 
-    ghost from_gives = { λ _ e. e.fault ≡ Memory };
+    ghost from_gives = { λ _ e. (e.fault ≡ Memory) × (e.lines ≡ None) × (e.is_told ≡ true) };
 
     fn from(_error: AllocError) -> ExplainedFault {
         ExplainedFault::from(Fault::Memory)
@@ -43,24 +43,17 @@ impl ExplainedFault {
         ensures fault { result.fault ≡ fault }
         ensures lines { IfOk lines (λ text. result.lines ≡ Some text) }
         ensures none { IfErr lines (λ _. result.lines ≡ None) }
+        ensures told { result.is_told ≡ true }
     {
-        match lines {
-            Ok(lines) => ExplainedFault {
-                fault,
-                lines: Some(lines),
-                is_told: true,
-            },
-            Err(_) => ExplainedFault {
-                fault,
-                lines: None,
-                is_told: true,
-            },
-        }
+        let mut explained = ExplainedFault::from(fault);
+        explained.lines = lines.ok();
+        explained
     }
 
     /// An error of which nothing is printed: whoever reads the output has gone.
     pub(crate) fn unheard(fault: Fault) -> ExplainedFault
         ensures fault { result.fault ≡ fault }
+        ensures lines { result.lines ≡ None }
         ensures told { result.is_told ≡ false }
     {
         ExplainedFault {
@@ -70,16 +63,23 @@ impl ExplainedFault {
         }
     }
 
-    /// The error and the lines.
-    pub(crate) fn into_parts(self) -> (Fault, Option<String>)
-        ensures { result ≡ (self.fault, self.lines) }
+    /// The error.
+    pub(crate) fn fault(&self) -> &Fault
+        ensures { result.now ≡ self.now.fault }
+    {
+        &self.fault
+    }
+
+    /// The error alone.
+    pub(crate) fn into_fault(self) -> Fault
+        ensures { result ≡ self.fault }
     {
         let ExplainedFault {
             fault,
-            lines,
+            lines: _,
             is_told: _,
         } = self;
-        (fault, lines)
+        fault
     }
 }
 

@@ -1,17 +1,15 @@
 //! `--explain`: the lines that are added after the line of an error.
 
-ghost use Rattle.std.specs.Prelude.{◌≡◌, ◌↔◌, ◌<◌, IfErr, IfOk, IfSome, IsTrue, codes, false, length, map, option_map, string_bytes};
+ghost use Rattle.std.specs.Prelude.{◌≡◌, ◌≢◌, ◌↔◌, ◌<◌, IfErr, IfOk, IfSome, IsTrue, None, Ok, false, map, nat_eq, option_map, string_bytes, true};
 ghost use Rattle.std.specs.IoError.{error_kind};
-ghost use Rattle.std.specs.List.{list_any};
+ghost use Rattle.std.specs.List.{starts_with};
 ghost use Rattle.std.specs.Option.{IsSomeAnd};
-ghost use Rattle.std.specs.Str.{bytes_eq};
 ghost use Rattle.rj_command.specs.Sides.{delimiter_of, nulls_of};
 ghost use Rattle.rj_csv_io.specs.Typed.{null_texts};
-ghost use Rattle.rj_line.specs.Forms.{form_of, is_explained};
 ghost use Rattle.rj_line.specs.Line.{IsLineFault, IsLineOf};
+ghost use Rattle.rj_files.specs.Asking.{are_quiet, ask_for_lines, has_word, is_quiet, options_in};
 ghost use Rattle.rj_files.specs.Entries.{entry_for, is_entry_for};
 ghost use Rattle.rj_files.specs.Explained.{IsPlaceExplained, IsToldOf};
-ghost use Rattle.rj_files.specs.Quiet.{is_quiet};
 ghost use Rattle.rj_files.specs.Texts.{unkept_lines};
 
 use crate::explained::ExplainedFault;
@@ -33,45 +31,65 @@ use std::time::Clock;
 
 // Whether one of the words is this one.
 fn has_word(words: &[&str], sought: &str) -> bool
-    ensures { result ≡ list_any (λ w. bytes_eq w.now sought.now) words.now }
+    ensures { result ≡ has_word (map (λ w. w.now) words.now) sought.now }
 {
     words.iter().any(|word| *word == sought)
 }
 
-// Whether a word asks for nothing but the line of an error, alone or before further short options.
+// Whether a word begins with these bytes.
+fn begins_with(word: &str, start: &str) -> bool
+    ensures { result ≡ starts_with nat_eq word.now start.now }
+{
+    word.as_bytes().starts_with(start.as_bytes())
+}
+
+// Whether a word asks for nothing but the line of an error: by the option's name, or by its letter,
+// alone or before that of another option, whose value may stand behind it.
 fn is_quiet(word: &str) -> bool
     ensures { result ≡ is_quiet word.now }
 {
-    word == "--quiet" || word.as_bytes().starts_with("-q".as_bytes())
+    word == "--quiet"
+        || word == "-q"
+        || begins_with(word, "-qd")
+        || begins_with(word, "-qh")
+        || begins_with(word, "-qo")
+        || begins_with(word, "-qw")
+        || begins_with(word, "-qV")
 }
 
 // Whether one of the words does.
 fn are_quiet(words: &[&str]) -> bool
-    ensures { result ≡ list_any (λ w. is_quiet w.now) words.now }
+    ensures { result ≡ are_quiet (map (λ w. w.now) words.now) }
 {
     words.iter().any(|word| is_quiet(word))
 }
 
+// The words that may be options: those before `--`.
+fn options_in<'w, 'a>(words: &'w [&'a str]) -> &'w [&'a str]
+    ensures { map (λ w. w.now) result.now ≡ options_in (map (λ w. w.now) words.now) }
+{
+    let count = words.iter().take_while(|word| **word != "--").count();
+    &words[..count]
+}
+
 /// Whether the words ask for explanations.
 pub(crate) fn ask_for_lines(words: &[&str]) -> bool
-    ensures { result ≡ is_explained (form_of (map (λ w. w.now) words.now)) (list_any (λ w. bytes_eq w.now (codes "--explain")) words.now)
-        (list_any (λ w. bytes_eq w.now (codes "--terse")) words.now) (list_any (λ w. is_quiet w.now) words.now) }
+    ensures { result ≡ ask_for_lines (map (λ w. w.now) words.now) }
 {
+    let options = options_in(words);
     is_explained(
         form_of(words),
-        has_word(words, "--explain"),
-        has_word(words, "--terse"),
-        are_quiet(words),
+        has_word(options, "--explain") || has_word(options, "--explain=all"),
+        has_word(options, "--terse"),
+        are_quiet(options),
     )
 }
 
 // The lines that explain an error of the command line, if it can be explained and the words ask for
 // it.
-fn explain_line(
-    alloc: Global,
-    words: &[&str],
-    fault: &Fault,
-) -> Result<Option<String>, AllocError> {
+fn explain_line(alloc: Global, words: &[&str], fault: &Fault) -> Result<Option<String>, AllocError>
+    ensures unasked { ask_for_lines (map (λ w. w.now) words.now) ≡ false → result ≡ Ok None }
+{
     if !ask_for_lines(words) {
         return Ok(None);
     }
@@ -100,6 +118,7 @@ pub fn read_words_of_line<'a>(
 ) -> Result<Line<'a>, ExplainedFault>
     ensures line { IfOk result (IsLineOf processors (map (λ w. w.now) words.entry.now)) }
     ensures fault { IfErr result (λ e. IsLineFault (map (λ w. w.now) words.entry.now) e.fault) }
+    ensures unasked { ask_for_lines (map (λ w. w.now) words.entry.now) ≡ false → IfErr result (λ e. e.lines ≡ None) }
 {
     match read_line(alloc, words, processors) {
         Ok(line) => Ok(line),
@@ -249,6 +268,7 @@ pub(crate) fn explained<R: AllocGlobal + Threads + Wait + Clock + Sync>(
 ) -> ExplainedFault
     ensures fault { result.fault ≡ fault }
     ensures lines { IfSome result.lines (λ text. IsToldOf line.now fault inputs.now (string_bytes text)) }
+    ensures told { result.is_told ≡ true }
 {
     let lines = lines_of(rt, line, &fault, inputs);
     ExplainedFault::new(fault, lines)
@@ -273,7 +293,7 @@ pub(crate) fn unwritten(
     error: &Option<io::Error>,
 ) -> ExplainedFault
     ensures fault { result.fault ≡ fault }
-    ensures unheard { fault ≡ Fault.WriteDevice → IsSomeAnd error.now (λ e. error_kind e ≡ ErrorKind.BrokenPipe) → result.is_told ≡ false }
+    ensures unheard { (result.is_told ≡ false) ↔ ((fault ≡ Fault.WriteDevice) × IsSomeAnd error.now (λ e. error_kind e ≡ ErrorKind.BrokenPipe)) }
 {
     if is_unwritten(&fault) && has_no_reader(error) {
         return ExplainedFault::unheard(fault);
@@ -301,14 +321,11 @@ pub(crate) fn with_write_error(
     e: ExplainedFault,
     error: &Option<io::Error>,
 ) -> ExplainedFault
-    ensures { result.fault ≡ e.fault }
+    ensures fault { result.fault ≡ e.fault }
+    ensures other { e.fault ≢ Fault.WriteDevice → result ≡ e }
 {
-    let (fault, lines) = e.into_parts();
-    if is_unwritten(&fault) {
-        return unwritten(alloc, line, fault, error);
+    if !is_unwritten(e.fault()) {
+        return e;
     }
-    match lines {
-        Some(lines) => ExplainedFault::new(fault, Ok(lines)),
-        None => ExplainedFault::from(fault),
-    }
+    unwritten(alloc, line, e.into_fault(), error)
 }

@@ -1,8 +1,6 @@
 //! What a line asks for of the bytes of two tables: their joined table, or how many rows it has.
 
 ghost use Rattle.std.specs.Prelude.{◌≡◌, ◌≢◌, ◌<◌, ◌-◌, ◌^◌, IfOk, IfErr};
-ghost use Rattle.rj_command.specs.Counts.{IsCountFault, WritesCounts};
-ghost use Rattle.rj_command.specs.Runs.{IsRunFault, WritesJoined};
 ghost use Rattle.rj_files.specs.Streams.{IsAskedFault, WritesAsked};
 
 use crate::explained::ExplainedFault;
@@ -15,6 +13,7 @@ use rj_csv_io::{CountedWriter, Output};
 use rj_explain::Inputs;
 use rj_fault::Fault;
 use rj_line::Request;
+use std::convert::AsSlice;
 use std::io::Write;
 use std::sync::Wait;
 use std::thread::Threads;
@@ -52,72 +51,39 @@ impl Tables {
     }
 }
 
-// Joins two tables, and writes the joined table. Bytes are kept only where an error is explained.
-fn join_tables<R, O>(
+// Writes what the line asks for of the bytes of two tables. Bytes that it owns are freed as soon as
+// their table is there.
+fn write_bytes<R, B, O>(
     rt: &R,
     line: &Line<'_>,
     progress: &Progress<'_, R>,
-    tables: Tables,
+    left: B,
+    right: B,
     writer: &mut O,
-) -> Result<Stats, ExplainedFault>
+) -> Result<Written, Fault>
 where
     R: AllocGlobal + Eprint + Threads + Wait + Clock + Sync,
+    B: AsSlice<u8> + Drop,
     O: Output,
     requires { O.count writer.old < 2 ^ 64 - 1 }
-    ensures joined { IfOk result (WritesJoined tables.left.items tables.right.items line.now.request (O.told writer.old) (O.told writer.new)) }
-    ensures fault { IfErr result (λ e. IsRunFault tables.left.items tables.right.items line.now.request e.fault) }
-    ensures unchanged { IfErr result (λ e. e.fault ≢ Fault.WriteDevice → writer.new ≡ writer.old) }
+    ensures written { IfOk result (WritesAsked line.now (B.items left) (B.items right) (O.told writer.old) (O.told writer.new)) }
+    ensures fault { IfErr result (IsAskedFault line.now (B.items left) (B.items right)) }
+    ensures unchanged { IfErr result (λ f. f ≢ Fault.WriteDevice → writer.new ≡ writer.old) }
 {
     let (alloc, request) = (rt.alloc(), &line.request);
-    if !line.explain {
-        let Tables { left, right } = tables;
-        return match run(rt, alloc, left, right, request, progress, writer) {
-            Ok(stats) => Ok(stats),
-            Err(fault) => Err(ExplainedFault::from(fault)),
-        };
-    }
-    let inputs = tables.inputs(request);
-    let (left, right) = (inputs.left, inputs.right);
-    match run(rt, alloc, left, right, request, progress, writer) {
-        Ok(stats) => Ok(stats),
-        Err(fault) => Err(explained(rt, line, fault, &inputs)),
-    }
-}
-
-// Counts the rows of two tables' joined table, with the report, if one is asked for. Bytes are kept
-// only where an error is explained.
-fn count_tables<R, O>(
-    rt: &R,
-    line: &Line<'_>,
-    progress: &Progress<'_, R>,
-    tables: Tables,
-    writer: &mut O,
-) -> Result<Option<String>, ExplainedFault>
-where
-    R: AllocGlobal + Eprint + Threads + Wait + Clock + Sync,
-    O: Output,
-    requires { O.count writer.old < 2 ^ 64 - 1 }
-    ensures counted { IfOk result (WritesCounts tables.left.items tables.right.items line.now.request (O.told writer.old) (O.told writer.new)) }
-    ensures fault { IfErr result (λ e. IsCountFault tables.left.items tables.right.items line.now.request e.fault) }
-    ensures unchanged { IfErr result (λ e. e.fault ≢ Fault.WriteDevice → writer.new ≡ writer.old) }
-{
-    let (alloc, request) = (rt.alloc(), &line.request);
-    if !line.explain {
-        let Tables { left, right } = tables;
+    if line.count {
         return match count(rt, alloc, left, right, request, progress, writer) {
-            Ok(report) => Ok(report),
-            Err(fault) => Err(ExplainedFault::from(fault)),
+            Ok(report) => Ok(Written::Counted(report)),
+            Err(fault) => Err(fault),
         };
     }
-    let inputs = tables.inputs(request);
-    let (left, right) = (inputs.left, inputs.right);
-    match count(rt, alloc, left, right, request, progress, writer) {
-        Ok(report) => Ok(report),
-        Err(fault) => Err(explained(rt, line, fault, &inputs)),
+    match run(rt, alloc, left, right, request, progress, writer) {
+        Ok(stats) => Ok(Written::Joined(stats)),
+        Err(fault) => Err(fault),
     }
 }
 
-// Writes what the line asks for.
+// Writes what the line asks for of two tables. Bytes are kept only where an error is explained.
 fn write_asked<R, O>(
     rt: &R,
     line: &Line<'_>,
@@ -133,15 +99,17 @@ where
     ensures fault { IfErr result (λ e. IsAskedFault line.now tables.left.items tables.right.items e.fault) }
     ensures unchanged { IfErr result (λ e. e.fault ≢ Fault.WriteDevice → writer.new ≡ writer.old) }
 {
-    if line.count {
-        return match count_tables(rt, line, progress, tables, writer) {
-            Ok(report) => Ok(Written::Counted(report)),
-            Err(e) => Err(e),
+    if !line.explain {
+        let Tables { left, right } = tables;
+        return match write_bytes(rt, line, progress, left, right, writer) {
+            Ok(written) => Ok(written),
+            Err(fault) => Err(ExplainedFault::from(fault)),
         };
     }
-    match join_tables(rt, line, progress, tables, writer) {
-        Ok(stats) => Ok(Written::Joined(stats)),
-        Err(e) => Err(e),
+    let inputs = tables.inputs(&line.request);
+    match write_bytes(rt, line, progress, inputs.left, inputs.right, writer) {
+        Ok(written) => Ok(written),
+        Err(fault) => Err(explained(rt, line, fault, &inputs)),
     }
 }
 

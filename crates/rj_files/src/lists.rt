@@ -2,6 +2,7 @@
 
 ghost use Rattle.std.specs.Prelude.{◌≡◌, ◌==◌, IfErr, IfOk, MatchOption, None, false, map, string_bytes, true};
 ghost use Rattle.std.specs.List.{after_first, before_first};
+ghost use Rattle.rj_files.specs.Asking.{ask_for_lines};
 ghost use Rattle.rj_files.specs.Labels.{AreReadWords, IsListFault, IsListsFault, IsReadWord, IsUnreadOf, IsWordFault, bad_list_fault, file_label, is_file, label_of};
 
 use crate::explained::ExplainedFault;
@@ -58,6 +59,7 @@ fn with_list<R: Files + AllocGlobal>(
 ) -> Result<Option<String>, ExplainedFault>
     ensures list { IfOk result (λ o. MatchOption o (file_label None word.now ≡ None) (λ s. IsReadWord None word.now (string_bytes s))) }
     ensures fault { IfErr result (λ e. IsWordFault None word.now e.fault) }
+    ensures unasked { explain ≡ false → IfErr result (λ e. e.lines ≡ None) }
 {
     let Some((option, value)) = option_in(word) else {
         return Ok(None);
@@ -124,7 +126,8 @@ fn list_of<R: Files + AllocGlobal>(
     label: FileLabel,
     explain: bool,
 ) -> Result<String, ExplainedFault>
-    ensures { IfErr result (λ e. IsListFault label e.fault) }
+    ensures fault { IfErr result (λ e. IsListFault label e.fault) }
+    ensures unasked { explain ≡ false → IfErr result (λ e. e.lines ≡ None) }
 {
     match read_list(rt, file, label) {
         Ok(list) => Ok(list),
@@ -146,6 +149,7 @@ fn with_its_list<R: Files + AllocGlobal>(
 ) -> Result<String, ExplainedFault>
     ensures read { IfOk result (λ s. IsReadWord label (string_bytes word) (string_bytes s)) }
     ensures fault { IfErr result (λ e. IsWordFault label (string_bytes word) e.fault) }
+    ensures unasked { explain ≡ false → IfErr result (λ e. e.lines ≡ None) }
 {
     if let Some(label) = label {
         return match file_in(word.as_str()) {
@@ -160,7 +164,9 @@ fn with_its_list<R: Files + AllocGlobal>(
 }
 
 // Whether the words ask for explanations.
-fn are_explained(alloc: Global, words: &[String]) -> Result<bool, AllocError> {
+fn are_explained(alloc: Global, words: &[String]) -> Result<bool, AllocError>
+    ensures { IfOk result (λ b. b ≡ ask_for_lines (map string_bytes words.now)) }
+{
     let texts = texts_of(alloc, words)?;
     Ok(ask_for_lines(texts.as_slice()))
 }
@@ -179,6 +185,7 @@ pub fn read_lists<R: Files + AllocGlobal>(
 ) -> Result<Vec<String>, ExplainedFault>
     ensures read { IfOk result (λ v. AreReadWords None (map string_bytes words.items) (map string_bytes v.items)) }
     ensures fault { IfErr result (λ e. IsListsFault (map string_bytes words.items) e.fault) }
+    ensures unasked { ask_for_lines (map string_bytes words.items) ≡ false → IfErr result (λ e. e.lines ≡ None) }
 {
     let explain = are_explained(rt.alloc(), words.as_slice())?;
     let mut read = Vec::with_capacity(rt.alloc(), words.len())?;

@@ -2,7 +2,7 @@
 
 ghost use Rattle.std.specs.Prelude.{◌≡◌, IfOk, string_bytes};
 ghost use Rattle.rj_files.specs.Memory as memory;
-ghost use Rattle.rj_files.specs.Memory.{files_text};
+ghost use Rattle.rj_files.specs.Memory.{IsMemoryTold, IsMoreTold, files_text, members_text, sizes_text, unknown_text};
 
 use rj_command::{Line, Request, Sizes, early_sizes};
 use rj_engine::Counts;
@@ -106,6 +106,40 @@ fn likely_cause(tables: u64, matches: u64, text: u64) -> &'static str
     "the tables, or the stacks of too many --workers"
 }
 
+// The rows of a joined table.
+fn rows_of(members: Counts) -> u64
+    ensures { result ≡ memory.rows_of members }
+{
+    members
+        .pairs
+        .saturating_add(members.lone_left)
+        .saturating_add(members.lone_right)
+}
+
+// How many bytes its list of matches has.
+fn match_bytes(members: Counts) -> u64
+    ensures { result ≡ memory.match_bytes members }
+{
+    members.pairs.saturating_mul(8)
+}
+
+// The lines for so many rows, by the bytes of their matches and of their text, and the likely cause.
+#[tactic(auto, unfolding(crate::specs::Memory::joined_text))]
+fn joined_lines(
+    alloc: Global,
+    rows: u64,
+    matches: u64,
+    text: u64,
+    cause: &str,
+) -> Result<String, AllocError>
+    ensures { IfOk result (λ s. string_bytes s ≡ memory.joined_text rows matches text cause.now) }
+{
+    let (matches, text) = (size_text(alloc, matches)?, size_text(alloc, text)?);
+    format!(in alloc;
+        "  the joined table has {rows} rows, and its matches take {matches}\n  the text of what is written takes about {text}, if it has all columns\n  so the likely cause is {cause}\n"
+    )
+}
+
 // The lines for a joined table whose members are known.
 fn members_lines(
     alloc: Global,
@@ -113,22 +147,19 @@ fn members_lines(
     files: FileSizes,
     sizes: &Sizes,
     members: Counts,
-) -> Result<String, AllocError> {
-    let rows = members
-        .pairs
-        .saturating_add(members.lone_left)
-        .saturating_add(members.lone_right);
-    let matches = members.pairs.saturating_mul(8);
+) -> Result<String, AllocError>
+    ensures { IfOk result (λ s. string_bytes s ≡ members_text request.now files sizes.now members) }
+{
+    let (rows, matches) = (rows_of(members), match_bytes(members));
     let text = text_bytes(request, files, sizes, members);
     let cause = likely_cause(files.left.saturating_add(files.right), matches, text);
-    let (matches, text) = (size_text(alloc, matches)?, size_text(alloc, text)?);
-    format!(in alloc;
-        "  the joined table has {rows} rows, and its matches take {matches}\n  the text of what is written takes about {text}, if it has all columns\n  so the likely cause is {cause}\n"
-    )
+    joined_lines(alloc, rows, matches, text, cause)
 }
 
 // The line for a joined table whose members aren't known before it is made.
-fn unknown_line(alloc: Global, files: FileSizes, sizes: &Sizes) -> Result<String, AllocError> {
+fn unknown_line(alloc: Global, files: FileSizes, sizes: &Sizes) -> Result<String, AllocError>
+    ensures { IfOk result (λ s. string_bytes s ≡ unknown_text files sizes.now) }
+{
     let left = mean_length(files.left, sizes.left_rows);
     let mean = left.saturating_add(mean_length(files.right, sizes.right_rows));
     format!(in alloc;
@@ -142,10 +173,22 @@ fn sizes_lines(
     request: &Request<'_>,
     files: FileSizes,
     sizes: &Sizes,
-) -> Result<String, AllocError> {
+) -> Result<String, AllocError>
+    ensures { IfOk result (λ s. string_bytes s ≡ sizes_text request.now files sizes.now) }
+{
     match sizes.members {
         Some(members) => members_lines(alloc, request, files, sizes, members),
         None => unknown_line(alloc, files, sizes),
+    }
+}
+
+// The line for an error of the second reading: none, unless memory ran out once more.
+fn again_line(alloc: Global, fault: &Fault) -> Result<String, AllocError>
+    ensures { IfOk result (λ s. string_bytes s ≡ memory.again_text fault.now) }
+{
+    match fault {
+        Fault::Memory => String::from_str(alloc, TABLES_TEXT),
+        _ => Ok(String::new(alloc)),
     }
 }
 
@@ -154,12 +197,14 @@ fn more_lines<R: AllocGlobal + Threads + Sync>(
     rt: &R,
     inputs: &Inputs<'_, '_>,
     files: FileSizes,
-) -> Result<String, AllocError> {
+) -> Result<String, AllocError>
+    requires { files ≡ memory.sizes_of inputs.now }
+    ensures { IfOk result (λ s. IsMoreTold inputs.now (string_bytes s)) }
+{
     let (alloc, request) = (rt.alloc(), inputs.request);
     match early_sizes(rt, alloc, inputs.left, inputs.right, request) {
         Ok(sizes) => sizes_lines(alloc, request, files, &sizes),
-        Err(Fault::Memory) => String::from_str(alloc, TABLES_TEXT),
-        Err(_) => Ok(String::new(alloc)),
+        Err(fault) => again_line(alloc, &fault),
     }
 }
 
@@ -173,7 +218,9 @@ pub(crate) fn memory_lines<R: AllocGlobal + Threads + Sync>(
     rt: &R,
     line: &Line<'_>,
     inputs: &Inputs<'_, '_>,
-) -> Result<String, AllocError> {
+) -> Result<String, AllocError>
+    ensures { IfOk result (λ s. IsMemoryTold line.now.count inputs.now (string_bytes s)) }
+{
     let files = FileSizes {
         left: inputs.left.len() as u64,
         right: inputs.right.len() as u64,

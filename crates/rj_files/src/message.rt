@@ -17,7 +17,7 @@ pub(crate) enum Message {
     /// known.
     File { side: Side, bytes: u64, size: u64 },
     /// A table is read from the bytes of a side's file.
-    NamedStream { side: Side, bytes: u64 },
+    Table { side: Side, bytes: u64 },
     /// About `done` rows of both tables were handed to partitions.
     Partitioned { done: u64, rows: u64 },
     /// About `done` rows of the larger table were joined.
@@ -97,7 +97,7 @@ impl fmt::Display for Message {
     fn fmt<W: fmt::Write>(&self, f: &mut fmt::Formatter<W>) -> fmt::Result {
         match *self {
             Message::File { side, bytes, size } => write_file(f, side, bytes, size),
-            Message::NamedStream { side, bytes } => {
+            Message::Table { side, bytes } => {
                 let bytes = megabytes(bytes);
                 write!(f, "radixjoin: reading {side} table of {bytes} MB")
             }

@@ -25,7 +25,10 @@ pub struct NamedStream<'a, R> {
 
 impl<'a, R> NamedStream<'a, R> {
     /// The stream of this name.
-    pub fn new(rt: &'a R, name: &'a str) -> NamedStream<'a, R> {
+    pub fn new(rt: &'a R, name: &'a str) -> NamedStream<'a, R>
+        ensures runtime { result.rt ≡ rt.entry }
+        ensures name { result.name ≡ name.entry }
+    {
         NamedStream { rt, name }
     }
 }

@@ -1,15 +1,17 @@
 //! The progress of a run, shown on standard error if that is a terminal. No contract says when it
 //! is shown: the runs of `rj_command` meet theirs for every watch.
 
-ghost use Rattle.std.specs.Prelude.{◌≡◌};
+ghost use Rattle.std.specs.Prelude.{◌≡◌, option_map};
 ghost use Rattle.rj_files.specs.Outputs.{input_side};
-ghost use Rattle.rj_files.specs.Shares.{handed, joined, parts, share};
+ghost use Rattle.rj_files.specs.Shares.{cuts_of, handed, joined, parts, share};
+ghost use Rattle.rj_files.specs.Terminals.{shares_terminal, side_by_hand};
 
 use crate::message::{CLEARED, Message};
 use crate::named::is_standard_stream;
 use crate::outputs::output_of;
 use rj_command::{Gate, Line, Place, Step, Watch};
 use rj_fault::Side;
+use rj_line::Request;
 use std::sync::Wait;
 use std::sync::atomic::{AtomicBool, AtomicU64, Ordering};
 use std::thread::Parker;
@@ -121,6 +123,19 @@ fn stage_of(number: u64) -> Option<Stage> {
     }
 }
 
+// Into what the settings of a join cut its tables.
+fn cuts_of(request: &Request<'_>) -> Cuts
+    ensures { result ≡ cuts_of request.now }
+{
+    let settings = &request.settings;
+    Cuts {
+        workers: u64::from(settings.workers),
+        partitions: 1 << settings.bits1,
+        block: u64::from(settings.block),
+        piece: u64::from(settings.piece),
+    }
+}
+
 // How many parts of `size` rows the rows make.
 fn parts_of(rows: u64, size: u64) -> u64
     ensures { result ≡ parts rows size }
@@ -178,6 +193,17 @@ fn side_of_input(line: &Line<'_>) -> Option<Side>
     }
 }
 
+// The side of a line whose table is typed by hand, at a terminal that is standard input.
+fn side_by_hand(line: &Line<'_>, terminals: Terminals) -> Option<Side>
+    ensures { result ≡ side_by_hand terminals line.now.left.now line.now.right.now }
+{
+    if terminals.input {
+        side_of_input(line)
+    } else {
+        None
+    }
+}
+
 // The milliseconds of a clock, or 0 if it can't be read.
 fn milliseconds<R: Clock>(rt: &R) -> u64 {
     match rt.monotonic() {
@@ -193,21 +219,18 @@ impl<'a, R: Clock> Progress<'a, R> {
     /// The progress of a run that begins now. It is shown at once if the line asks for it, never if
     /// the line is quiet, and else after two seconds. If rows go to a terminal, nothing is shown
     /// once they come.
-    pub fn of(rt: &'a R, line: &Line<'_>, terminals: Terminals) -> Progress<'a, R> {
+    pub fn of(rt: &'a R, line: &Line<'_>, terminals: Terminals) -> Progress<'a, R>
+        ensures runtime { result.rt ≡ rt.entry }
+        ensures cuts { result.cuts ≡ cuts_of line.now.request }
+        ensures terminal { result.shares_terminal ≡ shares_terminal terminals (option_map (λ name. name.now) line.now.output) }
+        ensures by_hand { result.by_hand ≡ side_by_hand terminals line.now.left.now line.now.right.now }
+    {
         let patience = if line.progress { 0 } else { PATIENCE };
-        let settings = &line.request.settings;
-        let cuts = Cuts {
-            workers: u64::from(settings.workers),
-            partitions: 1u64.checked_shl(settings.bits1).unwrap_or(1),
-            block: u64::from(settings.block),
-            piece: u64::from(settings.piece),
-        };
         let from = milliseconds(rt).saturating_add(patience);
-        let mut progress = Progress::from(rt, from, cuts, terminals.error && !line.quiet);
+        let is_shown = terminals.error && !line.quiet;
+        let mut progress = Progress::from(rt, from, cuts_of(&line.request), is_shown);
         progress.shares_terminal = terminals.output && output_of(line).is_none();
-        if terminals.input {
-            progress.by_hand = side_of_input(line);
-        }
+        progress.by_hand = side_by_hand(line, terminals);
         progress
     }
 
@@ -223,7 +246,10 @@ impl<'a, R: Clock> Progress<'a, R> {
     }
 
     // Progress that is shown from a time of the clock on, if it is shown at all.
-    fn from(rt: &'a R, from: u64, cuts: Cuts, is_shown: bool) -> Progress<'a, R> {
+    fn from(rt: &'a R, from: u64, cuts: Cuts, is_shown: bool) -> Progress<'a, R>
+        ensures runtime { result.rt ≡ rt.entry }
+        ensures cuts { result.cuts ≡ cuts }
+    {
         Progress {
             rt,
             shares_terminal: false,
@@ -320,7 +346,7 @@ impl<'a, R: Clock> Progress<'a, R> {
     // The line of a table that is read from the bytes of its file.
     fn table_line(&self, side: Side) -> Message {
         let bytes = self.bytes_of(side).load(Ordering::SeqCst);
-        Message::NamedStream { side, bytes }
+        Message::Table { side, bytes }
     }
 
     // The line of the rows that were handed to partitions.

@@ -1,0 +1,30 @@
+-- Whether the words of a command line ask for explanations of its error.
+use Rattle.std.specs.Prelude.{ℕ, ◌||◌, Bool, List, codes, nat_eq, not}
+use Rattle.std.specs.List.{list_any, starts_with, take_while}
+use Rattle.std.specs.Str.{bytes_eq}
+use Rattle.rj_line.specs.Forms.{form_of, is_explained}
+
+-- the words that may be options: those before `--`
+abbrev pub options_in : List (List ℕ) → List (List ℕ)
+options_in words = take_while (λ w. not (bytes_eq w (codes "--"))) words
+
+-- one of the words is this one
+abbrev pub has_word : List (List ℕ) → List ℕ → Bool
+has_word words sought = list_any (λ w. bytes_eq w sought) words
+
+-- a word asks for nothing but the line of an error: by the option's name, or by its letter, alone or
+-- before that of another option (a delimiter, help, a file, workers or the version)
+abbrev pub is_quiet : List ℕ → Bool
+is_quiet word =
+    bytes_eq word (codes "--quiet") || (bytes_eq word (codes "-q")
+    || (starts_with nat_eq word (codes "-qd") || (starts_with nat_eq word (codes "-qh") || (starts_with nat_eq word (codes "-qo")
+    || (starts_with nat_eq word (codes "-qw") || starts_with nat_eq word (codes "-qV"))))))
+
+abbrev pub are_quiet : List (List ℕ) → Bool
+are_quiet words = list_any is_quiet words
+
+-- the words ask for explanations: by their form and the words that may be options
+abbrev pub ask_for_lines : List (List ℕ) → Bool
+ask_for_lines words =
+    is_explained (form_of words) (has_word (options_in words) (codes "--explain") || has_word (options_in words) (codes "--explain=all"))
+    (has_word (options_in words) (codes "--terse")) (are_quiet (options_in words))
