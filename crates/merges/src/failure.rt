@@ -1,5 +1,8 @@
 //! Why nothing, or not all, was merged.
 
+ghost use Rattle.std.specs.Prelude.{◌≡◌, ◌-◌, [], IfOk, map, slice_index_or, string_bytes};
+ghost use Rattle.merges.specs.Refusals.{IsOf, IsOfMerge};
+
 use clap::Error;
 use rj_fault::ExitReason;
 use rj_merge::{MergeRefused, MergeTextsRefused, Place};
@@ -62,13 +65,19 @@ pub enum Failure {
 }
 
 impl From<AllocError> for Failure {
+    ghost use Rattle.merges.specs.declared.failure.Failure.TheVariants.{Memory};
+
+    ghost from_gives = { λ _ f. f ≡ Memory };
+
     fn from(_error: AllocError) -> Failure {
         Failure::Memory
     }
 }
 
 // The name of an input, counted from 1.
-fn name_of(alloc: Global, files: &[&str], input: u32) -> Result<String, AllocError> {
+fn name_of(alloc: Global, files: &[&str], input: u32) -> Result<String, AllocError>
+    ensures { IfOk result (λ name. string_bytes name ≡ slice_index_or (map (λ f. f.now) files.now) (input - 1) []) }
+{
     match files.get((input as usize).saturating_sub(1)) {
         Some(name) => String::from_str(alloc, name),
         None => Ok(String::new(alloc)),
@@ -109,7 +118,9 @@ impl ExitReason for Failure {
 
 impl Failure {
     // The failure of a refused merge of these files.
-    pub fn of(alloc: Global, files: &[&str], refused: MergeTextsRefused) -> Failure {
+    pub fn of(alloc: Global, files: &[&str], refused: MergeTextsRefused) -> Failure
+        ensures { IsOf (map (λ f. f.now) files.now) refused result }
+    {
         match refused {
             MergeTextsRefused::WriteDevice => Failure::WriteDevice,
             MergeTextsRefused::Merge(refused) => match Failure::of_merge(alloc, files, refused) {
@@ -119,22 +130,31 @@ impl Failure {
         }
     }
 
-    fn of_merge(
-        alloc: Global,
-        files: &[&str],
-        refused: MergeRefused,
-    ) -> Result<Failure, AllocError> {
-        let name = |input: u32| name_of(alloc, files, input);
+    fn of_merge(alloc: Global, files: &[&str], refused: MergeRefused) -> Result<Failure, AllocError>
+        ensures { IfOk result (IsOfMerge (map (λ f. f.now) files.now) refused) }
+    {
         Ok(match refused {
             MergeRefused::Memory => Failure::Memory,
-            MergeRefused::ReadDevice(input) => Failure::ReadDevice(name(input)?),
-            MergeRefused::NoHeader(input) => Failure::NoHeader(name(input)?),
-            MergeRefused::NoPlaces(input) => Failure::NoPlaces(name(input)?),
-            MergeRefused::OtherHeader(input) => Failure::OtherHeader(name(input)?),
-            MergeRefused::RaggedRow(input, row) => Failure::RaggedRow(name(input)?, row),
-            MergeRefused::BadPlace(input, row) => Failure::BadPlace(name(input)?, row),
-            MergeRefused::NoPlace(input, row) => Failure::NoPlace(name(input)?, row),
-            MergeRefused::NotInOrder(input, row) => Failure::NotInOrder(name(input)?, row),
+            MergeRefused::ReadDevice(input) => Failure::ReadDevice(name_of(alloc, files, input)?),
+            MergeRefused::NoHeader(input) => Failure::NoHeader(name_of(alloc, files, input)?),
+            MergeRefused::NoPlaces(input) => Failure::NoPlaces(name_of(alloc, files, input)?),
+            MergeRefused::OtherHeader(input) => Failure::OtherHeader(name_of(alloc, files, input)?),
+            MergeRefused::RaggedRow(input, row) => Failure::RaggedRow(
+                name_of(alloc, files, input)?,
+                row,
+            ),
+            MergeRefused::BadPlace(input, row) => Failure::BadPlace(
+                name_of(alloc, files, input)?,
+                row,
+            ),
+            MergeRefused::NoPlace(input, row) => Failure::NoPlace(
+                name_of(alloc, files, input)?,
+                row,
+            ),
+            MergeRefused::NotInOrder(input, row) => Failure::NotInOrder(
+                name_of(alloc, files, input)?,
+                row,
+            ),
             MergeRefused::RepeatedPlace(place) => Failure::RepeatedPlace(At(place)),
         })
     }
