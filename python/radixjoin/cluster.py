@@ -741,8 +741,7 @@ def _types(side: str, path: str, types: Types, delimiter: str) -> str:
 def ended_by(number: int, _: Any) -> None:
     """Ends the script where a signal asks for it: what is half made is removed, and goes on being so where one asks again."""
     for it in ENDS:
-        # (not SIG_IGN: of a signal that came already Python would tell that it is ignored)
-        signal.signal(it, lambda *_: None)
+        signal.signal(it, signal.SIG_IGN)
     # (Dask's own timers may end before they began, of which Python would tell a line on standard error)
     warnings.filterwarnings("ignore", "coroutine .* was never awaited", RuntimeWarning)
     sys.exit(128 + number)
