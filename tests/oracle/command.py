@@ -353,7 +353,8 @@ def joined(request, files):
     if request.left == request.right == "-":
         raise BadLine("radixjoin: only one of --left and --right can be standard input")
     for side in ("left", "right"):
-        if getattr(request, side) not in files:
-            raise Fault(19, "ReadDevice", side)
+        name = getattr(request, side)
+        if name not in files:
+            raise Fault(19, "ReadDevice", f"{side} {'standard input' if name == '-' else name}" if request.is_short else side)
     text, statistics, report, note = joining.run(files[request.left], files[request.right], request)
     return Ended(0, text, (statistics if request.stats else b"") + (report if request.report else b"") + (b"" if request.is_quiet else note))

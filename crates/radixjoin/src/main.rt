@@ -14,6 +14,7 @@ use rj_files::{
     ExplainedFault, NamedStream, Progress, Terminals, Written, processors, read_lists,
     read_words_of_line, refuse_inputs, tell_explained, tell_texts, write_output,
 };
+use rj_line::{Form, form_of};
 use std::env::Env;
 use std::fs::Files;
 use std::io::IsTerminal;
@@ -71,7 +72,7 @@ fn tell_joined<R: Eprint>(rt: &R, line: &Line<'_>, stats: &Stats) {
     tell_texts(rt, line, stats);
 }
 
-// Reads the words of a join, and writes what they ask for.
+// Reads words with their lists of types, and writes what they ask for.
 fn join<R: Files + Input + AllocGlobal + Print + Eprint + Threads + Wait + Clock + Sync>(
     rt: &R,
     words: Vec<String>,
@@ -113,8 +114,11 @@ fn run<R: Env + Files + Input + AllocGlobal + Print + Eprint + Threads + Wait + 
     if let Some(asking) = asking_of(words.as_slice()) {
         return tell_types(rt, words.as_slice(), asking);
     }
-    join(rt, words, terminals)?;
-    Ok(0)
+    let form = form_of(texts_of(rt.alloc(), words.as_slice())?.as_slice());
+    match join(rt, words, terminals) {
+        Ok(()) => Ok(0),
+        Err(e) => Ok(tell_explained(rt, &e, form)),
+    }
 }
 
 fn main(rt: HostRuntime) -> ExitCode {
@@ -129,6 +133,6 @@ fn main(rt: HostRuntime) -> ExitCode {
     };
     match run(&rt, terminals) {
         Ok(status) => ExitCode::from(status),
-        Err(e) => ExitCode::from(tell_explained(&rt, &e)),
+        Err(e) => ExitCode::from(tell_explained(&rt, &e, Form::Long)),
     }
 }

@@ -47,13 +47,26 @@ fn why_no_name(alloc: Global, name: &str, word: &str) -> Result<String, AllocErr
     }
 }
 
+// Whether a word that isn't one of a type looks like the name of a file.
+fn looks_like_file(word: &str) -> bool {
+    !word.starts_with("num") && (word.contains('.') || word.contains('/'))
+}
+
+// Why an entry without a name is invalid.
+fn why_no_unnamed(word: &str) -> &'static str {
+    if looks_like_file(word) {
+        return "a list that is in a file is @ and the name of the file";
+    }
+    why_no_type(word)
+}
+
 // Why an entry is invalid.
 fn why_no_entry(alloc: Global, entry: &str) -> Result<String, AllocError> {
     if is_list(alloc, entry.trim())? {
         return String::from_str(alloc, "no blank stands before or behind an entry");
     }
     let Some((name, word)) = entry.rsplit_once('=') else {
-        return String::from_str(alloc, why_no_type(entry));
+        return String::from_str(alloc, why_no_unnamed(entry));
     };
     if !is_list(alloc, word.trim())? || name.is_empty() || name.contains('"') {
         return String::from_str(alloc, why_no_type(word));

@@ -4,6 +4,7 @@ pub mod Given
 pub mod Entries
 pub mod Identities
 pub mod Explained
+pub mod FaultFiles
 pub mod Labels
 pub mod Memory
 pub mod Outputs

@@ -4,23 +4,26 @@ ghost use Rattle.std.specs.Prelude.{◌≡◌, ◌⊎◌, IfOk, IfErr, None, Som
 ghost use Rattle.rj_fault.specs.Faults.{IsAskedFor, clap_error_of, status_of};
 
 use rj_fault::{Fault, tell};
+use rj_line::Form;
 use std::alloc::AllocError;
 
-/// Why there is no output, and the lines that explain it, if there are any. If nobody reads the
-/// output any more, nothing is printed of it.
+/// Why there is no output, the file that can't be read or written, if that is why, and the lines
+/// that explain it, if there are any. If nobody reads the output any more, nothing is printed of it.
 #[derive(Drop)]
 pub struct ExplainedFault {
     fault: Fault,
+    file: Option<String>,
     lines: Option<String>,
     is_told: bool,
 }
 
 impl From<Fault> for ExplainedFault {
-    ghost from_gives = { λ fault e. (e.fault ≡ fault) × (e.lines ≡ None) × (e.is_told ≡ true) };
+    ghost from_gives = { λ fault e. (e.fault ≡ fault) × (e.file ≡ None) × (e.lines ≡ None) × (e.is_told ≡ true) };
 
     fn from(fault: Fault) -> ExplainedFault {
         ExplainedFault {
             fault,
+            file: None,
             lines: None,
             is_told: true,
         }
@@ -30,7 +33,7 @@ impl From<Fault> for ExplainedFault {
 impl From<AllocError> for ExplainedFault {
     ghost use Rattle.rj_fault.specs.declared.fault.Fault.TheVariants.{Memory};
 
-    ghost from_gives = { λ _ e. (e.fault ≡ Memory) × (e.lines ≡ None) × (e.is_told ≡ true) };
+    ghost from_gives = { λ _ e. (e.fault ≡ Memory) × (e.file ≡ None) × (e.lines ≡ None) × (e.is_told ≡ true) };
 
     fn from(_error: AllocError) -> ExplainedFault {
         ExplainedFault::from(Fault::Memory)
@@ -58,8 +61,30 @@ impl ExplainedFault {
     {
         ExplainedFault {
             fault,
+            file: None,
             lines: None,
             is_told: false,
+        }
+    }
+
+    /// The same error, of this file.
+    pub(crate) fn of_file(self, file: Option<String>) -> ExplainedFault
+        ensures fault { result.fault ≡ self.fault }
+        ensures file { result.file ≡ file }
+        ensures lines { result.lines ≡ self.lines }
+        ensures told { result.is_told ≡ self.is_told }
+    {
+        let ExplainedFault {
+            fault,
+            file: _,
+            lines,
+            is_told,
+        } = self;
+        ExplainedFault {
+            fault,
+            file,
+            lines,
+            is_told,
         }
     }
 
@@ -76,6 +101,7 @@ impl ExplainedFault {
     {
         let ExplainedFault {
             fault,
+            file: _,
             lines: _,
             is_told: _,
         } = self;
@@ -83,16 +109,36 @@ impl ExplainedFault {
     }
 }
 
+// Prints the line of an error with the name of its file, and returns the exit status.
+fn tell_of_file<R: Eprint>(rt: &R, fault: &Fault, file: &str) -> u8
+    ensures { result ≡ status_of fault.now }
+{
+    let _ = eprintln!(rt; "{fault} {file}");
+    fault.status()
+}
+
+// Prints the line of an error, in the short form with the name of its file, and returns the exit
+// status, as [`tell_explained`] does.
+fn tell_in<R: Print + Eprint>(rt: &R, reason: &ExplainedFault, form: Form) -> u8
+    ensures { (result ≡ status_of reason.now.fault) ⊎ (IsAskedFor (clap_error_of reason.now.fault) × (result ≡ status_of Fault.WriteDevice)) }
+{
+    match (form, &reason.file) {
+        (Form::Short, Some(file)) => tell_of_file(rt, &reason.fault, file.as_str()),
+        _ => tell(rt, &reason.fault),
+    }
+}
+
 /// Prints on standard error why there is no output, and what explains it, unless whoever reads the
-/// output has gone. The answer is the exit status: that of the error or, if help or the version was
+/// output has gone. In the short form of a command line the first line names the file that can't be
+/// read or written. The answer is the exit status: that of the error or, if help or the version was
 /// asked for and couldn't be printed, that of a failed write.
-pub fn tell_explained<R: Print + Eprint>(rt: &R, reason: &ExplainedFault) -> u8
+pub fn tell_explained<R: Print + Eprint>(rt: &R, reason: &ExplainedFault, form: Form) -> u8
     ensures { (result ≡ status_of reason.now.fault) ⊎ (IsAskedFor (clap_error_of reason.now.fault) × (result ≡ status_of Fault.WriteDevice)) }
 {
     if !reason.is_told {
         return reason.fault.status();
     }
-    let status = tell(rt, &reason.fault);
+    let status = tell_in(rt, reason, form);
     if let Some(lines) = &reason.lines {
         let _ = eprint!(rt; "{lines}");
     }

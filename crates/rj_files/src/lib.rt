@@ -7,6 +7,7 @@
 mod draft;
 mod explained;
 mod explaining;
+mod fault_file;
 mod given;
 mod identities;
 mod joining;

@@ -1,6 +1,6 @@
 //! Lists of types that are in files: `@FILE` in the place of a list.
 
-ghost use Rattle.std.specs.Prelude.{◌≡◌, ◌==◌, IfErr, IfOk, MatchOption, None, false, map, string_bytes, true};
+ghost use Rattle.std.specs.Prelude.{◌≡◌, ◌==◌, IfErr, IfOk, IfSome, MatchOption, None, false, map, string_bytes, true};
 ghost use Rattle.std.specs.List.{after_first, before_first};
 ghost use Rattle.rj_files.specs.Asking.{ask_for_lines};
 ghost use Rattle.rj_files.specs.Labels.{AreReadWords, IsListFault, IsListsFault, IsReadWord, IsUnreadOf, IsWordFault, bad_list_fault, file_label, is_file, label_of};
@@ -119,6 +119,35 @@ fn unread_line<R: Files + AllocGlobal>(
     }
 }
 
+// The name of a file, if an error is that it can't be read.
+fn unread_file(alloc: Global, file: &str, fault: &Fault) -> Option<String>
+    ensures { IfSome result (λ name. string_bytes name ≡ file.now) }
+{
+    match fault {
+        Fault::ReadDevice(_) | Fault::SharedReadDevice => String::from_str(alloc, file).ok(),
+        _ => None,
+    }
+}
+
+// Why the list that a file has can't be had, explained if that is asked for.
+fn unlisted<R: Files + AllocGlobal>(
+    rt: &R,
+    file: &str,
+    fault: Fault,
+    explain: bool,
+) -> ExplainedFault
+    ensures fault { result.fault ≡ fault }
+    ensures file { IfSome result.file (λ name. string_bytes name ≡ file.now) }
+    ensures unasked { explain ≡ false → result.lines ≡ None }
+{
+    let name = unread_file(rt.alloc(), file, &fault);
+    if !explain {
+        return ExplainedFault::from(fault).of_file(name);
+    }
+    let lines = unread_line(rt, file, &fault);
+    ExplainedFault::new(fault, lines).of_file(name)
+}
+
 // The list that a file has. An error is explained if that is asked for.
 fn list_of<R: Files + AllocGlobal>(
     rt: &R,
@@ -131,11 +160,7 @@ fn list_of<R: Files + AllocGlobal>(
 {
     match read_list(rt, file, label) {
         Ok(list) => Ok(list),
-        Err(fault) if explain => {
-            let lines = unread_line(rt, file, &fault);
-            Err(ExplainedFault::new(fault, lines))
-        }
-        Err(fault) => Err(ExplainedFault::from(fault)),
+        Err(fault) => Err(unlisted(rt, file, fault, explain)),
     }
 }
 
@@ -177,8 +202,8 @@ fn are_explained(alloc: Global, words: &[String]) -> Result<bool, AllocError>
 /// # Errors
 ///
 /// `ReadDevice` of the side if a file can't be read, and `BadTypeList` if its list isn't text, or
-/// `SharedReadDevice` and `BadSharedTypeList` of both tables; with the file's name if the words ask
-/// for explanations. `Memory` comes only when memory ran out.
+/// `SharedReadDevice` and `BadSharedTypeList` of both tables; with the lines that tell of the file
+/// if the words ask for explanations. `Memory` comes only when memory ran out.
 pub fn read_lists<R: Files + AllocGlobal>(
     rt: &R,
     words: Vec<String>,

@@ -1,6 +1,7 @@
 //! Where the result is written: to standard output, or to a file that is none of the tables.
 
-ghost use Rattle.std.specs.Prelude.{◌≡◌, IfOk, IfErr, None, OnOk, option_map};
+ghost use Rattle.std.specs.Prelude.{◌≡◌, IfOk, IfErr, IfSome, None, OnOk, Some, option_map, string_bytes};
+ghost use Rattle.rj_files.specs.FaultFiles.{fault_file};
 ghost use Rattle.rj_files.specs.Identities.{are_one_file};
 ghost use Rattle.rj_files.specs.Outputs.{AreAccepted, AreStandard, IsInputFault, IsJudged, file_of, input_path, judged, output_path};
 ghost use Rattle.rj_files.specs.Streams.{IsFaultOf, IsWrittenOf};
@@ -8,6 +9,7 @@ ghost use Rattle.rj_files.specs.Streams.{IsFaultOf, IsWrittenOf};
 use crate::draft::{Draft, Unwritten};
 use crate::explained::ExplainedFault;
 use crate::explaining::unwritten;
+use crate::fault_file::{names_of, with_file};
 use crate::identities::{Identities, Identity};
 use crate::joining::Written;
 use crate::named::{is_standard_stream, told_by_system};
@@ -28,14 +30,21 @@ const STANDARD_INPUT: &str = "/proc/self/fd/0";
 
 const STANDARD_OUTPUT: &str = "/proc/self/fd/1";
 
+/// The file of an output's name, or none if the name is `-` or isn't given.
+pub(crate) fn file_of(output: Option<&str>) -> Option<&str>
+    ensures { option_map (λ name. name.now) result ≡ file_of (option_map (λ name. name.now) output) }
+{
+    match output {
+        Some(name) if !is_standard_stream(name) => Some(name),
+        _ => None,
+    }
+}
+
 /// The file to which the result of a line is written, or none if that is standard output.
 pub(crate) fn output_of<'a>(line: &Line<'a>) -> Option<&'a str>
     ensures { option_map (λ name. name.now) result ≡ file_of (option_map (λ name. name.now) line.now.output) }
 {
-    match line.output {
-        Some(name) if !is_standard_stream(name) => Some(name),
-        _ => None,
-    }
+    file_of(line.output)
 }
 
 // The path by which the system shows where the result of a line is written.
@@ -185,15 +194,8 @@ where
     }
 }
 
-/// Reads two tables and writes what a line asks for: to standard output, or into a file,
-/// atomically. The file has the whole of it, or what it had before. It returns the statistics of
-/// the joined table, or with `--count` the report, if one is asked for.
-///
-/// # Errors
-///
-/// Those of [`write_streams`](crate::write_streams). `WriteDevice` also if there can be no such
-/// file. A file that can't be made is reported before anything is read.
-pub fn write_output<R, L, S>(
+// Reads two tables and writes what a line asks for, to standard output or into a file.
+fn write_named<R, L, S>(
     rt: &R,
     line: &mut Line<'_>,
     progress: &Progress<'_, R>,
@@ -213,5 +215,37 @@ where
             let (written, _writer) = write_streams(rt, line, progress, left, right, io::writer(rt));
             written
         }
+    }
+}
+
+/// Reads two tables and writes what a line asks for: to standard output, or into a file,
+/// atomically. The file has the whole of it, or what it had before. It returns the statistics of
+/// the joined table, or with `--count` the report, if one is asked for.
+///
+/// # Errors
+///
+/// Those of [`write_streams`](crate::write_streams). `WriteDevice` also if there can be no such
+/// file. A file that can't be made is reported before anything is read. An error of a file has its
+/// name.
+pub fn write_output<R, L, S>(
+    rt: &R,
+    line: &mut Line<'_>,
+    progress: &Progress<'_, R>,
+    left: &L,
+    right: &S,
+) -> Result<Written, ExplainedFault>
+where
+    R: Files + AllocGlobal + Print + Eprint + Threads + Wait + Clock + Sync,
+    L: Stream,
+    S: Stream,
+    ensures written { IfOk result (IsWrittenOf line.old (L.tells left.now) (S.tells right.now)) }
+    ensures fault { IfErr result (λ e. IsFaultOf line.old (L.tells left.now) (S.tells right.now) e.fault) }
+    ensures file { IfErr result (λ e. IfSome e.file (λ file.
+        fault_file line.old.left.now line.old.right.now (option_map (λ name. name.now) line.old.output) e.fault ≡ Some (string_bytes file))) }
+{
+    let names = names_of(line);
+    match write_named(rt, line, progress, left, right) {
+        Ok(written) => Ok(written),
+        Err(e) => Err(with_file(rt.alloc(), names, e)),
     }
 }
