@@ -26,7 +26,7 @@ abbrev pub counts_text : Bool → JoinKind → JoinReport → List ℕ
 counts_text short kind x =
     codes "rows left " ++ (decimal x.left_rows ++ (codes " right " ++ (decimal x.right_rows ++ (10 ∷ (codes "pairs " ++ (decimal x.pairs
     ++ (codes " lone-left " ++ (decimal x.lone_left ++ (kept_note short (adds_left kind) ++ (codes " lone-right " ++ (decimal x.lone_right
-    ++ kept_note short (adds_right kind)))))))))))
+    ++ kept_note short (adds_right kind))))))))))))
 
 -- the lines of NULL and of repeated keys
 abbrev pub spread_text : KeyReport → List ℕ

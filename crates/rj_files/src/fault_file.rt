@@ -35,7 +35,11 @@ pub(crate) fn names_of<'a>(line: &Line<'a>) -> FileNames<'a>
 fn table_name(name: &str) -> &str
     ensures { result.now ≡ table_name name.now }
 {
-    if is_standard_stream(name) { "standard input" } else { name }
+    if is_standard_stream(name) {
+        "standard input"
+    } else {
+        name
+    }
 }
 
 // The file that can't be read or written, if that is the error.
