@@ -21,7 +21,7 @@ _radixjoin() {
     if ((COMP_CWORD == 1)); then
         options+=" --suggest-types"
     elif [[ " ${COMP_WORDS[*]:1:COMP_CWORD-1} " == *" --suggest-types"[\ =]* ]]; then
-        options="--null --delimiter --strict --keys-only --help"
+        options="--null --delimiter --strict --keys-only --explain --help"
     fi
     COMPREPLY=()
     case $before in

@@ -221,6 +221,14 @@ MISFITS = [
 
 # The columns that can be a key, and what a line on standard error tells.
 NO_KEY = "no column is a key: each has a NULL or a repeated cell"
+# Files that suggest nothing, with the words beside, the line of the error, and what `--explain` adds.
+EXPLAINED = [
+    (b"a,b\n1,2\n3\n", [], "E5 RaggedRow row 2", "  line 3 of the file: 1 fields under 2 names\n"),
+    (b"\xff\xfea\x00", [], "E2 BadName column 1", '  the name is "\\xFF\\xFEa\\x00", of 4 bytes\n  the file is UTF-16: iconv -f UTF-16 -t UTF-8 FILE > table.csv converts it\n'),
+    (b"a;b\n1;2,3\n", [], "E5 RaggedRow row 1", "  line 2 of the file: 2 fields under 1 names\n  the file seems to be separated by semicolons: is --delimiter ';' meant?\n"),
+    (b"a,b\n\n1,2\n", ["--strict"], "E25 EmptyLine row 1", "  line 2 of the file: it is empty, under more than one name\n"),
+]
+
 KEYS = [
     ("each column", "a,b\n1,x\n2,y\n", [], "a=int\nb=text\n", []),
     ("a repeated number and a repeated text", "a,b,c\n1,x,1\n2,x,2\n1,y,3\n", [], "c=int\n", []),
@@ -333,6 +341,21 @@ def suggested_keys(folder):
             yield f"keys only, refused: {words}, {label}", joined(folder, ["--suggest-types", "keys.csv", "--keys-only", *words], told, status)
 
 
+def suggested_explained(folder):
+    """What `--explain` adds to an error of the only file, and what is told of its delimiter."""
+    for content, words, line, more in EXPLAINED:
+        (folder / "table.csv").write_bytes(content)
+        ran = run("radixjoin", ["--suggest-types", "table.csv", *words, "--explain"], folder)
+        yield f"explained: {line}, {words}", harness.differences(ran, b"", f"radixjoin: {line}\n{more}".encode(), 3)
+    ran = run("radixjoin", ["--explain", "--suggest-types", "missing"], folder)
+    yield "explained: a missing file", harness.differences(ran, b"", b"radixjoin: E19 ReadDevice\n  missing: No such file or directory\n", 6)
+    for word, signs, sign in (("';'", "semicolons", ";"), ("tab", "tabs", "\t"), ("'|'", "bars", "|")):
+        (folder / "table.csv").write_text(f"id{sign}name\n1{sign}a\n")
+        ran = run("radixjoin", ["--suggest-types", "table.csv"], folder)
+        told = f"  the file seems to be separated by {signs}: is --delimiter {word} meant?\n"
+        yield f"a delimiter is asked for: {signs}", harness.differences(ran, f'"id{sign}name"=text\n'.encode(), told.encode())
+
+
 def many_keys(folder):
     """Two columns of many rows, which differ in the last row alone."""
     rows = 200_000
@@ -351,13 +374,13 @@ def ends_of_suggesting(folder):
         ran = run("radixjoin", ["--suggest-types", *words], folder)
         yield f"--suggest-types {words}", harness.differences(ran, b"", None, 2) + ([] if ran.stderr else ["nothing is told"])
     ran = run("radixjoin", ["--suggest-types", "--help"], folder)
-    lacking = [f"no {word}" for word in ("--suggest-types", "FILE", "--null", "--delimiter", "--strict", "--keys-only") if word.encode() not in ran.stdout]
+    lacking = [f"no {word}" for word in ("--suggest-types", "FILE", "--null", "--delimiter", "--strict", "--keys-only", "--explain") if word.encode() not in ran.stdout]
     yield "--suggest-types --help", lacking + harness.differences(ran, None)
     for words in (["--left", "table.csv", "--suggest-types", "table.csv"], ["--suggest-types=table.csv", "table.csv"], ["--suggest-types=table.csv", "--suggest-types"]):
         ran = run("radixjoin", words, folder)
         yield f"refused: {words}", harness.differences(ran, b"", None, 2)
     ran = run("radixjoin", ["--terse", "--", "--suggest-types", "table.csv", "CROSS JOIN"], folder)
-    yield "a table that is named --suggest-types", harness.differences(ran, b"", b"radixjoin: E19 ReadDevice left\n", 6)
+    yield "a table that is named --suggest-types", harness.differences(ran, b"", b"radixjoin: E19 ReadDevice left --suggest-types\n", 6)
     for output in ("full", "closed"):
         ran = harness.run([harness.program("radixjoin"), "--suggest-types", "table.csv"], folder, output=output)
         yield f"--suggest-types to a {output} output", harness.differences(ran, b"", b"radixjoin: E20 WriteDevice\n", 6)
@@ -417,6 +440,7 @@ PARTS = [
     signs_that_name_no_list,
     suggested_types,
     suggested_keys,
+    suggested_explained,
     many_keys,
     ends_of_suggesting,
     suggested_lists_given,

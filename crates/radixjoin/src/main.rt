@@ -7,12 +7,13 @@ mod stack;
 mod suggesting;
 
 use crate::stack::{PAGES, take_stack};
-use crate::suggesting::{Asking, asking_of, suggest, tell_alone};
+use crate::suggesting::{Asking, asking_of, suggest};
 use rj_command::{Line, Stats, UnkeptRows};
 use rj_fault::{Fault, read_words, texts_of};
 use rj_files::{
     ExplainedFault, NamedStream, Progress, Terminals, Written, processors, read_lists,
-    read_words_of_line, refuse_inputs, tell_explained, tell_texts, write_output,
+    read_words_of_line, refuse_inputs, tell_explained, tell_explained_alone, tell_texts,
+    write_output,
 };
 use rj_line::{Form, form_of};
 use std::env::Env;
@@ -99,7 +100,7 @@ fn tell_types<R: Env + Files + Input + AllocGlobal + Print + Eprint + Clock>(
     let texts = texts_of(rt.alloc(), words)?;
     match suggest(rt, texts.as_slice(), asking) {
         Ok(()) => Ok(0),
-        Err(fault) => Ok(tell_alone(rt, &fault)),
+        Err(e) => Ok(tell_explained_alone(rt, &e)),
     }
 }
 

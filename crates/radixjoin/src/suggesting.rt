@@ -3,8 +3,8 @@
 use clap::error::ErrorKind;
 use clap::{Arg, ArgAction, ArgMatches, Command, Error};
 use rj_csv_io::InputFormat;
-use rj_fault::{ExitReason, Fault, tell};
-use rj_files::{NamedStream, refuse_printed, write_suggested};
+use rj_fault::Fault;
+use rj_files::{ExplainedFault, NamedStream, Suggesting, refuse_printed, write_suggested};
 use rj_line::{Strictness, delimiter_of};
 use rj_suggest::ListedColumns;
 use std::alloc::{AllocError, Global};
@@ -17,13 +17,14 @@ const HELP: &str = "\
 Prints types that the cells of a CSV file suggest: check them, and give them by --left-types @FILE
 
 Usage: radixjoin --suggest-types <FILE> [--null <TEXT>] [--delimiter <CHAR>] [--strict[=full]]
-                 [--keys-only], in any order
+                 [--keys-only] [--explain], in any order
 
   <FILE>                  CSV file of a table; - is standard input
   -d, --delimiter <CHAR>  Delimiter of the file, or tab [default: a comma]
   --null <TEXT>           Text for NULL [default: an empty field]
   --strict [<HOW>]        Refuse CSV that breaks RFC 4180: on or full [default: no; on if alone]
   --keys-only             List only columns without NULL and without equal cells
+  --explain               Say where an error is, what is there, and what was perhaps meant
   -h, --help              Print this help
 ";
 
@@ -93,6 +94,9 @@ fn suggest_command<'a>(alloc: Global, asking: Asking) -> Result<Command<'a>, All
     let keys = Arg::new(alloc, "keys-only")
         .long("keys-only")
         .action(ArgAction::SetTrue);
+    let explain = Arg::new(alloc, "explain")
+        .long("explain")
+        .action(ArgAction::SetTrue);
     let command = Command::new(alloc, "radixjoin")
         .override_help(HELP)
         .no_binary_name(true);
@@ -100,7 +104,8 @@ fn suggest_command<'a>(alloc: Global, asking: Asking) -> Result<Command<'a>, All
         .arg(null)?
         .arg(delimiter)?
         .arg(strict)?
-        .arg(keys)
+        .arg(keys)?
+        .arg(explain)
 }
 
 // How strictly the file is read.
@@ -112,11 +117,17 @@ fn strictness_of(matches: &ArgMatches<'_>) -> Strictness {
     }
 }
 
+// Whether an option without a value is given.
+fn is_given(matches: &ArgMatches<'_>, option: &str) -> bool {
+    matches.get_str(option) == Some("true")
+}
+
 // Which columns are listed.
 fn listed_of(matches: &ArgMatches<'_>) -> ListedColumns {
-    match matches.get_str("keys-only") {
-        Some("true") => ListedColumns::Keys,
-        _ => ListedColumns::All,
+    if is_given(matches, "keys-only") {
+        ListedColumns::Keys
+    } else {
+        ListedColumns::All
     }
 }
 
@@ -141,38 +152,15 @@ fn matches_of<'a>(
     }
 }
 
-// The line of an error of the only file, without its side. None if the error is `clap`'s, or memory
-// ran out.
-fn line_alone(alloc: Global, fault: &Fault) -> Option<String> {
-    if let Fault::CommandLine(_) = fault {
-        return None;
-    }
-    let line = format!(in alloc; "{fault}").ok()?;
-    let (before, behind) = line.split_once(" left")?;
-    format!(in alloc; "{before}{behind}").ok()
-}
-
-/// Prints why no types are suggested, and returns the exit status. There is one file, so the line
-/// doesn't tell its side.
-pub(crate) fn tell_alone<R: AllocGlobal + Print + Eprint>(rt: &R, fault: &Fault) -> u8 {
-    match line_alone(rt.alloc(), fault) {
-        Some(line) => {
-            let _ = eprintln!(rt; "{line}");
-            fault.status()
-        }
-        None => tell(rt, fault),
-    }
-}
-
 /// Prints the types that the cells of the file in these words suggest, which ask for it so.
 pub(crate) fn suggest<'a, R: Files + Input + AllocGlobal + Print + Eprint + Clock>(
     rt: &'a R,
     words: &'a [&'a str],
     asking: Asking,
-) -> Result<(), Fault> {
+) -> Result<(), ExplainedFault> {
     let matches = matches_of(rt.alloc(), words, asking)?;
     let Some(delimiter) = delimiter_of(matches.get_str("delimiter").unwrap_or(",")) else {
-        return Err(Fault::BadDelimiter);
+        return Err(ExplainedFault::from(Fault::BadDelimiter));
     };
     let name = matches.get_str("FILE").unwrap_or("");
     refuse_printed(rt, name)?;
@@ -182,8 +170,11 @@ pub(crate) fn suggest<'a, R: Files + Input + AllocGlobal + Print + Eprint + Cloc
         nulls: &nulls,
     };
     let stream = NamedStream::new(rt, name);
-    let strict = strictness_of(&matches);
-    let listed = listed_of(&matches);
-    let (written, _writer) = write_suggested(rt, &stream, &format, strict, listed, io::writer(rt));
+    let asked = Suggesting {
+        strict: strictness_of(&matches),
+        listed: listed_of(&matches),
+        explain: is_given(&matches, "explain"),
+    };
+    let (written, _writer) = write_suggested(rt, &stream, &format, asked, io::writer(rt));
     written
 }

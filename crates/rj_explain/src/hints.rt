@@ -10,6 +10,7 @@ use crate::inputs::Inputs;
 use crate::shown::text_in;
 use rj_columns::Table;
 use rj_fault::{Fault, Side};
+use rj_strict::Delimiter;
 use std::alloc::{AllocError, Global};
 
 const GZIP: &str = "is compressed: gzip -dc FILE > table.csv unpacks it";
@@ -280,6 +281,24 @@ pub(crate) fn file_lines(
         Some(side) => side_line(alloc, fault, inputs, side),
         None => Ok(String::new(alloc)),
     }
+}
+
+/// The line for the sign that separates the fields of a side's file in place of its delimiter, by
+/// the names of its header; none if there is no such sign.
+///
+/// # Errors
+///
+/// It fails only when memory runs out.
+pub fn explain_separator(
+    alloc: Global,
+    side: Side,
+    delimiter: Delimiter,
+    names: &[&[u8]],
+) -> Result<String, AllocError>
+    ensures { IfOk result (λ s. string_bytes s ≡ hints.separator_line side delimiter (map (λ n. n.now) names.now)) }
+{
+    let words = separator_words(alloc, side, separator_of(delimiter.byte(), names))?;
+    file_line(alloc, side, words.as_str())
 }
 
 // The line for the sign that separates the fields of a side's file, by its table.

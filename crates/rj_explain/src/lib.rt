@@ -32,6 +32,7 @@ mod words;
 
 pub use explanation::explain;
 pub use further::explain_further;
+pub use hints::explain_separator;
 pub use inputs::Inputs;
 pub use joined::explain_row;
 pub use lists::explain_list;

@@ -5,7 +5,7 @@ ghost use Rattle.rj_fault.specs.Faults.{IsAskedFor, clap_error_of, status_of};
 
 use rj_fault::{Fault, tell};
 use rj_line::Form;
-use std::alloc::AllocError;
+use std::alloc::{AllocError, Global};
 
 /// Why there is no output, the file that can't be read or written, if that is why, and the lines
 /// that explain it, if there are any. If nobody reads the output any more, nothing is printed of it.
@@ -139,6 +139,43 @@ pub fn tell_explained<R: Print + Eprint>(rt: &R, reason: &ExplainedFault, form: 
         return reason.fault.status();
     }
     let status = tell_in(rt, reason, form);
+    if let Some(lines) = &reason.lines {
+        let _ = eprint!(rt; "{lines}");
+    }
+    status
+}
+
+// The line of an error of the only file, without its side. None if the error is `clap`'s, or memory
+// ran out.
+fn line_alone(alloc: Global, fault: &Fault) -> Option<String> {
+    if let Fault::CommandLine(_) = fault {
+        return None;
+    }
+    let line = format!(in alloc; "{fault}").ok()?;
+    let (before, behind) = line.split_once(" left")?;
+    format!(in alloc; "{before}{behind}").ok()
+}
+
+// Prints the line of an error of the only file, without its side, and returns the exit status, as
+// [`tell_explained`] does.
+fn tell_alone<R: AllocGlobal + Print + Eprint>(rt: &R, fault: &Fault) -> u8
+    ensures { (result ≡ status_of fault.now) ⊎ (IsAskedFor (clap_error_of fault.now) × (result ≡ status_of Fault.WriteDevice)) }
+{
+    match line_alone(rt.alloc(), fault) {
+        Some(line) => {
+            let _ = eprintln!(rt; "{line}");
+            fault.status()
+        }
+        None => tell(rt, fault),
+    }
+}
+
+/// Prints on standard error why nothing is said of the only file, as [`tell_explained`] does. There
+/// is one file, so the line doesn't tell its side. The answer is the exit status.
+pub fn tell_explained_alone<R: AllocGlobal + Print + Eprint>(rt: &R, reason: &ExplainedFault) -> u8
+    ensures { (result ≡ status_of reason.now.fault) ⊎ (IsAskedFor (clap_error_of reason.now.fault) × (result ≡ status_of Fault.WriteDevice)) }
+{
+    let status = tell_alone(rt, &reason.fault);
     if let Some(lines) = &reason.lines {
         let _ = eprint!(rt; "{lines}");
     }

@@ -4,6 +4,7 @@
 //! for files.
 #![tactic(auto)]
 
+mod alone;
 mod draft;
 mod explained;
 mod explaining;
@@ -25,7 +26,8 @@ mod taking;
 mod telling;
 mod watched;
 
-pub use explained::{ExplainedFault, tell_explained};
+pub use alone::Suggesting;
+pub use explained::{ExplainedFault, tell_explained, tell_explained_alone};
 pub use explaining::{processors, read_words_of_line};
 pub use identities::{Identities, Identity};
 pub use joining::Written;

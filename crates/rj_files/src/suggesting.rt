@@ -1,10 +1,12 @@
 //! From a stream of bytes to the types that its cells suggest.
 
-ghost use Rattle.std.specs.Prelude.{◌≡◌, ◌≢◌, ◌⊎◌, ℕ, List, IfOk, IfErr, OnOk};
+ghost use Rattle.std.specs.Prelude.{◌≡◌, ◌≢◌, ◌⊎◌, ℕ, List, IfOk, IfErr, None, OnOk, false};
 ghost use Rattle.rj_csv_io.specs.Typed.{null_texts};
 ghost use Rattle.rj_files.specs.Streams.{AreBytesOf, IsStrictlyUnsuggested, IsSuggestedBy, IsUnsuggested, IsUnsuggestedBy, WritesSuggested, fault_of_refused};
 ghost use Rattle.rj_suggest.specs.Strict.{IsStrictListing};
 
+use crate::alone::{Suggesting, explained_alone, separator_alone, unread_alone};
+use crate::explained::ExplainedFault;
 use crate::progress::Progress;
 use crate::reading::{Stream, read_stream};
 use rj_command::fault_of_text;
@@ -64,21 +66,38 @@ fn suggested_by(
     }
 }
 
-// What the cells of a stream suggest of these columns.
+// What the cells of a file suggest, and the line for the sign that separates its fields in place of
+// its delimiter, if there is one.
+#[derive(Drop)]
+struct Found {
+    suggestion: Suggestion,
+    separator: Option<String>,
+}
+
+// What the cells of a stream suggest of the columns that are asked for.
 fn suggested<R: AllocGlobal + Eprint + Clock, S: Stream>(
     rt: &R,
     stream: &S,
     format: &InputFormat<'_>,
-    strict: Strictness,
-    listed: ListedColumns,
-) -> Result<Suggestion, Fault>
-    ensures suggestion { IfOk result (λ s. (bytes : List ℕ) × AreBytesOf (S.tells stream.now) bytes
-        × IsSuggestedBy listed strict format.now.delimiter bytes (null_texts format.now.nulls.now) s) }
-    ensures fault { IfErr result (IsUnsuggested strict format.now.delimiter (null_texts format.now.nulls.now) (S.tells stream.now)) }
+    asked: Suggesting,
+) -> Result<Found, ExplainedFault>
+    ensures suggestion { IfOk result (λ found. (bytes : List ℕ) × AreBytesOf (S.tells stream.now) bytes
+        × IsSuggestedBy asked.listed asked.strict format.now.delimiter bytes (null_texts format.now.nulls.now) found.suggestion) }
+    ensures fault { IfErr result (λ e. IsUnsuggested asked.strict format.now.delimiter (null_texts format.now.nulls.now) (S.tells stream.now) e.fault) }
+    ensures unasked { asked.explain ≡ false → IfErr result (λ e. e.lines ≡ None) }
 {
-    match read_stream(rt.alloc(), stream, Side::Left, &Progress::hidden(rt)) {
-        Ok(bytes) => suggested_by(rt.alloc(), bytes.as_slice(), format, strict, listed),
-        Err(fault) => Err(fault),
+    let alloc = rt.alloc();
+    let bytes = match read_stream(alloc, stream, Side::Left, &Progress::hidden(rt)) {
+        Ok(bytes) => bytes,
+        Err(fault) => return Err(unread_alone(alloc, stream, asked.explain, fault)),
+    };
+    let bytes = bytes.as_slice();
+    match suggested_by(alloc, bytes, format, asked.strict, asked.listed) {
+        Ok(suggestion) => Ok(Found {
+            suggestion,
+            separator: separator_alone(alloc, bytes, format.delimiter),
+        }),
+        Err(fault) => Err(explained_alone(alloc, bytes, format, asked, fault)),
     }
 }
 
@@ -115,52 +134,59 @@ fn tell_misfits<R: Eprint>(rt: &R, misfits: &[Option<Misfit>]) {
 }
 
 // Prints on standard error what is to be told beside a list: the cells that keep its columns from
-// being of numbers, or that no column can be a key.
-fn tell_beside<R: Eprint>(rt: &R, suggestion: &Suggestion, listed: ListedColumns) {
-    tell_misfits(rt, suggestion.misfits.as_slice());
-    if matches!(listed, ListedColumns::Keys) && suggestion.list.is_empty() {
+// being of numbers, or that no column can be a key; and which delimiter may be meant.
+fn tell_beside<R: Eprint>(rt: &R, found: &Found, listed: ListedColumns) {
+    tell_misfits(rt, found.suggestion.misfits.as_slice());
+    if matches!(listed, ListedColumns::Keys) && found.suggestion.list.is_empty() {
         let _ = eprintln!(rt; "radixjoin: no column is a key: each has a NULL or a repeated cell");
+    }
+    if let Some(line) = &found.separator {
+        let _ = eprint!(rt; "{line}");
     }
 }
 
 /// Reads the table that a stream gives in this format, to its end, and writes a list of the types
-/// that the cells of these columns suggest after what the writer already has, as [`suggest_listed`]
-/// makes it, or, if it is to be read strictly, [`suggest_listed_strictly`]. Then it prints on
-/// standard error, for each listed column that one cell or more keep from being one of numbers, the
-/// first of these cells; or that no column can be a key, if only such columns are listed and there
-/// is none. It returns the writer.
+/// that the cells of the columns suggest that are asked for after what the writer already has, as
+/// [`suggest_listed`] makes it, or, if it is to be read strictly, [`suggest_listed_strictly`]. Then
+/// it prints on standard error, for each listed column that one cell or more keep from being one of
+/// numbers, the first of these cells; or that no column can be a key, if only such columns are
+/// listed and there is none; and which delimiter may be meant, if the only name has another one. It
+/// returns the writer.
 ///
 /// # Errors
 ///
 /// `ReadDevice` of the left side if the stream can't be opened or read, and else the error of the
-/// two on its bytes, as that of a left table. The writer stays as it was, except after
-/// `WriteDevice`. `Memory` comes only when memory ran out.
+/// two on its bytes, as that of a left table, with the lines that explain it if that is asked for.
+/// The writer stays as it was, except after `WriteDevice`. `Memory` comes only when memory ran out.
 pub fn write_suggested<R, S, W>(
     rt: &R,
     stream: &S,
     format: &InputFormat<'_>,
-    strict: Strictness,
-    listed: ListedColumns,
+    asked: Suggesting,
     writer: W,
-) -> (Result<(), Fault>, W)
+) -> (Result<(), ExplainedFault>, W)
 where
     R: AllocGlobal + Eprint + Clock,
     S: Stream,
     W: Write,
-    ensures written { OnOk result.0 (WritesSuggested listed strict format.now.delimiter (null_texts format.now.nulls.now) (S.tells stream.now) (W.contents writer) (W.contents result.1)) }
-    ensures fault { IfErr result.0 (λ f. f ≢ Fault.WriteDevice → IsUnsuggested strict format.now.delimiter (null_texts format.now.nulls.now) (S.tells stream.now) f) }
-    ensures unchanged { IfErr result.0 (λ f. f ≢ Fault.WriteDevice → result.1 ≡ writer) }
+    ensures written { OnOk result.0 (WritesSuggested asked.listed asked.strict format.now.delimiter (null_texts format.now.nulls.now) (S.tells stream.now) (W.contents writer) (W.contents result.1)) }
+    ensures fault { IfErr result.0 (λ e. e.fault ≢ Fault.WriteDevice → IsUnsuggested asked.strict format.now.delimiter (null_texts format.now.nulls.now) (S.tells stream.now) e.fault) }
+    ensures unchanged { IfErr result.0 (λ e. e.fault ≢ Fault.WriteDevice → result.1 ≡ writer) }
+    ensures unasked { asked.explain ≡ false → IfErr result.0 (λ e. e.lines ≡ None) }
 {
-    let suggestion = match suggested(rt, stream, format, strict, listed) {
-        Ok(suggestion) => suggestion,
-        Err(fault) => return (Err(fault), writer),
+    let found = match suggested(rt, stream, format, asked) {
+        Ok(found) => found,
+        Err(e) => return (Err(e), writer),
     };
     let mut writer = CountedWriter::new(writer);
-    match writer.put(suggestion.list.as_slice()) {
+    match writer.put(found.suggestion.list.as_slice()) {
         Ok(()) => {
-            tell_beside(rt, &suggestion, listed);
+            tell_beside(rt, &found, asked.listed);
             (Ok(()), writer.into_inner())
         }
-        Err(_) => (Err(Fault::WriteDevice), writer.into_inner()),
+        Err(_) => (
+            Err(ExplainedFault::from(Fault::WriteDevice)),
+            writer.into_inner(),
+        ),
     }
 }

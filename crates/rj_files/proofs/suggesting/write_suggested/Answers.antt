@@ -5,5 +5,5 @@ use Rattle.rj_files.proofs.suggesting.write_suggested.Goals as goal
 pub returns-in-Ok-put-clause-written : goal.returns-in-Ok-put-clause-written
 returns-in-Ok-put-clause-written g c =
     let told = c.in-Ok.ensures.suggestion in
-    let appends : Appends (g.W.Write.contents c.args.writer) (g.W.Write.contents c.into_inner.result) c.in-Ok.suggestion.list.items = search rules in
-    (told.0, c.in-Ok.suggestion, told.1, told.2, appends)
+    let appends : Appends (g.W.Write.contents c.args.writer) (g.W.Write.contents c.into_inner.result) c.in-Ok.found.suggestion.list.items = search rules in
+    (told.0, c.in-Ok.found.suggestion, told.1, told.2, appends)
