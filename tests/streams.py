@@ -219,8 +219,6 @@ MISFITS = [
     ("an empty line of one column, strictly", "a\n\n1\n", ["--strict", "--null=NA"], "a=text\n", ['a is text: row 1 has ""']),
 ]
 
-# The columns that can be a key, and what a line on standard error tells.
-NO_KEY = "no column is a key: each has a NULL or a repeated cell"
 # Files that suggest nothing, with the words beside, the line of the error, and what `--explain` adds.
 EXPLAINED = [
     (b"a,b\n1,2\n3\n", [], "E5 RaggedRow row 2", "  line 3 of the file: 1 fields under 2 names\n"),
@@ -229,6 +227,8 @@ EXPLAINED = [
     (b"a,b\n\n1,2\n", ["--strict"], "E25 EmptyLine row 1", "  line 2 of the file: it is empty, under more than one name\n"),
 ]
 
+# The columns that can be a key, and what a line on standard error tells.
+NO_KEY = "no column is a key: each has a NULL or a repeated cell"
 KEYS = [
     ("each column", "a,b\n1,x\n2,y\n", [], "a=int\nb=text\n", []),
     ("a repeated number and a repeated text", "a,b,c\n1,x,1\n2,x,2\n1,y,3\n", [], "c=int\n", []),
