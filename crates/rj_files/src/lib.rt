@@ -28,7 +28,7 @@ mod watched;
 
 pub use alone::Suggesting;
 pub use explained::{ExplainedFault, tell_explained, tell_explained_alone};
-pub use explaining::{processors, read_words_of_line};
+pub use explaining::{letters_are_of_options, processors, read_words_of_line};
 pub use identities::{Identities, Identity};
 pub use joining::Written;
 pub use lists::read_lists;
