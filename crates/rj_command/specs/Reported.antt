@@ -1,5 +1,5 @@
 -- The lines of a report.
-use Rattle.std.specs.Prelude.{ℕ, ◌≡◌, ◌&&◌, not, if◌then◌else◌, Bool, true, false, List, [], ◌∷◌, ◌++◌, map, codes, decimal, Option, None, Some, slice_index_or, string_bytes}
+use Rattle.std.specs.Prelude.{ℕ, ◌≡◌, Bool, true, false, List, [], ◌∷◌, ◌++◌, map, codes, decimal, Option, None, Some, slice_index_or, string_bytes}
 use Rattle.std.specs.List.{flat_map}
 use Rattle.std.specs.declared.alloc.Global.{Global}
 use Rattle.std.specs.declared.string.String.{String}
@@ -8,8 +8,8 @@ use Rattle.rj_condition.specs.Joins.{kind_of_join}
 use Rattle.rj_condition.specs.Splits.{keys_of}
 use Rattle.rj_condition.specs.declared.bound.BoundJoin.{BoundJoin}
 use Rattle.rj_condition.specs.declared.tree.JoinKind.{JoinKind}
+use Rattle.rj_condition.specs.declared.tree.JoinKind.TheVariants as kind
 use Rattle.rj_csv_io.specs.Shown.{shown}
-use Rattle.rj_engine.specs.Join.{adds_left, adds_right}
 use Rattle.rj_engine.specs.Reports.{IsReport}
 use Rattle.rj_engine.specs.declared.groups.Group.{Group}
 use Rattle.rj_engine.specs.declared.groups.KeyReport.{KeyReport}
@@ -17,16 +17,11 @@ use Rattle.rj_engine.specs.declared.reporting.JoinReport.{JoinReport}
 use Rattle.rj_command.specs.ShownTexts.{shown_text}
 use Rattle.rj_line.specs.declared.request.Request.{Request}
 
--- what the short form says behind the number of a table's unmatched rows, if the join keeps none
-abbrev pub kept_note : Bool → Bool → List ℕ
-kept_note short keeps = if short && not keeps then codes " (not kept)" else []
-
 -- the lines of the rows and the matches
-abbrev pub counts_text : Bool → JoinKind → JoinReport → List ℕ
-counts_text short kind x =
+abbrev pub counts_text : JoinReport → List ℕ
+counts_text x =
     codes "rows left " ++ (decimal x.left_rows ++ (codes " right " ++ (decimal x.right_rows ++ (10 ∷ (codes "pairs " ++ (decimal x.pairs
-    ++ (codes " lone-left " ++ (decimal x.lone_left ++ (kept_note short (adds_left kind) ++ (codes " lone-right " ++ (decimal x.lone_right
-    ++ kept_note short (adds_right kind))))))))))))
+    ++ (codes " lone-left " ++ (decimal x.lone_left ++ (codes " lone-right " ++ decimal x.lone_right)))))))))
 
 -- the lines of NULL and of repeated keys
 abbrev pub spread_text : KeyReport → List ℕ
@@ -50,9 +45,18 @@ abbrev pub keys_text : BoundJoin → TableValue → Option KeyReport → List �
 keys_text join l None = []
 keys_text join l (Some k) = spread_text k ++ largest_text join l k.largest
 
+-- what the short form says behind the matches of the unmatched rows that a join of this type doesn't
+-- keep
+abbrev pub kept_note : Bool → JoinKind → List ℕ
+kept_note false k = []
+kept_note true kind.Inner = codes " (lone rows not kept)"
+kept_note true kind.Left = codes " (lone-right not kept)"
+kept_note true kind.Right = codes " (lone-left not kept)"
+kept_note true kind.Full = []
+
 -- all lines in the short or the long form, without the last line end
 abbrev pub report_text : Bool → BoundJoin → TableValue → JoinReport → List ℕ
-report_text short join l x = counts_text short (kind_of_join join) x ++ keys_text join l x.keys
+report_text short join l x = (counts_text x ++ kept_note short (kind_of_join join)) ++ keys_text join l x.keys
 
 -- the text is the report of a join of two tables
 abbrev pub IsReportText : Bool → BoundJoin → TableValue → TableValue → List ℕ → Type 0

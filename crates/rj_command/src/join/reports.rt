@@ -15,7 +15,6 @@ ghost use Rattle.rj_command.specs.ShownTexts.{shown_text};
 
 use crate::join::operands::Operands;
 use crate::join::shown::shown_text;
-use crate::join::such_rows::{keeps_left, keeps_right};
 use rj_columns::{Cell, Table};
 use rj_condition::{BoundJoin, JoinKind, split};
 use rj_decimal::DecimalBuffer;
@@ -24,29 +23,31 @@ use rj_line::Request;
 use std::alloc::{AllocError, Global};
 use std::str;
 
-// What the short form says behind the number of a table's unmatched rows, if the join keeps none.
-fn kept_note(short: bool, keeps: bool) -> &'static str
-    ensures { result.now ≡ kept_note short keeps }
-{
-    if short && !keeps { " (not kept)" } else { "" }
-}
-
 // The lines of the rows and the matches.
-fn counts_text(
-    alloc: Global,
-    told: &JoinReport,
-    short: bool,
-    kind: JoinKind,
-) -> Result<String, AllocError>
-    ensures { IfOk result (λ s. string_bytes s ≡ counts_text short kind told.now) }
+fn counts_text(alloc: Global, told: &JoinReport) -> Result<String, AllocError>
+    ensures { IfOk result (λ s. string_bytes s ≡ counts_text told.now) }
 {
     let (left, right, pairs) = (told.left_rows, told.right_rows, told.pairs);
     let (lone_left, lone_right) = (told.lone_left, told.lone_right);
-    let left_note = kept_note(short, keeps_left(kind));
-    let right_note = kept_note(short, keeps_right(kind));
     format!(in alloc;
-        "rows left {left} right {right}\npairs {pairs} lone-left {lone_left}{left_note} lone-right {lone_right}{right_note}"
+        "rows left {left} right {right}\npairs {pairs} lone-left {lone_left} lone-right {lone_right}"
     )
+}
+
+// What the short form says behind the matches of the unmatched rows that a join of this type doesn't
+// keep.
+fn kept_note(short: bool, kind: JoinKind) -> &'static str
+    ensures { result.now ≡ kept_note short kind }
+{
+    if !short {
+        return "";
+    }
+    match kind {
+        JoinKind::Inner => " (lone rows not kept)",
+        JoinKind::Left => " (lone-right not kept)",
+        JoinKind::Right => " (lone-left not kept)",
+        JoinKind::Full => "",
+    }
 }
 
 // The lines of NULL and of repeated keys.
@@ -190,7 +191,8 @@ pub(crate) fn report_of(
     }
     let (left, right, join) = (&operands.left, &operands.right, &operands.join);
     let told = report(alloc, left, right, join, joined)?;
-    let mut text = counts_text(alloc, &told, request.short, join.kind())?;
+    let mut text = counts_text(alloc, &told)?;
+    text.push_str(kept_note(request.short, join.kind()))?;
     let keys = keys_text(alloc, left, right, join, told.keys)?;
     text.push_str(&keys)?;
     Ok(Some(text))

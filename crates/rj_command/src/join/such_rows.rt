@@ -10,7 +10,7 @@ use rj_line::Request;
 use rj_settings::RowKinds;
 
 // Whether a join of this type keeps unmatched left rows.
-pub(crate) fn keeps_left(kind: JoinKind) -> bool
+fn keeps_left(kind: JoinKind) -> bool
     ensures { result ≡ adds_left kind }
 {
     match kind {
@@ -20,7 +20,7 @@ pub(crate) fn keeps_left(kind: JoinKind) -> bool
 }
 
 // Whether it keeps unmatched right rows.
-pub(crate) fn keeps_right(kind: JoinKind) -> bool
+fn keeps_right(kind: JoinKind) -> bool
     ensures { result ≡ adds_right kind }
 {
     match kind {
