@@ -45,7 +45,7 @@ fn table_name(name: &str) -> &str
 // The file that can't be read or written, if that is the error.
 fn fault_file<'a>(names: FileNames<'a>, fault: &Fault) -> Option<&'a str>
     ensures { option_map (λ name. name.now) result
-        ≡ fault_file names.left.now names.right.now (option_map (λ name. name.now) names.output) fault.now }
+        ≡ fault_file names.entry.left.now names.entry.right.now (option_map (λ name. name.now) names.entry.output) fault.now }
 {
     match fault {
         Fault::ReadDevice(Side::Left) => Some(table_name(names.left)),
@@ -57,7 +57,7 @@ fn fault_file<'a>(names: FileNames<'a>, fault: &Fault) -> Option<&'a str>
 
 // A copy of a name.
 fn copied(alloc: Global, name: Option<&str>) -> Result<Option<String>, AllocError>
-    ensures { IfOk result (λ copy. option_map string_bytes copy ≡ option_map (λ name. name.now) name) }
+    ensures { IfOk result (λ copy. option_map string_bytes copy ≡ option_map (λ name. name.now) name.entry) }
 {
     match name {
         Some(name) => Ok(Some(String::from_str(alloc, name)?)),
@@ -72,7 +72,7 @@ pub(crate) fn with_file(alloc: Global, names: FileNames<'_>, e: ExplainedFault) 
     ensures lines { result.lines ≡ e.lines }
     ensures told { result.is_told ≡ e.is_told }
     ensures file { IfSome result.file (λ file.
-        fault_file names.left.now names.right.now (option_map (λ name. name.now) names.output) e.fault ≡ Some (string_bytes file)) }
+        fault_file names.entry.left.now names.entry.right.now (option_map (λ name. name.now) names.entry.output) e.fault ≡ Some (string_bytes file)) }
 {
     let file = copied(alloc, fault_file(names, e.fault())).unwrap_or(None);
     e.of_file(file)

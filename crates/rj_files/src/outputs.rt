@@ -32,7 +32,7 @@ const STANDARD_OUTPUT: &str = "/proc/self/fd/1";
 
 /// The file of an output's name, or none if the name is `-` or isn't given.
 pub(crate) fn file_of(output: Option<&str>) -> Option<&str>
-    ensures { option_map (λ name. name.now) result ≡ file_of (option_map (λ name. name.now) output) }
+    ensures { option_map (λ name. name.now) result ≡ file_of (option_map (λ name. name.now) output.entry) }
 {
     match output {
         Some(name) if !is_standard_stream(name) => Some(name),
