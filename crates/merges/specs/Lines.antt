@@ -102,7 +102,7 @@ is_file_count n = nat_lt 0 n && nat_lt n (2 ^ 32)
 
 -- the values of the options and these files say this
 pub record IsMergeLineBy (word : Text → Option Text) (given : List Text) (line : Line) : Type 0 where
-  pub files : map (λ f. f.now) line.files.now ≡ given
+  pub files : map (λ f. f.now) line.files.items ≡ given
   pub count : is_file_count (length given) ≡ true
   pub copies : AreCopiesOf (word (codes "copies")) (length given) line.copies.items
   pub options : AreOptionsOf word line.how

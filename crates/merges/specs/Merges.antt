@@ -15,7 +15,7 @@ use Rattle.rj_merge.specs.declared.refused.MergeTextsRefused.TheVariants as refu
 
 -- the names of the files of a line
 abbrev pub names : Line → List Text
-names line = map (λ f. f.now) line.files.now
+names line = map (λ f. f.now) line.files.items
 
 module _ {R : Type 0} (opens : Text → R → Type 0) (known : R → Option Text) where
   -- an output got the merge of the texts that the files of the words open, with the copies and by

@@ -43,7 +43,7 @@ const ORDERS: &[&str] = &["pairs", "left"];
 #[derive(Drop)]
 pub struct Line<'w> {
     /// The names of the files, in order: at least one, and fewer than 2^32.
-    pub files: &'w [&'w str],
+    pub files: Vec<&'w str>,
     /// In how many files the unmatched rows of each file are.
     pub copies: Vec<Copies>,
     /// How they are merged.
@@ -153,10 +153,13 @@ fn null_of<'w>(matches: &ArgMatches<'w>) -> &'w str
 }
 
 // The names of the files.
-fn files_of<'w>(matches: &'w ArgMatches<'w>) -> &'w [&'w str]
-    ensures { map (λ f. f.now) result.now ≡ texts_found (found_of matches.entry.now) (codes "files") }
+fn files_of<'w>(alloc: Global, matches: &ArgMatches<'w>) -> Result<Vec<&'w str>, AllocError>
+    ensures { IfOk result (λ v. map (λ f. f.now) v.items ≡ texts_found (found_of matches.now) (codes "files")) }
 {
-    matches.get_strs("files").unwrap_or(&[])
+    match matches.get_strs("files") {
+        Some(files) => files.to_vec(alloc),
+        None => Ok(Vec::new(alloc)),
+    }
 }
 
 // Whether so many files can be merged.
@@ -189,11 +192,11 @@ fn options_of<'w>(matches: &ArgMatches<'w>) -> Option<MergeOptions<'w>>
 ///
 /// The first of these: `BadCopies` if the list of copies isn't one of these files, `BadDelimiter`,
 /// `BadNull`, and `FileCount` if so many files can't be merged. `Memory` if memory ran out.
-pub fn line_of<'w>(alloc: Global, matches: &'w ArgMatches<'w>) -> Result<Line<'w>, Failure>
-    ensures line { IfOk result (IsMergeLineBy (first_value (found_of matches.entry.now)) (texts_found (found_of matches.entry.now) (codes "files"))) }
-    ensures failure { IfErr result (IsValueFailure (first_value (found_of matches.entry.now)) (texts_found (found_of matches.entry.now) (codes "files"))) }
+pub fn line_of<'w>(alloc: Global, matches: &ArgMatches<'w>) -> Result<Line<'w>, Failure>
+    ensures line { IfOk result (IsMergeLineBy (first_value (found_of matches.now)) (texts_found (found_of matches.now) (codes "files"))) }
+    ensures failure { IfErr result (IsValueFailure (first_value (found_of matches.now)) (texts_found (found_of matches.now) (codes "files"))) }
 {
-    let files = files_of(matches);
+    let files = files_of(alloc, matches)?;
     let copies = match read_copies(alloc, matches.get_str("copies"), files.len()) {
         Ok(copies) => copies,
         Err(failure) => return Err(failure),

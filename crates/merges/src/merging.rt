@@ -1,6 +1,6 @@
 //! Files that are merged as the words of the command line say.
 
-ghost use Rattle.std.specs.Prelude.{◌≡◌, ◌≢◌, ◌<◌, ◌+◌, ◌-◌, ◌^◌, Err, IfErr, OnOk, length, map};
+ghost use Rattle.std.specs.Prelude.{◌≡◌, ◌≢◌, ◌<◌, ◌+◌, ◌-◌, ◌^◌, Err, IfErr, OnOk, map, vec_len};
 ghost use Rattle.merges.specs.Lines.{IsMergeLine};
 ghost use Rattle.merges.specs.Merges.{IsFailure, IsMergeOfWords, IsRefusalOfLine, names};
 ghost use Rattle.merges.specs.declared.failure.Failure.{Failure};
@@ -21,9 +21,9 @@ fn merge_line<P: Opener, O: Output>(
     line: &Line<'_>,
     output: &mut O,
 ) -> Result<(), Failure>
-    requires some { 0 < length line.now.files.now }
-    requires few { length line.now.files.now < 2 ^ 32 }
-    requires copies { length line.now.copies.items ≡ length line.now.files.now }
+    requires some { 0 < vec_len line.now.files }
+    requires few { vec_len line.now.files < 2 ^ 32 }
+    requires copies { vec_len line.now.copies ≡ vec_len line.now.files }
     requires failures { O.count output.old < 2 ^ 64 - 1 }
     ensures merge { OnOk result (ForNamed (P.opens opener.now) P.Reader.remaining (names line.now)
         (λ texts. GotMerge line.now.how line.now.copies.items texts (O.told output.old) (O.told output.new))) }
@@ -32,7 +32,7 @@ fn merge_line<P: Opener, O: Output>(
     ensures device { result ≡ Err Failure.WriteDevice → O.count output.new ≡ O.count output.old + 1 }
     ensures kept { result ≢ Err Failure.WriteDevice → O.count output.new ≡ O.count output.old }
 {
-    let files = line.files;
+    let files = line.files.as_slice();
     match merge_named(
         alloc,
         opener,
