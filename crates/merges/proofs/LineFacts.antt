@@ -1,14 +1,12 @@
 -- What the values of the options say.
-use Rattle.std.proofs.Common.{◌≡◌, ◌≢◌, ◌∙◌, ◌<◌, ◌^◌, ◌&&◌, ℕ, Bool, List, length, map, true, false, Option, None, Some, Bor, sym, ap, subst, refl, true≢false, codes}
+use Rattle.std.proofs.Common.{◌≡◌, ◌∙◌, ◌<◌, ◌^◌, ℕ, List, length, map, Option, None, Some, Bor, sym, ap, refl}
 use Rattle.std.specs.Prelude.{nat_lt, option_map, unwrap_or}
 use Rattle.std.specs.Bool.{Decides}
 use Rattle.std.proofs.lemmas.Bool.Decides.{Decides-and, Decides-ltb}
 use Rattle.std.proofs.lemmas.List.{length-map, length-replicate}
 use Rattle.clap.specs.Words.{Text}
 use Rattle.merges.specs.Copies.{AreCopiesOf}
-use Rattle.merges.specs.Lines.{IsValueFailure, is_file_count}
-use Rattle.merges.specs.declared.failure.Failure.{Failure}
-use Rattle.merges.specs.declared.failure.Failure.TheVariants as failure
+use Rattle.merges.specs.Lines.{is_file_count}
 use Rattle.rj_merge.specs.Copies.{single}
 use Rattle.rj_merge.specs.declared.copies.Copies.{Copies}
 

@@ -1,5 +1,5 @@
 -- What texts of digits write.
-use Rattle.std.proofs.Common.{◌≡◌, ◌∙◌, ◌<◌, ◌≤◌, ◌^◌, ◌&&◌, ℕ, Bool, List, [], ◌∷◌, length, true, false, Option, None, Some, Result, Ok, Err, refl, sym, ap, subst, inl, inr, arith, rules, if◌then◌else◌}
+use Rattle.std.proofs.Common.{◌≡◌, ◌∙◌, ◌<◌, ◌^◌, ◌&&◌, ℕ, Bool, List, [], ◌∷◌, length, true, false, None, Some, Result, Ok, Err, refl, sym, ap, subst, inl, inr, arith, rules, if◌then◌else◌}
 use Rattle.std.specs.Prelude.{nat_le, option_map}
 use Rattle.std.specs.Char.{is_ascii_digit}
 use Rattle.std.specs.List.{list_all}

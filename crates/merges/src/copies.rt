@@ -29,8 +29,14 @@ fn number_of(text: &str) -> Option<u32>
         return None;
     }
     match text.parse::<u32>() {
-        Ok(number) if 1 <= number && number <= MOST => Some(number),
-        _ => None,
+        Ok(number) => {
+            if 1 <= number && number <= MOST {
+                Some(number)
+            } else {
+                None
+            }
+        }
+        Err(_) => None,
     }
 }
 

@@ -60,7 +60,7 @@ pub merge_line-requires-clause-some : goal.merge_line-requires-clause-some
 merge_line-requires-clause-some g c =
     let files : List Text = texts_found (found_of c.in-Ok.matches) (codes "files") in
     let says = c.in-Ok-line_of.ensures.line in
-    let same : length c.in-Ok-line_of.line.files.now ≡ length files = names-length c.in-Ok-line_of.line.files.now files says.files in
+    let same : length c.in-Ok-line_of.line.files.items ≡ length files = names-length c.in-Ok-line_of.line.files.items files says.files in
     let counted : (0 < length files) × (length files < 2 ^ 32) = (count-Decides (length files)).0 says.count in
     omega (arith, same, counted.0)
 
@@ -68,7 +68,7 @@ pub merge_line-requires-clause-few : goal.merge_line-requires-clause-few
 merge_line-requires-clause-few g c =
     let files : List Text = texts_found (found_of c.in-Ok.matches) (codes "files") in
     let says = c.in-Ok-line_of.ensures.line in
-    let same : length c.in-Ok-line_of.line.files.now ≡ length files = names-length c.in-Ok-line_of.line.files.now files says.files in
+    let same : length c.in-Ok-line_of.line.files.items ≡ length files = names-length c.in-Ok-line_of.line.files.items files says.files in
     let counted : (0 < length files) × (length files < 2 ^ 32) = (count-Decides (length files)).0 says.count in
     omega (arith, same, counted.1)
 
@@ -77,4 +77,4 @@ merge_line-requires-clause-copies g c =
     let files : List Text = texts_found (found_of c.in-Ok.matches) (codes "files") in
     let says = c.in-Ok-line_of.ensures.line in
     copies-length (first_value (found_of c.in-Ok.matches) (codes "copies")) (length files) c.in-Ok-line_of.line.copies.items says.copies
-    ∙ sym (names-length c.in-Ok-line_of.line.files.now files says.files)
+    ∙ sym (names-length c.in-Ok-line_of.line.files.items files says.files)
