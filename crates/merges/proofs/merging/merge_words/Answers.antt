@@ -37,8 +37,8 @@ returns-in-Err-line_of-clause-failure g c =
       by_words (λ word files. IsValueFailure word files c.in-Err-line_of.failure) words c.in-Ok.matches parse c.in-Err-line_of.ensures.failure,
     ))
 
-pub returns-in-Ok-clause-merge : goal.returns-in-Ok-clause-merge
-returns-in-Ok-clause-merge g c =
+pub returns-in-Ok-merge_line-clause-merge : goal.returns-in-Ok-merge_line-clause-merge
+returns-in-Ok-merge_line-clause-merge g c =
     let words : List Text = map (λ (w : Bor Text). w.now) c.args.words.now in
     record {
       line = c.in-Ok-line_of.line;
@@ -47,14 +47,24 @@ returns-in-Ok-clause-merge g c =
       sound = c.in-Ok-merge_line.ensures.sound;
     }
 
-pub returns-in-Err-merge_line-clause-failure : goal.returns-in-Err-merge_line-clause-failure
-returns-in-Err-merge_line-clause-failure g c =
+pub returns-clause-failure : goal.returns-clause-failure
+returns-clause-failure g c =
     let words : List Text = map (λ (w : Bor Text). w.now) c.args.words.now in
     inr (record {
       line = c.in-Ok-line_of.line;
       read = line_read words c.in-Ok.matches c.in-Ok-line_of.line c.in-Ok.ensures.parse c.in-Ok-line_of.ensures.line;
       refusal = c.in-Err-merge_line.ensures.refusal;
     })
+
+pub returns-in-Ok-merge_line-clause-unchanged : goal.returns-in-Ok-merge_line-clause-unchanged
+returns-in-Ok-merge_line-clause-unchanged g c none =
+    let words : List Text = map (λ (w : Bor Text). w.now) c.args.words.now in
+    absurd (none c.in-Ok-line_of.line (line_read words c.in-Ok.matches c.in-Ok-line_of.line c.in-Ok.ensures.parse c.in-Ok-line_of.ensures.line))
+
+pub returns-clause-unchanged : goal.returns-clause-unchanged
+returns-clause-unchanged g c none =
+    let words : List Text = map (λ (w : Bor Text). w.now) c.args.words.now in
+    absurd (none c.in-Ok-line_of.line (line_read words c.in-Ok.matches c.in-Ok-line_of.line c.in-Ok.ensures.parse c.in-Ok-line_of.ensures.line))
 
 pub merge_line-requires-clause-some : goal.merge_line-requires-clause-some
 merge_line-requires-clause-some g c =
@@ -76,5 +86,7 @@ pub merge_line-requires-clause-copies : goal.merge_line-requires-clause-copies
 merge_line-requires-clause-copies g c =
     let files : List Text = texts_found (found_of c.in-Ok.matches) (codes "files") in
     let says = c.in-Ok-line_of.ensures.line in
-    copies-length (first_value (found_of c.in-Ok.matches) (codes "copies")) (length files) c.in-Ok-line_of.line.copies.items says.copies
-    ∙ sym (names-length c.in-Ok-line_of.line.files.items files says.files)
+    let same : length c.in-Ok-line_of.line.files.items ≡ length files = names-length c.in-Ok-line_of.line.files.items files says.files in
+    let copied : length c.in-Ok-line_of.line.copies.items ≡ length files =
+    copies-length (first_value (found_of c.in-Ok.matches) (codes "copies")) (length files) c.in-Ok-line_of.line.copies.items says.copies in
+    omega (arith, same, copied)
