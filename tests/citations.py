@@ -323,9 +323,9 @@ def library_faults(text):
 
 def endings_of(program, source, definitions):
     """The lines that a program's source tells, each up to the first thing that it names, with their exit statuses."""
-    lines = re.findall(rf'#\[error\("{program}: ([^"]*)"\)\]\n +(\w+)', (harness.ROOT / "crates" / source).read_text())
+    lines = re.findall(rf'Failure::(\w+)(?:\([^)]*\))? => [^"]*"{program}: ([^"]*)"', (harness.ROOT / "crates" / source).read_text())
     statuses = dict(re.findall(r"^exit_of \(?failure\.(\w+).* = (\d)$", (harness.ROOT / "crates" / definitions).read_text(), re.MULTILINE))
-    return {(line.partition(" {")[0], statuses.get(name)) for line, name in lines}
+    return {(line, statuses.get(name)) for name, line in lines}
 
 
 def ending_faults(text):

@@ -5,20 +5,22 @@ ghost use Rattle.std.specs.Prelude.{◌≡◌};
 use clap::Error;
 use rj_fault::ExitReason;
 use std::alloc::AllocError;
+use std::fmt;
 
-// Why nothing, or not all, was printed. The text is the line that is printed, without its line end.
-#[derive(Debug, Drop, thiserror::Error)]
+/// Why nothing, or not all, was printed. The text is the line that is printed, without its line
+/// end.
+#[derive(Drop)]
 pub enum Failure {
-    // `clap` refused the words, or they ask for help or for the version.
-    #[error("{0}")]
+    /// `clap` refused the words, or they ask for help or for the version. The text is that of
+    /// `clap`.
     CommandLine(Error),
-    #[error("arrivals: an argument is not text")]
+    /// A word isn't text.
     NotText,
-    #[error("arrivals: E18 Memory")]
+    /// Memory ran out.
     Memory,
-    #[error("arrivals: E19 ReadDevice")]
+    /// The script can't be read.
     ReadDevice,
-    #[error("arrivals: E20 WriteDevice")]
+    /// The answers can't be written.
     WriteDevice,
 }
 
@@ -29,6 +31,22 @@ impl From<AllocError> for Failure {
 
     fn from(_error: AllocError) -> Failure {
         Failure::Memory
+    }
+}
+
+impl fmt::Display for Failure {
+    ghost use Rattle.arrivals.specs.Failures.{line_of};
+
+    ghost output = { line_of };
+
+    fn fmt<W: fmt::Write>(&self, f: &mut fmt::Formatter<W>) -> fmt::Result {
+        match self {
+            Failure::CommandLine(error) => write!(f, "{error}"),
+            Failure::NotText => f.write_str("arrivals: an argument is not text"),
+            Failure::Memory => f.write_str("arrivals: E18 Memory"),
+            Failure::ReadDevice => f.write_str("arrivals: E19 ReadDevice"),
+            Failure::WriteDevice => f.write_str("arrivals: E20 WriteDevice"),
+        }
     }
 }
 

@@ -25,12 +25,16 @@ Options:
   -V, --version    Print the version
 ";
 
-// What the words of the command line say.
+/// What the words of the command line say.
 #[derive(Clone, Copy)]
 pub struct Line {
+    /// The number of the partition, 0 to 1,023.
     pub partition: u32,
+    /// How many senders it has, 1 to 128.
     pub senders: u32,
+    /// The most rows of a block, 1 to 65,536.
     pub block: u32,
+    /// Whether the gaps of waiting senders are printed.
     pub gaps: bool,
 }
 
@@ -87,7 +91,12 @@ fn line_of(matches: &ArgMatches<'_>) -> Line
     }
 }
 
-// Reads the words after the program's name.
+/// Reads the words after the program's name.
+///
+/// # Errors
+///
+/// `CommandLine` with an error that `clap` reports of the words, among them that they ask for help
+/// or for the version; `Memory` if memory ran out.
 pub fn read_line(alloc: Global, words: &[&str]) -> Result<Line, Failure>
     ensures line { IfOk result (IsReplayLine (map (λ w. w.now) words.now)) }
     ensures failure { IfErr result (IsLineFailure (map (λ w. w.now) words.now)) }

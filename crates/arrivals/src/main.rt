@@ -3,6 +3,8 @@
 //! the ledger delivered of each sender. Errors go to standard error.
 #![tactic(auto)]
 
+ghost use Rattle.arrivals.specs.Failures.{IsStatusOf};
+
 mod failure;
 mod line;
 mod replaying;
@@ -27,10 +29,17 @@ fn run<R: Env + Input + AllocGlobal + Print>(rt: &R) -> Result<bool, Failure> {
     replay(rt.alloc(), texts.as_slice(), &mut reader, &mut writer)
 }
 
-fn main(rt: HostRuntime) -> ExitCode {
-    match run(&rt) {
-        Ok(true) => ExitCode::SUCCESS,
-        Ok(false) => ExitCode::from(3),
-        Err(failure) => ExitCode::from(tell(&rt, &failure)),
+// Prints a failure, or help or the version, and returns the exit status.
+fn end<R: Print + Eprint>(rt: &R, ended: Result<bool, Failure>) -> u8
+    ensures { IsStatusOf ended result }
+{
+    match ended {
+        Ok(true) => 0,
+        Ok(false) => 3,
+        Err(failure) => tell(rt, &failure),
     }
+}
+
+fn main(rt: HostRuntime) -> ExitCode {
+    ExitCode::from(end(&rt, run(&rt)))
 }

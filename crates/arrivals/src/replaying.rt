@@ -1,8 +1,11 @@
 //! A script that is replayed as the words of the command line say.
 
-ghost use Rattle.std.specs.Prelude.{◌≡◌, ◌≢◌, ◌<◌, ◌+◌, ◌-◌, ◌^◌, Err, IfErr, IfOk, map};
+ghost use Rattle.std.specs.Prelude.{◌≡◌, ◌≢◌, ◌<◌, ◌+◌, ◌-◌, ◌^◌, Err, IfErr, IfOk, OnOk, map};
+ghost use Rattle.arrivals.specs.Lines.{IsReplayLine};
 ghost use Rattle.arrivals.specs.Replays.{IsFailure, IsReplay};
 ghost use Rattle.arrivals.specs.declared.failure.Failure.{Failure};
+ghost use Rattle.arrivals.specs.declared.line.Line.{Line};
+ghost use Rattle.std.specs.Io.KnownBytes.{IsAtEnd};
 
 use crate::failure::Failure;
 use crate::line::{Line, read_line};
@@ -11,8 +14,14 @@ use rj_fault::Fault;
 use rj_script::arrivals;
 use std::alloc::Global;
 
-// Reads the words after the program's name, and then the script, and puts the answers. Returns
-// whether every line of the script was readable.
+/// Reads the words after the program's name, and then the script to its end, and puts what is
+/// printed for it. Returns whether every line of the script was readable.
+///
+/// # Errors
+///
+/// Those of [`read_line`], before the script is read. `ReadDevice` if the input failed, `Memory` if
+/// memory ran out. After all these the output is unchanged. `WriteDevice` if it failed; how much it
+/// got is unknown.
 pub fn replay<I: Input, W: Output>(
     alloc: Global,
     words: &[&str],
@@ -23,7 +32,11 @@ pub fn replay<I: Input, W: Output>(
     requires writes { W.count writer.old < 2 ^ 64 - 1 }
     ensures replay { IfOk result (IsReplay (map (λ w. w.now) words.now) (I.tells input.old) (W.told writer.old) (W.told writer.new)) }
     ensures failure { IfErr result (IsFailure (map (λ w. w.now) words.now)) }
+    ensures unread { ((line : Line) → IsReplayLine (map (λ w. w.now) words.now) line → ⊥) → input.new ≡ input.old }
+    ensures end { OnOk result (IsAtEnd (I.tells input.new)) }
     ensures read { result ≡ Err Failure.ReadDevice → I.count input.new ≡ I.count input.old + 1 }
+    ensures readable { result ≢ Err Failure.ReadDevice → I.count input.new ≡ I.count input.old }
+    ensures unchanged { IfErr result (λ f. f ≢ Failure.WriteDevice → writer.new ≡ writer.old) }
     ensures written { result ≡ Err Failure.WriteDevice → W.count writer.new ≡ W.count writer.old + 1 }
     ensures kept { result ≢ Err Failure.WriteDevice → W.count writer.new ≡ W.count writer.old }
 {

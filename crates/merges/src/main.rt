@@ -2,121 +2,24 @@
 //! the places. Errors go to standard error.
 #![tactic(auto)]
 
-ghost use Rattle.std.specs.Prelude.{◌≡◌, length};
+ghost use Rattle.merges.specs.Failures.{IsStatusOf};
 
 mod copies;
 mod failure;
+mod line;
+mod merging;
 
-use crate::copies::read_copies;
 use crate::failure::Failure;
-use clap::{Arg, ArgAction, ArgMatches, Command, value_parser};
-use rj_csv_io::{CountedWriter, is_lawful_null};
-use rj_fault::{VERSION, read_words, tell, texts_of};
-use rj_line::delimiter_of;
-use rj_merge::{Copies, MergeOptions, Opener, Place, RowOrder, merge_named};
-use std::alloc::{AllocError, Global};
+use crate::merging::merge_words;
+use rj_csv_io::CountedWriter;
+use rj_fault::{read_words, tell, texts_of};
+use rj_merge::Opener;
 use std::env::Env;
 use std::fs::{self, Files};
 use std::io;
 use std::process::ExitCode;
 
-// What `--help` prints.
-const HELP: &str = "\
-Merges joined shards into one CSV text, without the places of their rows
-
-Usage: merges [OPTIONS] <FILE>...
-
-Files:
-  <FILE>...               Joined shards, whose rows have the columns left_place and right_place
-
-Options:
-  --null <TEXT>           Text for NULL [default: an empty field]
-  --order <ORDER>         pairs: matches first; left: each left row at its place [default: pairs]
-  --from <PLACE>          First left place to write, without the header [default: the beginning]
-  --to <PLACE>            Left place to end before [default: the end]
-  --copies <LIST>         How many files have each file's unmatched rows, as 1,3x2 (1 to 1,048,576)
-  --out-delimiter <CHAR>  Delimiter of the result, or tab [default: a comma]
-  -h, --help              Print this help
-  -V, --version           Print the version
-";
-
-// An option that takes the place of a left row.
-fn bound<'a>(alloc: Global, name: &'a str) -> Arg<'a> {
-    Arg::new(alloc, name)
-        .long(name)
-        .value_name("PLACE")
-        .action(ArgAction::Set)
-        .value_parser(value_parser!(u64))
-}
-
-fn line_command<'a>(alloc: Global) -> Result<Command<'a>, AllocError> {
-    let null = Arg::new(alloc, "null")
-        .long("null")
-        .value_name("TEXT")
-        .action(ArgAction::Set);
-    let order = Arg::new(alloc, "order")
-        .long("order")
-        .value_name("ORDER")
-        .action(ArgAction::Set)
-        .value_parser(["pairs", "left"].as_slice());
-    let from = bound(alloc, "from");
-    let to = bound(alloc, "to");
-    let copies = Arg::new(alloc, "copies")
-        .long("copies")
-        .value_name("LIST")
-        .action(ArgAction::Set);
-    let delimiter = Arg::new(alloc, "out-delimiter")
-        .long("out-delimiter")
-        .value_name("CHAR")
-        .action(ArgAction::Set);
-    let files = Arg::new(alloc, "files")
-        .value_name("FILE")
-        .num_args(1..)
-        .required(true);
-    Command::new(alloc, "merges")
-        .override_help(HELP)
-        .version(VERSION)
-        .no_binary_name(true)
-        .arg(null)?
-        .arg(order)?
-        .arg(from)?
-        .arg(to)?
-        .arg(copies)?
-        .arg(delimiter)?
-        .arg(files)
-}
-
-// The order that is named, or pairs first if none is.
-fn order_of(matches: &ArgMatches<'_>) -> RowOrder {
-    match matches.get_str("order") {
-        Some("left") => RowOrder::LeftFirst,
-        _ => RowOrder::PairsFirst,
-    }
-}
-
-// The least place of the rows of the left row that an option names, if it is given.
-fn bound_of(matches: &ArgMatches<'_>, name: &str) -> Option<Place> {
-    match matches.get_one::<u64>(name) {
-        Some(left) => Some(Place::Pair(left, 0)),
-        None => None,
-    }
-}
-
-// How the files are merged, if the text that is to delimit the result may do so.
-fn options_of<'n>(matches: &ArgMatches<'_>, null: &'n str) -> Option<MergeOptions<'n>> {
-    match delimiter_of(matches.get_str("out-delimiter").unwrap_or(",")) {
-        Some(delimiter) => Some(MergeOptions {
-            delimiter,
-            null: null.as_bytes(),
-            order: order_of(matches),
-            from: bound_of(matches, "from"),
-            to: bound_of(matches, "to"),
-        }),
-        None => None,
-    }
-}
-
-// The files of the command line.
+// The files of the system.
 #[derive(Drop)]
 struct Disk<'r, R: Files> {
     rt: &'r R,
@@ -130,60 +33,26 @@ impl<'r, R: Files> Opener for Disk<'r, R> {
     }
 }
 
-// Merges the files, and puts the merge on standard output.
-fn merge_files<R: Files + AllocGlobal + Print>(
-    rt: &R,
-    null: &str,
-    how: &MergeOptions<'_>,
-    files: &[&str],
-    copies: &[Copies],
-) -> Result<(), Failure>
-    requires { length copies.now ≡ length files.now }
-{
-    if !is_lawful_null(null) {
-        return Err(Failure::BadNull);
-    }
-    if files.is_empty() || u32::try_from(files.len()).is_err() {
-        return Err(Failure::FileCount);
-    }
-    let mut output = CountedWriter::new(io::writer(rt));
-    match merge_named(rt.alloc(), &Disk { rt }, files, copies, how, &mut output) {
-        Ok(()) => Ok(()),
-        Err(refused) => Err(Failure::of(rt.alloc(), files, refused)),
-    }
-}
-
-// Reads the words after the program's name, and merges.
-fn read_and_merge<R: Files + AllocGlobal + Print>(rt: &R, words: &[&str]) -> Result<(), Failure> {
-    let command = line_command(rt.alloc())?;
-    let matches = match command.try_get_matches_from(words) {
-        Ok(matches) => matches,
-        Err(error) if error.kind() == clap::error::ErrorKind::OutOfMemory => {
-            return Err(Failure::Memory);
-        }
-        Err(error) => return Err(Failure::CommandLine(error)),
-    };
-    let null = matches.get_str("null").unwrap_or("");
-    let files = matches.get_strs("files").unwrap_or(&[]);
-    let copies = read_copies(rt.alloc(), matches.get_str("copies"), files.len())?;
-    let Some(how) = options_of(&matches, null) else {
-        return Err(Failure::BadDelimiter);
-    };
-    merge_files(rt, null, &how, files, copies.as_slice())
-}
-
-// Reads the command line, and merges.
+// Reads the command line, and puts the merge on standard output.
 fn run<R: Env + Files + AllocGlobal + Print>(rt: &R) -> Result<(), Failure> {
     let Some(words) = read_words(rt)? else {
         return Err(Failure::NotText);
     };
     let texts = texts_of(rt.alloc(), words.as_slice())?;
-    read_and_merge(rt, texts.as_slice())
+    let mut output = CountedWriter::new(io::writer(rt));
+    merge_words(rt.alloc(), &Disk { rt }, texts.as_slice(), &mut output)
+}
+
+// Prints a failure, or help or the version, and returns the exit status.
+fn end<R: Print + Eprint>(rt: &R, ended: Result<(), Failure>) -> u8
+    ensures { IsStatusOf ended result }
+{
+    match ended {
+        Ok(()) => 0,
+        Err(failure) => tell(rt, &failure),
+    }
 }
 
 fn main(rt: HostRuntime) -> ExitCode {
-    match run(&rt) {
-        Ok(()) => ExitCode::SUCCESS,
-        Err(failure) => ExitCode::from(tell(&rt, &failure)),
-    }
+    ExitCode::from(end(&rt, run(&rt)))
 }

@@ -1,0 +1,4 @@
+pub mod CopyFacts
+pub mod LineFacts
+pub mod NumberFacts
+pub mod RefusalFacts

@@ -1,0 +1,48 @@
+-- The merge of the files that the words of the command line name, and why there is none.
+use Rattle.std.specs.Prelude.{◌≡◌, ◌⊎◌, false, List, ℕ, length, map, Option, Err}
+use Rattle.clap.specs.Words.{Text}
+use Rattle.merges.specs.Lines.{IsLineFailure, IsMergeLine}
+use Rattle.merges.specs.Refusals.{IsOf}
+use Rattle.merges.specs.declared.failure.Failure.{Failure}
+use Rattle.merges.specs.declared.line.Line.{Line}
+use Rattle.rj_merge.specs.Inputs.{is_input}
+use Rattle.rj_merge.specs.MergedTexts.{GotMerge, HaveNoFault, HeedsHeaders, IsFaultOfTexts}
+use Rattle.rj_merge.specs.Named.{ForNamed}
+use Rattle.rj_merge.specs.Sources.{TellsAmong, is_outside}
+use Rattle.rj_merge.specs.declared.refused.MergeRefused.{MergeRefused}
+use Rattle.rj_merge.specs.declared.refused.MergeTextsRefused.{MergeTextsRefused}
+use Rattle.rj_merge.specs.declared.refused.MergeTextsRefused.TheVariants as refused
+
+-- the names of the files of a line
+abbrev pub names : Line → List Text
+names line = map (λ f. f.now) line.files.items
+
+module _ {R : Type 0} (opens : Text → R → Type 0) (known : R → Option Text) where
+  -- an output got the merge of the texts that the files of the words open, with the copies and by
+  -- the options that the words say
+  pub record IsMergeOfWords (words : List Text) (old new : Option Text) : Type 0 where
+    pub line : Line
+    pub read : IsMergeLine words line
+    pub merge : ForNamed opens known (names line) (λ texts. GotMerge line.how line.copies.items texts old new)
+    pub sound : ForNamed opens known (names line) (HaveNoFault line.how)
+
+  -- a merge of the files of a line was refused: an error that isn't the machine's is one of the
+  -- texts, and that of the first header that has one; it is one of the files', and the failure has
+  -- the name of that file
+  pub record IsRefusalOfLine (line : Line) (f : Failure) : Type 0 where
+    pub error : MergeTextsRefused
+    pub fault : (e : MergeRefused) → error ≡ refused.Merge e → is_outside e ≡ false
+        → ForNamed opens known (names line) (λ texts. IsFaultOfTexts line.how line.copies.items texts e)
+    pub first : ForNamed opens known (names line) (HeedsHeaders {T = Unit {0}} (Err error))
+    pub input : (e : MergeRefused) → error ≡ refused.Merge e → TellsAmong (is_input (length (names line))) e
+    pub is : IsOf (names line) error f
+
+  -- the merge that the words ask for was refused
+  pub record IsRefusalOfWords (words : List Text) (f : Failure) : Type 0 where
+    pub line : Line
+    pub read : IsMergeLine words line
+    pub refusal : IsRefusalOfLine line f
+
+  -- the words are no line, or the merge that they ask for was refused
+  abbrev pub IsFailure : List Text → Failure → Type 0
+  IsFailure words f = IsLineFailure words f ⊎ IsRefusalOfWords words f
