@@ -257,6 +257,16 @@ def document_faults(options):
         yield f"docs/user/specification.md, --{name}", [] if re.search(rf"--{name}\b(?!-)", specification) else ["it isn't told"]
 
 
+def types_faults():
+    """Where help and the man page's synopsis name other options of suggested types than the help of these."""
+    own = harness.run([harness.program("radixjoin"), "--suggest-types", "--help"], harness.ROOT).stdout.decode()
+    named = set(re.findall(r"--([\w-]+)", own)) - {"help", "left-types"}
+    told = {"help": help_of("radixjoin"), "the synopsis": (harness.ROOT / "man" / "radixjoin.1").read_text().replace("Fl Fl ", "--").replace(".Nm", "\n")}
+    for place, text in told.items():
+        usage = re.search(r"--suggest-types.*(?:\n.+)*", text)[0]
+        yield from (f"{place}: {fault}" for fault in difference(re.findall(r"--([\w-]+)", usage), named))
+
+
 def version_faults(program):
     """Whether the version that a program prints is the newest of CHANGELOG.md."""
     ran = harness.run([harness.program(program), "--version"], harness.ROOT)
@@ -272,6 +282,7 @@ def run_all(tally):
         tally.check(f"man page of {program}", manual_faults(program, options[program]))
         check_completions(program, options[program], tally)
         tally.check(f"version of {program}", version_faults(program))
+    tally.check("options of suggested types", list(types_faults()))
     check_bash_details(tally)
     check_lint(tally)
     for name, faults in document_faults(options):

@@ -9,6 +9,7 @@ Usage: radixjoin <LEFT FILE> <RIGHT FILE> <CLAUSE> [OPTIONS]
        radixjoin --left <FILE> --left-types <TYPES> --right <FILE> --right-types <TYPES>
                  --join <CLAUSE> [OPTIONS]
        radixjoin --suggest-types <FILE> [--null <TEXT>] [--delimiter <CHAR>] [--strict]
+                 [--keys-only]
 
 The short form, without --left, --right and --join, is for people: by default it reads strictly,
 explains errors, qualifies repeated names and has a worker for each processor. A column of which no
