@@ -11,18 +11,13 @@ use Rattle.rj_strict.specs.Reading.{body_of}
 use Rattle.rj_strict.specs.declared.fault.StrictFault.{StrictFault}
 use Rattle.rj_strict.specs.declared.header.Header.TheVariants.{First}
 use Rattle.rj_suggest.specs.Keys.{IsListingOf}
-use Rattle.rj_suggest.specs.Misfits.{IsSuggestionOf}
 use Rattle.rj_suggest.specs.Suggested.{IsFaultOf, read_as_texts}
 use Rattle.rj_suggest.specs.declared.strict.StrictlyRefused.{StrictlyRefused}
 use Rattle.rj_suggest.specs.declared.strict.StrictlyRefused.TheVariants.{Records, Text}
 use Rattle.rj_suggest.specs.declared.suggestion.ListedColumns.{ListedColumns}
 use Rattle.rj_suggest.specs.declared.suggestion.Suggestion.{Suggestion}
 
--- what the records of a text's one derivation suggest
-abbrev pub IsStrictSuggestion : Bool → ℕ → List ℕ → List (List ℕ) → Suggestion → Type 0
-IsStrictSuggestion full d bytes nulls s = (file : File) × Derives d First full (body_of First bytes) file × IsSuggestionOf (records_of file) nulls s
-
--- the same of all columns, or of those that can be a key
+-- what the records of a text's one derivation suggest of these columns
 abbrev pub IsStrictListing : ListedColumns → Bool → ℕ → List ℕ → List (List ℕ) → Suggestion → Type 0
 IsStrictListing listed full d bytes nulls s = (file : File) × Derives d First full (body_of First bytes) file × IsListingOf listed (records_of file) nulls s
 

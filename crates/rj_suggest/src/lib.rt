@@ -28,7 +28,7 @@ use crate::keys::suggest_keys;
 pub use crate::listed::list_of_lines;
 use crate::misfits::misfits_of;
 pub use crate::numeral::{are_digits, is_unsigned_text, place_of_point, without_sign};
-pub use crate::strict::{StrictlyRefused, suggest_listed_strictly, suggest_types_strictly};
+pub use crate::strict::{StrictlyRefused, suggest_listed_strictly};
 pub use crate::suggestion::{ListedColumns, Misfit, Suggestion};
 pub use crate::writing::lines_are_read_back;
 use crate::writing::lines_of;

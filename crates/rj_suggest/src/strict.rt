@@ -6,7 +6,7 @@ ghost use Rattle.rj_strict.specs.Grammar.{Derives, File, records_of};
 ghost use Rattle.rj_strict.specs.Reading.{body_of};
 ghost use Rattle.rj_strict.specs.declared.header.Header.TheVariants.{First};
 ghost use Rattle.rj_suggest.specs.Keys.{IsListingOf};
-ghost use Rattle.rj_suggest.specs.Strict.{IsStrictListing, IsStrictRefusal, IsStrictSuggestion, refused_below};
+ghost use Rattle.rj_suggest.specs.Strict.{IsStrictListing, IsStrictRefusal, refused_below};
 ghost use Rattle.rj_suggest.specs.Suggested.{IsFaultOf};
 
 use crate::suggest_listed;
@@ -86,22 +86,4 @@ pub fn suggest_listed_strictly(
             Err(refused_below(fault, found))
         }
     }
-}
-
-/// The same of all columns: what [`suggest_types`](crate::suggest_types) gives.
-///
-/// # Errors
-///
-/// Those of [`suggest_listed_strictly`].
-pub fn suggest_types_strictly(
-    alloc: Global,
-    bytes: &[u8],
-    format: &InputFormat<'_>,
-    full: bool,
-) -> Result<Suggestion, StrictlyRefused>
-    ensures suggestion { IfOk result (IsStrictSuggestion full format.now.delimiter bytes.now (null_texts format.now.nulls.now)) }
-    ensures refused { IfErr result (λ e. e ≢ StrictlyRefused.Records Fault.Memory
-        → IsStrictRefusal full format.now.delimiter bytes.now (null_texts format.now.nulls.now) e) }
-{
-    suggest_listed_strictly(alloc, bytes, format, full, ListedColumns::All)
 }
