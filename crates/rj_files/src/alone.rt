@@ -9,7 +9,7 @@ use rj_command::read_line;
 use rj_csv_io::{Header, InputFormat, without_bom};
 use rj_explain::{Inputs, explain, explain_separator};
 use rj_fault::{Fault, Side, texts_of};
-use rj_line::Strictness;
+use rj_line::{Request, Strictness};
 use rj_strict::Delimiter;
 use rj_suggest::ListedColumns;
 use std::alloc::{AllocError, Global};
@@ -65,6 +65,15 @@ fn without_side(alloc: Global, lines: &str) -> Result<String, AllocError> {
     }
 }
 
+// A left file of these bytes, beside a right one without any.
+fn left_alone<'a, 'r>(bytes: &'a [u8], request: &'a Request<'r>) -> Inputs<'a, 'r> {
+    Inputs {
+        left: bytes,
+        right: &bytes[..0],
+        request,
+    }
+}
+
 // The lines that explain an error of the file's bytes: those of the left file of a join that reads
 // it so.
 fn lines_alone(
@@ -80,11 +89,7 @@ fn lines_alone(
     let Ok(line) = read_line(alloc, words.as_slice(), 1) else {
         return Ok(String::new(alloc));
     };
-    let inputs = Inputs {
-        left: bytes,
-        right: &[],
-        request: &line.request,
-    };
+    let inputs = left_alone(bytes, &line.request);
     without_side(alloc, explain(alloc, fault, &inputs)?.as_str())
 }
 
