@@ -1,5 +1,5 @@
 -- The merge of the files that the words of the command line name, and why there is none.
-use Rattle.std.specs.Prelude.{◌≡◌, ◌⊎◌, false, List, ℕ, length, map, Option, Err}
+use Rattle.std.specs.Prelude.{◌≡◌, ◌⊎◌, false, List, length, map, Option, Err}
 use Rattle.clap.specs.Words.{Text}
 use Rattle.merges.specs.Lines.{IsLineFailure, IsMergeLine}
 use Rattle.merges.specs.Refusals.{IsOf}

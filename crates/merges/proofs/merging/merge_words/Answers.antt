@@ -1,7 +1,6 @@
-use Rattle.std.proofs.Common.{◌≡◌, ◌∙◌, ◌<◌, ◌^◌, Bor, List, Option, arith, inl, inr, length, map, subst, sym}
+use Rattle.std.proofs.Common.{◌≡◌, ◌<◌, ◌^◌, Bor, List, Option, arith, inl, inr, length, map, subst}
 use Rattle.clap.specs.Words.{Text, first_value, found_of}
 use Rattle.merges.specs.Lines.{IsMergeLine, IsMergeLineBy, IsMergeParse, IsValueFailure, files_of, word_of}
-use Rattle.merges.specs.declared.failure.Failure.{Failure}
 use Rattle.merges.specs.declared.line.Line.{Line}
 use Rattle.clap.specs.declared.parser.matches.ArgMatches.{ArgMatches}
 use Rattle.rj_line.specs.Line.{texts_found}
