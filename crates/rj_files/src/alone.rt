@@ -25,7 +25,7 @@ pub struct Suggesting {
     pub explain: bool,
 }
 
-// The words of a join that would take a file only if it is read so.
+// The words of a join whose left file is the only one, but for those that say how it is read.
 const JOIN: [&str; 5] = [
     "--left=-",
     "--right=-",
@@ -34,13 +34,16 @@ const JOIN: [&str; 5] = [
     "--join=CROSS JOIN",
 ];
 
-// The words that say how the left file of such a join is read.
-fn reading_words(
+// The words of such a join.
+fn join_words(
     alloc: Global,
     format: &InputFormat<'_>,
     strict: Strictness,
 ) -> Result<Vec<String>, AllocError> {
     let mut words = Vec::new(alloc);
+    for word in JOIN {
+        words.push(String::from_str(alloc, word)?)?;
+    }
     let delimiter = char::from(format.delimiter.byte());
     words.push(format!(in alloc; "--left-delimiter={delimiter}")?)?;
     for null in format.nulls {
@@ -83,9 +86,8 @@ fn lines_alone(
     strict: Strictness,
     fault: &Fault,
 ) -> Result<String, AllocError> {
-    let reading = reading_words(alloc, format, strict)?;
-    let mut words = texts_of(alloc, reading.as_slice())?;
-    words.extend_from_slice(&JOIN)?;
+    let owned = join_words(alloc, format, strict)?;
+    let words = texts_of(alloc, owned.as_slice())?;
     let Ok(line) = read_line(alloc, words.as_slice(), 1) else {
         return Ok(String::new(alloc));
     };
