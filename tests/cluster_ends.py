@@ -51,8 +51,8 @@ def programs_in(folder, name, does, is_once=True, step=None, again=":"):
     (folder / name).unlink()
     once = 'mkdir "$0.once" 2>/dev/null' if is_once else "true"
     script = f'#!/bin/sh\ncase "$*" in *"{step or STEPS[name]}"*) if {once}; then {does}; else {again}; fi;; esac\nexec "{harness.program(name)}" "$@"\n'
-    (folder / name).write_text(script)
-    (folder / name).chmod(0o755)
+    # (Another process writes it. A program that a thread of this one starts meanwhile would hold it open, and it couldn't be run.)
+    subprocess.run(["sh", "-c", 'cat > "$0" && chmod 755 "$0"', folder / name], input=script.encode(), check=True)
     return folder
 
 
