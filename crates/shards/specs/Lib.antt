@@ -1,3 +1,5 @@
 pub mod Failures
+pub mod Lines
+pub mod Plans
 pub mod Ranges
 pub mod Explained

@@ -38,8 +38,8 @@ pub(crate) fn print_cuts<R: Files + AllocGlobal + Print>(
     line: &Line<'_>,
     ranges: u32,
 ) -> Result<(), Failure> {
-    let file = line.operand(line.side).file;
-    let delimiter = line.delimiter(line.side);
+    let own = line.operand(line.side);
+    let (file, delimiter) = (own.file, own.delimiter);
     let head = match read_head(rt, file, line.side, delimiter, Strictness::Off) {
         Ok(head) => head,
         Err(Fault::NoHeader(_)) => return Ok(()),

@@ -1,7 +1,10 @@
 //! `--explain`: the lines that are added after the line of an error.
 
-ghost use Rattle.std.specs.Prelude.{◌≡◌};
-ghost use Rattle.shards.specs.Explained.{is_of_headers};
+ghost use Rattle.std.specs.Prelude.{◌≡◌, ◌⊎◌, IfOk, None, false, map, option_map, string_bytes};
+ghost use Rattle.std.specs.List.{list_any};
+ghost use Rattle.rj_fault.specs.Faults.{IsAskedFor};
+ghost use Rattle.shards.specs.Explained.{AreLinesOf, is_explain, is_of_headers};
+ghost use Rattle.shards.specs.Failures.{clap_error_of, exit_of, unwritten};
 
 use crate::failure::Failure;
 use crate::files::read_beginning;
@@ -19,6 +22,10 @@ pub(crate) struct ExplainedFailure {
 }
 
 impl From<Failure> for ExplainedFailure {
+    ghost use Rattle.std.specs.Prelude.{None};
+
+    ghost from_gives = { λ failure e. (e.failure ≡ failure) × (e.lines ≡ None) };
+
     fn from(failure: Failure) -> ExplainedFailure {
         ExplainedFailure {
             failure,
@@ -27,21 +34,14 @@ impl From<Failure> for ExplainedFailure {
     }
 }
 
-impl From<Fault> for ExplainedFailure {
-    fn from(fault: Fault) -> ExplainedFailure {
-        ExplainedFailure {
-            failure: Failure::Told(fault),
-            lines: None,
-        }
-    }
-}
-
 impl From<AllocError> for ExplainedFailure {
+    ghost use Rattle.rj_fault.specs.declared.fault.Fault.TheVariants.{Memory};
+    ghost use Rattle.shards.specs.declared.failure.Failure.TheVariants.{Told};
+
+    ghost from_gives = { λ _ e. e.failure ≡ Told Memory };
+
     fn from(_error: AllocError) -> ExplainedFailure {
-        ExplainedFailure {
-            failure: Failure::Told(Fault::Memory),
-            lines: None,
-        }
+        ExplainedFailure::from(Failure::Told(Fault::Memory))
     }
 }
 
@@ -121,7 +121,9 @@ fn lines_of<R: Files + AllocGlobal>(
     rt: &R,
     words: &[&str],
     failure: &Failure,
-) -> Result<Option<String>, AllocError> {
+) -> Result<Option<String>, AllocError>
+    ensures { IfOk result (λ o. AreLinesOf failure.now (map (λ w. w.now) words.now) (option_map string_bytes o)) }
+{
     match failure {
         Failure::Told(fault) if is_of_headers(fault) => Ok(Some(header_lines(rt, words, fault)?)),
         Failure::Told(fault) => explain_words(rt.alloc(), words, fault),
@@ -129,22 +131,38 @@ fn lines_of<R: Files + AllocGlobal>(
     }
 }
 
+// Whether the words ask for failures to be explained.
+fn is_asked(words: &[&str]) -> bool
+    ensures { result ≡ list_any (λ w. is_explain w.now) words.now }
+{
+    words.iter().any(|word| *word == "--explain")
+}
+
 /// A failure of a run with these words, explained if they ask for it and there was memory for it.
 pub(crate) fn explained<R: Files + AllocGlobal>(
     rt: &R,
     words: &[&str],
     failure: Failure,
-) -> ExplainedFailure {
-    let lines = if words.iter().any(|word| *word == "--explain") {
-        lines_of(rt, words, &failure).unwrap_or(None)
-    } else {
-        None
-    };
-    ExplainedFailure { failure, lines }
+) -> ExplainedFailure
+    ensures failure { result.failure ≡ failure }
+    ensures unasked { list_any (λ w. is_explain w.now) words.now ≡ false → result.lines ≡ None }
+    ensures lines { (result.lines ≡ None) ⊎ AreLinesOf failure (map (λ w. w.now) words.now) (option_map string_bytes result.lines) }
+{
+    if !is_asked(words) {
+        return ExplainedFailure::from(failure);
+    }
+    match lines_of(rt, words, &failure) {
+        Ok(lines) => ExplainedFailure { failure, lines },
+        Err(_) => ExplainedFailure::from(failure),
+    }
 }
 
-/// Prints a failure, and what explains it, on standard error, and returns the exit status.
-pub(crate) fn tell_explained<R: Print + Eprint>(rt: &R, reason: &ExplainedFailure) -> u8 {
+/// Prints a failure, and what explains it, on standard error, and returns the exit status: that of
+/// the failure or, if help or the version was asked for and couldn't be printed, that of a failed
+/// write.
+pub(crate) fn tell_explained<R: Print + Eprint>(rt: &R, reason: &ExplainedFailure) -> u8
+    ensures { (result ≡ exit_of reason.now.failure) ⊎ (IsAskedFor (clap_error_of reason.now.failure) × (result ≡ exit_of unwritten)) }
+{
     let status = tell(rt, &reason.failure);
     if let Some(lines) = &reason.lines {
         let _ = eprint!(rt; "{lines}");

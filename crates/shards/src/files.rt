@@ -1,7 +1,8 @@
 //! The files that are read.
 
-ghost use Rattle.std.specs.Prelude.{◌≡◌, IfOk};
+ghost use Rattle.std.specs.Prelude.{◌≡◌, IfErr, IfOk};
 ghost use Rattle.rj_csv_io.specs.Devices.{read_failures_of};
+ghost use Rattle.shards.specs.Ranges.{IsFileFault};
 
 use crate::first_line::head_of_lines;
 use rj_command::{Fault, Side, Strictness, fault_of_read};
@@ -32,7 +33,9 @@ pub(crate) struct Head {
 /// # Errors
 ///
 /// `ReadDevice`, or `Memory` if memory ran out.
-pub(crate) fn open_file<R: Files>(rt: &R, name: &str, side: Side) -> Result<R::File, Fault> {
+pub(crate) fn open_file<R: Files>(rt: &R, name: &str, side: Side) -> Result<R::File, Fault>
+    ensures fault { IfErr result (IsFileFault side) }
+{
     match fs::open(rt, name) {
         Ok(file) => Ok(file),
         Err(error) if error.kind() == ErrorKind::OutOfMemory => Err(Fault::Memory),
@@ -52,7 +55,8 @@ pub(crate) fn open_range<R: Files>(
     from: u64,
     to: u64,
 ) -> Result<CountedReader<Take<R::File>>, Fault>
-    ensures { IfOk result (λ r. read_failures_of r ≡ 0) }
+    ensures unfailed { IfOk result (λ r. read_failures_of r ≡ 0) }
+    ensures fault { IfErr result (IsFileFault side) }
 {
     let mut file = open_file(rt, name, side)?;
     match file.seek(SeekFrom::Start(from)) {
@@ -66,7 +70,9 @@ pub(crate) fn open_range<R: Files>(
 /// # Errors
 ///
 /// Those of [`open_file`].
-pub(crate) fn file_size<R: Files>(rt: &R, name: &str, side: Side) -> Result<u64, Fault> {
+pub(crate) fn file_size<R: Files>(rt: &R, name: &str, side: Side) -> Result<u64, Fault>
+    ensures fault { IfErr result (IsFileFault side) }
+{
     match open_file(rt, name, side)?.metadata() {
         Ok(metadata) => Ok(metadata.len()),
         Err(_) => Err(Fault::ReadDevice(side)),
@@ -148,7 +154,9 @@ pub(crate) fn read_beginning<R: Files + AllocGlobal>(
     rt: &R,
     name: &str,
     side: Side,
-) -> Result<Vec<u8>, Fault> {
+) -> Result<Vec<u8>, Fault>
+    ensures fault { IfErr result (IsFileFault side) }
+{
     let mut input = CountedReader::new(open_file(rt, name, side)?);
     let mut bytes = Vec::new(rt.alloc());
     match read_up_to(&mut input, &mut bytes, BEGINNING) {
