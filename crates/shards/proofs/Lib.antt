@@ -1,1 +1,2 @@
+pub mod HeadFacts
 pub mod LineFacts

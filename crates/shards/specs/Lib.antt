@@ -1,5 +1,7 @@
+pub mod Explained
 pub mod Failures
+pub mod Heads
 pub mod Lines
+pub mod Options
 pub mod Plans
 pub mod Ranges
-pub mod Explained

@@ -1,8 +1,9 @@
 -- What the command line says, by the values of its options.
-use Rattle.std.specs.Prelude.{ℕ, ◌≡◌, ◌≤◌, ◌<◌, ◌^◌, ◌⊎◌, Bool, true, if◌then◌else◌, List, [], length, Option, Some, None, codes, is_some, unwrap_or}
+use Rattle.std.specs.Prelude.{ℕ, ◌≡◌, ◌≢◌, ◌≤◌, ◌<◌, ◌^◌, ◌⊎◌, Bool, true, if◌then◌else◌, List, [], length, Option, Some, None, codes, is_some, unwrap_or}
 use Rattle.std.specs.Str.{bytes_eq}
 use Rattle.std.specs.Str.Parse.{IsNumeral, digits_value, without_leading_plus}
-use Rattle.clap.specs.Words.{Text}
+use Rattle.clap.specs.Words.{IsAmong, Text, all_of, fault_of, first_of, kind_of, matches_of}
+use Rattle.clap.specs.declared.error.kind.ErrorKind.TheVariants.{OutOfMemory}
 use Rattle.rj_csv_io.specs.Typed.{null_texts}
 use Rattle.rj_fault.specs.declared.fault.Fault.{Fault}
 use Rattle.rj_fault.specs.declared.fault.Fault.TheVariants as fault
@@ -15,6 +16,7 @@ use Rattle.rj_line.specs.declared.request.Strictness.{Strictness}
 use Rattle.rj_line.specs.declared.request.Strictness.TheVariants as strictness
 use Rattle.rj_types.specs.Lists.{IsTypeList}
 use Rattle.rj_types.specs.declared.entry.TypeEntry.{TypeEntry}
+use Rattle.shards.specs.Options.{OptionWords, line_app}
 use Rattle.shards.specs.declared.failure.Failure.{Failure}
 use Rattle.shards.specs.declared.failure.Failure.TheVariants as failure
 use Rattle.shards.specs.declared.line.Line.{Line}
@@ -125,7 +127,27 @@ IsTableFault word texts fault.Memory = Unit {0}
 IsTableFault word texts e = ⊥
 
 -- why they say nothing: no tables, or else both or neither of `--out` and `--cuts`
-abbrev pub IsLineFault : (Text → Option Text) → (Text → List Text) → Failure → Type 0
-IsLineFault word texts (failure.Told f) = IsTableFault word texts f
-IsLineFault word texts failure.NoTask = AreGiven word texts × IsTaskOf word None
-IsLineFault word texts e = ⊥
+abbrev pub IsValueFailure : (Text → Option Text) → (Text → List Text) → Failure → Type 0
+IsValueFailure word texts (failure.Told f) = IsTableFault word texts f
+IsValueFailure word texts failure.NoTask = AreGiven word texts × IsTaskOf word None
+IsValueFailure word texts e = ⊥
+
+-- the value that words give an option, and those that they give it use by use
+abbrev pub word_of : OptionWords → List Text → Text → Option Text
+word_of h words name = first_of name (matches_of (line_app h) words)
+
+abbrev pub words_of : OptionWords → List Text → Text → List Text
+words_of h words name = unwrap_or (all_of name (matches_of (line_app h) words)) []
+
+-- `clap` has no error to report of the words, and their values say this
+pub record IsShardsLine (words : List Text) (l : Line) : Type 0 where
+  pub option_words : OptionWords
+  pub accepted : fault_of (line_app option_words) words ≡ []
+  pub values : IsLineOf (word_of option_words words) (words_of option_words words) l
+
+-- why words are no such line: an error of `clap` that it may report of them, or else one of their
+-- values; or memory ran out
+abbrev pub IsLineFailure : List Text → Failure → Type 0
+IsLineFailure words (failure.Told (fault.CommandLine e)) = (kind_of e ≢ OutOfMemory) × ((h : OptionWords) × IsAmong (kind_of e) (fault_of (line_app h) words))
+IsLineFailure words (failure.Told fault.Memory) = Unit {0}
+IsLineFailure words e = (h : OptionWords) × (fault_of (line_app h) words ≡ []) × IsValueFailure (word_of h words) (words_of h words) e

@@ -17,7 +17,7 @@ use Rattle.rj_fault.specs.declared.fault.Side.TheVariants as side
 use Rattle.rj_types.specs.Columns.{types_under}
 use Rattle.shards.specs.declared.failure.Failure.{Failure}
 use Rattle.shards.specs.declared.failure.Failure.TheVariants as failure
-use Rattle.shards.specs.declared.files.Head.{Head}
+use Rattle.shards.specs.declared.head.Head.{Head}
 use Rattle.shards.specs.declared.line.Line.{Line}
 use Rattle.shards.specs.declared.line.Operand.{Operand}
 

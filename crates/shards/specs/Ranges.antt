@@ -22,7 +22,7 @@ use Rattle.rj_line.specs.declared.request.Strictness.TheVariants as strictness
 use Rattle.shards.specs.declared.dividing.Range.{Range}
 use Rattle.shards.specs.declared.failure.Failure.{Failure}
 use Rattle.shards.specs.declared.failure.Failure.TheVariants as failure
-use Rattle.shards.specs.declared.files.Head.{Head}
+use Rattle.shards.specs.declared.head.Head.{Head}
 
 -- the name of the column with the places of a side's rows
 abbrev pub place_name : Side → List ℕ

@@ -13,7 +13,8 @@ ghost use Rattle.shards.specs.Plans.{AreKeyColumns, IsHeaderFault, IsJoinFaultOf
 ghost use Rattle.shards.specs.Ranges.{IsFailureOf, IsOfPrinting, counts_line, division_fault, place_name, range_begun, range_dividing, range_reading, unlawful_null};
 
 use crate::failure::Failure;
-use crate::files::{Head, open_range, read_head};
+use crate::files::{open_range, read_head};
+use crate::head::Head;
 use crate::line::{Line, Operand};
 use crate::outputs::{NullSink, OnePart, part_files};
 use rj_columns::{ColumnType, Table};

@@ -1,20 +1,20 @@
 //! The command line.
 
-ghost use Rattle.std.specs.Prelude.{◌≡◌, IfErr, IfOk, None, OnOk, Some, codes};
+ghost use Rattle.std.specs.Prelude.{◌≡◌, IfErr, IfOk, None, OnOk, Some, codes, map};
 ghost use Rattle.clap.specs.Words.{first_value, found_of};
 ghost use Rattle.rj_line.specs.Delimiters as delimiters;
 ghost use Rattle.rj_line.specs.Line.{texts_found};
-ghost use Rattle.shards.specs.Lines.{AreGiven, IsLeftOf, IsLineFault, IsLineOf, IsNumberOf, IsRightOf, IsTableFault, IsTaskOf, operand_of, side_named, strictness_named, text_or_none};
+ghost use Rattle.shards.specs.Lines.{AreGiven, IsLeftOf, IsLineFailure, IsLineOf, IsNumberOf, IsRightOf, IsShardsLine, IsTableFault, IsTaskOf, IsValueFailure, operand_of, side_named, strictness_named, text_or_none};
 
 use crate::failure::Failure;
-use crate::help::HELP;
+use crate::options::line_command;
+use clap::ArgMatches;
 use clap::error::ErrorKind;
-use clap::{Arg, ArgAction, ArgMatches, Command, Error, value_parser};
-use rj_command::{Strictness, TypeEntry, VERSION, read_nulls, read_types};
+use rj_command::{Strictness, TypeEntry, read_nulls, read_types};
 use rj_fault::{Fault, Side};
 use rj_line::delimiter_of;
 use rj_strict::Delimiter;
-use std::alloc::{AllocError, Global};
+use std::alloc::Global;
 
 /// One of the two tables.
 #[derive(Drop)]
@@ -67,75 +67,6 @@ impl<'a> Line<'a> {
             Side::Right => &self.right,
         }
     }
-}
-
-// An option that takes a text.
-fn text_option<'a>(alloc: Global, name: &'a str, is_required: bool) -> Arg<'a> {
-    Arg::new(alloc, name)
-        .long(name)
-        .action(ArgAction::Set)
-        .required(is_required)
-}
-
-// An option that takes a text at each use.
-fn texts_option<'a>(alloc: Global, name: &'a str) -> Arg<'a> {
-    Arg::new(alloc, name).long(name).action(ArgAction::Append)
-}
-
-// How strictly the files are read, as `radixjoin` has it.
-fn strict_option<'a>(alloc: Global) -> Arg<'a> {
-    text_option(alloc, "strict", false)
-        .num_args(0..=1)
-        .default_missing_value("on")
-        .value_parser(["on", "full"].as_slice())
-}
-
-// The options that name the two tables and the join of them, as `radixjoin` has them.
-fn with_tables<'a>(alloc: Global, command: Command<'a>) -> Result<Command<'a>, AllocError> {
-    command
-        .arg(text_option(alloc, "left", true))?
-        .arg(text_option(alloc, "right", true))?
-        .arg(text_option(alloc, "left-types", true))?
-        .arg(text_option(alloc, "right-types", true))?
-        .arg(text_option(alloc, "join", true))?
-        .arg(text_option(alloc, "null", false))?
-        .arg(texts_option(alloc, "left-null"))?
-        .arg(texts_option(alloc, "right-null"))?
-        .arg(text_option(alloc, "delimiter", false).short('d'))?
-        .arg(text_option(alloc, "left-delimiter", false))?
-        .arg(text_option(alloc, "right-delimiter", false))?
-        .arg(strict_option(alloc))
-}
-
-// The options that say which rows go where.
-fn with_division<'a>(alloc: Global, command: Command<'a>) -> Result<Command<'a>, AllocError> {
-    let places = value_parser!(u64).range(..=1 << 62);
-    let ranges = value_parser!(u32).range(1..=100_000);
-    command
-        .arg(text_option(alloc, "from", false).value_parser(places))?
-        .arg(text_option(alloc, "to", false).value_parser(places))?
-        .arg(text_option(alloc, "out", false))?
-        .arg(text_option(alloc, "cuts", false).value_parser(ranges))
-}
-
-fn line_command<'a>(alloc: Global) -> Result<Command<'a>, AllocError> {
-    let command = Command::new(alloc, "shards")
-        .override_help(HELP)
-        .version(VERSION)
-        .no_binary_name(true);
-    let side = text_option(alloc, "side", true).value_parser(["left", "right"].as_slice());
-    let numbers = value_parser!(u32).range(1..=1_024);
-    let parts = text_option(alloc, "parts", true).value_parser(numbers);
-    let explain = Arg::new(alloc, "explain")
-        .long("explain")
-        .action(ArgAction::SetTrue);
-    let command = with_tables(alloc, command.arg(side)?)?.arg(explain)?;
-    with_division(alloc, command.arg(parts)?)
-}
-
-fn read_matches<'a>(alloc: Global, words: &'a [&'a str]) -> Result<ArgMatches<'a>, Error> {
-    let command = line_command(alloc)?;
-    command.try_get_matches_from(words)
 }
 
 // The value of an option, or no text if it has none.
@@ -250,7 +181,7 @@ fn operands_of<'a>(
 // What the values of the options say.
 fn line_of<'a>(alloc: Global, matches: &ArgMatches<'a>) -> Result<Line<'a>, Failure>
     ensures line { IfOk result (IsLineOf (first_value (found_of matches.now)) (texts_found (found_of matches.now))) }
-    ensures fault { IfErr result (IsLineFault (first_value (found_of matches.now)) (texts_found (found_of matches.now))) }
+    ensures fault { IfErr result (IsValueFailure (first_value (found_of matches.now)) (texts_found (found_of matches.now))) }
 {
     let (left, right) = match operands_of(alloc, matches) {
         Ok(operands) => operands,
@@ -277,8 +208,12 @@ fn line_of<'a>(alloc: Global, matches: &ArgMatches<'a>) -> Result<Line<'a>, Fail
 /// A line that `clap` refuses, or that asks for help or the version; a bad type list, the left one
 /// before the right one; more than four NULL texts of a table, in the same order; a text that is no
 /// delimiter; both or neither of `--out` and `--cuts`; or memory ran out.
-pub(crate) fn read_line<'a>(alloc: Global, words: &'a [&'a str]) -> Result<Line<'a>, Failure> {
-    match read_matches(alloc, words) {
+pub(crate) fn read_line<'a>(alloc: Global, words: &'a [&'a str]) -> Result<Line<'a>, Failure>
+    ensures line { IfOk result (IsShardsLine (map (λ w. w.now) words.entry.now)) }
+    ensures failure { IfErr result (IsLineFailure (map (λ w. w.now) words.entry.now)) }
+{
+    let command = line_command(alloc)?;
+    match command.try_get_matches_from(words) {
         Ok(matches) => line_of(alloc, &matches),
         Err(error) if error.kind() == ErrorKind::OutOfMemory => Err(Failure::Told(Fault::Memory)),
         Err(error) => Err(Failure::Told(Fault::CommandLine(error))),

@@ -9,8 +9,10 @@ mod explaining;
 mod failure;
 mod files;
 mod first_line;
+mod head;
 mod help;
 mod line;
+mod options;
 mod outputs;
 
 use crate::cutting::print_cuts;
