@@ -1,3 +1,4 @@
+pub mod Cuts
 pub mod Explained
 pub mod Failures
 pub mod Heads
@@ -5,3 +6,4 @@ pub mod Lines
 pub mod Options
 pub mod Plans
 pub mod Ranges
+pub mod Works

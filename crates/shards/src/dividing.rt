@@ -1,6 +1,6 @@
 //! Dividing a range of a file.
 
-ghost use Rattle.std.specs.Prelude.{◌≡◌, ◌≢◌, ◌<◌, ◌≤◌, ◌-◌, ◌^◌, All, IfErr, IfOk, IfSome, IsTrue, Ok, OnOk, length, map, string_bytes, true};
+ghost use Rattle.std.specs.Prelude.{◌≡◌, ◌≢◌, ◌<◌, ◌≤◌, ◌-◌, ◌^◌, ◌⊎◌, All, IfErr, IfOk, IsErrAnd, IfSome, IsTrue, Ok, OnOk, length, map, string_bytes, true};
 ghost use Rattle.rj_columns.specs.Tables.{TableValue};
 ghost use Rattle.rj_condition.specs.Fits.{fits};
 ghost use Rattle.rj_condition.specs.Parts.{split_fits};
@@ -9,18 +9,18 @@ ghost use Rattle.rj_csv_io.specs.Typed.{null_texts};
 ghost use Rattle.rj_divide.specs.Divisions.{written_null};
 ghost use Rattle.rj_divide.specs.Headers.{HaveText, header_text};
 ghost use Rattle.rj_divide.specs.Texts.{IsDivisionFault, IsTextDivided};
-ghost use Rattle.shards.specs.Plans.{AreKeyColumns, IsHeaderFault, IsJoinFaultOfSides, IsJoinOfSides, IsPlanFailure, header_table, other_side};
+ghost use Rattle.shards.specs.Plans.{AreKeyColumns, AreKeysOver, IsHeaderFault, IsJoinFaultOfSides, IsJoinOfSides, IsOtherFailure, IsPlanFailure, IsRangeFailure, has_lawful_nulls, header_table, other_side};
 ghost use Rattle.shards.specs.Ranges.{IsFailureOf, IsOfPrinting, counts_line, division_fault, place_name, range_begun, range_dividing, range_reading, unlawful_null};
 
 use crate::failure::Failure;
 use crate::files::{open_range, read_head};
 use crate::head::Head;
 use crate::line::{Line, Operand};
-use crate::outputs::{NullSink, OnePart, part_files};
+use crate::outputs::{NullSink, OnePart, part_files, print_text};
 use rj_columns::{ColumnType, Table};
 use rj_command::{Strictness, bind_clause, fault_of_text, types_of_header};
 use rj_condition::{BoundJoin, split};
-use rj_csv_io::{CountedWriter, Input, Output};
+use rj_csv_io::{Input, Output};
 use rj_divide::{
     DivideRefused, Division, Reading, Route, divide, have_lawful_nulls, write_headers,
 };
@@ -30,14 +30,13 @@ use rj_shards::{ShardRoute, Shards};
 use rj_strict::Delimiter;
 use std::alloc::{AllocError, Global};
 use std::fs::Files;
-use std::io;
 
 /// How many bytes of a file are read at once. With the rows in them and the texts that are made of
 /// these, the program takes less than 256 MiB, whatever the file's size.
 pub(crate) const BLOCK: usize = 8 << 20;
 
-// The last byte at which a range may begin, 2^62.
-const MOST: u64 = 1 << 62;
+/// The last byte at which a range may begin, 2^62.
+pub(crate) const MOST: u64 = 1 << 62;
 
 // The range of a side's file that is divided, under its header. It begins at a byte up to 2^62.
 #[derive(Clone, Copy)]
@@ -147,7 +146,9 @@ fn plan<R: Files + AllocGlobal>(
     own: &Table,
 ) -> Result<(Shards, Vec<usize>), Failure>
     ensures parts { IfOk result (λ p. p.0.parts ≡ line.now.parts) }
+    ensures keys { IfOk result (λ p. AreKeysOver line.now own.now p.1.items) }
     ensures within { IfOk result (λ p. All (λ c. c < length own.now.types) p.1.items) }
+    ensures fault { IfErr result (IsOtherFailure line.now own.now) }
 {
     let side = other_side(line.side);
     let operand = line.operand(side);
@@ -256,10 +257,7 @@ fn print_counts<R: AllocGlobal + Print>(rt: &R, rows: u64, header: u64) -> Resul
     ensures fault { IfErr result IsOfPrinting }
 {
     let text = counts_line(rt.alloc(), rows, header)?;
-    match CountedWriter::new(io::writer(rt)).put(text.as_bytes()) {
-        Ok(()) => Ok(()),
-        Err(_) => Err(Failure::Told(Fault::WriteDevice)),
-    }
+    print_text(rt, text.as_str())
 }
 
 // Puts the header of a side's parts to each output. The answer is how many bytes it has.
@@ -292,6 +290,7 @@ fn divide_among_files<R: Files + AllocGlobal + Print>(
     requires keys { All (λ c. c < length range.now.types.now) plan.now.1.items }
     requires from { range.now.from ≤ 2 ^ 62 }
     requires null { IsTrue (is_null_text (written_null (null_texts range.now.nulls.now))) }
+    ensures fault { IfErr result (IsFailureOf range.now.line.now.side) }
 {
     let (shards, columns) = plan;
     let route = ShardRoute {
@@ -314,6 +313,7 @@ fn look_at_rows<R: Files + AllocGlobal + Print>(
 ) -> Result<(), Failure>
     requires from { range.now.from ≤ 2 ^ 62 }
     requires null { IsTrue (is_null_text (written_null (null_texts range.now.nulls.now))) }
+    ensures { IsErrAnd result (λ e. (e ≡ failure) ⊎ IsFailureOf range.now.line.now.side e) }
 {
     let mut sink = [NullSink];
     let rows = divide_rows(rt, range, &OnePart, sink.as_mut_slice())?;
@@ -345,7 +345,10 @@ pub(crate) fn divide_range<R: Files + AllocGlobal + Print>(
     from: u64,
     to: Option<u64>,
     folder: &str,
-) -> Result<(), Failure> {
+) -> Result<(), Failure>
+    ensures lawful { OnOk result (has_lawful_nulls line.now ≡ true) }
+    ensures failure { IfErr result (IsRangeFailure line.now) }
+{
     let own = line.operand(line.side);
     let other = line.operand(other_side(line.side));
     let head = read_head(rt, own.file, line.side, own.delimiter, line.strict);

@@ -3,7 +3,7 @@
 ghost use Rattle.std.specs.Prelude.{◌≡◌, ◌⊎◌, IfOk, None, false, map, option_map, string_bytes};
 ghost use Rattle.std.specs.List.{list_any};
 ghost use Rattle.rj_fault.specs.Faults.{IsAskedFor};
-ghost use Rattle.shards.specs.Explained.{AreLinesOf, is_explain, is_of_headers};
+ghost use Rattle.shards.specs.Explained.{AreHeadersTold, AreLinesOf, is_explain, is_of_headers, is_own_option, without_own};
 ghost use Rattle.shards.specs.Failures.{clap_error_of, exit_of, unwritten};
 
 use crate::failure::Failure;
@@ -49,7 +49,9 @@ impl From<AllocError> for ExplainedFailure {
 const OWN_OPTIONS: [&str; 6] = ["--side", "--parts", "--from", "--to", "--out", "--cuts"];
 
 // Whether a word is an option that a join in one go doesn't have, with its value after `=` or without.
-fn is_own_option(word: &str) -> bool {
+fn is_own_option(word: &str) -> bool
+    ensures { result ≡ is_own_option word.now }
+{
     match word.split_once('=') {
         Some((option, _)) => OWN_OPTIONS.contains(&option),
         None => OWN_OPTIONS.contains(&word),
@@ -57,7 +59,9 @@ fn is_own_option(word: &str) -> bool {
 }
 
 // The words with the same meaning for a join in one go.
-fn words_of_join<'w>(alloc: Global, words: &[&'w str]) -> Result<Vec<&'w str>, AllocError> {
+fn words_of_join<'w>(alloc: Global, words: &[&'w str]) -> Result<Vec<&'w str>, AllocError>
+    ensures { IfOk result (λ v. map (λ w. w.now) v.items ≡ without_own false (map (λ w. w.now) words.now)) }
+{
     let mut of_join = Vec::with_capacity(alloc, words.len())?;
     let mut is_own_value = false;
     for word in words {
@@ -95,7 +99,9 @@ fn header_lines<R: Files + AllocGlobal>(
     rt: &R,
     words: &[&str],
     fault: &Fault,
-) -> Result<String, AllocError> {
+) -> Result<String, AllocError>
+    ensures { IfOk result (λ s. AreHeadersTold fault.now (map (λ w. w.now) words.now) (string_bytes s)) }
+{
     let alloc = rt.alloc();
     let words = words_of_join(alloc, words)?;
     let Ok(line) = read_line(alloc, words.as_slice(), 1) else {

@@ -1,7 +1,8 @@
 //! The files that are read.
 
-ghost use Rattle.std.specs.Prelude.{◌≡◌, IfErr, IfOk, None};
-ghost use Rattle.rj_csv_io.specs.Devices.{read_failures_of};
+ghost use Rattle.std.specs.Prelude.{◌≡◌, ◌-◌, IfErr, IfOk, None};
+ghost use Rattle.std.specs.Io.Traits.{take_limit};
+ghost use Rattle.rj_csv_io.specs.Devices.{read_failures_of, reader_of};
 ghost use Rattle.shards.specs.Heads.{HasHead, HasHeadFault};
 ghost use Rattle.shards.specs.Ranges.{IsFileFault};
 
@@ -43,6 +44,7 @@ pub(crate) fn open_range<R: Files>(
     to: u64,
 ) -> Result<CountedReader<Take<R::File>>, Fault>
     ensures unfailed { IfOk result (λ r. read_failures_of r ≡ 0) }
+    ensures most { IfOk result (λ r. take_limit (reader_of r) ≡ to - from) }
     ensures fault { IfErr result (IsFileFault side) }
 {
     let mut file = open_file(rt, name, side)?;

@@ -46,12 +46,7 @@ fn line_length(text: &[u8], is_whole: bool) -> Option<usize>
 
 // The header that a first line is, which is of the grammar. An empty line is one empty name, which
 // `csv` would skip.
-fn header_of(
-    alloc: Global,
-    line: &[u8],
-    side: Side,
-    delimiter: Delimiter,
-) -> Result<Header, Fault>
+fn header_of(alloc: Global, line: &[u8], side: Side, delimiter: Delimiter) -> Result<Header, Fault>
     requires { (full : Bool) × (file : File) × Derives delimiter First full (body_of First line.now) file }
     ensures names { IfOk result (λ h. (full : Bool) (file : File) → Derives delimiter First full (body_of First line.now) file
         → (rest : List (List (List ℕ))) × (records_of file ≡ names_in h ∷ rest)) }
