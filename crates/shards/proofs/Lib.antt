@@ -1,2 +1,3 @@
 pub mod HeadFacts
 pub mod LineFacts
+pub mod OptionFacts
