@@ -24,12 +24,16 @@ own_options = codes "--side" ∷ codes "--parts" ∷ codes "--from" ∷ codes "-
 abbrev pub is_own_option : List ℕ → Bool
 is_own_option word = list_any (λ o. bytes_eq o (before_first (λ c. c == 61) word)) own_options
 
+-- an option's word has its value after `=`
+abbrev pub has_value : List ℕ → Bool
+has_value word = list_any (λ c. c == 61) word
+
 -- the words without these options and their values, where the first word may be such a value
 abbrev pub without_own : Bool → List (List ℕ) → List (List ℕ)
 without_own is_value [] = []
 without_own true (word ∷ words) = without_own false words
 without_own false (word ∷ words) =
-    if is_own_option word then without_own (not (list_any (λ c. c == 61) word)) words else word ∷ without_own false words
+    if is_own_option word then without_own (not (has_value word)) words else word ∷ without_own false words
 
 -- a fault stands in a header, in a type list that doesn't fit one, or in the clause: E2 to E4, E11, E13 to E16 and E27
 abbrev pub is_of_headers : Fault → Bool

@@ -3,7 +3,7 @@
 ghost use Rattle.std.specs.Prelude.{◌≡◌, ◌⊎◌, IfOk, None, false, map, option_map, string_bytes};
 ghost use Rattle.std.specs.List.{list_any};
 ghost use Rattle.rj_fault.specs.Faults.{IsAskedFor};
-ghost use Rattle.shards.specs.Explained.{AreHeadersTold, AreLinesOf, is_explain, is_of_headers, is_own_option, without_own};
+ghost use Rattle.shards.specs.Explained.{AreHeadersTold, AreLinesOf, has_value, is_explain, is_of_headers, is_own_option, without_own};
 ghost use Rattle.shards.specs.Failures.{clap_error_of, exit_of, unwritten};
 
 use crate::failure::Failure;
@@ -58,6 +58,13 @@ fn is_own_option(word: &str) -> bool
     }
 }
 
+// Whether an option's word has its value after `=`.
+fn has_value(word: &str) -> bool
+    ensures { result ≡ has_value word.now }
+{
+    word.as_bytes().contains(&b'=')
+}
+
 // The words with the same meaning for a join in one go.
 fn words_of_join<'w>(alloc: Global, words: &[&'w str]) -> Result<Vec<&'w str>, AllocError>
     ensures { IfOk result (λ v. map (λ w. w.now) v.items ≡ without_own false (map (λ w. w.now) words.now)) }
@@ -68,7 +75,7 @@ fn words_of_join<'w>(alloc: Global, words: &[&'w str]) -> Result<Vec<&'w str>, A
         if is_own_value {
             is_own_value = false;
         } else if is_own_option(*word) {
-            is_own_value = !word.contains('=');
+            is_own_value = !has_value(*word);
         } else {
             of_join.push(*word)?;
         }
