@@ -1,6 +1,6 @@
 //! The header of a file that is read strictly: its first line.
 
-ghost use Rattle.std.specs.Prelude.{◌≡◌, ◌≤◌, ◌++◌, ℕ, List, Bool, None, IfErr, IfOk, IfSome, MatchOption, false, length, take};
+ghost use Rattle.std.specs.Prelude.{◌≡◌, ◌≢◌, ◌≤◌, ◌+◌, ◌++◌, ◌∷◌, [], ℕ, List, Bool, None, IfErr, IfOk, IfSome, MatchOption, false, length, true};
 ghost use Rattle.csv.specs.Reading.{strip_bom};
 ghost use Rattle.rj_csv_io.specs.Pieces.{names_in};
 ghost use Rattle.rj_strict.specs.Grammar.{Derives, File, records_of};

@@ -95,8 +95,10 @@ pub(crate) fn read_head_of<I: Input>(
             Ok(is_whole) => is_whole,
             Err(refused) => return Err(fault_of_read(side, refused)),
         };
-        if let Some(head) = head_in(alloc, bytes.as_slice(), is_whole, side, delimiter, strict)? {
-            return Ok(head);
+        match head_in(alloc, bytes.as_slice(), is_whole, side, delimiter, strict) {
+            Ok(Some(head)) => return Ok(head),
+            Ok(None) => {}
+            Err(fault) => return Err(fault),
         }
         size = size.saturating_mul(2);
     }
