@@ -1,6 +1,6 @@
 -- Which fault an invalid value of an option is.
-use Rattle.std.proofs.Common.{◌≡◌, ◌≢◌, ◌<◌, ◌≤◌, List, Option, None, length, inl, inr, sym, subst, codes}
-use Rattle.clap.specs.Words.{Text}
+use Rattle.std.proofs.Common.{◌≡◌, ◌≢◌, ◌<◌, ◌≤◌, List, [], Option, None, length, inl, inr, sym, subst, codes}
+use Rattle.clap.specs.Words.{Text, fault_of}
 use Rattle.rj_fault.specs.declared.fault.Fault.{Fault}
 use Rattle.rj_fault.specs.declared.fault.Fault.TheVariants as fault
 use Rattle.rj_fault.specs.declared.fault.Side.TheVariants as side
@@ -8,7 +8,10 @@ use Rattle.rj_line.specs.Delimiters.{delimiter_given}
 use Rattle.rj_line.proofs.LineFacts.{or_memory}
 use Rattle.rj_types.specs.Lists.{IsTypeList}
 use Rattle.rj_types.specs.declared.entry.TypeEntry.{TypeEntry}
-use Rattle.shards.specs.Lines.{GiveTexts, GiveTypes, GivesTypes, IsTableFault, text_or_none}
+use Rattle.shards.specs.Lines.{GiveTexts, GiveTypes, GivesTypes, IsLineFailure, IsTableFault, IsValueFailure, text_or_none, word_of, words_of}
+use Rattle.shards.specs.Options.{OptionWords, line_app}
+use Rattle.shards.specs.declared.failure.Failure.{Failure}
+use Rattle.shards.specs.declared.failure.Failure.TheVariants as failure
 
 -- no types are listed in a text
 abbrev ListsNone : Text → Type 0
@@ -46,3 +49,17 @@ module _ (word : Text → Option Text) (texts : Text → List Text) where
   pub right_delimiter_fault : (f : Fault) → GiveTexts word texts → (f ≡ fault.BadDelimiter) × (delimiter_given word (codes "right-delimiter") ≡ None)
       → IsTableFault word texts f
   right_delimiter_fault f given told = subst (IsTableFault word texts) (sym told.0) (given, inr told.1)
+
+-- what holds of the values that a parse found holds of those that the words give
+pub by-words : (P : (Text → Option Text) → (Text → List Text) → Type 0) (found word : Text → Option Text) (found_texts texts : Text → List Text)
+    → ((name : Text) → found name ≡ word name) → ((name : Text) → found_texts name ≡ texts name) → P found found_texts → P word texts
+by-words P found word found_texts texts same alike holds =
+    let words : found ≡ word = λ i name. same name i in
+    let lists : found_texts ≡ texts = λ i name. alike name i in
+    subst (P word) lists (subst (λ w. P w found_texts) words holds)
+
+-- where `clap` has no error to report, a failure of the values is one of the line
+pub line-failure : (words : List Text) (h : OptionWords) (e : Failure) → fault_of (line_app h) words ≡ [] → IsValueFailure (word_of h words) (words_of h words) e → IsLineFailure words e
+line-failure words h (failure.Told (fault.CommandLine e)) accepted told = absurd told
+line-failure words h (failure.Told fault.Memory) accepted told = tt
+line-failure words h e accepted told = (h, accepted, told)
