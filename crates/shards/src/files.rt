@@ -1,7 +1,7 @@
 //! The files that are read.
 
 ghost use Rattle.std.specs.Prelude.{◌≡◌, ◌-◌, IfErr, IfOk, None};
-ghost use Rattle.std.specs.Io.Traits.{take_limit};
+ghost use Rattle.std.specs.Io.Take.{take_limit};
 ghost use Rattle.rj_csv_io.specs.Devices.{read_failures_of, reader_of};
 ghost use Rattle.shards.specs.Heads.{HasHead, HasHeadFault};
 ghost use Rattle.shards.specs.Ranges.{IsFileFault};
