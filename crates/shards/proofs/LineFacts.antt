@@ -1,17 +1,25 @@
 -- Which fault an invalid value of an option is.
-use Rattle.std.proofs.Common.{◌≡◌, ◌≢◌, ◌<◌, ◌≤◌, List, [], Option, None, length, inl, inr, sym, subst, codes}
+use Rattle.std.proofs.Common.{◌≡◌, ◌≢◌, ◌<◌, ◌≤◌, List, [], Option, None, length, inl, inr, ap, sym, subst, codes, Bool, true, false, true≢false}
 use Rattle.clap.specs.Words.{Text, fault_of}
 use Rattle.rj_fault.specs.declared.fault.Fault.{Fault}
 use Rattle.rj_fault.specs.declared.fault.Fault.TheVariants as fault
 use Rattle.rj_fault.specs.declared.fault.Side.TheVariants as side
 use Rattle.rj_line.specs.Delimiters.{delimiter_given}
-use Rattle.rj_line.proofs.LineFacts.{or_memory}
 use Rattle.rj_types.specs.Lists.{IsTypeList}
 use Rattle.rj_types.specs.declared.entry.TypeEntry.{TypeEntry}
 use Rattle.shards.specs.Lines.{GiveTexts, GiveTypes, GivesTypes, IsLineFailure, IsTableFault, IsValueFailure, text_or_none, word_of, words_of}
 use Rattle.shards.specs.Options.{OptionWords, line_app}
 use Rattle.shards.specs.declared.failure.Failure.{Failure}
 use Rattle.shards.specs.declared.failure.Failure.TheVariants as failure
+
+abbrev is_memory : Fault → Bool
+is_memory fault.Memory = true
+is_memory _ = false
+
+-- what holds of want of memory, and of each other fault, holds of a fault
+or_memory : (P : Fault → Type 0) (f : Fault) → P fault.Memory → (f ≢ fault.Memory → P f) → P f
+or_memory P fault.Memory memory other = memory
+or_memory P f memory other = other (λ is. true≢false (sym (ap is_memory is)))
 
 -- no types are listed in a text
 abbrev ListsNone : Text → Type 0
