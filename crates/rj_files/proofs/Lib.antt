@@ -1,3 +1,4 @@
 pub mod DraftFacts
+pub mod LetterFacts
 pub mod ListFacts
 pub mod TextFacts

@@ -1,5 +1,5 @@
 -- Whether the words of a command line ask for explanations of its error.
-use Rattle.std.specs.Prelude.{ℕ, ◌||◌, Bool, List, codes, nat_eq, not}
+use Rattle.std.specs.Prelude.{ℕ, ◌||◌, Bool, List, [], ◌∷◌, ◌++◌, codes, nat_eq, not}
 use Rattle.std.specs.List.{list_any, starts_with, take_while}
 use Rattle.std.specs.Str.{bytes_eq}
 use Rattle.rj_line.specs.Forms.{form_of, is_explained}
@@ -12,13 +12,15 @@ options_in words = take_while (λ w. not (bytes_eq w (codes "--"))) words
 abbrev pub has_word : List (List ℕ) → List ℕ → Bool
 has_word words sought = list_any (λ w. bytes_eq w sought) words
 
+-- the letters of options, and those of help and of the version
+abbrev pub letters : List ℕ
+letters = codes "dwoqhV"
+
 -- a word asks for nothing but the line of an error: by the option's name, or by its letter, alone or
--- before that of another option (a delimiter, help, a file, workers or the version)
+-- before another letter
 abbrev pub is_quiet : List ℕ → Bool
 is_quiet word =
-    bytes_eq word (codes "--quiet") || (bytes_eq word (codes "-q")
-    || (starts_with nat_eq word (codes "-qd") || (starts_with nat_eq word (codes "-qh") || (starts_with nat_eq word (codes "-qo")
-    || (starts_with nat_eq word (codes "-qw") || starts_with nat_eq word (codes "-qV"))))))
+    bytes_eq word (codes "--quiet") || (bytes_eq word (codes "-q") || list_any (λ letter. starts_with nat_eq word (codes "-q" ++ letter ∷ [])) letters)
 
 abbrev pub are_quiet : List (List ℕ) → Bool
 are_quiet words = list_any is_quiet words

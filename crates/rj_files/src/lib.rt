@@ -25,7 +25,7 @@ mod telling;
 mod watched;
 
 pub use explained::{ExplainedFault, tell_explained};
-pub use explaining::{processors, read_words_of_line};
+pub use explaining::{letters_are_of_options, processors, read_words_of_line};
 pub use identities::{Identities, Identity};
 pub use joining::Written;
 pub use lists::read_lists;
