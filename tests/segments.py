@@ -11,6 +11,8 @@ import harness
 LEFT, RIGHT = 600_000, 1_100
 KEYS = LEFT // 2
 STEP = 300
+# In the table of which each row but the last is in many matches.
+FEW = 3
 # The address spaces that are tried, in MiB.
 LEAST, MOST, BY = 20, 185, 10
 # Those that are tried in small steps, in KiB, while tables are read: a page of the stack is refused in none.
@@ -26,6 +28,16 @@ def partner_of(row):
     """The right row of a left row, if it has one."""
     at, rest = divmod(key_of(row), STEP)
     return None if rest or at >= RIGHT else at
+
+
+def of_few():
+    """A file of few rows, each in many matches but the last, and the rows of a full join with it."""
+    few = "".join(f"{at},\"{at},\",{-at}\n" for at in [*range(FEW), KEYS])
+    found = [(key_of(row), row) for row in range(LEFT)]
+    pairs = "".join(f"{key % 7},t{row},\"{key % 7},\",{-(key % 7)}\n" for key, row in found if key % 7 < FEW)
+    lone = "".join(f"{key % 7},t{row},,\n" for key, row in found if key % 7 >= FEW)
+    left = "".join(f"{key % 7},t{row}\n" for key, row in found)
+    return f"k,a\n{left}".encode(), f"k,b,c\n{few}".encode(), f"k,a,b,c\n{pairs}{lone}{KEYS},,\"{KEYS},\",{-KEYS}\n".encode()
 
 
 @functools.cache
@@ -58,14 +70,14 @@ CASES = [
 ]
 
 
-def run(folder, clause, options, most=None):
+def run(folder, clause, options, most=None, types="int,int"):
     """A run of radixjoin in a folder, with no more than so many bytes of address space."""
 
     def limited():
         if most:
             resource.setrlimit(resource.RLIMIT_AS, (most, most))
 
-    words = ["--left=left.csv", "--right=right.csv", "--left-types=int,text", "--right-types=int,int", f"--join={clause}", *options]
+    words = ["--left=left.csv", "--right=right.csv", "--left-types=int,text", f"--right-types={types}", f"--join={clause}", *options]
     ran = subprocess.run([harness.program("radixjoin"), *words], cwd=folder, capture_output=True, preexec_fn=limited, timeout=harness.SECONDS)
     return harness.Ran(ran.returncode, ran.stdout, ran.stderr)
 
@@ -76,6 +88,17 @@ def run_cases(tally, folder):
         for workers in (1, 2, 5):
             ran = run(folder, clause, [*options, f"--workers={workers}"])
             tally.check(f"segments: {clause} {' '.join(options)} by {workers}", harness.differences(ran, wanted))
+
+
+def run_of_few(tally):
+    """Right rows whose texts are made once, since each is in many matches."""
+    left, few, wanted = of_few()
+    with harness.folder() as name:
+        (pathlib.Path(name) / "left.csv").write_bytes(left)
+        (pathlib.Path(name) / "right.csv").write_bytes(few)
+        for workers in (1, 2, 5):
+            ran = run(name, "FULL JOIN USING (k)", [f"--workers={workers}"], types="int,text,int")
+            tally.check(f"segments: right rows in many matches by {workers}", harness.differences(ran, wanted))
 
 
 def run_in_little_room(tally, folder):
@@ -110,3 +133,4 @@ def run_all(tally):
         run_cases(tally, name)
         run_in_little_room(tally, name)
         run_in_small_steps(tally, name)
+    run_of_few(tally)
