@@ -3,16 +3,20 @@ of join and each order, by one worker, by two and by five, beside what is worked
 `E18 Memory` and nothing."""
 import functools
 import pathlib
+import random
 import resource
 import subprocess
 
 import harness
+from oracle import command
 
 LEFT, RIGHT = 600_000, 1_100
 KEYS = LEFT // 2
 STEP = 300
 # In the table of which each row but the last is in many matches.
 FEW = 3
+# How many random joins of such tables are run.
+JOINS = 60
 # The address spaces that are tried, in MiB.
 LEAST, MOST, BY = 20, 185, 10
 # Those that are tried in small steps, in KiB, while tables are read: a page of the stack is refused in none.
@@ -101,6 +105,34 @@ def run_of_few(tally):
             tally.check(f"segments: right rows in many matches by {workers}", harness.differences(ran, wanted))
 
 
+def random_tables(source):
+    """A left file of some rows and a right one of few, most of which are in many matches, with odd texts and empty cells."""
+    texts = ["", "x", "NULL", "-", '"p,q"', '"p;q"', '"say ""so"""', '"two\nlines"', "é", " "]
+    key = lambda: source.choice(["", "1", "1", "2", "3"])
+    left = [f"{key()},{source.choice(texts)}" for _ in range(source.randrange(60))]
+    right = [f"{source.choice(texts)},{source.choice(texts)},{key()},{source.choice(['', '7', '-1.50'])}" for _ in range(source.randrange(6))]
+    return {name: "\n".join([header, *rows, ""]).encode() for name, header, rows in (("left.csv", "k,a", left), ("right.csv", "b,c,k,n", right))}
+
+
+def run_at_random(tally, seed="ends"):
+    """Random joins of small tables by one worker, which makes the texts of right rows once, and by four, which don't."""
+    source = random.Random(seed)
+    clauses = [f"{kind}JOIN USING (k)" for kind in ("", "LEFT ", "RIGHT ", "FULL ")] + ["FULL JOIN ON L.k = R.k", "CROSS JOIN", "LEFT JOIN ON L.k <= R.k"]
+    options = [[], ["--order=left"], ["--rows=pairs"], ["--rows=lone-left,lone-right"], ["--anti"], ["--semi"], ["--columns=right"]]
+    options += [[f"--select={names}"] for names in ("a,n,b", "L.k,a,c,b", "b,c,a,L.k", "a,L.k,c", "L.k,a,R.k,R.k=r")]
+    for number in range(JOINS):
+        files = random_tables(source)
+        words = ["--left=left.csv", "--right=right.csv", "--left-types=int,text", "--right-types=text,text,int,num(4,2)", f"--join={source.choice(clauses)}"]
+        words += source.choice(options) + source.choice([[], ["--out-null=NULL"], ["--out-delimiter=;"], ["--out-null=-", "--out-delimiter=tab"]])
+        wanted = command.ended("radixjoin", [word.encode() for word in words], files)
+        with harness.folder() as name:
+            for file, content in files.items():
+                (pathlib.Path(name) / file).write_bytes(content)
+            for workers in (1, 4):
+                ran = harness.run([harness.program("radixjoin"), *words, f"--workers={workers}"], name)
+                tally.check(f"segments: random join {number} by {workers}: {' '.join(words)}", harness.differences(ran, wanted.stdout, wanted.stderr, wanted.status))
+
+
 def run_in_little_room(tally, folder):
     """By each of many limits the whole result, or nothing of it; both are seen."""
     clause, kinds, options = CASES[3]
@@ -134,3 +166,4 @@ def run_all(tally):
         run_in_little_room(tally, name)
         run_in_small_steps(tally, name)
     run_of_few(tally)
+    run_at_random(tally)
