@@ -1,7 +1,7 @@
 -- The last columns that are shown, and the right rows of members.
-use Rattle.std.proofs.Common.{◌≡◌, ℕ, ◌+◌, ◌-◌, ◌<◌, ◌≤◌, true, false, List, [], ◌∷◌, ◌++◌, All, Some, refl, ap, sym, subst, ◌∙◌, arith, length, map, take, drop, get_or}
+use Rattle.std.proofs.Common.{◌≡◌, ℕ, ◌+◌, ◌-◌, ◌<◌, ◌≤◌, false, List, [], ◌∷◌, ◌++◌, All, Some, ap, sym, subst, ◌∙◌, arith, length, map, take, drop, get_or}
 use Rattle.std.specs.Prelude.{slice_get}
-use Rattle.std.proofs.lemmas.List.{drop_more, get_or-drop, get_or_default, length-drop, map-append, take_more}
+use Rattle.std.proofs.lemmas.List.{drop_more, get_or-drop, length-drop, map-append, take_more}
 use Rattle.std.proofs.lemmas.Option.{get_or_from_slice_get}
 use Rattle.std.proofs.lemmas.List.Elements.{All-cons}
 use Rattle.rj_engine.specs.declared.joined.JoinedRow.{JoinedRow}
