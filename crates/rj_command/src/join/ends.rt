@@ -9,9 +9,9 @@ use rj_csv_io::{EndColumns, OutputFormat, RowTexts, null_end, row_texts};
 use rj_engine::{Joined, Shown};
 use std::alloc::{AllocError, Global};
 
-// The fewest matches for each right row for which the ends' texts are made. The tables are held
-// beside them, and so they take a small part of the memory that the result takes.
-const LEAST_MATCHES: u64 = 32;
+// The fewest matches for each right row for which the ends' texts are made. They stand in memory
+// beside both tables and the result, of whose part from the right table they then take a quarter.
+const LEAST_MATCHES: u64 = 4;
 
 // The fewest columns of an end whose text is made once: one is written as quickly as copied.
 const LEAST_COLUMNS: usize = 2;
@@ -25,8 +25,8 @@ pub(crate) struct Ends {
 }
 
 /// The texts of the ends of the rows that are shown, if they are `wanted`, the last columns, two at
-/// least, come from the right table alone, two at least are before them, and each right row is in 32
-/// matches on average. It fails only when memory runs out.
+/// least, come from the right table alone, two at least are before them, and each right row is in
+/// four matches on average. It fails only when memory runs out.
 pub(crate) fn ends_of(
     alloc: Global,
     wanted: bool,
