@@ -1,0 +1,16 @@
+use Rattle.std.proofs.Common.{◌≡◌, ◌∙◌, Bor, List, [], ℕ, arith, false, get_or, map, rules}
+use Rattle.std.specs.Prelude.{is_none}
+use Rattle.rj_types.specs.Columns.{kind_of}
+use Rattle.rj_explain.proofs.LookFacts.{find-more}
+use Rattle.rj_explain.proofs.NameFacts.{item-is}
+use Rattle.rj_explain.proofs.headers.first_unnamed.Goals as goal
+
+pub loop-i-preserved : goal.loop-i-preserved
+loop-i-preserved c =
+    let none : Bor (List ℕ) = record { ref_ptr = (0, 0); now = [] } in
+    let names = c.args.names.now in
+    let i = c.loop-i.i in
+    let name = (get_or names i none).now in
+    let typed : is_none (kind_of c.args.entries.now name) ≡ false = search rules in
+    find-more (λ (n : List ℕ). is_none (kind_of c.args.entries.now n)) (map (λ (n : Bor (List ℕ)). n.now) names) i name (item-is names i none (omega arith)) typed
+    ∙ c.loop-i.invariant
