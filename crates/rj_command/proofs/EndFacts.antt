@@ -1,10 +1,10 @@
 -- The rows of a run by their fronts and their ends.
-use Rattle.std.proofs.Common.{◌≡◌, ℕ, ◌+◌, ◌-◌, ◌<◌, ◌≤◌, List, [], ◌∷◌, ◌++◌, All, refl, ap, sym, subst, ◌∙◌, arith, length, map, min, take, drop, get_or}
+use Rattle.std.proofs.Common.{◌≡◌, ℕ, ◌+◌, ◌<◌, List, [], ◌∷◌, ◌++◌, All, refl, ap, sym, subst, ◌∙◌, arith, length, map, min, take, drop, get_or}
 use Rattle.std.proofs.Math.ListN.{get_or-append}
 use Rattle.std.proofs.lemmas.List.{drop-map, get_or-map, get_or_push, length-append, length-map, length-take, take-append-drop}
 use Rattle.std.proofs.lemmas.List.Elements.{All-map}
 use Rattle.std.proofs.lemmas.Simd.{map-map}
-use Rattle.rj_columns.specs.Contents.{Content, nothing}
+use Rattle.rj_columns.specs.Contents.{Content}
 use Rattle.rj_columns.specs.Tables.{TableValue, cell_of}
 use Rattle.rj_csv_io.specs.Columns.{end_of, ends_of}
 use Rattle.rj_csv_io.specs.Ends.{AreEnded, IsEnded, end_at, end_text, nulls, record_of}
@@ -12,11 +12,10 @@ use Rattle.rj_csv_io.specs.declared.ends.RowEnds.{RowEnds}
 use Rattle.rj_csv_io.proofs.EndFacts.{nulls-map}
 use Rattle.rj_engine.specs.declared.joined.JoinedRow.{JoinedRow}
 use Rattle.rj_engine.specs.declared.joined.JoinedRow.TheVariants.{Both, LeftOnly, RightOnly}
-use Rattle.rj_engine.specs.declared.origin.Origin.{Origin}
 use Rattle.rj_engine.specs.declared.origin.Origin.TheVariants as origin
 use Rattle.rj_engine.specs.declared.runs.Run.{Run}
 use Rattle.rj_engine.specs.declared.shown.Shown.{Shown}
-use Rattle.rj_engine.specs.Cells.{joined_cell, joined_cells, right_cell, IsMemberOf, IsRightRow}
+use Rattle.rj_engine.specs.Cells.{joined_cell, joined_cells, right_cell, IsRightRow}
 use Rattle.rj_engine.specs.Chosen.{shown_rows}
 use Rattle.rj_engine.specs.Ends.{right_row}
 use Rattle.rj_engine.specs.Join.{JoinedValue}

@@ -9,8 +9,8 @@ use rj_csv_io::{EndColumns, OutputFormat, RowTexts, null_end, row_texts};
 use rj_engine::{Joined, Shown};
 use std::alloc::{AllocError, Global};
 
-// The fewest matches for each right row for which the ends' texts are made. They stand in memory
-// beside both tables and the result, of whose part from the right table they then take a quarter.
+// The fewest matches for each right row for which the ends' texts are made. These texts stand beside
+// both tables and the result, and take a quarter at most of what comes from the right table there.
 const LEAST_MATCHES: u64 = 4;
 
 // The fewest columns of an end whose text is made once: one is written as quickly as copied.

@@ -7,11 +7,11 @@ ghost use Rattle.std.specs.List.{concat};
 ghost use Rattle.std.specs.Option.{ForSome};
 ghost use Rattle.rj_csv_io.specs.Shown.{table_text};
 ghost use Rattle.rj_csv_io.specs.Tables.{is_null_text};
+ghost use Rattle.rj_engine.specs.Shown.{IsRunWithin};
 ghost use Rattle.rj_engine.specs.declared.runs.Run.{Run};
 ghost use Rattle.rj_command.specs.declared.join.texts.Share.{Share};
-ghost use Rattle.rj_engine.specs.Shown.{IsRunWithin};
 ghost use Rattle.rj_command.specs.Ends.{AreEndsOf};
-ghost use Rattle.rj_command.specs.Texts.{HasEnds, run_text, AreCounted, AreRunTexts, AreShownOf, AreTextsOf, AreWithin, cells_text, no_table, shown_cells, text_in, whole_text};
+ghost use Rattle.rj_command.specs.Texts.{AreCounted, AreRunTexts, AreShownOf, AreTextsOf, AreWithin, HasEnds, cells_text, no_table, run_text, shown_cells, text_in, whole_text};
 
 use crate::join::ends::Ends;
 use rj_columns::Table;
@@ -35,8 +35,8 @@ type Texts = Vec<Vec<u8>>;
 /// What is written of a joined table, but for its left table: the rows that are shown of it, under
 /// these names, with this delimiter and this text for NULL. At most `workers` threads make their
 /// texts, the calling one among them. If the left table is taken apart, the left rows whose texts
-/// are made are added to `made`. If the texts of the rows' ends are there, each row's front is written
-/// before the text of its end.
+/// are made are added to `made`. If the texts of the rows' ends are there, each row is written as its
+/// front and the text of its end.
 #[derive(Drop)]
 pub(crate) struct Written<'a> {
     pub(crate) names: &'a [String],
@@ -368,7 +368,8 @@ pub(crate) fn has_shares(left: &Table, workers: usize) -> bool {
 
 /// Writes the names as a header, and then the rows that are shown of the joined table of two tables.
 /// All texts are made before the first is put. A left table of many rows is freed segment by segment,
-/// as the texts of its rows are made. If it has few, the rows are divided evenly among the threads.
+/// as the texts of its rows are made. If it has few, the rows are divided evenly among the threads,
+/// unless the texts of the rows' ends are there.
 ///
 /// # Errors
 ///
