@@ -100,7 +100,6 @@ pub(crate) fn ask_for_lines(words: &[&str]) -> bool
 // it.
 fn explain_line(alloc: Global, words: &[&str], fault: &Fault) -> Result<Option<String>, AllocError>
     ensures unasked { ask_for_lines (map (λ w. w.now) words.now) ≡ false → result ≡ Ok None }
-    ensures lines { IfOk result (λ o. IfSome o (λ text. AreWordsTold fault.now (map (λ w. w.now) words.now) (Some (string_bytes text)))) }
     ensures asked { ask_for_lines (map (λ w. w.now) words.now) ≡ true → IfOk result (λ o. AreWordsTold fault.now (map (λ w. w.now) words.now) (option_map string_bytes o)) }
 {
     if !ask_for_lines(words) {
