@@ -174,6 +174,7 @@ fn violation_lines<R: AllocGlobal + Threads + Wait + Clock + Sync>(
     let (left, right, request) = (inputs.left, inputs.right, inputs.request);
     match first_violation(rt, alloc, left, right, request, &OpenGate) {
         Ok(Some(violation)) => lines_of_violation(alloc, inputs, &violation),
+        Err(Fault::Memory) => Err(AllocError),
         Ok(None) | Err(_) => Ok(String::new(alloc)),
     }
 }
@@ -242,12 +243,14 @@ fn undeclared_lines(
     ensures { IfOk result (λ s. IsUndeclaredTold side name.now inputs.now (string_bytes s)) }
 {
     let format = format_of(inputs.request, side);
-    let Ok(suggestion) = suggest_types(alloc, file_of(inputs, side), &format) else {
-        return Ok(String::new(alloc));
+    let suggestion = match suggest_types(alloc, file_of(inputs, side), &format) {
+        Ok(suggestion) => suggestion,
+        Err(Fault::Memory) => return Err(AllocError),
+        Err(_) => return Ok(String::new(alloc)),
     };
     match str::from_utf8(suggestion.list.as_slice()) {
         Ok(list) => undeclared_line(alloc, side, entry_for(list, name)),
-        Err(_) => Ok(String::new(alloc)),
+        Err(_) => unreachable!(),
     }
 }
 
