@@ -174,8 +174,9 @@ fn violation_lines<R: AllocGlobal + Threads + Wait + Clock + Sync>(
     let (left, right, request) = (inputs.left, inputs.right, inputs.request);
     match first_violation(rt, alloc, left, right, request, &OpenGate) {
         Ok(Some(violation)) => lines_of_violation(alloc, inputs, &violation),
+        Ok(None) => Ok(String::new(alloc)),
         Err(Fault::Memory) => Err(AllocError),
-        Ok(None) | Err(_) => Ok(String::new(alloc)),
+        Err(_) => Ok(String::new(alloc)),
     }
 }
 
