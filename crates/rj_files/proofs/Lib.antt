@@ -3,3 +3,4 @@ pub mod LetterFacts
 pub mod ListFacts
 pub mod SuggestedFacts
 pub mod TextFacts
+pub mod ToldFacts

@@ -1,6 +1,6 @@
 //! `--explain`: the lines that are added after the line of an error.
 
-ghost use Rattle.std.specs.Prelude.{◌≡◌, ◌≢◌, ◌↔◌, ◌<◌, ◌++◌, Bool, codes, IfErr, IfOk, IfSome, IsTrue, None, Ok, Some, false, map, nat_eq, option_map, string_bytes, true};
+ghost use Rattle.std.specs.Prelude.{◌≡◌, ◌≢◌, ◌↔◌, ◌<◌, ◌++◌, Bool, codes, IfErr, IfOk, IsTrue, None, Ok, false, map, nat_eq, option_map, string_bytes, true};
 ghost use Rattle.std.specs.IoError.{error_kind};
 ghost use Rattle.std.specs.List.{filter_map, starts_with};
 ghost use Rattle.std.specs.Option.{IsSomeAnd};
@@ -15,6 +15,7 @@ ghost use Rattle.rj_files.specs.Asking.{are_quiet, ask_for_lines, has_word, is_q
 ghost use Rattle.rj_files.specs.Entries.{entry_for, is_entry_for};
 ghost use Rattle.rj_files.specs.Explained.{IsPlaceExplained, IsToldOf, IsUndeclaredTold, IsUnexpectedTold, IsViolationTold, undeclared_line};
 ghost use Rattle.rj_files.specs.Texts.{unkept_lines};
+ghost use Rattle.rj_files.specs.Told.{IsThere};
 
 use crate::explained::ExplainedFault;
 use crate::memory::memory_lines;
@@ -122,7 +123,8 @@ pub fn processors<R: Threads>(rt: &R) -> usize
 ///
 /// # Errors
 ///
-/// Those of `read_line`. A list of types that is invalid is explained if the words ask for that.
+/// Those of `read_line`. An invalid list or delimiter is explained if the words ask for that, unless
+/// memory runs out for the lines.
 pub fn read_words_of_line<'a>(
     alloc: Global,
     words: &'a [&'a str],
@@ -130,15 +132,16 @@ pub fn read_words_of_line<'a>(
 ) -> Result<Line<'a>, ExplainedFault>
     ensures line { IfOk result (IsLineOf processors (map (λ w. w.now) words.entry.now)) }
     ensures fault { IfErr result (λ e. IsLineFault (map (λ w. w.now) words.entry.now) e.fault) }
-    ensures unasked { ask_for_lines (map (λ w. w.now) words.entry.now) ≡ false → IfErr result (λ e. e.lines ≡ None) }
-    ensures lines { IfErr result (λ e. IfSome e.lines (λ text. AreWordsTold e.fault (map (λ w. w.now) words.entry.now) (Some (string_bytes text)))) }
+    ensures unasked { ask_for_lines (map (λ w. w.now) words.entry.now) ≡ false → IfErr result (λ e. e.lines ≡ Ok None) }
+    ensures asked { ask_for_lines (map (λ w. w.now) words.entry.now) ≡ true
+        → IfErr result (λ e. IfOk e.lines (λ o. AreWordsTold e.fault (map (λ w. w.now) words.entry.now) (option_map string_bytes o))) }
 {
     match read_line(alloc, words, processors) {
         Ok(line) => Ok(line),
-        Err(fault) => match explain_line(alloc, words, &fault) {
-            Ok(Some(lines)) => Err(ExplainedFault::new(fault, Ok(lines))),
-            Ok(None) | Err(_) => Err(ExplainedFault::from(fault)),
-        },
+        Err(fault) => {
+            let lines = explain_line(alloc, words, &fault);
+            Err(ExplainedFault::with_lines(fault, lines))
+        }
     }
 }
 
@@ -309,7 +312,7 @@ pub(crate) fn explained<R: AllocGlobal + Threads + Wait + Clock + Sync>(
     inputs: &Inputs<'_, '_>,
 ) -> ExplainedFault
     ensures fault { result.fault ≡ fault }
-    ensures lines { IfSome result.lines (λ text. IsToldOf line.now fault inputs.now (string_bytes text)) }
+    ensures lines { IsThere result.lines (IsToldOf line.now fault inputs.now) }
     ensures told { result.is_told ≡ true }
 {
     let lines = lines_of(rt, line, &fault, inputs);
@@ -336,6 +339,7 @@ pub(crate) fn unwritten(
 ) -> ExplainedFault
     ensures fault { result.fault ≡ fault }
     ensures unheard { (result.is_told ≡ false) ↔ ((fault ≡ Fault.WriteDevice) × IsSomeAnd error.now (λ e. error_kind e ≡ ErrorKind.BrokenPipe)) }
+    ensures told { fault ≢ Fault.WriteDevice → result.is_told ≡ true }
 {
     if is_unwritten(&fault) && has_no_reader(error) {
         return ExplainedFault::unheard(fault);
