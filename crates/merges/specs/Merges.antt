@@ -27,8 +27,8 @@ module _ {R : Type 0} (opens : Text → R → Type 0) (known : R → Option Text
     pub sound : ForNamed opens known (names line) (HaveNoFault line.how)
 
   -- a merge of the files of a line was refused: an error that isn't the machine's is one of the
-  -- texts, and that of the first header that has one, and then the output is as it was; it is one of
-  -- the files', and the failure has the name of that file
+  -- texts, and that of the first header that has one, and then the output is as it was; it is one
+  -- of the files', and the failure has the name of that file
   pub record IsRefusalOfLine {O : Type 0} (old new : O) (line : Line) (f : Failure) : Type 0 where
     pub error : MergeTextsRefused
     pub fault : (e : MergeRefused) → error ≡ refused.Merge e → is_outside e ≡ false

@@ -29,8 +29,8 @@ header_text t name = row_text (writer_of comma) (names_with t name)
 abbrev pub HaveText : List ℕ → List (Option (List ℕ)) → List (Option (List ℕ)) → Type 0
 HaveText text before after = (p : ℕ) → p < length before → Appends (slice_index_or before p None) (slice_index_or after p None) text
 
--- outputs before the one of this number got this text after what they already had, and those after it
--- are as they were
+-- outputs before the one of this number got this text after what they already had, and those after
+-- it are as they were
 abbrev pub HaveTextBefore : ℕ → List ℕ → List (Option (List ℕ)) → List (Option (List ℕ)) → Type 0
 HaveTextBefore p text before after =
     (q : ℕ) → (q < p → Appends (slice_index_or before q None) (slice_index_or after q None) text) × (p < q → slice_index_or after q None ≡ slice_index_or before q None)

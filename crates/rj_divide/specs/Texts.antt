@@ -55,8 +55,8 @@ IsPieceFault d how text before outputs e =
     ((f : StrictFault) × (e ≡ refused.Broken f) × IsBroken d how text before f)
     ⊎ ((records : List (List (List ℕ))) × StandIn d.delimiter (length d.types) how text records × IsFaultBehind d before outputs records e)
 
--- if this error comes, each part's output but one that failed has its rows among the first records of
--- a text
+-- if this error comes, each part's output but one that failed has its rows among the first records
+-- of a text
 abbrev pub HaveFirstRows : Dividing → Reading → List ℕ → List (Option (List ℕ)) → List (Option (List ℕ)) → DivideRefused → Type 0
 HaveFirstRows d how text before after e = (p : ℕ) → p < length before → e ≢ refused.WriteDevice p
     → (records : List (List (List ℕ))) × BeginIn d.delimiter (length d.types) how text records × IsPartDivided d records before after p

@@ -133,9 +133,9 @@ fn header_of(alloc: Global, table: &Table, name: &str) -> Result<Vec<u8>, Divide
 ///
 /// # Errors
 ///
-/// Why the columns don't make a table, as reading a file with this header would report it; `Memory`;
-/// nothing is put then. Else `WriteDevice` if an output failed; those before it have got the header,
-/// and those after it are as they were.
+/// Why the columns don't make a table, as reading a file with this header would report it;
+/// `Memory`; nothing is put then. Else `WriteDevice` if an output failed; those before it have got
+/// the header, and those after it are as they were.
 pub fn write_headers<O: Output>(
     alloc: Global,
     table: &Table,
