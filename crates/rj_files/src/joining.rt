@@ -108,10 +108,11 @@ where
         };
     }
     let inputs = tables.inputs(&line.request);
-    match write_bytes(rt, line, progress, inputs.left, inputs.right, writer) {
-        Ok(written) => Ok(written),
-        Err(fault) => Err(explained(rt, line, fault, &inputs)),
-    }
+    let fault = match write_bytes(rt, line, progress, inputs.left, inputs.right, writer) {
+        Ok(written) => return Ok(written),
+        Err(fault) => fault,
+    };
+    Err(explained(rt, line, fault, &inputs))
 }
 
 /// Writes what the line asks for of two tables, and returns the writer.

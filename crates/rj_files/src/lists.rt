@@ -1,9 +1,9 @@
 //! Lists of types that are in files: `@FILE` in the place of a list.
 
-ghost use Rattle.std.specs.Prelude.{◌≡◌, ◌==◌, IfErr, IfOk, IfSome, MatchOption, None, Ok, drop, false, map, string_bytes, true};
+ghost use Rattle.std.specs.Prelude.{◌≡◌, ◌==◌, IfErr, IfOk, IfSome, MatchOption, None, Ok, Some, drop, false, map, string_bytes, true};
 ghost use Rattle.std.specs.List.{after_first, before_first};
 ghost use Rattle.rj_files.specs.Asking.{ask_for_lines};
-ghost use Rattle.rj_files.specs.Labels.{AreReadWords, IsListFault, IsListsFault, IsReadWord, IsUnreadOf, IsWordFault, bad_list_fault, file_label, is_file, label_of, unread_name};
+ghost use Rattle.rj_files.specs.Labels.{AreReadWords, IsListFault, IsListsFault, IsReadWord, IsUnreadOf, IsWordFault, bad_list_fault, file_label, is_file, label_of, named_file, unread_name};
 ghost use Rattle.rj_files.specs.Told.{IsKept};
 
 use crate::explained::ExplainedFault;
@@ -53,6 +53,29 @@ fn option_in(word: &str) -> Option<(&str, &str)>
     word.split_once('=')
 }
 
+// A file that a word names behind an option of types and `=`.
+#[derive(Clone, Copy)]
+struct NamedFile<'a> {
+    option: &'a str,
+    name: &'a str,
+    label: FileLabel,
+}
+
+// The file that a word names so, if it names one.
+fn named_in(word: &str) -> Option<NamedFile<'_>>
+    ensures { MatchOption result (file_label None word.now ≡ None) (λ f. (file_label None word.now ≡ Some f.label)
+        × (f.option.now ≡ before_first (λ b. b == 61) word.now) × (f.name.now ≡ named_file None word.now)) }
+{
+    let (option, value) = option_in(word)?;
+    let name = file_in(value)?;
+    let label = label_of(option)?;
+    Some(NamedFile {
+        option,
+        name,
+        label,
+    })
+}
+
 // An option with the list that a file has, if the word is such an option, `=` and `@FILE`.
 fn with_list<R: Files + AllocGlobal>(
     rt: &R,
@@ -63,16 +86,17 @@ fn with_list<R: Files + AllocGlobal>(
     ensures fault { IfErr result (λ e. IsWordFault None word.now e.fault e.file) }
     ensures unasked { explain ≡ false → IfErr result (λ e. e.lines ≡ Ok None) }
 {
-    let Some((option, value)) = option_in(word) else {
+    let Some(
+        NamedFile {
+            option,
+            name,
+            label,
+        },
+    ) = named_in(word)
+    else {
         return Ok(None);
     };
-    let Some(file) = file_in(value) else {
-        return Ok(None);
-    };
-    let Some(label) = label_of(option) else {
-        return Ok(None);
-    };
-    let list = list_of(rt, file, label, explain)?;
+    let list = list_of(rt, name, label, explain)?;
     Ok(Some(format!(in rt.alloc(); "{option}={list}")?))
 }
 
