@@ -1,5 +1,5 @@
 -- How a range of a side's file is divided, and why it isn't.
-use Rattle.std.specs.Prelude.{ℕ, ◌==◌, true, false, List, Result, codes}
+use Rattle.std.specs.Prelude.{ℕ, ◌==◌, ◌≡◌, ◌⊎◌, ◌++◌, ◌∷◌, [], true, false, List, Result, Err, codes, decimal}
 use Rattle.rj_columns.specs.Contents.{Content}
 use Rattle.rj_columns.specs.Names.{empty_table}
 use Rattle.rj_columns.specs.Tables.{TableValue}
@@ -20,6 +20,9 @@ use Rattle.rj_fault.specs.declared.fault.Side.TheVariants as side
 use Rattle.rj_line.specs.declared.request.Strictness.{Strictness}
 use Rattle.rj_line.specs.declared.request.Strictness.TheVariants as strictness
 use Rattle.shards.specs.declared.dividing.Range.{Range}
+use Rattle.shards.specs.declared.failure.Failure.{Failure}
+use Rattle.shards.specs.declared.failure.Failure.TheVariants as failure
+use Rattle.shards.specs.declared.head.Head.{Head}
 
 -- the name of the column with the places of a side's rows
 abbrev pub place_name : Side → List ℕ
@@ -48,3 +51,25 @@ division_fault s divide.ReadDevice = fault.ReadDevice s
 division_fault s (divide.Broken f) = strict_fault s f
 division_fault s (divide.WriteDevice part) = fault.WriteDevice
 division_fault s divide.Memory = fault.Memory
+
+-- a failure of a division of a side's file
+abbrev pub IsFailureOf : Side → Failure → Type 0
+IsFailureOf s e = (refused : DivideRefused) × (e ≡ failure.Told (division_fault s refused))
+
+-- why a side's file can't be read: its device failed, or memory ran out
+abbrev pub IsFileFault : Side → Fault → Type 0
+IsFileFault s f = (f ≡ fault.ReadDevice s) ⊎ (f ≡ fault.Memory)
+
+-- why a line isn't printed: standard output failed, or memory ran out
+abbrev pub IsOfPrinting : Failure → Type 0
+IsOfPrinting e = (e ≡ failure.Told fault.WriteDevice) ⊎ (e ≡ failure.Told fault.Memory)
+
+-- the line of the rows of a range and of the bytes of its parts' header
+abbrev pub counts_line : ℕ → ℕ → List ℕ
+counts_line rows header = codes "rows " ++ (decimal rows ++ (codes " header " ++ (decimal header ++ 10 ∷ [])))
+
+-- the failure of an invalid NULL text, unless the file can't be read
+abbrev pub unlawful_null : Result Head Fault → Failure
+unlawful_null (Err (fault.ReadDevice s)) = failure.Told (fault.ReadDevice s)
+unlawful_null (Err fault.Memory) = failure.Told fault.Memory
+unlawful_null head = failure.Told fault.BadNull

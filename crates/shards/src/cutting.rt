@@ -1,21 +1,40 @@
 //! Where a file can be cut.
 
-use crate::dividing::fault_of_division;
+ghost use Rattle.std.specs.Prelude.{◌≡◌, ◌<◌, ◌-◌, ◌^◌, IfErr, IfOk, string_bytes};
+ghost use Rattle.shards.specs.Cuts.{HasCutFailure, HasCutLines, IsCutsFailure, place_lines};
+ghost use Rattle.shards.specs.Lines.{operand_of};
+
+use crate::dividing::{MOST, fault_of_division};
 use crate::failure::Failure;
 use crate::files::{file_size, open_range, read_head};
 use crate::line::Line;
-use rj_command::{Fault, Strictness};
-use rj_csv_io::{CountedWriter, Output};
+use crate::outputs::print_text;
+use rj_command::{Fault, Side, Strictness};
+use rj_csv_io::Input;
 use rj_divide::find_cuts;
-use std::alloc::Global;
+use rj_strict::Delimiter;
+use std::alloc::{AllocError, Global};
 use std::fs::Files;
-use std::io;
 
 // The most bytes that are read before a place is looked for.
 const BLOCK: u64 = 1 << 20;
 
+// The text of a side's file from its header on, which is to be cut into this many ranges, or fewer.
+#[derive(Clone, Copy)]
+struct CutText {
+    side: Side,
+    delimiter: Delimiter,
+    ranges: u32,
+    // The byte of the file at which the text begins.
+    begin: u64,
+    // The number of the file's bytes.
+    end: u64,
+}
+
 // The lines of places that count from a byte of the file, without one at its end.
-fn lines_of(alloc: Global, begin: u64, cuts: &[u64], end: u64) -> Result<String, Failure> {
+fn lines_of(alloc: Global, begin: u64, cuts: &[u64], end: u64) -> Result<String, AllocError>
+    ensures { IfOk result (λ s. string_bytes s ≡ place_lines begin end cuts.now) }
+{
     let mut text = String::new(alloc);
     for cut in cuts {
         let place = begin.saturating_add(*cut);
@@ -24,6 +43,25 @@ fn lines_of(alloc: Global, begin: u64, cuts: &[u64], end: u64) -> Result<String,
         }
     }
     Ok(text)
+}
+
+// The lines of the places where the text that a device tells can be cut into ranges of about one
+// size.
+fn cut_lines<I: Input>(alloc: Global, input: &mut I, cut: &CutText) -> Result<String, Failure>
+    requires { I.count input.old < 2 ^ 64 - 1 }
+    ensures lines { IfOk result (λ s. HasCutLines cut.now (I.tells input.old) (string_bytes s)) }
+    ensures failure { IfErr result (HasCutFailure cut.now.side (I.tells input.old)) }
+{
+    let least = (cut.end / u64::from(cut.ranges.max(1))).saturating_add(1);
+    let block = least.min(BLOCK) as usize;
+    let cuts = match find_cuts(alloc, input, cut.delimiter, least, block) {
+        Ok(cuts) => cuts,
+        Err(refused) => return Err(Failure::Told(fault_of_division(cut.side, refused))),
+    };
+    match lines_of(alloc, cut.begin, cuts.as_slice(), cut.end) {
+        Ok(lines) => Ok(lines),
+        Err(_) => Err(Failure::Told(Fault::Memory)),
+    }
 }
 
 /// Prints the bytes at which the file of the side can be cut into this many ranges of about one
@@ -37,25 +75,24 @@ pub(crate) fn print_cuts<R: Files + AllocGlobal + Print>(
     rt: &R,
     line: &Line<'_>,
     ranges: u32,
-) -> Result<(), Failure> {
-    let file = line.operand(line.side).file;
-    let delimiter = line.delimiter(line.side);
-    let head = match read_head(rt, file, line.side, delimiter, Strictness::Off) {
+) -> Result<(), Failure>
+    ensures { IfErr result (IsCutsFailure (operand_of line.now line.now.side).delimiter line.now.side) }
+{
+    let own = line.operand(line.side);
+    let head = match read_head(rt, own.file, line.side, own.delimiter, Strictness::Off) {
         Ok(head) => head,
         Err(Fault::NoHeader(_)) => return Ok(()),
         Err(fault) => return Err(Failure::Told(fault)),
     };
-    let end = file_size(rt, file, line.side)?;
-    let mut input = open_range(rt, file, line.side, head.begin, 1 << 62)?;
-    let least = (end / u64::from(ranges.max(1))).saturating_add(1);
-    let block = least.min(BLOCK) as usize;
-    let cuts = match find_cuts(rt.alloc(), &mut input, delimiter, least, block) {
-        Ok(cuts) => cuts,
-        Err(refused) => return Err(Failure::Told(fault_of_division(line.side, refused))),
+    let end = file_size(rt, own.file, line.side)?;
+    let mut input = open_range(rt, own.file, line.side, head.begin, MOST)?;
+    let cut = CutText {
+        side: line.side,
+        delimiter: own.delimiter,
+        ranges,
+        begin: head.begin,
+        end,
     };
-    let text = lines_of(rt.alloc(), head.begin, cuts.as_slice(), end)?;
-    match CountedWriter::new(io::writer(rt)).put(text.as_bytes()) {
-        Ok(()) => Ok(()),
-        Err(_) => Err(Failure::Told(Fault::WriteDevice)),
-    }
+    let text = cut_lines(rt.alloc(), &mut input, &cut)?;
+    print_text(rt, text.as_str())
 }

@@ -1,23 +1,26 @@
 //! Dividing a range of a file.
 
-ghost use Rattle.std.specs.Prelude.{◌≡◌, ◌<◌, ◌≤◌, ◌-◌, ◌^◌, All, IfErr, IfOk, IfSome, IsTrue, Ok, OnOk, length, map, true};
+ghost use Rattle.std.specs.Prelude.{◌≡◌, ◌≢◌, ◌<◌, ◌≤◌, ◌-◌, ◌^◌, ◌⊎◌, All, IfErr, IfOk, IsErrAnd, IfSome, IsTrue, Ok, OnOk, length, map, string_bytes, true};
 ghost use Rattle.rj_columns.specs.Tables.{TableValue};
 ghost use Rattle.rj_condition.specs.Fits.{fits};
 ghost use Rattle.rj_condition.specs.Parts.{split_fits};
 ghost use Rattle.rj_csv_io.specs.Tables.{is_null_text};
 ghost use Rattle.rj_csv_io.specs.Typed.{null_texts};
 ghost use Rattle.rj_divide.specs.Divisions.{written_null};
+ghost use Rattle.rj_divide.specs.Headers.{HaveText, header_text};
 ghost use Rattle.rj_divide.specs.Texts.{IsDivisionFault, IsTextDivided};
-ghost use Rattle.shards.specs.Ranges.{division_fault, place_name, range_begun, range_dividing, range_reading};
+ghost use Rattle.shards.specs.Plans.{AreKeyColumns, AreKeysOver, IsHeaderFault, IsJoinFaultOfSides, IsJoinOfSides, IsOtherFailure, IsPlanFailure, IsRangeFailure, has_lawful_nulls, header_table, other_side};
+ghost use Rattle.shards.specs.Ranges.{IsFailureOf, IsOfPrinting, counts_line, division_fault, place_name, range_begun, range_dividing, range_reading, unlawful_null};
 
 use crate::failure::Failure;
-use crate::files::{Head, open_range, read_head};
+use crate::files::{open_range, read_head};
+use crate::head::Head;
 use crate::line::{Line, Operand};
-use crate::outputs::{NullSink, OnePart, part_files};
+use crate::outputs::{NullSink, OnePart, part_files, print_text};
 use rj_columns::{ColumnType, Table};
 use rj_command::{Strictness, bind_clause, fault_of_text, types_of_header};
 use rj_condition::{BoundJoin, split};
-use rj_csv_io::{CountedWriter, Input, Output};
+use rj_csv_io::{Input, Output};
 use rj_divide::{
     DivideRefused, Division, Reading, Route, divide, have_lawful_nulls, write_headers,
 };
@@ -27,14 +30,13 @@ use rj_shards::{ShardRoute, Shards};
 use rj_strict::Delimiter;
 use std::alloc::{AllocError, Global};
 use std::fs::Files;
-use std::io;
 
 /// How many bytes of a file are read at once. With the rows in them and the texts that are made of
 /// these, the program takes less than 256 MiB, whatever the file's size.
 pub(crate) const BLOCK: usize = 8 << 20;
 
-// The last byte at which a range may begin, 2^62.
-const MOST: u64 = 1 << 62;
+/// The last byte at which a range may begin, 2^62.
+pub(crate) const MOST: u64 = 1 << 62;
 
 // The range of a side's file that is divided, under its header. It begins at a byte up to 2^62.
 #[derive(Clone, Copy)]
@@ -58,7 +60,9 @@ fn place_name(side: Side) -> &'static str
     }
 }
 
-fn other_side(side: Side) -> Side {
+fn other_side(side: Side) -> Side
+    ensures { result ≡ other_side side }
+{
     match side {
         Side::Left => Side::Right,
         Side::Right => Side::Left,
@@ -71,7 +75,10 @@ fn empty_table(
     head: &Head,
     operand: &Operand<'_>,
     side: Side,
-) -> Result<Table, Fault> {
+) -> Result<Table, Fault>
+    ensures table { IfOk result (λ t. header_table head.now operand.now ≡ Ok t) }
+    ensures fault { IfErr result (λ f. f ≢ Fault.Memory → IsHeaderFault head.now operand.now side f) }
+{
     let types = types_of_header(alloc, &head.header, operand.types.as_slice(), side)?;
     match head.header.table(alloc, types.as_slice()) {
         Ok(table) => Ok(table),
@@ -96,15 +103,16 @@ fn bind_sides(
     line: &Line<'_>,
     own: &Table,
     other: &Table,
-) -> Result<BoundJoin, Failure>
-    ensures { IfOk result (λ j. (line.now.side ≡ Side.Left → fits j own.now.types other.now.types ≡ true)
+) -> Result<BoundJoin, Fault>
+    ensures join { IfOk result (IsJoinOfSides line.now own.now other.now) }
+    ensures fault { IfErr result (λ f. f ≢ Fault.Memory → IsJoinFaultOfSides line.now own.now other.now f) }
+    ensures fits { IfOk result (λ j. (line.now.side ≡ Side.Left → fits j own.now.types other.now.types ≡ true)
         × (line.now.side ≡ Side.Right → fits j other.now.types own.now.types ≡ true)) }
 {
-    let join = match line.side {
-        Side::Left => bind_clause(alloc, line.clause, own, other)?,
-        Side::Right => bind_clause(alloc, line.clause, other, own)?,
-    };
-    Ok(join)
+    match line.side {
+        Side::Left => bind_clause(alloc, line.clause, own, other),
+        Side::Right => bind_clause(alloc, line.clause, other, own),
+    }
 }
 
 // The shards of a join, and the key columns of the side's table.
@@ -114,7 +122,10 @@ fn shards_of(
     own: &Table,
     other: &Table,
 ) -> Result<(Shards, Vec<usize>), Failure>
-    ensures { IfOk result (λ p. All (λ c. c < length own.now.types) p.1.items) }
+    ensures parts { IfOk result (λ p. p.0.parts ≡ line.now.parts) }
+    ensures keys { IfOk result (λ p. AreKeyColumns line.now own.now other.now p.1.items) }
+    ensures within { IfOk result (λ p. All (λ c. c < length own.now.types) p.1.items) }
+    ensures fault { IfErr result (IsPlanFailure line.now own.now other.now) }
 {
     let join = bind_sides(alloc, line, own, other)?;
     let split = split(alloc, &join)?;
@@ -134,11 +145,14 @@ fn plan<R: Files + AllocGlobal>(
     line: &Line<'_>,
     own: &Table,
 ) -> Result<(Shards, Vec<usize>), Failure>
-    ensures { IfOk result (λ p. All (λ c. c < length own.now.types) p.1.items) }
+    ensures parts { IfOk result (λ p. p.0.parts ≡ line.now.parts) }
+    ensures keys { IfOk result (λ p. AreKeysOver line.now own.now p.1.items) }
+    ensures within { IfOk result (λ p. All (λ c. c < length own.now.types) p.1.items) }
+    ensures fault { IfErr result (IsOtherFailure line.now own.now) }
 {
     let side = other_side(line.side);
     let operand = line.operand(side);
-    let head = read_head(rt, operand.file, side, line.delimiter(side), line.strict)?;
+    let head = read_head(rt, operand.file, side, operand.delimiter, line.strict)?;
     let other = empty_table(rt.alloc(), &head, operand, side)?;
     shards_of(rt.alloc(), line, own, &other)
 }
@@ -215,6 +229,7 @@ fn divide_rows<R: Files + AllocGlobal, W: Route, O: Output>(
     requires from { range.now.from ≤ 2 ^ 62 }
     requires null { IsTrue (is_null_text (written_null (null_texts range.now.nulls.now))) }
     requires writes { All (λ o. O.count o < 2 ^ 64 - 1) outputs.old }
+    ensures fault { IfErr result (IsFailureOf range.now.line.now.side) }
 {
     let side = range.line.side;
     let file = range.line.operand(side).file;
@@ -230,12 +245,37 @@ fn divide_rows<R: Files + AllocGlobal, W: Route, O: Output>(
     }
 }
 
-// Prints how many rows a range has, and how many bytes the header of each part has.
-fn print_counts<R: AllocGlobal + Print>(rt: &R, rows: u64, header: u64) -> Result<(), Failure> {
-    let text = format!(in rt.alloc(); "rows {rows} header {header}\n")?;
-    match CountedWriter::new(io::writer(rt)).put(text.as_bytes()) {
-        Ok(()) => Ok(()),
-        Err(_) => Err(Failure::Told(Fault::WriteDevice)),
+// The line that says how many rows a range has, and how many bytes the header of each part has.
+fn counts_line(alloc: Global, rows: u64, header: u64) -> Result<String, AllocError>
+    ensures { IfOk result (λ s. string_bytes s ≡ counts_line rows header) }
+{
+    format!(in alloc; "rows {rows} header {header}\n")
+}
+
+// Prints this line.
+fn print_counts<R: AllocGlobal + Print>(rt: &R, rows: u64, header: u64) -> Result<(), Failure>
+    ensures fault { IfErr result IsOfPrinting }
+{
+    let text = counts_line(rt.alloc(), rows, header)?;
+    print_text(rt, text.as_str())
+}
+
+// Puts the header of a side's parts to each output. The answer is how many bytes it has.
+fn put_headers<O: Output>(
+    alloc: Global,
+    side: Side,
+    own: &Table,
+    outputs: &mut [O],
+) -> Result<u64, Failure>
+    requires { All (λ o. O.count o < 2 ^ 64 - 1) outputs.old }
+    ensures told { OnOk result (HaveText (header_text own.now (place_name side)) (map O.told outputs.old) (map O.told outputs.new)) }
+    ensures size { IfOk result (λ n. n ≡ length (header_text own.now (place_name side))) }
+    ensures writes { OnOk result (All (λ o. O.count o < 2 ^ 64 - 1) outputs.new) }
+    ensures fault { IfErr result (IsFailureOf side) }
+{
+    match write_headers(alloc, own, place_name(side), outputs) {
+        Ok(header) => Ok(header),
+        Err(refused) => Err(Failure::Told(fault_of_division(side, refused))),
     }
 }
 
@@ -250,6 +290,7 @@ fn divide_among_files<R: Files + AllocGlobal + Print>(
     requires keys { All (λ c. c < length range.now.types.now) plan.now.1.items }
     requires from { range.now.from ≤ 2 ^ 62 }
     requires null { IsTrue (is_null_text (written_null (null_texts range.now.nulls.now))) }
+    ensures fault { IfErr result (IsFailureOf range.now.line.now.side) }
 {
     let (shards, columns) = plan;
     let route = ShardRoute {
@@ -258,15 +299,7 @@ fn divide_among_files<R: Files + AllocGlobal + Print>(
         hash: &Mixed,
     };
     let mut files = part_files(rt, folder, shards.parts)?;
-    let header = match write_headers(
-        rt.alloc(),
-        own,
-        place_name(range.line.side),
-        files.as_mut_slice(),
-    ) {
-        Ok(header) => header,
-        Err(refused) => return Err(Failure::Told(fault_of_division(range.line.side, refused))),
-    };
+    let header = put_headers(rt.alloc(), range.line.side, own, files.as_mut_slice())?;
     let rows = divide_rows(rt, range, &route, files.as_mut_slice())?;
     print_counts(rt, rows, header)
 }
@@ -280,6 +313,7 @@ fn look_at_rows<R: Files + AllocGlobal + Print>(
 ) -> Result<(), Failure>
     requires from { range.now.from ≤ 2 ^ 62 }
     requires null { IsTrue (is_null_text (written_null (null_texts range.now.nulls.now))) }
+    ensures { IsErrAnd result (λ e. (e ≡ failure) ⊎ IsFailureOf range.now.line.now.side e) }
 {
     let mut sink = [NullSink];
     let rows = divide_rows(rt, range, &OnePart, sink.as_mut_slice())?;
@@ -288,7 +322,9 @@ fn look_at_rows<R: Files + AllocGlobal + Print>(
 }
 
 // The failure of an invalid NULL text, unless the file can't be read at all.
-fn unlawful_null(head: Result<Head, Fault>) -> Failure {
+fn unlawful_null(head: Result<Head, Fault>) -> Failure
+    ensures { result ≡ unlawful_null head }
+{
     match head {
         Err(Fault::ReadDevice(side)) => Failure::Told(Fault::ReadDevice(side)),
         Err(Fault::Memory) => Failure::Told(Fault::Memory),
@@ -309,12 +345,15 @@ pub(crate) fn divide_range<R: Files + AllocGlobal + Print>(
     from: u64,
     to: Option<u64>,
     folder: &str,
-) -> Result<(), Failure> {
+) -> Result<(), Failure>
+    ensures lawful { OnOk result (has_lawful_nulls line.now ≡ true) }
+    ensures failure { IfErr result (IsRangeFailure line.now) }
+{
     let own = line.operand(line.side);
-    let delimiter = line.delimiter(line.side);
-    let head = read_head(rt, own.file, line.side, delimiter, line.strict);
-    let nulls = line.nulls(line.side);
-    if !have_lawful_nulls(nulls, line.nulls(other_side(line.side))) {
+    let other = line.operand(other_side(line.side));
+    let head = read_head(rt, own.file, line.side, own.delimiter, line.strict);
+    let nulls = own.nulls.as_slice();
+    if !have_lawful_nulls(nulls, other.nulls.as_slice()) {
         return Err(unlawful_null(head));
     }
     let head = head?;
@@ -325,7 +364,7 @@ pub(crate) fn divide_range<R: Files + AllocGlobal + Print>(
         head: &head,
         types: types.as_slice(),
         nulls,
-        delimiter,
+        delimiter: own.delimiter,
         from: from.min(MOST),
         to: to.unwrap_or(MOST),
     };

@@ -1,7 +1,10 @@
 //! `--explain`: the lines that are added after the line of an error.
 
-ghost use Rattle.std.specs.Prelude.{◌≡◌};
-ghost use Rattle.shards.specs.Explained.{is_of_headers};
+ghost use Rattle.std.specs.Prelude.{◌≡◌, ◌⊎◌, IfOk, None, false, map, option_map, string_bytes};
+ghost use Rattle.std.specs.List.{list_any};
+ghost use Rattle.rj_fault.specs.Faults.{IsAskedFor};
+ghost use Rattle.shards.specs.Explained.{AreHeadersTold, AreLinesOf, has_value, is_explain, is_of_headers, is_own_option, without_own};
+ghost use Rattle.shards.specs.Failures.{clap_error_of, exit_of, unwritten};
 
 use crate::failure::Failure;
 use crate::files::read_beginning;
@@ -19,6 +22,10 @@ pub(crate) struct ExplainedFailure {
 }
 
 impl From<Failure> for ExplainedFailure {
+    ghost use Rattle.std.specs.Prelude.{None};
+
+    ghost from_gives = { λ failure e. (e.failure ≡ failure) × (e.lines ≡ None) };
+
     fn from(failure: Failure) -> ExplainedFailure {
         ExplainedFailure {
             failure,
@@ -27,21 +34,14 @@ impl From<Failure> for ExplainedFailure {
     }
 }
 
-impl From<Fault> for ExplainedFailure {
-    fn from(fault: Fault) -> ExplainedFailure {
-        ExplainedFailure {
-            failure: Failure::Told(fault),
-            lines: None,
-        }
-    }
-}
-
 impl From<AllocError> for ExplainedFailure {
+    ghost use Rattle.rj_fault.specs.declared.fault.Fault.TheVariants.{Memory};
+    ghost use Rattle.shards.specs.declared.failure.Failure.TheVariants.{Told};
+
+    ghost from_gives = { λ _ e. e.failure ≡ Told Memory };
+
     fn from(_error: AllocError) -> ExplainedFailure {
-        ExplainedFailure {
-            failure: Failure::Told(Fault::Memory),
-            lines: None,
-        }
+        ExplainedFailure::from(Failure::Told(Fault::Memory))
     }
 }
 
@@ -49,22 +49,33 @@ impl From<AllocError> for ExplainedFailure {
 const OWN_OPTIONS: [&str; 6] = ["--side", "--parts", "--from", "--to", "--out", "--cuts"];
 
 // Whether a word is an option that a join in one go doesn't have, with its value after `=` or without.
-fn is_own_option(word: &str) -> bool {
+fn is_own_option(word: &str) -> bool
+    ensures { result ≡ is_own_option word.now }
+{
     match word.split_once('=') {
         Some((option, _)) => OWN_OPTIONS.contains(&option),
         None => OWN_OPTIONS.contains(&word),
     }
 }
 
+// Whether an option's word has its value after `=`.
+fn has_value(word: &str) -> bool
+    ensures { result ≡ has_value word.now }
+{
+    word.as_bytes().contains(&b'=')
+}
+
 // The words with the same meaning for a join in one go.
-fn words_of_join<'w>(alloc: Global, words: &[&'w str]) -> Result<Vec<&'w str>, AllocError> {
+fn words_of_join<'w>(alloc: Global, words: &[&'w str]) -> Result<Vec<&'w str>, AllocError>
+    ensures { IfOk result (λ v. map (λ w. w.now) v.items ≡ without_own false (map (λ w. w.now) words.now)) }
+{
     let mut of_join = Vec::with_capacity(alloc, words.len())?;
     let mut is_own_value = false;
     for word in words {
         if is_own_value {
             is_own_value = false;
         } else if is_own_option(*word) {
-            is_own_value = !word.contains('=');
+            is_own_value = !has_value(*word);
         } else {
             of_join.push(*word)?;
         }
@@ -95,7 +106,9 @@ fn header_lines<R: Files + AllocGlobal>(
     rt: &R,
     words: &[&str],
     fault: &Fault,
-) -> Result<String, AllocError> {
+) -> Result<String, AllocError>
+    ensures { IfOk result (λ s. AreHeadersTold fault.now (map (λ w. w.now) words.now) (string_bytes s)) }
+{
     let alloc = rt.alloc();
     let words = words_of_join(alloc, words)?;
     let Ok(line) = read_line(alloc, words.as_slice(), 1) else {
@@ -121,7 +134,9 @@ fn lines_of<R: Files + AllocGlobal>(
     rt: &R,
     words: &[&str],
     failure: &Failure,
-) -> Result<Option<String>, AllocError> {
+) -> Result<Option<String>, AllocError>
+    ensures { IfOk result (λ o. AreLinesOf failure.now (map (λ w. w.now) words.now) (option_map string_bytes o)) }
+{
     match failure {
         Failure::Told(fault) if is_of_headers(fault) => Ok(Some(header_lines(rt, words, fault)?)),
         Failure::Told(fault) => explain_words(rt.alloc(), words, fault),
@@ -129,22 +144,38 @@ fn lines_of<R: Files + AllocGlobal>(
     }
 }
 
+// Whether the words ask for failures to be explained.
+fn is_asked(words: &[&str]) -> bool
+    ensures { result ≡ list_any (λ w. is_explain w.now) words.now }
+{
+    words.iter().any(|word| *word == "--explain")
+}
+
 /// A failure of a run with these words, explained if they ask for it and there was memory for it.
 pub(crate) fn explained<R: Files + AllocGlobal>(
     rt: &R,
     words: &[&str],
     failure: Failure,
-) -> ExplainedFailure {
-    let lines = if words.iter().any(|word| *word == "--explain") {
-        lines_of(rt, words, &failure).unwrap_or(None)
-    } else {
-        None
-    };
-    ExplainedFailure { failure, lines }
+) -> ExplainedFailure
+    ensures failure { result.failure ≡ failure }
+    ensures unasked { list_any (λ w. is_explain w.now) words.now ≡ false → result.lines ≡ None }
+    ensures lines { (result.lines ≡ None) ⊎ AreLinesOf failure (map (λ w. w.now) words.now) (option_map string_bytes result.lines) }
+{
+    if !is_asked(words) {
+        return ExplainedFailure::from(failure);
+    }
+    match lines_of(rt, words, &failure) {
+        Ok(lines) => ExplainedFailure { failure, lines },
+        Err(_) => ExplainedFailure::from(failure),
+    }
 }
 
-/// Prints a failure, and what explains it, on standard error, and returns the exit status.
-pub(crate) fn tell_explained<R: Print + Eprint>(rt: &R, reason: &ExplainedFailure) -> u8 {
+/// Prints a failure, and what explains it, on standard error, and returns the exit status: that of
+/// the failure or, if help or the version was asked for and couldn't be printed, that of a failed
+/// write.
+pub(crate) fn tell_explained<R: Print + Eprint>(rt: &R, reason: &ExplainedFailure) -> u8
+    ensures { (result ≡ exit_of reason.now.failure) ⊎ (IsAskedFor (clap_error_of reason.now.failure) × (result ≡ exit_of unwritten)) }
+{
     let status = tell(rt, &reason.failure);
     if let Some(lines) = &reason.lines {
         let _ = eprint!(rt; "{lines}");

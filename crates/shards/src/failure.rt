@@ -1,5 +1,7 @@
 //! Why a file wasn't divided.
 
+ghost use Rattle.std.specs.Prelude.{◌≡◌};
+
 use rj_command::{ExitReason, Fault};
 use std::alloc::AllocError;
 
@@ -18,12 +20,21 @@ pub(crate) enum Failure {
 }
 
 impl From<Fault> for Failure {
+    ghost use Rattle.shards.specs.declared.failure.Failure.TheVariants.{Told};
+
+    ghost from_gives = { λ fault failure. failure ≡ Told fault };
+
     fn from(fault: Fault) -> Failure {
         Failure::Told(fault)
     }
 }
 
 impl From<AllocError> for Failure {
+    ghost use Rattle.rj_fault.specs.declared.fault.Fault.TheVariants.{Memory};
+    ghost use Rattle.shards.specs.declared.failure.Failure.TheVariants.{Told};
+
+    ghost from_gives = { λ _ failure. failure ≡ Told Memory };
+
     fn from(_error: AllocError) -> Failure {
         Failure::Told(Fault::Memory)
     }

@@ -9,9 +9,14 @@ mod explaining;
 mod failure;
 mod files;
 mod first_line;
+mod head;
 mod help;
 mod line;
+mod options;
 mod outputs;
+
+ghost use Rattle.std.specs.Prelude.{IfErr, map};
+ghost use Rattle.shards.specs.Works.{IsFailure};
 
 use crate::cutting::print_cuts;
 use crate::dividing::divide_range;
@@ -24,7 +29,9 @@ use std::fs::Files;
 use std::process::ExitCode;
 
 // Does what the words of the command line ask for.
-fn work<R: Files + AllocGlobal + Print>(rt: &R, words: &[&str]) -> Result<(), Failure> {
+fn work<R: Files + AllocGlobal + Print>(rt: &R, words: &[&str]) -> Result<(), Failure>
+    ensures { IfErr result (IsFailure (map (λ w. w.now) words.now)) }
+{
     let line = read_line(rt.alloc(), words)?;
     match line.task {
         Task::Divide(from, to, folder) => divide_range(rt, &line, from, to, folder),

@@ -1,13 +1,16 @@
 //! Where rows go: to the files of a folder, or nowhere.
 
-ghost use Rattle.std.specs.Prelude.{◌≡◌, ◌<◌, ◌-◌, ◌^◌, All, IfOk, length};
+ghost use Rattle.std.specs.Prelude.{◌≡◌, ◌<◌, ◌-◌, ◌^◌, All, IfErr, IfOk, length};
 ghost use Rattle.rj_divide.specs.Stored.{put_failures_of};
 
+use crate::failure::Failure;
 use rj_columns::Table;
-use rj_csv_io::{Failed, Output};
+use rj_csv_io::{CountedWriter, Failed, Output};
 use rj_divide::{PartFile, Route, StoredPart};
+use rj_fault::Fault;
 use std::alloc::AllocError;
 use std::fs::{self, Files};
+use std::io;
 
 /// One part, to which all rows go.
 #[derive(Clone, Copy)]
@@ -66,4 +69,18 @@ pub(crate) fn part_files<'r, R: Files + AllocGlobal>(
         files.push(StoredPart::new(PartFile::new(rt, path)))?;
     }
     Ok(files)
+}
+
+/// Prints a text on standard output.
+///
+/// # Errors
+///
+/// `WriteDevice`.
+pub(crate) fn print_text<R: Print>(rt: &R, text: &str) -> Result<(), Failure>
+    ensures { IfErr result (λ e. e ≡ Failure.Told Fault.WriteDevice) }
+{
+    match CountedWriter::new(io::writer(rt)).put(text.as_bytes()) {
+        Ok(()) => Ok(()),
+        Err(_) => Err(Failure::Told(Fault::WriteDevice)),
+    }
 }

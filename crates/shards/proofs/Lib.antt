@@ -1,0 +1,4 @@
+pub mod HeadFacts
+pub mod LineFacts
+pub mod OptionFacts
+pub mod OwnFacts
