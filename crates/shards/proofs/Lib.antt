@@ -2,3 +2,5 @@ pub mod HeadFacts
 pub mod LineFacts
 pub mod OptionFacts
 pub mod OwnFacts
+pub mod RangeFacts
+pub mod StorageFacts

@@ -9,6 +9,7 @@ use Rattle.rj_fault.specs.declared.fault.Fault.{Fault}
 use Rattle.rj_fault.specs.declared.fault.Fault.TheVariants as fault
 use Rattle.rj_line.specs.Line.{IsLineOf}
 use Rattle.rj_line.specs.declared.line.Line.{Line}
+use Rattle.shards.specs.Heads.{Begins}
 use Rattle.shards.specs.declared.failure.Failure.{Failure}
 use Rattle.shards.specs.declared.failure.Failure.TheVariants.{Told}
 
@@ -48,16 +49,24 @@ is_of_headers fault.TypeMismatch = true
 is_of_headers fault.RepeatedUsing = true
 is_of_headers _ = false
 
--- what is told of a fault of headers: what a join in one go with these words tells of it, by the first
--- bytes of both files; or nothing
-abbrev pub AreHeadersTold : Fault → List (List ℕ) → List ℕ → Type 0
-AreHeadersTold f words lines =
-    (lines ≡ []) ⊎ ((line : Line) × IsLineOf 1 (without_own false words) line
-    × (inputs : Inputs) × (inputs.request.now ≡ line.request) × IsExplained f inputs lines)
+-- what a join in one go with these words tells of a fault, by the first bytes of both files (`holds` is
+-- what the files of names have)
+pub record IsToldOf (holds : List ℕ → Option (List ℕ)) (f : Fault) (words : List (List ℕ)) (lines : List ℕ) : Type 0 where
+  pub line : Line
+  pub read : IsLineOf 1 words line
+  pub inputs : Inputs
+  pub request : inputs.request.now ≡ line.request
+  pub left : Begins (holds line.left.now) inputs.left.now
+  pub right : Begins (holds line.right.now) inputs.right.now
+  pub lines_told : IsExplained f inputs lines
+
+-- what is told of a fault of headers: this, or nothing
+abbrev pub AreHeadersTold : (List ℕ → Option (List ℕ)) → Fault → List (List ℕ) → List ℕ → Type 0
+AreHeadersTold holds f words lines = (lines ≡ []) ⊎ IsToldOf holds f (without_own false words) lines
 
 -- the lines of a failure with these words: those for a fault of headers, or else for an invalid value of
 -- an option, and none for all else
-abbrev pub AreLinesOf : Failure → List (List ℕ) → Option (List ℕ) → Type 0
-AreLinesOf (Told f) words lines =
-    (is_of_headers f ≡ true → IsSomeAnd lines (AreHeadersTold f words)) × (is_of_headers f ≡ false → AreWordsTold f words lines)
-AreLinesOf e words lines = lines ≡ None
+abbrev pub AreLinesOf : (List ℕ → Option (List ℕ)) → Failure → List (List ℕ) → Option (List ℕ) → Type 0
+AreLinesOf holds (Told f) words lines =
+    (is_of_headers f ≡ true → IsSomeAnd lines (AreHeadersTold holds f words)) × (is_of_headers f ≡ false → AreWordsTold f words lines)
+AreLinesOf holds e words lines = lines ≡ None

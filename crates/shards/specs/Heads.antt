@@ -1,5 +1,5 @@
 -- The header of a text: what is read of it, where the first range of rows begins, and why none is read.
-use Rattle.std.specs.Prelude.{ℕ, ◌≡◌, ◌≢◌, ◌+◌, ◌-◌, ◌<◌, ◌≤◌, ◌⊎◌, ◌==◌, not, if◌then◌else◌, Bool, true, false, List, [], ◌∷◌, fold, length, take, slice_index, Option, IfSome}
+use Rattle.std.specs.Prelude.{ℕ, ◌≡◌, ◌≢◌, ◌+◌, ◌-◌, ◌<◌, ◌≤◌, ◌⊎◌, ◌++◌, ◌==◌, not, if◌then◌else◌, Bool, true, false, List, [], ◌∷◌, fold, length, take, slice_index, Option, IfSome}
 use Rattle.csv.specs.Reading.{records, strip_bom}
 use Rattle.rj_command.specs.Sides.{strict_fault}
 use Rattle.rj_csv_io.specs.Pieces.{names_in}
@@ -94,3 +94,7 @@ HasHead how d tells h = (text : List ℕ) × IsTold tells text × IsHeadOf how d
 -- why there is none in some text
 abbrev pub HasHeadFault : Strictness → ℕ → Side → Option (List ℕ) → Fault → Type 0
 HasHeadFault how d s tells f = (text : List ℕ) × IsTold tells text × IsHeadFault how d s text f
+
+-- bytes are the first ones of a text, if it is told
+abbrev pub Begins : Option (List ℕ) → List ℕ → Type 0
+Begins tells bytes = IfSome tells (λ text. (more : List ℕ) × (text ≡ bytes ++ more))

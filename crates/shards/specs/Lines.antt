@@ -19,6 +19,7 @@ use Rattle.rj_types.specs.declared.entry.TypeEntry.{TypeEntry}
 use Rattle.shards.specs.Options.{OptionWords, line_app}
 use Rattle.shards.specs.declared.failure.Failure.{Failure}
 use Rattle.shards.specs.declared.failure.Failure.TheVariants as failure
+use Rattle.shards.specs.declared.line.Bounds.{Bounds}
 use Rattle.shards.specs.declared.line.Line.{Line}
 use Rattle.shards.specs.declared.line.Operand.{Operand}
 use Rattle.shards.specs.declared.line.Task.{Task}
@@ -57,12 +58,16 @@ IsNumberOf bits (Some text) (Some n) = Spells bits text n
 abbrev pub IsNumberOr : ℕ → ℕ → Option Text → ℕ → Type 0
 IsNumberOr bits other word n = (given : Option ℕ) × IsNumberOf bits word given × (n ≡ unwrap_or given other)
 
--- what to do, by this number of ranges: to count as many, or to divide bytes into a folder; nothing
--- if both or neither are asked for
+-- between which bytes the file is divided: from the first one on if none is given
+pub record AreBoundsOf (word : Text → Option Text) (b : Bounds) : Type 0 where
+  pub from : IsNumberOr 64 0 (word (codes "from")) b.from
+  pub to : IsNumberOf 64 (word (codes "to")) b.to
+
+-- what to do, by this number of ranges: to cut the file into as many, or to divide bytes into a folder;
+-- nothing if both or neither are asked for
 abbrev pub IsTaskBy : (Text → Option Text) → Option ℕ → Option Task → Type 0
 IsTaskBy word (Some n) (Some (task.Cut ranges)) = (ranges ≡ n) × (word (codes "out") ≡ None)
-IsTaskBy word None (Some (task.Divide from to folder)) =
-    (word (codes "out") ≡ Some folder.now) × IsNumberOr 64 0 (word (codes "from")) from × IsNumberOf 64 (word (codes "to")) to
+IsTaskBy word None (Some (task.Divide bounds folder)) = (word (codes "out") ≡ Some folder.now) × AreBoundsOf word bounds
 IsTaskBy word (Some n) None = is_some (word (codes "out")) ≡ true
 IsTaskBy word None None = word (codes "out") ≡ None
 IsTaskBy word ranges task = ⊥

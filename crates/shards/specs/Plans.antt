@@ -1,5 +1,8 @@
 -- To which parts the rows of a side's file go: by the key columns of the clause over both headers.
-use Rattle.std.specs.Prelude.{ℕ, ◌≡◌, ◌≢◌, ◌⊎◌, ◌&&◌, Bool, true, false, List, [], map, Result, Ok, Err, MatchResult, None, Some}
+use Rattle.std.specs.Prelude.{ℕ, ◌≡◌, ◌≢◌, ◌⊎◌, ◌&&◌, ◌^◌, Bool, true, false, List, [], length, map, min, Result, Ok, Err, MatchResult, Option, None, Some}
+use Rattle.std.specs.Io.KnownBytes.{Appends}
+use Rattle.clap.specs.Words.{Text}
+use Rattle.rj_columns.specs.Contents.{Content}
 use Rattle.rj_columns.specs.Names.{empty_table}
 use Rattle.rj_columns.specs.Tables.{TableValue}
 use Rattle.rj_columns.specs.declared.refused.BuildRefused.{BuildRefused}
@@ -18,10 +21,12 @@ use Rattle.rj_fault.specs.declared.fault.Side.TheVariants as side
 use Rattle.rj_types.specs.Columns.{types_under}
 use Rattle.shards.specs.Heads.{HasHead, HasHeadFault}
 use Rattle.shards.specs.Lines.{operand_of}
-use Rattle.shards.specs.Ranges.{IsFailureOf, unlawful_null}
+use Rattle.shards.specs.Ranges.{AreAllRows, AreParted, IsOfParts, IsOfRows, IsOfWriting, counts_line, mixed_shard, range_file, range_header, unlawful_null}
+use Rattle.shards.specs.declared.dividing.Range.{Range}
 use Rattle.shards.specs.declared.failure.Failure.{Failure}
 use Rattle.shards.specs.declared.failure.Failure.TheVariants as failure
 use Rattle.shards.specs.declared.head.Head.{Head}
+use Rattle.shards.specs.declared.line.Bounds.{Bounds}
 use Rattle.shards.specs.declared.line.Line.{Line}
 use Rattle.shards.specs.declared.line.Operand.{Operand}
 
@@ -69,38 +74,79 @@ IsPlanFailure l own other (failure.Told f) = f ≢ fault.Memory → IsJoinFaultO
 IsPlanFailure l own other failure.NoKey = (join : BoundJoin) × IsJoinOfSides l own other join × ((keys_of join ≡ []) ⊎ (l.parts ≡ 0))
 IsPlanFailure l own other e = ⊥
 
--- these are they, over the other table that some header of its file makes
-abbrev pub AreKeysOver : Line → TableValue → List ℕ → Type 0
-AreKeysOver l own columns = (head : Head) × (other : TableValue)
-    × (header_table head (operand_of l (other_side l.side)) ≡ Ok other) × AreKeyColumns l own other columns
-
--- why there are none: the other file has no header that can be read, or its header makes no table, or
--- there are none over that table; or memory ran out
-pub data IsOtherFailure (l : Line) (own : TableValue) : Failure → Type 0 where
-  of_head : (f : Fault) → HasHeadFault l.strict (operand_of l (other_side l.side)).delimiter (other_side l.side) None f → IsOtherFailure l own (failure.Told f)
-  of_table : (head : Head) (f : Fault) → (f ≢ fault.Memory → IsHeaderFault head (operand_of l (other_side l.side)) (other_side l.side) f)
-      → IsOtherFailure l own (failure.Told f)
-  of_clause : (head : Head) (other : TableValue) (e : Failure) → header_table head (operand_of l (other_side l.side)) ≡ Ok other
-      → IsPlanFailure l own other e → IsOtherFailure l own e
-
 -- the texts for NULL of both sides may stand for it
 abbrev pub has_lawful_nulls : Line → Bool
 has_lawful_nulls l =
     are_null_texts (null_texts (operand_of l l.side).nulls.items) && are_null_texts (null_texts (operand_of l (other_side l.side)).nulls.items)
 
--- the header of the side's file was read, or wasn't
-abbrev pub IsHeadRead : Line → Result Head Fault → Type 0
-IsHeadRead l head = MatchResult head (HasHead l.strict (operand_of l l.side).delimiter None) (HasHeadFault l.strict (operand_of l l.side).delimiter l.side None)
+-- a failure is found after the rows were read: not that there is no key, nor that memory ran out
+abbrev pub IsAfterRows : Failure → Type 0
+IsAfterRows failure.NoKey = ⊥
+IsAfterRows (failure.Told fault.Memory) = ⊥
+IsAfterRows e = Unit {0}
+
+-- (`holds` is what the files of names have)
+
+-- the header of a side's file, and why there is none
+abbrev pub HasSideHead : (Text → Option Text) → Line → Side → Head → Type 0
+HasSideHead holds l s head = HasHead l.strict (operand_of l s).delimiter (holds (operand_of l s).file.now) head
+
+abbrev pub HasSideHeadFault : (Text → Option Text) → Line → Side → Fault → Type 0
+HasSideHeadFault holds l s f = HasHeadFault l.strict (operand_of l s).delimiter s (holds (operand_of l s).file.now) f
+
+-- these are the side's key columns of the clause, over the other table that its file's header makes
+pub record AreKeysOver (holds : Text → Option Text) (l : Line) (own : TableValue) (columns : List ℕ) : Type 0 where
+  pub head : Head
+  pub is_head : HasSideHead holds l (other_side l.side) head
+  pub other : TableValue
+  pub table : header_table head (operand_of l (other_side l.side)) ≡ Ok other
+  pub keys : AreKeyColumns l own other columns
+
+-- why there are none: the other file has no header that can be read, or its header makes no table, or
+-- there are none over that table; or memory ran out
+pub data IsOtherFailure (holds : Text → Option Text) (l : Line) (own : TableValue) : Failure → Type 0 where
+  of_head : (f : Fault) → HasSideHeadFault holds l (other_side l.side) f → IsOtherFailure holds l own (failure.Told f)
+  of_table : (head : Head) (f : Fault) → HasSideHead holds l (other_side l.side) head
+      → (f ≢ fault.Memory → IsHeaderFault head (operand_of l (other_side l.side)) (other_side l.side) f) → IsOtherFailure holds l own (failure.Told f)
+  of_clause : (head : Head) (other : TableValue) (e : Failure) → HasSideHead holds l (other_side l.side) head
+      → header_table head (operand_of l (other_side l.side)) ≡ Ok other → IsPlanFailure l own other e → IsOtherFailure holds l own e
+
+-- the range between two places of the side's file, under its header; it begins at 2^62 at most
+pub record IsRangeOf (holds : Text → Option Text) (l : Line) (bounds : Bounds) (range : Range) : Type 0 where
+  pub line : range.line.now ≡ l
+  pub head : HasSideHead holds l l.side range.head.now
+  pub own : header_table range.head.now (operand_of l l.side) ≡ Ok range.own.now
+  pub types : range.types.now ≡ range.own.now.types
+  pub nulls : range.nulls.now ≡ (operand_of l l.side).nulls.items
+  pub delimiter : range.delimiter ≡ (operand_of l l.side).delimiter
+  pub from : range.from ≡ min bounds.from (2 ^ 62)
+  pub to : range.to ≡ bounds.to
+
+-- the range is divided among as many parts as asked for, each row by its key at the key columns of
+-- the clause, and how many rows and how long a header they have is printed
+pub record IsDivision (holds : Text → Option Text) (tells_parts : Bool) (l : Line) (bounds : Bounds) (told : List (Option Text)) (old new : Option Text) : Type 0 where
+  pub lawful : has_lawful_nulls l ≡ true
+  pub range : Range
+  pub is : IsRangeOf holds l bounds range
+  pub columns : List ℕ
+  pub keys : AreKeysOver holds l range.own.now columns
+  pub count : length told ≡ l.parts
+  pub rows : ℕ
+  pub divided : AreParted tells_parts (range_file holds range) (mixed_shard l.parts columns) range told rows
+  pub printed : Appends old new (counts_line rows (length (range_header range)))
 
 -- why a range isn't divided, in this order: a text for NULL may not stand for it, unless the file can't
 -- be read; the side's header isn't read, or makes no table; its rows are not divided; the other file or
--- the clause gives no keys
-pub data IsRangeFailure (l : Line) : Failure → Type 0 where
-  of_nulls : (head : Result Head Fault) → IsHeadRead l head → has_lawful_nulls l ≡ false → IsRangeFailure l (unlawful_null head)
-  of_head : (f : Fault) → has_lawful_nulls l ≡ true → HasHeadFault l.strict (operand_of l l.side).delimiter l.side None f
-      → IsRangeFailure l (failure.Told f)
-  of_table : (head : Head) (f : Fault) → has_lawful_nulls l ≡ true → (f ≢ fault.Memory → IsHeaderFault head (operand_of l l.side) l.side f)
-      → IsRangeFailure l (failure.Told f)
-  of_rows : (e : Failure) → has_lawful_nulls l ≡ true → IsFailureOf l.side e → IsRangeFailure l e
-  of_keys : (head : Head) (own : TableValue) (e : Failure) → has_lawful_nulls l ≡ true → header_table head (operand_of l l.side) ≡ Ok own
-      → IsOtherFailure l own e → IsRangeFailure l e
+-- the clause gives no keys, which most failures tell only after all rows were read
+pub data IsRangeFailure (holds : Text → Option Text) (l : Line) (bounds : Bounds) : Failure → Type 0 where
+  of_nulls : (head : Result Head Fault) → MatchResult head (HasSideHead holds l l.side) (HasSideHeadFault holds l l.side) → has_lawful_nulls l ≡ false
+      → IsRangeFailure holds l bounds (unlawful_null head)
+  of_head : (f : Fault) → has_lawful_nulls l ≡ true → HasSideHeadFault holds l l.side f → IsRangeFailure holds l bounds (failure.Told f)
+  of_table : (head : Head) (f : Fault) → has_lawful_nulls l ≡ true → HasSideHead holds l l.side head
+      → (f ≢ fault.Memory → IsHeaderFault head (operand_of l l.side) l.side f) → IsRangeFailure holds l bounds (failure.Told f)
+  of_parts : (range : Range) (columns : List ℕ) (e : Failure) → has_lawful_nulls l ≡ true → IsRangeOf holds l bounds range → AreKeysOver holds l range.own.now columns
+      → IsOfParts (range_file holds range) (mixed_shard l.parts columns) range l.parts e → IsRangeFailure holds l bounds e
+  of_rows : (range : Range) (e : Failure) → has_lawful_nulls l ≡ true → IsRangeOf holds l bounds range
+      → IsOfRows (λ _. 0) (range_file holds range) range 1 e ⊎ IsOfWriting e → IsRangeFailure holds l bounds e
+  of_keys : (range : Range) (e : Failure) → has_lawful_nulls l ≡ true → IsRangeOf holds l bounds range
+      → IsOtherFailure holds l range.own.now e → (IsAfterRows e → AreAllRows (range_file holds range) range) → IsRangeFailure holds l bounds e

@@ -1,20 +1,18 @@
 //! Where a file can be cut.
 
-ghost use Rattle.std.specs.Prelude.{◌≡◌, ◌<◌, ◌-◌, ◌^◌, IfErr, IfOk, string_bytes};
-ghost use Rattle.shards.specs.Cuts.{HasCutFailure, HasCutLines, IsCutsFailure, place_lines};
-ghost use Rattle.shards.specs.Lines.{operand_of};
+ghost use Rattle.std.specs.Prelude.{◌≡◌, ◌<◌, ◌-◌, ◌^◌, IfErr, IfOk, IfSome, OnOk, string_bytes};
+ghost use Rattle.shards.specs.Cuts.{HasCutFailure, HasCutLines, IsCutting, IsCutsFailure, place_lines};
 
-use crate::dividing::{MOST, fault_of_division};
+use crate::dividing::fault_of_division;
 use crate::failure::Failure;
-use crate::files::{file_size, open_range, read_head};
 use crate::line::Line;
 use crate::outputs::print_text;
+use crate::storage::{Storage, file_size, open_range, read_head};
 use rj_command::{Fault, Side, Strictness};
-use rj_csv_io::Input;
+use rj_csv_io::{Input, Output};
 use rj_divide::find_cuts;
 use rj_strict::Delimiter;
 use std::alloc::{AllocError, Global};
-use std::fs::Files;
 
 // The most bytes that are read before a place is looked for.
 const BLOCK: u64 = 1 << 20;
@@ -49,8 +47,8 @@ fn lines_of(alloc: Global, begin: u64, cuts: &[u64], end: u64) -> Result<String,
 // size.
 fn cut_lines<I: Input>(alloc: Global, input: &mut I, cut: &CutText) -> Result<String, Failure>
     requires { I.count input.old < 2 ^ 64 - 1 }
-    ensures lines { IfOk result (λ s. HasCutLines cut.now (I.tells input.old) (string_bytes s)) }
-    ensures failure { IfErr result (HasCutFailure cut.now.side (I.tells input.old)) }
+    ensures lines { IfOk result (λ s. IfSome (I.tells input.old) (λ text. HasCutLines cut.now text (string_bytes s))) }
+    ensures failure { IfErr result (λ e. IfSome (I.tells input.old) (λ text. HasCutFailure cut.now.side text e)) }
 {
     let least = (cut.end / u64::from(cut.ranges.max(1))).saturating_add(1);
     let block = least.min(BLOCK) as usize;
@@ -70,29 +68,41 @@ fn cut_lines<I: Input>(alloc: Global, input: &mut I, cut: &CutText) -> Result<St
 ///
 /// # Errors
 ///
-/// The file can't be read, standard output can't be written, or memory ran out.
-pub(crate) fn print_cuts<R: Files + AllocGlobal + Print>(
-    rt: &R,
+/// The file can't be read, the output failed, or memory ran out.
+pub(crate) fn print_cuts<S: Storage, O: Output>(
+    alloc: Global,
+    storage: &S,
     line: &Line<'_>,
     ranges: u32,
+    output: &mut O,
 ) -> Result<(), Failure>
-    ensures { IfErr result (IsCutsFailure (operand_of line.now line.now.side).delimiter line.now.side) }
+    requires { O.count output.old < 2 ^ 64 - 1 }
+    ensures cutting { OnOk result (IsCutting (S.holds storage.now) line.now ranges (O.told output.old) (O.told output.new)) }
+    ensures failure { IfErr result (IsCutsFailure (S.holds storage.now) line.now ranges) }
 {
-    let own = line.operand(line.side);
-    let head = match read_head(rt, own.file, line.side, own.delimiter, Strictness::Off) {
+    let side = line.side;
+    let own = line.operand(side);
+    let head = match read_head(
+        alloc,
+        storage,
+        own.file,
+        side,
+        own.delimiter,
+        Strictness::Off,
+    ) {
         Ok(head) => head,
         Err(Fault::NoHeader(_)) => return Ok(()),
         Err(fault) => return Err(Failure::Told(fault)),
     };
-    let end = file_size(rt, own.file, line.side)?;
-    let mut input = open_range(rt, own.file, line.side, head.begin, MOST)?;
+    let end = file_size(storage, own.file, side)?;
+    let mut input = open_range(storage, own.file, side, head.begin, None)?;
     let cut = CutText {
-        side: line.side,
+        side,
         delimiter: own.delimiter,
         ranges,
         begin: head.begin,
         end,
     };
-    let text = cut_lines(rt.alloc(), &mut input, &cut)?;
-    print_text(rt, text.as_str())
+    let text = cut_lines(alloc, &mut input, &cut)?;
+    print_text(output, text.as_str())
 }

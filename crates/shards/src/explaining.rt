@@ -7,12 +7,11 @@ ghost use Rattle.shards.specs.Explained.{AreHeadersTold, AreLinesOf, has_value, 
 ghost use Rattle.shards.specs.Failures.{clap_error_of, exit_of, unwritten};
 
 use crate::failure::Failure;
-use crate::files::read_beginning;
+use crate::storage::{Storage, read_beginning};
 use rj_command::{read_line, tell};
 use rj_explain::{Inputs, explain, explain_words};
 use rj_fault::{Fault, Side};
 use std::alloc::{AllocError, Global};
-use std::fs::Files;
 
 /// Why there is no output, and the lines that explain it.
 #[derive(Drop)]
@@ -102,21 +101,21 @@ fn is_of_headers(fault: &Fault) -> bool
 }
 
 // The lines of an error of headers or of the clause, for which the files' beginnings are enough.
-fn header_lines<R: Files + AllocGlobal>(
-    rt: &R,
+fn header_lines<S: Storage>(
+    alloc: Global,
+    storage: &S,
     words: &[&str],
     fault: &Fault,
 ) -> Result<String, AllocError>
-    ensures { IfOk result (λ s. AreHeadersTold fault.now (map (λ w. w.now) words.now) (string_bytes s)) }
+    ensures { IfOk result (λ s. AreHeadersTold (S.holds storage.now) fault.now (map (λ w. w.now) words.now) (string_bytes s)) }
 {
-    let alloc = rt.alloc();
     let words = words_of_join(alloc, words)?;
     let Ok(line) = read_line(alloc, words.as_slice(), 1) else {
         return Ok(String::new(alloc));
     };
     let (Ok(left), Ok(right)) = (
-        read_beginning(rt, line.left, Side::Left),
-        read_beginning(rt, line.right, Side::Right),
+        read_beginning(alloc, storage, line.left, Side::Left),
+        read_beginning(alloc, storage, line.right, Side::Right),
     ) else {
         return Ok(String::new(alloc));
     };
@@ -130,16 +129,19 @@ fn header_lines<R: Files + AllocGlobal>(
 
 // The lines that say more about a failure than its own line does: about a list of types, an error
 // of a header, a list that doesn't fit one, and the clause.
-fn lines_of<R: Files + AllocGlobal>(
-    rt: &R,
+fn lines_of<S: Storage>(
+    alloc: Global,
+    storage: &S,
     words: &[&str],
     failure: &Failure,
 ) -> Result<Option<String>, AllocError>
-    ensures { IfOk result (λ o. AreLinesOf failure.now (map (λ w. w.now) words.now) (option_map string_bytes o)) }
+    ensures { IfOk result (λ o. AreLinesOf (S.holds storage.now) failure.now (map (λ w. w.now) words.now) (option_map string_bytes o)) }
 {
     match failure {
-        Failure::Told(fault) if is_of_headers(fault) => Ok(Some(header_lines(rt, words, fault)?)),
-        Failure::Told(fault) => explain_words(rt.alloc(), words, fault),
+        Failure::Told(fault) if is_of_headers(fault) => {
+            Ok(Some(header_lines(alloc, storage, words, fault)?))
+        }
+        Failure::Told(fault) => explain_words(alloc, words, fault),
         _ => Ok(None),
     }
 }
@@ -152,19 +154,20 @@ fn is_asked(words: &[&str]) -> bool
 }
 
 /// A failure of a run with these words, explained if they ask for it and there was memory for it.
-pub(crate) fn explained<R: Files + AllocGlobal>(
-    rt: &R,
+pub(crate) fn explained<S: Storage>(
+    alloc: Global,
+    storage: &S,
     words: &[&str],
     failure: Failure,
 ) -> ExplainedFailure
     ensures failure { result.failure ≡ failure }
     ensures unasked { list_any (λ w. is_explain w.now) words.now ≡ false → result.lines ≡ None }
-    ensures lines { (result.lines ≡ None) ⊎ AreLinesOf failure (map (λ w. w.now) words.now) (option_map string_bytes result.lines) }
+    ensures lines { (result.lines ≡ None) ⊎ AreLinesOf (S.holds storage.now) failure (map (λ w. w.now) words.now) (option_map string_bytes result.lines) }
 {
     if !is_asked(words) {
         return ExplainedFailure::from(failure);
     }
-    match lines_of(rt, words, &failure) {
+    match lines_of(alloc, storage, words, &failure) {
         Ok(lines) => ExplainedFailure { failure, lines },
         Err(_) => ExplainedFailure::from(failure),
     }

@@ -1,108 +1,72 @@
-//! The files that are read.
+//! The files of the system.
 
-ghost use Rattle.std.specs.Prelude.{◌≡◌, ◌-◌, IfErr, IfOk, None};
-ghost use Rattle.std.specs.Io.Take.{take_limit};
-ghost use Rattle.rj_csv_io.specs.Devices.{read_failures_of, reader_of};
-ghost use Rattle.shards.specs.Heads.{HasHead, HasHeadFault};
-ghost use Rattle.shards.specs.Ranges.{IsFileFault};
+ghost use Rattle.std.specs.Prelude.{◌≡◌, ◌<◌, ◌-◌, ◌^◌, All, IfOk, length};
+ghost use Rattle.rj_divide.specs.Stored.{put_failures_of};
 
-use crate::head::{Head, read_head_of};
-use rj_command::{Fault, Side, Strictness, fault_of_read};
-use rj_csv_io::{CountedReader, read_up_to};
-use rj_strict::Delimiter;
+use crate::storage::Storage;
+use rj_csv_io::CountedReader;
+use rj_divide::{PartFile, StoredPart};
+use std::alloc::AllocError;
 use std::fs::{self, Files, OpenFile};
-use std::io::{ErrorKind, Read, Seek, SeekFrom, Take};
+use std::io::{self, Read, Seek, SeekFrom, Take};
 
-/// The bytes that are read from a file whose header is shown.
-const BEGINNING: usize = 1 << 20;
+/// The files of the system. They tell nothing of what they hold, as std's files don't either.
+#[derive(Drop)]
+pub(crate) struct Disk<'r, R: Files> {
+    /// The system.
+    pub(crate) rt: &'r R,
+}
 
-/// Opens a file.
-///
-/// # Errors
-///
-/// `ReadDevice`, or `Memory` if memory ran out.
-pub(crate) fn open_file<R: Files>(rt: &R, name: &str, side: Side) -> Result<R::File, Fault>
-    ensures fault { IfErr result (IsFileFault side) }
+// The files of this many parts in a folder, which is made if it doesn't exist.
+fn part_files<'r, R: Files + AllocGlobal>(
+    rt: &'r R,
+    folder: &str,
+    parts: u32,
+) -> Result<Vec<StoredPart<PartFile<'r, R>>>, AllocError>
+    ensures count { IfOk result (λ v. length v.items ≡ parts) }
+    ensures writes { IfOk result (λ v. All (λ f. put_failures_of f < 2 ^ 64 - 1) v.items) }
 {
-    match fs::open(rt, name) {
-        Ok(file) => Ok(file),
-        Err(error) if error.kind() == ErrorKind::OutOfMemory => Err(Fault::Memory),
-        Err(_) => Err(Fault::ReadDevice(side)),
+    let _ = fs::create_dir_all(rt, folder);
+    let mut files = Vec::new(rt.alloc());
+    for part in 0..parts {
+        let path = format!(in rt.alloc(); "{folder}/{part:04}.csv")?;
+        files.push(StoredPart::new(PartFile::new(rt, path)))?;
     }
+    Ok(files)
 }
 
-/// Opens a file to be read from one place up to another.
-///
-/// # Errors
-///
-/// Those of [`open_file`].
-pub(crate) fn open_range<R: Files>(
-    rt: &R,
-    name: &str,
-    side: Side,
-    from: u64,
-    to: u64,
-) -> Result<CountedReader<Take<R::File>>, Fault>
-    ensures unfailed { IfOk result (λ r. read_failures_of r ≡ 0) }
-    ensures most { IfOk result (λ r. take_limit (reader_of r) ≡ to - from) }
-    ensures fault { IfErr result (IsFileFault side) }
-{
-    let mut file = open_file(rt, name, side)?;
-    match file.seek(SeekFrom::Start(from)) {
-        Ok(_) => Ok(CountedReader::new(file.take(to.saturating_sub(from)))),
-        Err(_) => Err(Fault::ReadDevice(side)),
+impl<'r, R: Files + AllocGlobal> Storage for Disk<'r, R> {
+    type Reader = CountedReader<Take<R::File>>;
+
+    type Part = StoredPart<PartFile<'r, R>>;
+
+    fn open(&self, name: &str) -> io::Result<CountedReader<Take<R::File>>> {
+        let file = fs::open(self.rt, name)?;
+        Ok(CountedReader::new(file.take(u64::MAX)))
     }
-}
 
-/// How many bytes a file has.
-///
-/// # Errors
-///
-/// Those of [`open_file`].
-pub(crate) fn file_size<R: Files>(rt: &R, name: &str, side: Side) -> Result<u64, Fault>
-    ensures fault { IfErr result (IsFileFault side) }
-{
-    match open_file(rt, name, side)?.metadata() {
-        Ok(metadata) => Ok(metadata.len()),
-        Err(_) => Err(Fault::ReadDevice(side)),
+    fn open_range(
+        &self,
+        name: &str,
+        from: u64,
+        to: Option<u64>,
+    ) -> io::Result<CountedReader<Take<R::File>>> {
+        let mut file = fs::open(self.rt, name)?;
+        let _place = file.seek(SeekFrom::Start(from))?;
+        let size = to.unwrap_or(u64::MAX).saturating_sub(from);
+        Ok(CountedReader::new(file.take(size)))
     }
-}
 
-/// Reads the header of a file with this delimiter, as strictly as is asked for.
-///
-/// # Errors
-///
-/// Those of [`read_head_of`], of the file's device.
-pub(crate) fn read_head<R: Files + AllocGlobal>(
-    rt: &R,
-    name: &str,
-    side: Side,
-    delimiter: Delimiter,
-    strict: Strictness,
-) -> Result<Head, Fault>
-    ensures head { IfOk result (HasHead strict delimiter None) }
-    ensures fault { IfErr result (HasHeadFault strict delimiter side None) }
-{
-    let mut input = CountedReader::new(open_file(rt, name, side)?);
-    read_head_of(rt.alloc(), &mut input, side, delimiter, strict)
-}
+    fn size(&self, name: &str) -> io::Result<u64> {
+        let file = fs::open(self.rt, name)?;
+        Ok(file.metadata()?.len())
+    }
 
-/// The first bytes of a file, which hold its header unless that has more than a mebibyte.
-///
-/// # Errors
-///
-/// `ReadDevice`, or `Memory` if memory ran out.
-pub(crate) fn read_beginning<R: Files + AllocGlobal>(
-    rt: &R,
-    name: &str,
-    side: Side,
-) -> Result<Vec<u8>, Fault>
-    ensures fault { IfErr result (IsFileFault side) }
-{
-    let mut input = CountedReader::new(open_file(rt, name, side)?);
-    let mut bytes = Vec::new(rt.alloc());
-    match read_up_to(&mut input, &mut bytes, BEGINNING) {
-        Ok(_) => Ok(bytes),
-        Err(refused) => Err(fault_of_read(side, refused)),
+    fn parts(
+        &self,
+        folder: &str,
+        count: u32,
+    ) -> Result<Vec<StoredPart<PartFile<'r, R>>>, AllocError> {
+        part_files(self.rt, folder, count)
     }
 }

@@ -4,7 +4,7 @@ ghost use Rattle.std.specs.Prelude.{◌≡◌, IfErr, IfOk, None, OnOk, Some, co
 ghost use Rattle.clap.specs.Words.{first_value, found_of};
 ghost use Rattle.rj_line.specs.Delimiters as delimiters;
 ghost use Rattle.rj_line.specs.Line.{texts_found};
-ghost use Rattle.shards.specs.Lines.{AreGiven, IsLeftOf, IsLineFailure, IsLineOf, IsNumberOf, IsRightOf, IsShardsLine, IsTableFault, IsTaskOf, IsValueFailure, operand_of, side_named, strictness_named, text_or_none};
+ghost use Rattle.shards.specs.Lines.{AreBoundsOf, AreGiven, IsLeftOf, IsLineFailure, IsLineOf, IsNumberOf, IsRightOf, IsShardsLine, IsTableFault, IsTaskOf, IsValueFailure, operand_of, side_named, strictness_named, text_or_none};
 
 use crate::failure::Failure;
 use crate::options::line_command;
@@ -29,11 +29,20 @@ pub(crate) struct Operand<'a> {
     pub(crate) delimiter: Delimiter,
 }
 
+/// Between which bytes a file is divided.
+#[derive(Clone, Copy)]
+pub(crate) struct Bounds {
+    /// The first byte.
+    pub(crate) from: u64,
+    /// The byte to end before, or the end of the file.
+    pub(crate) to: Option<u64>,
+}
+
 /// What to do with the file of one side.
 #[derive(Clone, Copy)]
 pub(crate) enum Task<'a> {
-    /// Divide the bytes from one place up to another, or to the end, into files of this folder.
-    Divide(u64, Option<u64>, &'a str),
+    /// Divide the bytes between two places into files of this folder.
+    Divide(Bounds, &'a str),
     /// Print where the file can be cut into this many ranges.
     Cut(u32),
 }
@@ -133,17 +142,23 @@ fn side_of(matches: &ArgMatches<'_>) -> Side
     }
 }
 
+// Between which bytes the file is divided: from its first one on if none is given.
+fn bounds_of(matches: &ArgMatches<'_>) -> Bounds
+    ensures { AreBoundsOf (first_value (found_of matches.now)) result }
+{
+    Bounds {
+        from: place_of(matches, "from").unwrap_or(0),
+        to: place_of(matches, "to"),
+    }
+}
+
 // What is to be done, unless both or neither of `--out` and `--cuts` are given.
 fn task_of<'a>(matches: &ArgMatches<'a>) -> Option<Task<'a>>
     ensures { IsTaskOf (first_value (found_of matches.now)) result }
 {
     match (count_of(matches, "cuts"), matches.get_str("out")) {
         (Some(ranges), None) => Some(Task::Cut(ranges)),
-        (None, Some(folder)) => Some(Task::Divide(
-            place_of(matches, "from").unwrap_or(0),
-            place_of(matches, "to"),
-            folder,
-        )),
+        (None, Some(folder)) => Some(Task::Divide(bounds_of(matches), folder)),
         _ => None,
     }
 }

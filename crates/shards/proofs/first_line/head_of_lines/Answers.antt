@@ -17,7 +17,7 @@ returns-in-Err-clause-fault c = λ not more continues.
     omega (arith, body-short First bytes, ap length c.without_bom-text.ensures, c.in-Some.ensures.within, c.saturating_sub-mark.ensures, c.saturating_add.ensures, c.min.ensures) in
     let is = line-is c.args.is_whole bytes more text c.min.result n c.without_bom-text.ensures continues c.in-Some.ensures.within ends in
     let first = line-more c.args.is_whole bytes more text n c.without_bom-text.ensures continues
-        (c.in-Some.ensures.line more (λ e. whole-end c.args.is_whole bytes more e continues)) in
+    (c.in-Some.ensures.line more (λ e. whole-end c.args.is_whole bytes more e continues)) in
     subst (HasNoLine c.args.full c.args.delimiter c.args.side (bytes ++ more)) (sym c.fault_of_text.ensures)
     (broken n c.in-Err.fault first (subst (λ (t : List ℕ). HasFault c.args.delimiter First c.args.full t c.in-Err.fault) is c.in-Err.ensures.fault))
 
@@ -29,12 +29,12 @@ returns-in_err-header-clause-fault c =
     let ends : c.min.result ≡ length bytes - length text + n =
     omega (arith, body-short First bytes, ap length c.without_bom-text.ensures, c.in-Some.ensures.within, c.saturating_sub-mark.ensures, c.saturating_add.ensures, c.min.ensures) in
     let told : c.in_err-header.field-0.0 ≢ fault.Memory → (more : List ℕ) → Continues c.args.is_whole bytes more
-        → HasNoLine c.args.full c.args.delimiter c.args.side (bytes ++ more) c.in_err-header.field-0.0 = λ not more continues.
+    → HasNoLine c.args.full c.args.delimiter c.args.side (bytes ++ more) c.in_err-header.field-0.0 = λ not more continues.
     let derived = c.in_default-check.ensures.derived in
     let none = c.in_err-header.ensures.fault not in
     let is = line-is c.args.is_whole bytes more text c.min.result n c.without_bom-text.ensures continues c.in-Some.ensures.within ends in
     let first = line-more c.args.is_whole bytes more text n c.without_bom-text.ensures continues
-        (c.in-Some.ensures.line more (λ e. whole-end c.args.is_whole bytes more e continues)) in
+    (c.in-Some.ensures.line more (λ e. whole-end c.args.is_whole bytes more e continues)) in
     subst (HasNoLine c.args.full c.args.delimiter c.args.side (bytes ++ more)) (sym none.0)
     (blank n derived.0 first (subst (λ (t : List ℕ). Derives c.args.delimiter First c.args.full t derived.0) is derived.1) (none.1 c.args.full derived.0 derived.1)) in
     search (rules, told)

@@ -17,7 +17,7 @@ returns-in-Ok-Some-clause-head g c =
     let taken = subst (Consumes tells left) (sym c.as_slice.ensures.value) (c.in-Ok.ensures.bytes tells c.loop-turn.invariant.bytes) in
     let told = told-text tells left bytes taken in
     let continues = continues-by c.in-Ok.is_whole bytes told.0 (λ whole. told.2 (c.in-Ok.ensures.end (ap Ok whole)))
-        (λ part. omega (arith, c.in-Ok.ensures.full (ap Ok part), c.as_slice.ensures.len, c.loop-turn.invariant.size)) in
+    (λ part. omega (arith, c.in-Ok.ensures.full (ap Ok part), c.as_slice.ensures.len, c.loop-turn.invariant.size)) in
     let head = rw c.in-Ok-Some.field-0-is at c.in-Ok-Some.ensures.head in
     (bytes ++ told.0, told.1, head told.0 continues)
 
@@ -29,7 +29,7 @@ returns-in-Err-head_in-clause-fault g c =
     let taken = subst (Consumes tells left) (sym c.as_slice.ensures.value) (c.in-Ok.ensures.bytes tells c.loop-turn.invariant.bytes) in
     let told = told-text tells left bytes taken in
     let continues = continues-by c.in-Ok.is_whole bytes told.0 (λ whole. told.2 (c.in-Ok.ensures.end (ap Ok whole)))
-        (λ part. omega (arith, c.in-Ok.ensures.full (ap Ok part), c.as_slice.ensures.len, c.loop-turn.invariant.size)) in
+    (λ part. omega (arith, c.in-Ok.ensures.full (ap Ok part), c.as_slice.ensures.len, c.loop-turn.invariant.size)) in
     (bytes ++ told.0, told.1, c.in-Err-head_in.ensures.fault told.0 continues)
 
 pub returns-clause-fault : goal.returns-clause-fault
