@@ -1,6 +1,9 @@
 -- Which fault an invalid value of an option is.
-use Rattle.std.proofs.Common.{◌≡◌, ◌≢◌, ◌<◌, ◌≤◌, List, [], Option, None, length, inl, inr, ap, sym, subst, codes, Bool, true, false, true≢false}
+use Rattle.std.proofs.Common.{◌≡◌, ◌≢◌, ◌<◌, ◌≤◌, List, [], ◌∷◌, Bor, arith, Option, None, length, inl, inr, ap, sym, subst, codes, Bool, true, false, true≢false}
+use Rattle.std.proofs.lemmas.List.{length-map}
 use Rattle.clap.specs.Words.{Text, fault_of}
+use Rattle.rj_csv_io.specs.Typed.{null_texts}
+use Rattle.rj_line.specs.Line.{nulls_or}
 use Rattle.rj_fault.specs.declared.fault.Fault.{Fault}
 use Rattle.rj_fault.specs.declared.fault.Fault.TheVariants as fault
 use Rattle.rj_fault.specs.declared.fault.Side.TheVariants as side
@@ -24,6 +27,18 @@ or_memory P f memory other = other (λ is. true≢false (sym (ap is_memory is)))
 -- no types are listed in a text
 abbrev ListsNone : Text → Type 0
 ListsNone text = (types : List TypeEntry) → IsTypeList text types → ⊥
+
+-- an option's value that is a type list
+pub gives_types : (word : Option Text) (text : Text) (types : List TypeEntry) → text ≡ text_or_none word → IsTypeList text types → GivesTypes word
+gives_types word text types is listed = (types, subst (λ (t : Text). IsTypeList t types) is listed)
+
+-- a list of NULL texts that isn't too long has few texts given
+pub few_given : (items : List (Bor Text)) (given : List Text) (null : Text) → null_texts items ≡ nulls_or given null → length items ≤ 4 → length given ≤ 4
+few_given items [] null is few = omega arith
+few_given items (t ∷ given) null is few =
+    let size = length-map items (λ (b : Bor Text). b.now) in
+    let same : length (null_texts items) ≡ length (t ∷ given) = ap length is in
+    omega (arith, size, same, few)
 
 module _ (word : Text → Option Text) (texts : Text → List Text) where
   pub left_list_fault : (text : Text) (f : Fault) → text ≡ text_or_none (word (codes "left-types"))

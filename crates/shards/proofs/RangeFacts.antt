@@ -1,7 +1,8 @@
 -- The rows of a range, and what its parts get.
-use Rattle.std.proofs.Common.{◌≡◌, ◌∙◌, ◌<◌, ◌∷◌, ℕ, suc, List, [], All, Bool, true, false, Option, None, Some, Ok, Err, refl, sym, ap, ap₂, subst, arith, inl, inr, length, map, get_or}
+use Rattle.std.proofs.Common.{◌≡◌, ◌∙◌, ◌<◌, ◌∷◌, ◌++◌, ℕ, zero, suc, List, [], All, Bool, true, false, Option, None, Some, Ok, Err, refl, sym, ap, ap₂, subst, arith, inl, inr, length, map, get_or, take}
 use Rattle.std.specs.Prelude.{IfSome, nat_lt, replicate, ◌==◌}
 use Rattle.std.specs.Io.KnownBytes.{Appends}
+use Rattle.std.proofs.Math.Seq.{take-append_seam}
 use Rattle.std.proofs.lemmas.Bool.{cases_Bool}
 use Rattle.std.proofs.lemmas.List.{length-map}
 use Rattle.rj_columns.specs.Contents.{Content}
@@ -14,9 +15,11 @@ use Rattle.rj_divide.specs.Headers.{HaveText}
 use Rattle.rj_divide.specs.Texts.{IsDivisionFault, IsTextDivided}
 use Rattle.rj_divide.specs.declared.refused.DivideRefused.TheVariants as refused
 use Rattle.rj_fault.specs.declared.fault.Fault.{Fault}
-use Rattle.shards.specs.Ranges.{AreAllRows, AreParted, IsFileFault, IsOfRows, range_bytes, range_dividing, range_header, range_reading}
+use Rattle.shards.specs.Lines.{operand_of}
+use Rattle.shards.specs.Ranges.{AreAllRows, AreParted, IsFileFault, IsOfRows, bytes_between, range_begin, range_bytes, range_dividing, range_file, range_header, range_reading}
 use Rattle.shards.specs.declared.dividing.Range.{Range}
 use Rattle.shards.specs.declared.failure.Failure.TheVariants.{Told}
+use Rattle.shards.specs.declared.line.Operand.{Operand}
 use Rattle.shards.proofs.StorageFacts.{if-told}
 
 -- a table has the types with which it was begun
@@ -71,21 +74,42 @@ headed text (b ∷ before) (a ∷ after) size none put =
 
 -- what holds of each part holds of what each tells
 pub all-told : {X : Type 0} (told : X → Option (List ℕ)) (parts : List X) → All (λ p. told p ≡ Some []) parts → All (λ t. t ≡ Some []) (map told parts)
-all-told told parts none = λ k d lt.
+all-told {X} told parts none = λ k d lt.
     let size = length-map parts told in
     go parts none k d (omega (arith, size, lt))
   where
     go : (parts : List X) → All (λ p. told p ≡ Some []) parts → (k : ℕ) (d : Option (List ℕ)) → k < length parts → get_or (map told parts) k d ≡ Some []
     go [] none k d lt = absurd (omega arith)
-    go (p ∷ parts) none 0 d lt = none 0 p (omega arith)
+    go (p ∷ parts) none zero d lt = none 0 p (omega arith)
     go (p ∷ parts) none (suc k) d lt = go parts (λ j e below. none (suc j) e (omega (arith, below))) k d (omega (arith, lt))
 
 -- parts that got the header and then the rows of a range
-pub parted : (tells : Bool) (file : Option (List ℕ)) (part : List Content → ℕ) (range : Range) (before mid after : List (Option (List ℕ))) (n : ℕ)
-    → (tells ≡ true → All (λ t. t ≡ Some []) before) → length mid ≡ length before → length after ≡ length mid → HaveText (range_header range) before mid
+pub parted : (file : Option (List ℕ)) (part : List Content → ℕ) (range : Range) (before mid after : List (Option (List ℕ))) (n : ℕ)
+    → All (λ t. t ≡ Some []) before → length mid ≡ length before → length after ≡ length mid → HaveText (range_header range) before mid
     → IfSome file (λ text. IsTextDivided (range_dividing part range) (range_reading range.line.now.strict range.from) (range_bytes range text) mid after n)
-    → AreParted tells file part range after n
-parted tells file part range before mid after n none same alike put divided = λ is.
+    → AreParted file part range after n
+parted file part range before mid after n none same alike put divided =
     let had : mid ≡ replicate (length after) (Some (range_header range)) =
-    headed (range_header range) before mid same (none is) put ∙ ap (λ k. replicate k (Some (range_header range))) (sym alike) in
+    headed (range_header range) before mid same none put ∙ ap (λ k. replicate k (Some (range_header range))) (sym alike) in
     subst (λ had. IfSome file (λ text. IsTextDivided (range_dividing part range) (range_reading range.line.now.strict range.from) (range_bytes range text) had after n)) had divided
+
+-- a slice that is written back to its list
+pub written-back : {X : Type 0} (n : ℕ) (slice rest : List X) → n ≡ length slice → take n (slice ++ rest) ≡ slice
+written-back n slice rest is = ap (λ k. take k (slice ++ rest)) is ∙ take-append_seam slice rest
+
+-- a device that tells the bytes of a file between the places of a range tells those of the range
+pub range-told : (holds : List ℕ → Option (List ℕ)) (range : Range) (o : Operand) (begin : ℕ) (tells : Option (List ℕ)) → o ≡ operand_of range.line.now range.line.now.side
+    → begin ≡ range_begin range → IfSome (holds o.file.now) (λ text. tells ≡ Some (bytes_between begin range.to text))
+    → IfSome (range_file holds range) (λ text. tells ≡ Some (range_bytes range text))
+range-told holds range o begin tells own from told =
+    subst (λ b. IfSome (range_file holds range) (λ text. tells ≡ Some (bytes_between b range.to text))) from
+    (subst (λ (p : Operand). IfSome (holds p.file.now) (λ text. tells ≡ Some (bytes_between begin range.to text))) own told)
+
+-- so the parts that a slice of them filled have what it got
+pub written-parts : {X : Type 0} (told : X → Option (List ℕ)) (file : Option (List ℕ)) (range : Range) (n len : ℕ) (part other : List Content → ℕ) (slice items new rest : List X)
+    → part ≡ other → slice ≡ items → len ≡ length new → (All (λ p. told p ≡ Some []) slice → AreParted file part range (map told new) n)
+    → All (λ p. told p ≡ Some []) items → AreParted file other range (map told (take len (new ++ rest))) n
+written-parts {X} told file range n len part other slice items new rest alike same size filled none =
+    let got = filled (subst (λ (l : List X). All (λ p. told p ≡ Some []) l) (sym same) none) in
+    subst (λ p. AreParted file p range (map told (take len (new ++ rest))) n) alike
+    (subst (λ (l : List X). AreParted file part range (map told l) n) (sym (written-back len new rest size)) got)

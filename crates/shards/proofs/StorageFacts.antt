@@ -1,7 +1,10 @@
 -- What is known of a file by the device that tells its bytes.
-use Rattle.std.proofs.Common.{◌≡◌, ◌++◌, ℕ, List, [], Option, None, Some, inl, inr, refl, subst}
+use Rattle.std.proofs.Common.{◌≡◌, ◌++◌, ℕ, List, [], Option, None, Some, Bool, true, false, true≢false, inl, inr, refl, sym, ap, subst, ◌∙◌, ◌≢◌}
 use Rattle.std.specs.Prelude.{IfSome}
 use Rattle.std.specs.Io.KnownBytes.{Consumes}
+use Rattle.rj_csv_io.specs.declared.refused.ReadRefused.{ReadRefused}
+use Rattle.rj_csv_io.specs.declared.refused.ReadRefused.TheVariants as read
+use Rattle.rj_fault.specs.Faults.{read_fault}
 use Rattle.rj_fault.specs.declared.fault.Fault.{Fault}
 use Rattle.rj_fault.specs.declared.fault.Side.{Side}
 use Rattle.rj_line.specs.declared.request.Strictness.{Strictness}
@@ -48,3 +51,12 @@ taken-first (Some text) tells left bytes is taken = go left (subst (λ o. Consum
     go : (left : Option (List ℕ)) → Consumes (Some text) left bytes → Begins (Some text) bytes
     go None taken = absurd taken
     go (Some rest) taken = (rest, taken)
+
+abbrev is_memory : ReadRefused → Bool
+is_memory read.Memory = true
+is_memory _ = false
+
+-- a device that failed while it was read
+pub read-fault : (s : Side) (e : ReadRefused) (f : Fault) → (e ≢ read.Memory → e ≡ read.ReadDevice) → f ≡ read_fault s e → IsFileFault s f
+read-fault s read.Memory f why is = inr is
+read-fault s e f why is = inl (is ∙ ap (read_fault s) (why (λ memory. true≢false (sym (ap is_memory memory)))))

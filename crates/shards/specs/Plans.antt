@@ -1,8 +1,6 @@
 -- To which parts the rows of a side's file go: by the key columns of the clause over both headers.
 use Rattle.std.specs.Prelude.{ℕ, ◌≡◌, ◌≢◌, ◌⊎◌, ◌&&◌, ◌^◌, Bool, true, false, List, [], length, map, min, Result, Ok, Err, MatchResult, Option, None, Some}
-use Rattle.std.specs.Io.KnownBytes.{Appends}
 use Rattle.clap.specs.Words.{Text}
-use Rattle.rj_columns.specs.Contents.{Content}
 use Rattle.rj_columns.specs.Names.{empty_table}
 use Rattle.rj_columns.specs.Tables.{TableValue}
 use Rattle.rj_columns.specs.declared.refused.BuildRefused.{BuildRefused}
@@ -21,7 +19,7 @@ use Rattle.rj_fault.specs.declared.fault.Side.TheVariants as side
 use Rattle.rj_types.specs.Columns.{types_under}
 use Rattle.shards.specs.Heads.{HasHead, HasHeadFault}
 use Rattle.shards.specs.Lines.{operand_of}
-use Rattle.shards.specs.Ranges.{AreAllRows, AreParted, IsOfParts, IsOfRows, IsOfWriting, counts_line, mixed_shard, range_file, range_header, unlawful_null}
+use Rattle.shards.specs.Ranges.{AreAllRows, AreDivided, IsOfParts, IsOfRows, IsOfWriting, mixed_shard, range_file, unlawful_null}
 use Rattle.shards.specs.declared.dividing.Range.{Range}
 use Rattle.shards.specs.declared.failure.Failure.{Failure}
 use Rattle.shards.specs.declared.failure.Failure.TheVariants as failure
@@ -105,8 +103,8 @@ pub record AreKeysOver (holds : Text → Option Text) (l : Line) (own : TableVal
 -- why there are none: the other file has no header that can be read, or its header makes no table, or
 -- there are none over that table; or memory ran out
 pub data IsOtherFailure (holds : Text → Option Text) (l : Line) (own : TableValue) : Failure → Type 0 where
-  of_head : (f : Fault) → HasSideHeadFault holds l (other_side l.side) f → IsOtherFailure holds l own (failure.Told f)
-  of_table : (head : Head) (f : Fault) → HasSideHead holds l (other_side l.side) head
+  of_other_head : (f : Fault) → HasSideHeadFault holds l (other_side l.side) f → IsOtherFailure holds l own (failure.Told f)
+  of_other_table : (head : Head) (f : Fault) → HasSideHead holds l (other_side l.side) head
       → (f ≢ fault.Memory → IsHeaderFault head (operand_of l (other_side l.side)) (other_side l.side) f) → IsOtherFailure holds l own (failure.Told f)
   of_clause : (head : Head) (other : TableValue) (e : Failure) → HasSideHead holds l (other_side l.side) head
       → header_table head (operand_of l (other_side l.side)) ≡ Ok other → IsPlanFailure l own other e → IsOtherFailure holds l own e
@@ -124,16 +122,14 @@ pub record IsRangeOf (holds : Text → Option Text) (l : Line) (bounds : Bounds)
 
 -- the range is divided among as many parts as asked for, each row by its key at the key columns of
 -- the clause, and how many rows and how long a header they have is printed
-pub record IsDivision (holds : Text → Option Text) (tells_parts : Bool) (l : Line) (bounds : Bounds) (told : List (Option Text)) (old new : Option Text) : Type 0 where
+pub record IsDivision (holds : Text → Option Text) (tells : Bool) (l : Line) (bounds : Bounds) (told : List (Option Text)) (old new : Option Text) : Type 0 where
   pub lawful : has_lawful_nulls l ≡ true
   pub range : Range
   pub is : IsRangeOf holds l bounds range
   pub columns : List ℕ
   pub keys : AreKeysOver holds l range.own.now columns
   pub count : length told ≡ l.parts
-  pub rows : ℕ
-  pub divided : AreParted tells_parts (range_file holds range) (mixed_shard l.parts columns) range told rows
-  pub printed : Appends old new (counts_line rows (length (range_header range)))
+  pub divided : AreDivided tells (range_file holds range) (mixed_shard l.parts columns) range told old new
 
 -- why a range isn't divided, in this order: a text for NULL may not stand for it, unless the file can't
 -- be read; the side's header isn't read, or makes no table; its rows are not divided; the other file or

@@ -1,5 +1,6 @@
 -- How a range of a side's file is divided, and why it isn't.
 use Rattle.std.specs.Prelude.{ℕ, ◌==◌, ◌-◌, ◌≡◌, ◌⊎◌, ◌++◌, ◌∷◌, [], if◌then◌else◌, true, false, Bool, List, length, drop, replicate, slice_range, Option, None, Some, IfSome, Result, Err, codes, decimal}
+use Rattle.std.specs.Io.KnownBytes.{Appends}
 use Rattle.rj_columns.specs.Contents.{Content}
 use Rattle.rj_columns.specs.Names.{empty_table}
 use Rattle.rj_columns.specs.Tables.{TableValue}
@@ -72,12 +73,21 @@ range_bytes range text = bytes_between (range_begin range) range.to text
 abbrev pub range_header : Range → List ℕ
 range_header range = header_text range.own.now (place_name range.line.now.side)
 
--- each part got the header, and then the text of its rows in the range, of which there are so many in all:
--- if parts tell what they got, and the file is told
-abbrev pub AreParted : Bool → Option (List ℕ) → (List Content → ℕ) → Range → List (Option (List ℕ)) → ℕ → Type 0
-AreParted tells file part range told n = tells ≡ true → IfSome file (λ text.
+-- each part has the header, and then the text of its rows in the range, of which there are so many in all
+abbrev pub AreParted : Option (List ℕ) → (List Content → ℕ) → Range → List (Option (List ℕ)) → ℕ → Type 0
+AreParted file part range told n = IfSome file (λ text.
     IsTextDivided (range_dividing part range) (range_reading range.line.now.strict range.from) (range_bytes range text)
     (replicate (length told) (Some (range_header range))) told n)
+
+-- the line of the rows of a range and of the bytes of its parts' header
+abbrev pub counts_line : ℕ → ℕ → List ℕ
+counts_line rows header = codes "rows " ++ (decimal rows ++ (codes " header " ++ (decimal header ++ 10 ∷ [])))
+
+-- the parts have this, if they tell what they got; and how many rows there are is printed
+pub record AreDivided (tells : Bool) (file : Option (List ℕ)) (part : List Content → ℕ) (range : Range) (told : List (Option (List ℕ))) (old new : Option (List ℕ)) : Type 0 where
+  pub rows : ℕ
+  pub parted : tells ≡ true → AreParted file part range told rows
+  pub printed : Appends old new (counts_line rows (length (range_header range)))
 
 -- each record of a range is a row
 abbrev pub AreAllRows : Option (List ℕ) → Range → Type 0
@@ -115,10 +125,6 @@ IsOfWriting e = (e ≡ failure.Told fault.WriteDevice) ⊎ (e ≡ failure.Told f
 -- why a range isn't divided among so many parts: because of their header, of its rows, or of what is printed
 abbrev pub IsOfParts : Option (List ℕ) → (List Content → ℕ) → Range → ℕ → Failure → Type 0
 IsOfParts file part range parts e = IsOfHeader range parts e ⊎ (IsOfRows part file range parts e ⊎ IsOfWriting e)
-
--- the line of the rows of a range and of the bytes of its parts' header
-abbrev pub counts_line : ℕ → ℕ → List ℕ
-counts_line rows header = codes "rows " ++ (decimal rows ++ (codes " header " ++ (decimal header ++ 10 ∷ [])))
 
 -- the failure of an invalid NULL text, unless the file can't be read
 abbrev pub unlawful_null : Result Head Fault → Failure

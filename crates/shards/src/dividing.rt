@@ -1,6 +1,6 @@
 //! Dividing a range of a file.
 
-ghost use Rattle.std.specs.Prelude.{◌≡◌, ◌⊎◌, ◌<◌, ◌≤◌, ◌-◌, ◌^◌, ℕ, All, IfErr, IfOk, IfSome, IsTrue, Ok, OnOk, length, map, string_bytes};
+ghost use Rattle.std.specs.Prelude.{◌≡◌, ◌⊎◌, ◌<◌, ◌≤◌, ◌-◌, ◌^◌, [], All, IfErr, IfOk, IfSome, IsTrue, Ok, OnOk, Some, length, map, string_bytes};
 ghost use Rattle.std.specs.Io.KnownBytes.{Appends};
 ghost use Rattle.rj_columns.specs.Tables.{TableValue};
 ghost use Rattle.rj_csv_io.specs.Tables.{is_null_text};
@@ -9,7 +9,7 @@ ghost use Rattle.rj_divide.specs.Divisions.{written_null};
 ghost use Rattle.rj_divide.specs.Headers.{HaveText};
 ghost use Rattle.rj_divide.specs.Texts.{IsDivisionFault, IsTextDivided};
 ghost use Rattle.shards.specs.Plans.{IsDivision, IsRangeFailure};
-ghost use Rattle.shards.specs.Ranges.{AreAllRows, AreParted, IsOfHeader, IsOfParts, IsOfRows, IsOfWriting, counts_line, division_fault, mixed_shard, place_name, range_begin, range_begun, range_bytes, range_dividing, range_file, range_header, range_reading, unlawful_null};
+ghost use Rattle.shards.specs.Ranges.{AreAllRows, AreDivided, AreParted, IsOfHeader, IsOfParts, IsOfRows, IsOfWriting, counts_line, division_fault, mixed_shard, place_name, range_begin, range_begun, range_bytes, range_dividing, range_file, range_header, range_reading, unlawful_null};
 
 use crate::failure::Failure;
 use crate::head::Head;
@@ -209,6 +209,31 @@ fn put_headers<O: Output>(
     }
 }
 
+// Puts the header of a range's parts to each output, and then each row to the output of its part.
+// The answer is how many rows there are, and how many bytes the header has.
+fn fill_parts<S: Storage, W: Route, O: Output>(
+    alloc: Global,
+    storage: &S,
+    range: &Range<'_>,
+    route: &W,
+    outputs: &mut [O],
+) -> Result<(u64, u64), Failure>
+    requires types { W.fits route.now range.now.types.now }
+    requires outputs { length outputs.old ≡ W.count route.now }
+    requires from { range.now.from ≤ 2 ^ 62 }
+    requires null { IsTrue (is_null_text (written_null (null_texts range.now.nulls.now))) }
+    requires table { range_begun range.now ≡ Ok range.now.own.now }
+    requires writes { All (λ o. O.count o < 2 ^ 64 - 1) outputs.old }
+    ensures parted { IfOk result (λ p. All (λ o. O.told o ≡ Some []) outputs.old
+        → AreParted (range_file (S.holds storage.now) range.now) (W.part route.now) range.now (map O.told outputs.new) p.0) }
+    ensures header { IfOk result (λ p. p.1 ≡ length (range_header range.now)) }
+    ensures fault { IfErr result (IsOfParts (range_file (S.holds storage.now) range.now) (W.part route.now) range.now (length outputs.old)) }
+{
+    let header = put_headers(alloc, range, outputs)?;
+    let rows = divide_rows(alloc, storage, range, route, outputs)?;
+    Ok((rows, header))
+}
+
 // Divides a range among the parts of a folder, and prints how many rows it has.
 fn divide_among_parts<S: Storage, O: Output>(
     alloc: Global,
@@ -224,8 +249,8 @@ fn divide_among_parts<S: Storage, O: Output>(
     requires table { range_begun range.now ≡ Ok range.now.own.now }
     requires output { O.count output.old < 2 ^ 64 - 1 }
     ensures count { IfOk result (λ v. length v.items ≡ plan.now.0.parts) }
-    ensures divided { IfOk result (λ v. (n : ℕ) × AreParted (S.tells_parts storage.now) (range_file (S.holds storage.now) range.now) (mixed_shard plan.now.0.parts plan.now.1.items) range.now (map S.Part.told v.items) n
-        × Appends (O.told output.old) (O.told output.new) (counts_line n (length (range_header range.now)))) }
+    ensures divided { IfOk result (λ v. AreDivided (S.tells_parts storage.now) (range_file (S.holds storage.now) range.now) (mixed_shard plan.now.0.parts plan.now.1.items) range.now
+        (map S.Part.told v.items) (O.told output.old) (O.told output.new)) }
     ensures fault { IfErr result (IsOfParts (range_file (S.holds storage.now) range.now) (mixed_shard plan.now.0.parts plan.now.1.items) range.now plan.now.0.parts) }
 {
     let (shards, columns) = plan;
@@ -235,9 +260,8 @@ fn divide_among_parts<S: Storage, O: Output>(
         hash: &Mixed,
     };
     let mut parts = storage.parts(folder, shards.parts)?;
-    let header = put_headers(alloc, range, parts.as_mut_slice())?;
-    let rows = divide_rows(alloc, storage, range, &route, parts.as_mut_slice())?;
-    print_counts(alloc, rows, header, output)?;
+    let counts = fill_parts(alloc, storage, range, &route, parts.as_mut_slice())?;
+    print_counts(alloc, counts.0, counts.1, output)?;
     Ok(parts)
 }
 
@@ -313,15 +337,17 @@ pub(crate) fn divide_range<S: Storage, O: Output>(
     }
     let head = head?;
     let table = empty_table(alloc, &head, own, line.side)?;
-    let types = types_of(alloc, &table)?;
+    let kinds = types_of(alloc, &table)?;
+    let types = kinds.as_slice();
+    let from = bounds.from.min(MOST);
     let range = Range {
         line,
         head: &head,
         own: &table,
-        types: types.as_slice(),
+        types,
         nulls,
         delimiter: own.delimiter,
-        from: bounds.from.min(MOST),
+        from,
         to: bounds.to,
     };
     match plan(alloc, storage, line, &table) {

@@ -1,5 +1,7 @@
 //! Why a file wasn't divided.
 
+ghost use Rattle.std.specs.Prelude.{◌≡◌};
+
 use rj_command::{ExitReason, Fault};
 use std::alloc::AllocError;
 use std::fmt;

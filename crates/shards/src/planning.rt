@@ -107,15 +107,15 @@ pub(crate) fn plan<S: Storage>(
     ensures fault { IfErr result (IsOtherFailure (S.holds storage.now) line.now own.now) }
 {
     let side = other_side(line.side);
-    let operand = line.operand(side);
+    let table = line.operand(side);
     let head = read_head(
         alloc,
         storage,
-        operand.file,
+        table.file,
         side,
-        operand.delimiter,
+        table.delimiter,
         line.strict,
     )?;
-    let other = empty_table(alloc, &head, operand, side)?;
+    let other = empty_table(alloc, &head, table, side)?;
     shards_of(alloc, line, own, &other)
 }
