@@ -2,6 +2,7 @@ use Rattle.std.proofs.Common.{◌≡◌, List, None, Option, ap, inl, inr, refl,
 use Rattle.std.specs.Io.KnownBytes.{Appends}
 use Rattle.std.proofs.lemmas.Result.{IfErr-weaker, IfOk-weaker}
 use Rattle.shards.specs.Cuts.{HasCutFailure, HasCutLines, IsCutsFailure, IsCutting, of_cuts, of_file, of_head, of_none, of_output, of_text}
+use Rattle.shards.specs.declared.cutting.CutText.{CutText}
 use Rattle.shards.specs.declared.failure.Failure.TheVariants.{Told}
 use Rattle.shards.proofs.CutFacts.{cut-fault, cut-text, cut-told}
 use Rattle.shards.proofs.cutting.print_cuts.Goals as goal
@@ -48,10 +49,11 @@ returns-clause-cutting g c =
     let holds = g.S.Storage.holds c.args.storage.now in
     let l = c.args.line.now in
     let own = c.operand-own.result.now in
+    let text_cut : CutText = record { side = l.side; delimiter = own.delimiter; ranges = c.args.ranges; begin = c.in-Ok.head.begin; end = c.in_ok-end.end } in
     let cut = cut-text holds l own c.operand-own.ensures c.args.ranges c.in_ok-end.end c.in-Ok.head c.in-Ok.ensures.head c.in_ok-end.ensures.size in
     IfOk-weaker c.print_text.result _ _ (λ _ printed.
-    of_text _ c.as_str.result.now cut
-    (cut-told holds l own c.operand-own.ensures c.in-Ok.head.begin (g.S.Reader.Input.tells c.in_ok-input.input) (λ text. HasCutLines _ text c.as_str.result.now) c.in_ok-input.ensures.bytes
+    of_text text_cut c.as_str.result.now cut
+    (cut-told holds l own c.operand-own.ensures c.in-Ok.head.begin (g.S.Reader.Input.tells c.in_ok-input.input) (λ text. HasCutLines text_cut text c.as_str.result.now) c.in_ok-input.ensures.bytes
     (rw c.as_str.ensures.value c.in_ok-text.ensures.lines)) printed) c.print_text.ensures.printed
 
 pub returns-clause-failure : goal.returns-clause-failure
