@@ -6,7 +6,7 @@ use Rattle.merges.specs.Refusals.{IsOf}
 use Rattle.merges.specs.declared.failure.Failure.{Failure}
 use Rattle.merges.specs.declared.line.Line.{Line}
 use Rattle.rj_merge.specs.Inputs.{is_input}
-use Rattle.rj_merge.specs.MergedTexts.{GotMerge, HaveNoFault, HeedsHeaders, IsFaultOfTexts}
+use Rattle.rj_merge.specs.MergedTexts.{GotMerge, HaveNoFault, HeedsHeaders, IsFaultOfTexts, IsUntouched}
 use Rattle.rj_merge.specs.Named.{ForNamed}
 use Rattle.rj_merge.specs.Sources.{TellsAmong, is_outside}
 use Rattle.rj_merge.specs.declared.refused.MergeRefused.{MergeRefused}
@@ -27,22 +27,23 @@ module _ {R : Type 0} (opens : Text → R → Type 0) (known : R → Option Text
     pub sound : ForNamed opens known (names line) (HaveNoFault line.how)
 
   -- a merge of the files of a line was refused: an error that isn't the machine's is one of the
-  -- texts, and that of the first header that has one; it is one of the files', and the failure has
-  -- the name of that file
-  pub record IsRefusalOfLine (line : Line) (f : Failure) : Type 0 where
+  -- texts, and that of the first header that has one, and then the output is as it was; it is one
+  -- of the files', and the failure has the name of that file
+  pub record IsRefusalOfLine {O : Type 0} (old new : O) (line : Line) (f : Failure) : Type 0 where
     pub error : MergeTextsRefused
     pub fault : (e : MergeRefused) → error ≡ refused.Merge e → is_outside e ≡ false
         → ForNamed opens known (names line) (λ texts. IsFaultOfTexts line.how line.copies.items texts e)
     pub first : ForNamed opens known (names line) (HeedsHeaders {T = Unit {0}} (Err error))
+    pub untouched : ForNamed opens known (names line) (IsUntouched old new)
     pub input : (e : MergeRefused) → error ≡ refused.Merge e → TellsAmong (is_input (length (names line))) e
     pub is : IsOf (names line) error f
 
   -- the merge that the words ask for was refused
-  pub record IsRefusalOfWords (words : List Text) (f : Failure) : Type 0 where
+  pub record IsRefusalOfWords {O : Type 0} (old new : O) (words : List Text) (f : Failure) : Type 0 where
     pub line : Line
     pub read : IsMergeLine words line
-    pub refusal : IsRefusalOfLine line f
+    pub refusal : IsRefusalOfLine old new line f
 
   -- the words are no line, or the merge that they ask for was refused
-  abbrev pub IsFailure : List Text → Failure → Type 0
-  IsFailure words f = IsLineFailure words f ⊎ IsRefusalOfWords words f
+  abbrev pub IsFailure : {O : Type 0} → O → O → List Text → Failure → Type 0
+  IsFailure old new words f = IsLineFailure words f ⊎ IsRefusalOfWords old new words f

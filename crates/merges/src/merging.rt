@@ -28,7 +28,7 @@ fn merge_line<P: Opener, O: Output>(
     ensures merge { OnOk result (ForNamed (P.opens opener.now) P.Reader.remaining (names line.now)
         (λ texts. GotMerge line.now.how line.now.copies.items texts (O.told output.old) (O.told output.new))) }
     ensures sound { OnOk result (ForNamed (P.opens opener.now) P.Reader.remaining (names line.now) (HaveNoFault line.now.how)) }
-    ensures refusal { IfErr result (IsRefusalOfLine (P.opens opener.now) P.Reader.remaining line.now) }
+    ensures refusal { IfErr result (IsRefusalOfLine (P.opens opener.now) P.Reader.remaining output.old output.new line.now) }
     ensures device { result ≡ Err Failure.WriteDevice → O.count output.new ≡ O.count output.old + 1 }
     ensures kept { result ≢ Err Failure.WriteDevice → O.count output.new ≡ O.count output.old }
 {
@@ -62,7 +62,7 @@ pub fn merge_words<P: Opener, O: Output>(
 ) -> Result<(), Failure>
     requires { O.count output.old < 2 ^ 64 - 1 }
     ensures merge { OnOk result (IsMergeOfWords (P.opens opener.now) P.Reader.remaining (map (λ w. w.now) words.now) (O.told output.old) (O.told output.new)) }
-    ensures failure { IfErr result (IsFailure (P.opens opener.now) P.Reader.remaining (map (λ w. w.now) words.now)) }
+    ensures failure { IfErr result (IsFailure (P.opens opener.now) P.Reader.remaining output.old output.new (map (λ w. w.now) words.now)) }
     ensures unchanged { ((line : Line) → IsMergeLine (map (λ w. w.now) words.now) line → ⊥) → output.new ≡ output.old }
     ensures device { result ≡ Err Failure.WriteDevice → O.count output.new ≡ O.count output.old + 1 }
     ensures kept { result ≢ Err Failure.WriteDevice → O.count output.new ≡ O.count output.old }

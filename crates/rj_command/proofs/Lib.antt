@@ -5,6 +5,7 @@ mod RunFacts
 mod PreparedFacts
 mod ExpectedFacts
 mod CountFacts
+mod EndFacts
 pub mod TextFacts
 mod ApartFacts
 mod BackFacts

@@ -26,7 +26,7 @@ use Rattle.rj_engine.specs.Shown.{Follow, IsRunOf}
 use Rattle.rj_engine.proofs.RunFacts.{run-cells, run-within}
 use Rattle.rj_command.specs.declared.join.texts.Share.{Share}
 use Rattle.rj_command.specs.declared.join.texts.Written.{Written}
-use Rattle.rj_command.specs.Texts.{AreCounted, AreRunTexts, AreShownOf, AreTextsOf, AreWithin, cells_text, is_of, no_table, run_text, shown_cells, text_in, whole_text}
+use Rattle.rj_command.specs.Texts.{HasEnds, AreCounted, AreRunTexts, AreShownOf, AreTextsOf, AreWithin, cells_text, is_of, no_table, run_text, shown_cells, text_in, whole_text}
 
 abbrev Texts : Type 0
 Texts = Vec (Vec ℕ Global) Global
@@ -214,12 +214,15 @@ whole-texts w segments l runs rows types h each =
 
 -- the runs of a segment are within it
 pub all-within : (w : Written) (segments : List TableValue) (l : TableValue) (runs : List Run) (k : ℕ) → l.rows ≡ rows_of_all segments
-    → All (λ (t : TableValue). t.types ≡ l.types) segments → AreShownOf w l → All (IsRunOf segments (rows_of w)) runs → k < length segments
+    → All (λ (t : TableValue). t.types ≡ l.types) segments → AreShownOf w l → HasEnds w → All (IsRunOf segments (rows_of w)) runs → k < length segments
     → AreWithin w (get_or segments k no_table) k runs
-all-within w segments l runs k rows types h each low = λ i d lt is.
-    let t = get_or segments k no_table in
-    let there : t ≡ get_or segments k t = get_or_default segments k no_table t low in
-    run-within segments l w.right.now t w.joined.now.members w.shown.now (get_or runs i d) rows (types k no_table low) (each i d lt) (there ∙ ap (λ n. get_or segments n t) (sym is)) h
+all-within w segments l runs k rows types h ends each low = (
+  ends,
+  λ i d lt is.
+      let t = get_or segments k no_table in
+      let there : t ≡ get_or segments k t = get_or_default segments k no_table t low in
+      run-within segments l w.right.now t w.joined.now.members w.shown.now (get_or runs i d) rows (types k no_table low) (each i d lt) (there ∙ ap (λ n. get_or segments n t) (sym is)) h,
+)
 
 -- under a header the text of rows is that of a table
 pub table-text : (d : ℕ) (null : List ℕ) (header : List (List ℕ)) (cells : List (List Content)) (texts : Texts) → whole_text texts ≡ cells_text d null cells

@@ -8,6 +8,7 @@ pub mod Refused
 pub mod Undeclared
 pub mod Alike
 pub mod Runs
+pub mod Ends
 pub mod Texts
 pub mod Prepared
 pub mod Sides

@@ -1,5 +1,5 @@
 -- The texts of the rows of a joined table, run by run. Internal: no public contract uses it.
-use Rattle.std.specs.Prelude.{◌≡◌, ◌<◌, ◌==◌, ℕ, Bool, List, [], All, filter, length, map, slice_index_or}
+use Rattle.std.specs.Prelude.{◌≡◌, ◌<◌, ◌==◌, ℕ, Bool, List, [], All, IfSome, filter, length, map, slice_index_or}
 use Rattle.std.specs.List.{concat}
 use Rattle.std.specs.declared.alloc.Global.{Global}
 use Rattle.std.specs.declared.vec.Vec.{Vec}
@@ -9,6 +9,7 @@ use Rattle.rj_csv_io.specs.Shown.{rows_text, shown}
 use Rattle.rj_engine.specs.Shown.{IsRunWithin, IsShownOf, run_view, shown_view}
 use Rattle.rj_engine.specs.declared.runs.Run.{Run}
 use Rattle.rj_command.specs.declared.join.texts.Written.{Written}
+use Rattle.rj_command.specs.Ends.{AreEndsOf}
 
 -- texts, one after another
 abbrev pub whole_text : Vec (Vec ℕ Global) Global → List ℕ
@@ -30,9 +31,14 @@ run_text w t run = cells_text w.format.delimiter w.format.null.now (run_view w.s
 abbrev pub AreRunTexts : Written → TableValue → ℕ → List Run → Vec (Vec (Vec ℕ Global) Global) Global → Type 0
 AreRunTexts w t segment runs texts = map whole_text texts.items ≡ map (run_text w t) (filter (is_of segment) runs)
 
--- the runs of a segment are within it
+-- the texts of the rows' ends, if there are any, are those of what is written
+abbrev pub HasEnds : Written → Type 0
+HasEnds w = IfSome w.ends.now (AreEndsOf w.format.delimiter w.format.null.now w.shown.now w.right.now)
+
+-- the runs of a segment are within it, and the texts of ends are those of what is written
 abbrev pub AreWithin : Written → TableValue → ℕ → List Run → Type 0
-AreWithin w t segment runs = All (λ run. run.segment ≡ segment → IsRunWithin t w.right.now w.joined.now.members w.shown.now run) runs
+AreWithin w t segment runs =
+    HasEnds w × All (λ run. run.segment ≡ segment → IsRunWithin t w.right.now w.joined.now.members w.shown.now run) runs
 
 -- a table of nothing
 abbrev pub no_table : TableValue

@@ -4,6 +4,7 @@ mod alike;
 mod auto;
 mod counting;
 mod early;
+mod ends;
 mod expected;
 mod headers;
 mod laws;

@@ -13,3 +13,5 @@ pub mod Parts
 pub mod Pieces
 pub mod Ambiguous
 pub mod RoundTrips
+pub mod Ends
+pub mod Columns

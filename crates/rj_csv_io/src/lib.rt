@@ -6,7 +6,9 @@
 
 mod ambiguous;
 mod block;
+mod columns;
 mod cut;
+mod ends;
 mod fields;
 mod filling;
 mod format;
@@ -22,6 +24,7 @@ mod range;
 mod read_parts;
 mod read_rows;
 mod read_whole;
+mod records;
 mod refused;
 mod stretches;
 mod text;
@@ -31,7 +34,9 @@ mod write_in_parts;
 mod write_more;
 
 pub use ambiguous::first_ambiguous;
+pub use columns::{EndColumns, FirstColumns};
 pub use cut::without_bom;
+pub use ends::{RowEnds, null_end, texts_with_ends};
 pub use fields::is_null_field;
 pub use filling::{read_all, read_up_to};
 pub use format::{InputFormat, OutputFormat};
@@ -46,6 +51,7 @@ pub use output::{CountedWriter, Failed, Output};
 pub use pieces::Header;
 pub use read_parts::read_table_in_parts;
 pub use read_whole::read_table;
+pub use records::{RowTexts, row_texts};
 pub use refused::ReadRefused;
 pub use stretches::last_cut;
 pub use texts::{texts_of_rows, write_texts};

@@ -21,7 +21,7 @@ const MOST_ROOM: u64 = 1 << 30;
 
 /// The most rows whose records are in one text of several, so that such a text fits where the
 /// join's own lists were before.
-const TEXT_ROWS: u64 = 4096;
+pub(crate) const TEXT_ROWS: u64 = 4096;
 
 // The fewest rows whose room is reserved at once. For fewer, writing sample records to estimate it
 // takes longer than the growth that it saves.
@@ -52,8 +52,8 @@ pub(crate) fn text_of_header(
     close_text(writer)
 }
 
-// Writes the record of a row whose cells are in a block.
-fn write_row<S: RowSource>(
+/// Writes the record of a row whose cells are in a block.
+pub(crate) fn write_row<S: RowSource>(
     writer: &mut Writer<Vec<u8>>,
     block: &RowBlock<'_>,
     source: &S,

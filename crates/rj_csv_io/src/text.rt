@@ -1,7 +1,7 @@
 //! The text of records, made in memory by the writer of `csv`.
 
 ghost use Rattle.std.specs.Prelude.{◌≡◌, ◌<◌, ◌+◌, ◌++◌, ◌∷◌, ◌^◌, ◌-◌, List, ℕ, [], length, OnOk, IfOk};
-ghost use Rattle.csv.specs.Writing.{row_text};
+ghost use Rattle.csv.specs.Writing.{row_text, writer_under};
 ghost use Rattle.rj_columns.specs.Contents.{content_of};
 ghost use Rattle.rj_csv_io.specs.Shown.{shown, writer_of};
 ghost use Rattle.rj_csv_io.specs.Written.{HasWritten};
@@ -60,6 +60,17 @@ pub(crate) fn end_record(writer: &mut Writer<Vec<u8>>) -> Result<(), AllocError>
         → OnOk result (HasWritten d writer.new (text ++ row_text (writer_of d) fields) []) }
 {
     if writer.end_record().is_err() {
+        return Err(AllocError);
+    }
+    Ok(())
+}
+
+/// Moves what was written into the text under the writer.
+pub(crate) fn settle(writer: &mut Writer<Vec<u8>>) -> Result<(), AllocError>
+    ensures written { (d : ℕ) (text : List ℕ) → HasWritten d writer.old text [] → OnOk result (HasWritten d writer.new text []) }
+    ensures under { (d : ℕ) (text : List ℕ) → HasWritten d writer.old text [] → OnOk result ((writer_under writer.new).items ≡ text) }
+{
+    if writer.flush().is_err() {
         return Err(AllocError);
     }
     Ok(())

@@ -11,7 +11,7 @@ use Rattle.csv.specs.Writing.{row_text}
 use Rattle.rj_columns.specs.Contents.{Content}
 use Rattle.rj_csv_io.specs.Shown.{rows_text, shown, writer_of}
 use Rattle.rj_strict.specs.Grammar.{comma}
-use Rattle.rj_divide.specs.Divisions.{Dividing, IsDivided, after_rows, counts_after, part_text, written_null}
+use Rattle.rj_divide.specs.Divisions.{Dividing, IsDivided, IsPartDivided, after_rows, counts_after, part_text, written_null}
 use Rattle.rj_divide.specs.declared.refused.DivideRefused.{DivideRefused}
 use Rattle.rj_divide.specs.declared.refused.DivideRefused.TheVariants as refused
 use Rattle.rj_divide.specs.Readings.{IsAfterReading, IsReadingFault, reads_after}
@@ -81,6 +81,30 @@ module _ (d : Dividing) where
             let here : p < length between = omega (arith, low, same) in
             let both = Appends-trans (get_or before p None) (get_or between p None) (get_or after p None) _ _ (a.parts p low) (rw k at (b.parts p here)) in
             rw (part_text-append d.part p (written_null d.nulls) d.first a.rows b.rows) both;
+      }
+
+  -- an output that got nothing
+  pub part-none : (before after : List (Option (List ℕ))) (p : ℕ) → get_or after p None ≡ get_or before p None → IsPartDivided d [] before after p
+  part-none before after p same = record {
+    rows = [];
+    read = tt;
+    got = rw (part_text-none d.part p (written_null d.nulls) d.first, same) (Appends-nil (get_or before p None));
+  }
+
+  -- the part of an output of those that are divided
+  pub part-of : (records : List (List (List ℕ))) (before after : List (Option (List ℕ))) (n p : ℕ) → p < length before → IsDivided d records before after n → IsPartDivided d records before after p
+  part-of records before after n p low x = record { rows = x.rows; read = x.read; got = x.parts p low }
+
+  -- records of a part behind others that were divided
+  pub part-more : (xs ys : List (List (List ℕ))) (before between after : List (Option (List ℕ))) (m p : ℕ) → p < length before
+      → IsDivided d xs before between m → IsPartDivided (after_rows m d) ys between after p → IsPartDivided d (xs ++ ys) before after p
+  part-more xs ys before between after m p low a b =
+      let k = ap (λ j. part_text (written_null d.nulls) d.part p (d.first + j) b.rows) a.many in
+      let both = Appends-trans (get_or before p None) (get_or between p None) (get_or after p None) _ _ (a.parts p low) (rw k at b.got) in
+      record {
+        rows = a.rows ++ b.rows;
+        read = rows-append d.nulls d.types xs ys a.rows b.rows a.read b.read;
+        got = rw (part_text-append d.part p (written_null d.nulls) d.first a.rows b.rows) both;
       }
 
 -- no output failed where the text has a fault

@@ -13,3 +13,4 @@ pub mod BlockFacts
 pub mod BrokenFacts
 pub mod StrictFacts
 pub mod NullFacts
+pub mod FirstFacts

@@ -1,8 +1,10 @@
 -- Outputs that get the rows of their parts, one after the other.
-use Rattle.std.proofs.Common.{◌≡◌, ◌≢◌, ◌<◌, ◌≤◌, ◌+◌, ◌-◌, ◌^◌, ℕ, List, Option, None, All, sym, ap, ◌∙◌, arith, length, map, get_or, set}
+use Rattle.std.proofs.Common.{◌≡◌, ◌≢◌, ◌<◌, ◌≤◌, ◌+◌, ◌-◌, ◌^◌, ℕ, List, Option, None, All, sym, ap, subst, inl, inr, ◌∙◌, arith, length, map, get_or, set}
 use Rattle.std.specs.Io.KnownBytes.{Appends}
+use Rattle.std.proofs.lemmas.Bool.{cases_lt}
 use Rattle.std.proofs.lemmas.List.{get_or-map, get_or-set_other, get_or-set_same, length-map, map-set}
 use Rattle.std.proofs.Math.Seq.{map-set_same}
+use Rattle.rj_divide.specs.Divisions.{IsAppendedOrNot}
 use borrow.Author.Count.{below_more}
 
 module _ {O : Type 0} (count : O → ℕ) where
@@ -59,3 +61,32 @@ module _ {O : Type 0} (told : O → Option (List ℕ)) (text : ℕ → List ℕ)
 
   pub wait-more : (old now : List O) (p : ℕ) (y : O) → Wait old now p → Wait old (set now p y) (p + 1)
   wait-more old now p y wait = λ q l. other now p q y (λ e. absurd (omega (arith, l, e))) ∙ wait q (omega (arith, l))
+
+  -- each output has got its text, or nothing
+  abbrev OrNot : List O → List O → ℕ → Type 0
+  OrNot old now q = IsAppendedOrNot (get_or (map told old) q None) (get_or (map told now) q None) (text q)
+
+  or-not : (old now : List O) (p : ℕ) → Have old now p → Wait old now p → (q : ℕ) → OrNot old now q
+  or-not old now p have wait q = elim (cases_lt q p) [
+    | inl low ↦ inr (have q low)
+    | inr high ↦ inl (wait q high)
+  ]
+
+  -- also if one more failed, but for that one
+  pub or-not-others : (old now : List O) (p : ℕ) (y : O) → Have old now p → Wait old now p → (q : ℕ) → q ≢ p → OrNot old (set now p y) q
+  or-not-others old now p y have wait q ne =
+      subst (λ (x : Option (List ℕ)). IsAppendedOrNot (get_or (map told old) q None) x (text q)) (sym (other now p q y ne)) (or-not old now p have wait q)
+
+  -- also if one more is as it was
+  pub or-not-kept : (old now : List O) (p : ℕ) (x y : O) → get_or now p x ≡ x → y ≡ x → Have old now p → Wait old now p → (q : ℕ) → OrNot old (set now p y) q
+  or-not-kept old now p x y is e have wait q =
+      subst (λ (l : List (Option (List ℕ))). IsAppendedOrNot (get_or (map told old) q None) (get_or l q None) (text q)) (sym (map-set_same told now p y x (ap told (e ∙ sym is))))
+      (or-not old now p have wait q)
+
+  -- the outputs before one that failed, and those after it
+  pub before-after : (old now : List O) (p : ℕ) (y : O) → Have old now p → Wait old now p → (q : ℕ)
+      → (q < p → Appends (get_or (map told old) q None) (get_or (map told (set now p y)) q None) (text q)) × (p < q → get_or (map told (set now p y)) q None ≡ get_or (map told old) q None)
+  before-after old now p y have wait q = (
+    λ l. rw (other now p q y (λ e. absurd (omega (arith, l, e)))) (have q l),
+    λ l. other now p q y (λ e. absurd (omega (arith, l, e))) ∙ wait q (omega (arith, l)),
+  )

@@ -91,6 +91,11 @@ module _ (d : Dividing) (text taken piece tail : List ℕ) (lines : List Line) (
   begin-in full whole s _ (in_all file x) = begin-file full whole file s x
   begin-in full whole s _ (above f more has are) = begin-lines full (row_at f) more are
 
+  -- the first records of a piece behind those of the lines
+  pub begin-part : (full whole : Bool) → EndsWell D full whole piece tail → (records : List (List (List ℕ))) → BeginDerived D N whole piece records → BeginDerived D N full text (records_in lines ++ records)
+  begin-part full whole s _ (in_text file x) = begin-file full whole file s x
+  begin-part full whole s _ (in_lines row more are) = begin-lines full row more are
+
   -- the place where the text stops being derived
   pub broken-in : may_delimit D ≡ true → Reads D → (full whole : Bool) → EndsWell D full whole piece tail → (rows : List (List Content)) → AreRows d.nulls d.types (records_in lines) rows → (f : StrictFault)
       → IsBrokenAt d whole piece (length rows) f → IsBrokenAt d full text 0 f

@@ -20,13 +20,14 @@ use Rattle.rj_divide.specs.declared.refused.DivideRefused.TheVariants as refused
 use Rattle.rj_divide.specs.Divisions.{Dividing, IsDivided, after_rows}
 use Rattle.rj_divide.specs.Ranges.{IsPiece, IsReadFor}
 use Rattle.rj_divide.specs.Readings.{IsFaultBehind}
-use Rattle.rj_divide.specs.Texts.{AreRecordsOf, BeginIn, IsBroken, IsDivisionFault, IsPieceFault, IsTextDivided, StandIn, reading_of_piece, with_flag}
+use Rattle.rj_divide.specs.Texts.{AreRecordsOf, BeginIn, HaveFirstRows, IsBroken, IsDivisionFault, IsPieceFault, IsTextDivided, StandIn, reading_of_piece, with_flag}
 use Rattle.rj_divide.specs.Underway.{AreBehind, Beginning, IsUnderway, ReadsOn, behind_header}
 use Rattle.rj_divide.proofs.BrokenFacts.{EndsWell, Reads}
-use Rattle.rj_divide.proofs.DivisionFacts.{divided-more, divided-none}
+use Rattle.rj_divide.proofs.DivisionFacts.{divided-more, divided-none, part-more}
+use Rattle.rj_divide.proofs.FirstFacts.{begin-done, first-divided}
 use Rattle.rj_divide.proofs.LenientFacts.{header-prefix, piece-as, piece-split}
 use Rattle.rj_divide.proofs.ReadingFacts.{first-behind, rows-many}
-use Rattle.rj_divide.proofs.StrictFacts.{begin-in, below, broken-in, full-block, last-block, lines-on, records-below, records-on, whole-on}
+use Rattle.rj_divide.proofs.StrictFacts.{begin-in, begin-part, below, broken-in, full-block, last-block, lines-on, records-below, records-on, whole-on}
 use Rattle.rj_divide.proofs.TakenFacts.{Told, none-more, order-cut, piece-read, taken-more, taken-none, told-now}
 
 abbrev Records : Type 0
@@ -113,6 +114,22 @@ module _ (d : Dividing) (text taken old bytes left : List ℕ) (end : ℕ) (done
   begin-on (reading.Lenient f) (reading.Strict s) last b stops xs is = absurd b
   begin-on (reading.Strict f) (reading.Lenient a) last b stops xs is = absurd b
 
+  -- the first records of a piece
+  first-on : (how was : Reading) (last : Bool) → AreBehind D N how text taken done was old → Stops last → (xs : Records) → BeginIn D N (reading_of_piece was last) piece xs → BeginIn D N how text (done ++ xs)
+  first-on (reading.Lenient f) (reading.Lenient a) last b stops xs is =
+      let more = header-prefix a (records (config_of D) piece) (records (config_of D) tail) in
+      let here : behind_header a (records (config_of D) piece) ≡ xs ++ is.0 = sym (piece-as D a piece) ∙ is.1 in (
+        is.0 ++ more.0,
+        b ∙ (ap (λ (l : List ℕ). done ++ piece_records D a l) same
+            ∙ (ap (λ (x : Records). done ++ x) (piece-as D a (bytes ++ left) ∙ (ap (behind_header a) split ∙ (more.1 ∙ (ap (λ (l : Records). l ++ more.0) here ∙ append_assoc xs is.0 more.0))))
+            ∙ sym (append_assoc done xs (is.0 ++ more.0)))),
+      )
+  first-on (reading.Strict f) (reading.Strict s) last b stops xs is =
+      subst (λ (x : Records). BeginIn D N (reading.Strict f) text (x ++ xs)) (sym b.3)
+      (begin-part d text taken piece tail b.1 cut b.2 f (s || not last) (ends-well f s last b.0 stops) xs is)
+  first-on (reading.Lenient f) (reading.Strict s) last b stops xs is = absurd b
+  first-on (reading.Strict f) (reading.Lenient a) last b stops xs is = absurd b
+
   -- the place where the text stops being derived
   broken-on : may_delimit D ≡ true → Reads D → (rows : List (List Content)) → AreRows d.nulls d.types done rows → (how was : Reading) (last : Bool) → AreBehind D N how text taken done was old → Stops last → (f : StrictFault)
       → IsBroken d (reading_of_piece was last) piece (length rows) f → IsBroken d how text 0 f
@@ -133,6 +150,12 @@ module _ (d : Dividing) (how : Reading) (begin : Beginning) where
     divided = rw zero (divided-none d begin.told);
     outputs = refl;
   }
+
+  -- no further record is divided
+  pub first-kept : (rest : Rest) (tells : Option (List ℕ)) (now : List (Option (List ℕ))) (pieces : ℕ) (e : DivideRefused) → IsUnderway d how begin tells rest now pieces
+      → HaveFirstRows d how begin.text begin.told now e
+  first-kept rest tells now pieces e u =
+      first-divided d how begin.text u.done begin.told now e (begin-done d.delimiter (length d.types) how rest.reading begin.text u.front.taken (rest.bytes.items ++ u.front.left) u.done u.behind u.front.order) rest.rows u.divided
 
   module _ (rest : Rest) (bytes : List ℕ) (old tells : Option (List ℕ)) (now : List (Option (List ℕ))) (pieces end : ℕ) (last : Bool) (u : IsUnderway d how begin old rest now pieces)
       (reads : (start : Option (List ℕ)) → Consumes start old rest.bytes.items → Consumes start tells bytes)
@@ -197,6 +220,16 @@ module _ (d : Dividing) (how : Reading) (begin : Beginning) where
         let size : length (take end bytes) ≡ end = length-take-le end bytes e.1 in
         let byte : slice_index_or (take end bytes) (end - 1) 0 ≡ slice_index_or bytes (end - 1) 0 = get_or-take end bytes (end - 1) 0 (omega (arith, e.2.behind)) in
         inr (ap (λ (k : ℕ). slice_index_or (take end bytes) (k - 1) 0) size ∙ (byte ∙ e.2.feed), e.2.ends, e.0)
+
+    -- records of a piece that is divided in part
+    pub first-more : (last ≡ true) ⊎ ((last ≡ false) × (end ≤ length bytes) × IsLineEnd d.delimiter bytes end) → (after : List (Option (List ℕ))) (e : DivideRefused)
+        → HaveFirstRows (after_rows rest.rows d) (reading_of_piece rest.reading last) (take end bytes) now after e → HaveFirstRows d how begin.text begin.told after e
+    first-more stops after e first p low ne =
+        let got = first p (omega (arith, low, u.outputs)) ne in (
+          u.done ++ got.0,
+          first-on d begin.text u.front.taken (rest.bytes.items ++ u.front.left) bytes left end u.done next.same cut split how rest.reading last u.behind (stops-at stops) got.0 got.1,
+          part-more d u.done got.0 begin.told now after rest.rows p low u.divided got.2,
+        )
 
     piece-at : (block : ℕ) → IsReadFor d.delimiter block rest.bytes.items bytes → (last ≡ true) ⊎ ((last ≡ false) × (end ≤ length bytes) × IsLineEnd d.delimiter bytes end)
         → IsPiece d.delimiter block begin.text (take end bytes)

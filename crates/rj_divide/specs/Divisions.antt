@@ -1,5 +1,5 @@
 -- Rows that are divided among the outputs of parts.
-use Rattle.std.specs.Prelude.{ℕ, ◌+◌, ◌≡◌, ◌<◌, List, [], map, length, slice_index_or, slice_set, Option, None, Result, Err}
+use Rattle.std.specs.Prelude.{ℕ, ◌+◌, ◌≡◌, ◌≢◌, ◌<◌, ◌⊎◌, List, [], map, length, slice_index_or, slice_set, Option, None, Result, Err}
 use Rattle.std.specs.Io.KnownBytes.{Appends}
 use Rattle.rj_columns.specs.declared.cell.ColumnType.{ColumnType}
 use Rattle.rj_columns.specs.declared.refused.BuildRefused.{BuildRefused}
@@ -23,6 +23,15 @@ part_text null part p first rows = rows_text comma (map (map (shown null)) (part
 abbrev pub AreAppended : List ℕ → (List Content → ℕ) → ℕ → List (List Content) → List (Option (List ℕ)) → List (Option (List ℕ)) → Type 0
 AreAppended null part first rows before after = (p : ℕ) → p < length before
     → Appends (slice_index_or before p None) (slice_index_or after p None) (part_text null part p first rows)
+
+-- an output got this text after what it already had, or it is as it was
+abbrev pub IsAppendedOrNot : Option (List ℕ) → Option (List ℕ) → List ℕ → Type 0
+IsAppendedOrNot before after text = (after ≡ before) ⊎ Appends before after text
+
+-- if this error comes, each part's output but one that failed got the text of its rows, or nothing
+abbrev pub ArePartlyAppended : List ℕ → (List Content → ℕ) → ℕ → List (List Content) → List (Option (List ℕ)) → List (Option (List ℕ)) → DivideRefused → Type 0
+ArePartlyAppended null part first rows before after e = (p : ℕ) → p < length before → e ≢ refused.WriteDevice p
+    → IsAppendedOrNot (slice_index_or before p None) (slice_index_or after p None) (part_text null part p first rows)
 
 -- the text that is written for NULL: the first of those that stand for it, or the empty one if
 -- there are none
@@ -56,6 +65,18 @@ pub record IsDivided (d : Dividing) (records : List (List (List ℕ))) (before a
   pub read : AreRows d.nulls d.types records rows
   pub many : count ≡ length rows
   pub parts : AreAppended (written_null d.nulls) d.part d.first rows before after
+
+-- the output of part p got the text of its rows among these records
+pub record IsPartDivided (d : Dividing) (records : List (List (List ℕ))) (before after : List (Option (List ℕ))) (p : ℕ) : Type 0 where
+  pub rows : List (List Content)
+  pub read : AreRows d.nulls d.types records rows
+  pub got : Appends (slice_index_or before p None) (slice_index_or after p None) (part_text (written_null d.nulls) d.part p d.first rows)
+
+-- if this error comes, each part's output but one that failed got its rows among these records, or
+-- nothing
+abbrev pub IsPartlyDivided : Dividing → List (List (List ℕ)) → List (Option (List ℕ)) → List (Option (List ℕ)) → DivideRefused → Type 0
+IsPartlyDivided d records before after e = (p : ℕ) → p < length before → e ≢ refused.WriteDevice p
+    → (slice_index_or after p None ≡ slice_index_or before p None) ⊎ IsPartDivided d records before after p
 
 -- the counts of the outputs' failures: one more for the output that failed, if one did
 abbrev pub counts_after : {T : Type 0} → Result T DivideRefused → List ℕ → List ℕ

@@ -1,5 +1,5 @@
 -- The header of rows with their places.
-use Rattle.std.specs.Prelude.{ℕ, ◌≡◌, ◌<◌, List, [], ◌∷◌, ◌++◌, length, slice_index_or, Option, None, Err}
+use Rattle.std.specs.Prelude.{ℕ, ◌≡◌, ◌<◌, List, [], ◌∷◌, ◌++◌, length, slice_index_or, Option, None, Ok, Err}
 use Rattle.std.specs.Io.KnownBytes.{Appends}
 use Rattle.csv.specs.Writing.{row_text}
 use Rattle.rj_columns.specs.declared.cell.ColumnType.{ColumnType}
@@ -29,9 +29,19 @@ header_text t name = row_text (writer_of comma) (names_with t name)
 abbrev pub HaveText : List ℕ → List (Option (List ℕ)) → List (Option (List ℕ)) → Type 0
 HaveText text before after = (p : ℕ) → p < length before → Appends (slice_index_or before p None) (slice_index_or after p None) text
 
--- why a header is not written: the columns don't make a table, or an output failed
+-- outputs before the one of this number got this text after what they already had, and those after
+-- it are as they were
+abbrev pub HaveTextBefore : ℕ → List ℕ → List (Option (List ℕ)) → List (Option (List ℕ)) → Type 0
+HaveTextBefore p text before after =
+    (q : ℕ) → (q < p → Appends (slice_index_or before q None) (slice_index_or after q None) text) × (p < q → slice_index_or after q None ≡ slice_index_or before q None)
+
+-- the columns of a table and that of the places make a table
+abbrev pub MakeTable : TableValue → List ℕ → Type 0
+MakeTable t name = (wide : TableValue) × (empty_table (names_with t name) (types_with t) ≡ Ok wide)
+
+-- why a header is not written: the columns don't make a table; or they do, and an output failed
 abbrev pub IsHeaderFault : TableValue → List ℕ → ℕ → DivideRefused → Type 0
 IsHeaderFault t name outputs (refused.Read f) = (b : BuildRefused) × (empty_table (names_with t name) (types_with t) ≡ Err b) × (f ≡ of_begun b)
-IsHeaderFault t name outputs (refused.WriteDevice p) = p < outputs
+IsHeaderFault t name outputs (refused.WriteDevice p) = (p < outputs) × MakeTable t name
 IsHeaderFault t name outputs refused.Memory = Unit {0}
 IsHeaderFault t name outputs e = ⊥

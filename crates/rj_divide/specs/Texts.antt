@@ -1,8 +1,8 @@
 -- Texts that are divided piece by piece, and are read as strictly as asked for.
-use Rattle.std.specs.Prelude.{ℕ, ◌-◌, ◌^◌, ◌≡◌, ◌≤◌, ◌<◌, ◌⊎◌, ◌++◌, ◌||◌, not, Bool, List, Option, length}
+use Rattle.std.specs.Prelude.{ℕ, ◌-◌, ◌^◌, ◌≡◌, ◌≢◌, ◌≤◌, ◌<◌, ◌⊎◌, ◌++◌, ◌||◌, not, Bool, List, Option, length}
 use Rattle.rj_csv_io.specs.Pieces.{piece_records}
 use Rattle.rj_divide.specs.Blocks.{BeginDerived, IsBrokenAt, StandDerived}
-use Rattle.rj_divide.specs.Divisions.{Dividing, IsDivided}
+use Rattle.rj_divide.specs.Divisions.{Dividing, IsDivided, IsPartDivided}
 use Rattle.rj_divide.specs.Ranges.{IsPiece}
 use Rattle.rj_divide.specs.Readings.{IsFaultBehind, IsFirstFault}
 use Rattle.rj_divide.specs.declared.reading.Reading.{Reading}
@@ -54,6 +54,12 @@ abbrev pub IsPieceFault : Dividing → Reading → List ℕ → ℕ → ℕ → 
 IsPieceFault d how text before outputs e =
     ((f : StrictFault) × (e ≡ refused.Broken f) × IsBroken d how text before f)
     ⊎ ((records : List (List (List ℕ))) × StandIn d.delimiter (length d.types) how text records × IsFaultBehind d before outputs records e)
+
+-- if this error comes, each part's output but one that failed has its rows among the first records
+-- of a text
+abbrev pub HaveFirstRows : Dividing → Reading → List ℕ → List (Option (List ℕ)) → List (Option (List ℕ)) → DivideRefused → Type 0
+HaveFirstRows d how text before after e = (p : ℕ) → p < length before → e ≢ refused.WriteDevice p
+    → (records : List (List (List ℕ))) × BeginIn d.delimiter (length d.types) how text records × IsPartDivided d records before after p
 
 -- records of rows of a text, below this many names, that are those of one piece of it
 pub record StandInPiece (d names block : ℕ) (how : Reading) (text : List ℕ) (records : List (List (List ℕ))) : Type 0 where

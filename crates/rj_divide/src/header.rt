@@ -1,6 +1,6 @@
 //! The header of rows with their places.
 
-ghost use Rattle.std.specs.Prelude.{◌≡◌, ◌≢◌, ◌<◌, ◌-◌, ◌^◌, [], Ok, Err, map, length, All, IfErr, IfOk, OnOk};
+ghost use Rattle.std.specs.Prelude.{◌≡◌, ◌≢◌, ◌<◌, ◌-◌, ◌^◌, ℕ, [], Ok, Err, map, length, All, IfErr, IfOk, OnOk};
 ghost use Rattle.csv.specs.Writing.{row_text};
 ghost use Rattle.rj_columns.specs.Names.{empty_table};
 ghost use Rattle.rj_columns.specs.Tables.{TableValue};
@@ -9,7 +9,8 @@ ghost use Rattle.rj_csv_io.specs.Shown.{writer_of};
 ghost use Rattle.rj_csv_io.specs.Tables.{of_begun};
 ghost use Rattle.rj_strict.specs.Grammar.{comma};
 ghost use Rattle.rj_divide.specs.Divisions.{counts_after};
-ghost use Rattle.rj_divide.specs.Headers.{HaveText, IsHeaderFault, header_text, names_with, types_with};
+ghost use Rattle.rj_divide.specs.declared.refused.DivideRefused.{DivideRefused};
+ghost use Rattle.rj_divide.specs.Headers.{HaveText, HaveTextBefore, IsHeaderFault, header_text, names_with, types_with};
 
 use crate::refused::DivideRefused;
 use rj_columns::{BuildRefused, ColumnType, Table, TableBuilder};
@@ -133,7 +134,8 @@ fn header_of(alloc: Global, table: &Table, name: &str) -> Result<Vec<u8>, Divide
 /// # Errors
 ///
 /// Why the columns don't make a table, as reading a file with this header would report it;
-/// `WriteDevice` if an output failed; `Memory`. Some outputs may have got the header by then.
+/// `Memory`; nothing is put then. Else `WriteDevice` if an output failed; those before it have got
+/// the header, and those after it are as they were.
 pub fn write_headers<O: Output>(
     alloc: Global,
     table: &Table,
@@ -147,6 +149,8 @@ pub fn write_headers<O: Output>(
     ensures counts { map O.count outputs.new ≡ counts_after result (map O.count outputs.old) }
     ensures writes { OnOk result (All (λ o. O.count o < 2 ^ 64 - 1) outputs.new) }
     ensures fault { IfErr result (IsHeaderFault table.now name.now (length outputs.old)) }
+    ensures untouched { IfErr result (λ e. ((p : ℕ) → e ≢ DivideRefused.WriteDevice p) → outputs.new ≡ outputs.old) }
+    ensures before { (p : ℕ) → result ≡ Err (DivideRefused.WriteDevice p) → HaveTextBefore p (header_text table.now name.now) (map O.told outputs.old) (map O.told outputs.new) }
 {
     let text = match header_of(alloc, table, name) {
         Ok(text) => text,

@@ -6,7 +6,7 @@ ghost use Rattle.rj_columns.specs.Tables.{TableValue};
 ghost use Rattle.rj_csv_io.specs.Pieces.{piece_records};
 ghost use Rattle.rj_csv_io.specs.Tables.{is_null_text};
 ghost use Rattle.rj_csv_io.specs.Typed.{null_texts};
-ghost use Rattle.rj_divide.specs.Divisions.{IsDivided, after_rows, counts_after, dividing, table_begun, written_null};
+ghost use Rattle.rj_divide.specs.Divisions.{IsDivided, IsPartlyDivided, after_rows, counts_after, dividing, table_begun, written_null};
 ghost use Rattle.rj_divide.specs.Readings.{IsAfterReading, IsFaultBehind, IsHeaderRefusal, IsReadingFault, fault_behind, row_told};
 
 use crate::refused::DivideRefused;
@@ -87,6 +87,8 @@ pub(crate) fn divide_records<O: Output, R: Route>(
     requires failures { All (λ o. O.count o < 2 ^ 64 - 1) outputs.old }
     ensures divided { IfOk result (λ n. IsDivided (after_rows before (dividing R.part division.now)) (piece_records division.now.delimiter is_first text.now)
         (map O.told outputs.old) (map O.told outputs.new) n) }
+    ensures partly { IfErr result (IsPartlyDivided (after_rows before (dividing R.part division.now)) (piece_records division.now.delimiter is_first text.now)
+        (map O.told outputs.old) (map O.told outputs.new)) }
     ensures read { IfErr result IsAfterReading }
     ensures few { IfOk result (λ n. before + n < 2 ^ 62) }
     ensures counts { map O.count outputs.new ≡ counts_after result (map O.count outputs.old) }

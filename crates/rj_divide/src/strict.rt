@@ -9,9 +9,9 @@ ghost use Rattle.rj_csv_io.specs.Pieces.{piece_records};
 ghost use Rattle.rj_csv_io.specs.Tables.{is_null_text};
 ghost use Rattle.rj_csv_io.specs.Typed.{null_texts};
 ghost use Rattle.rj_divide.specs.Blocks.{strict_behind};
-ghost use Rattle.rj_divide.specs.Divisions.{IsDivided, after_rows, counts_after, dividing, table_begun, written_null};
+ghost use Rattle.rj_divide.specs.Divisions.{IsDivided, IsPartlyDivided, after_rows, counts_after, dividing, table_begun, written_null};
 ghost use Rattle.rj_divide.specs.Readings.{IsAfterReading, IsFaultBehind, IsHeaderRefusal};
-ghost use Rattle.rj_divide.specs.Texts.{IsPieceFault, IsTextDivided};
+ghost use Rattle.rj_divide.specs.Texts.{HaveFirstRows, IsPieceFault, IsTextDivided};
 ghost use Rattle.rj_strict.specs.Faults.{row_at};
 ghost use Rattle.rj_strict.specs.Grammar.{Derives, File, records_of};
 ghost use Rattle.rj_strict.specs.declared.header.Header.TheVariants.{Above};
@@ -76,6 +76,8 @@ fn divide_derived<W: Route, O: Output>(
     ensures fault { IfErr result (λ e. (t : TableValue) (full : Bool) (file : File) → table_begun division.now ≡ Ok t
         → Derives division.now.delimiter (Above (length division.now.types.now)) full text.now file
         → IsFaultBehind (dividing W.part division.now) before (length outputs.old) (records_of file) e) }
+    ensures partly { IfErr result (λ e. (full : Bool) (file : File) → Derives division.now.delimiter (Above (length division.now.types.now)) full text.now file
+        → IsPartlyDivided (after_rows before (dividing W.part division.now)) (records_of file) (map O.told outputs.old) (map O.told outputs.new) e) }
     ensures few { IfOk result (λ n. before + n < 2 ^ 62) }
     ensures counts { map O.count outputs.new ≡ counts_after result (map O.count outputs.old) }
     ensures writes { OnOk result (All (λ o. O.count o < 2 ^ 64 - 1) outputs.new) }
@@ -111,8 +113,9 @@ fn divide_derived<W: Route, O: Output>(
 /// If no rows come before, the reason why the header and the types don't make a table, as
 /// `Header::table` reports it; the outputs are unchanged then. Else the first error of the piece:
 /// of its rows, or the place where it stops being of the grammar, below rows without an error; its
-/// row counts from the text's first one. Or `TooLong`; or `WriteDevice` if an output failed. The
-/// outputs may have got rows. `Memory` may come in place of each of these.
+/// row counts from the text's first one. Or `TooLong`; or `WriteDevice` if an output failed.
+/// `Memory` may come in place of each of these. Each output but the one that failed has its rows
+/// among the first rows of the piece.
 pub fn divide_piece<W: Route, O: Output>(
     alloc: Global,
     division: &Division<'_, W>,
@@ -129,6 +132,7 @@ pub fn divide_piece<W: Route, O: Output>(
     ensures divided { IfOk result (IsTextDivided (after_rows before (dividing W.part division.now)) reading text.now (map O.told outputs.old) (map O.told outputs.new)) }
     ensures fault { IfErr result (λ e. (t : TableValue) → table_begun division.now ≡ Ok t
         → IsPieceFault (dividing W.part division.now) reading text.now before (length outputs.old) e) }
+    ensures partly { IfErr result (HaveFirstRows (after_rows before (dividing W.part division.now)) reading text.now (map O.told outputs.old) (map O.told outputs.new)) }
     ensures few { IfOk result (λ n. before + n < 2 ^ 62) }
     ensures counts { map O.count outputs.new ≡ counts_after result (map O.count outputs.old) }
     ensures writes { OnOk result (All (λ o. O.count o < 2 ^ 64 - 1) outputs.new) }

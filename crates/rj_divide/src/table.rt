@@ -5,7 +5,7 @@ ghost use Rattle.std.specs.Io.KnownBytes.{Appends};
 ghost use Rattle.rj_csv_io.specs.Shown.{rows_text, shown};
 ghost use Rattle.rj_csv_io.specs.Tables.{is_null_text};
 ghost use Rattle.rj_strict.specs.Grammar.{comma};
-ghost use Rattle.rj_divide.specs.Divisions.{AreAppended, IsPutFault, counts_after};
+ghost use Rattle.rj_divide.specs.Divisions.{AreAppended, ArePartlyAppended, IsPutFault, counts_after};
 ghost use Rattle.rj_divide.specs.Placed.{rows_at};
 
 use crate::grouped::group_rows;
@@ -32,6 +32,7 @@ fn put_rows<O: Output>(
     requires failures { O.count output.old < 2 ^ 64 - 1 }
     ensures ok { OnOk result (Appends (O.told output.old) (O.told output.new)
         (rows_text comma (map (map (shown null.now)) (rows_at table.now.rows first rows.now)))) }
+    ensures memory { result ≡ Err WriteRefused.Memory → output.new ≡ output.old }
     ensures device { result ≡ Err WriteRefused.WriteDevice → O.count output.new ≡ O.count output.old + 1 }
     ensures kept { result ≢ Err WriteRefused.WriteDevice → O.count output.new ≡ O.count output.old }
 {
@@ -66,6 +67,7 @@ pub(crate) fn divide_table<O: Output, R: Route>(
     ensures divided { OnOk result (AreAppended null.now (R.part route.now) first table.now.rows (map O.told outputs.old) (map O.told outputs.new)) }
     ensures counts { map O.count outputs.new ≡ counts_after result (map O.count outputs.old) }
     ensures fault { IfErr result (IsPutFault (length outputs.old)) }
+    ensures partly { IfErr result (ArePartlyAppended null.now (R.part route.now) first table.now.rows (map O.told outputs.old) (map O.told outputs.new)) }
 {
     let Ok(grouped) = group_rows(alloc, table, route) else {
         return Err(DivideRefused::Memory);

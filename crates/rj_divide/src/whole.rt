@@ -8,7 +8,7 @@ ghost use Rattle.rj_csv_io.specs.Tables.{is_null_text};
 ghost use Rattle.rj_csv_io.specs.Typed.{null_texts};
 ghost use Rattle.rj_divide.specs.Divisions.{counts_after, dividing, table_begun, written_null};
 ghost use Rattle.rj_divide.specs.Readings.{IsHeaderRefusal, reads_after};
-ghost use Rattle.rj_divide.specs.Texts.{IsDivisionFault, IsTextDivided};
+ghost use Rattle.rj_divide.specs.Texts.{HaveFirstRows, IsDivisionFault, IsTextDivided};
 ghost use Rattle.rj_divide.specs.Underway.{Beginning, IsUnderway};
 ghost use Rattle.rj_divide.specs.declared.reading.Reading.{Reading};
 
@@ -60,6 +60,8 @@ fn divide_next<I: Input, O: Output, R: Route>(
     ensures fault { let d = dividing R.part division.now in IfErr result (λ e. (t : TableValue) (reading : Reading) (begin : Beginning) (n : ℕ)
         → table_begun division.now ≡ Ok t → IsUnderway d reading begin (I.tells input.old) rest.old (map O.told outputs.old) n
         → IsDivisionFault d block reading begin.text (length outputs.old) e) }
+    ensures partly { let d = dividing R.part division.now in IfErr result (λ e. (reading : Reading) (begin : Beginning) (n : ℕ)
+        → IsUnderway d reading begin (I.tells input.old) rest.old (map O.told outputs.old) n → HaveFirstRows d reading begin.text begin.told (map O.told outputs.new) e) }
     ensures begins { OnOk result ((t : TableValue) × (table_begun division.now ≡ Ok t)) }
     ensures refusal { IfErr result (λ e. (b : BuildRefused) → table_begun division.now ≡ Err b → rest.old.rows ≡ 0 → IsHeaderRefusal b e) }
     ensures untouched { (b : BuildRefused) → table_begun division.now ≡ Err b → outputs.new ≡ outputs.old }
@@ -98,9 +100,9 @@ fn divide_next<I: Input, O: Output, R: Route>(
 /// The reason why the header and the types don't make a table, as [`rj_csv_io::Header::table`]
 /// reports it; the outputs are unchanged then. Else the first error of the text, whatever its pieces
 /// are: of its rows, or, if it is read strictly, the place where it stops being of the grammar; its
-/// row counts from the text's first one. Or `TooLong`; or `WriteDevice` if an output failed. The
-/// outputs may have got rows. `ReadDevice` (the device that gives bytes failed) and `Memory` may
-/// come in place of each of these.
+/// row counts from the text's first one. Or `TooLong`; or `WriteDevice` if an output failed.
+/// `ReadDevice` (the device that gives bytes failed) and `Memory` may come in place of each of
+/// these. Each output but the one that failed has its rows among the first rows of the text.
 pub fn divide<I: Input, O: Output, R: Route>(
     alloc: Global,
     input: &mut I,
@@ -125,6 +127,10 @@ pub fn divide<I: Input, O: Output, R: Route>(
     // this
     ensures fault { IfErr result (λ e. (t : TableValue) → table_begun division.now ≡ Ok t
         → IfSome (I.tells input.old) (λ text. IsDivisionFault (dividing R.part division.now) block reading text (length outputs.old) e)) }
+
+    // and each output but the one that failed has its rows among the first ones
+    ensures partly { IfErr result (λ e. IfSome (I.tells input.old) (λ text.
+        HaveFirstRows (dividing R.part division.now) reading text (map O.told outputs.old) (map O.told outputs.new) e)) }
 
     // if they don't, nothing is divided, and the reason is reported
     ensures begins { OnOk result ((t : TableValue) × (table_begun division.now ≡ Ok t)) }

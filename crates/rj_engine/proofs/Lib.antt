@@ -29,5 +29,6 @@ pub mod SelectedNames
 pub mod Repeats
 pub mod GroupFacts
 pub mod RunFacts
+pub mod EndFacts
 pub mod LoneRows
 pub mod CountFacts

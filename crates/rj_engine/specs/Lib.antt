@@ -14,6 +14,7 @@ pub mod Naming
 pub mod Selected
 pub mod Chosen
 pub mod Shown
+pub mod Ends
 pub mod Violations
 pub mod KeyGroups
 pub mod Reports

@@ -3,7 +3,10 @@ pub mod FurtherFacts
 pub mod HintFacts
 pub mod InputFacts
 pub mod JoinFacts
+pub mod KeyFacts
+pub mod LookFacts
 pub mod NameFacts
+pub mod NearFacts
 pub mod PlaceFacts
 pub mod SelectedFacts
 pub mod ShownFacts

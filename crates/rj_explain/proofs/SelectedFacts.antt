@@ -25,13 +25,13 @@ name-among only new f none one more (o ∷ []) = ap (option_map (λ o. new_or_ow
 name-among only new f none one more (o ∷ (p ∷ columns)) = ap (option_map (λ o. new_or_own new (f o))) (more o p columns)
 
 -- how many columns are meant
-pub one-meant : (names : List (List ℕ)) (files repeated words : List ℕ) → 1 ≤ length names → length names < 2 → words ≡ repeated
-    → IsWhy names files repeated words
-one-meant [] files repeated words some few told = absurd (omega arith)
-one-meant (own ∷ []) files repeated words some few told = told
-one-meant (own ∷ (other ∷ names)) files repeated words some few told = absurd (omega arith)
+pub one-meant : (names : List (List ℕ)) (unknown : List ℕ → Type 0) (files repeated words : List ℕ) → 1 ≤ length names → length names < 2 → words ≡ repeated
+    → IsWhy names unknown files repeated words
+one-meant [] unknown files repeated words some few told = absurd (omega arith)
+one-meant (own ∷ []) unknown files repeated words some few told = told
+one-meant (own ∷ (other ∷ names)) unknown files repeated words some few told = absurd (omega arith)
 
-pub both-meant : (names : List (List ℕ)) (files repeated words : List ℕ) → 2 ≤ length names → words ≡ both_words → IsWhy names files repeated words
-both-meant [] files repeated words many told = absurd (omega arith)
-both-meant (own ∷ []) files repeated words many told = absurd (omega arith)
-both-meant (own ∷ (other ∷ names)) files repeated words many told = told
+pub both-meant : (names : List (List ℕ)) (unknown : List ℕ → Type 0) (files repeated words : List ℕ) → 2 ≤ length names → words ≡ both_words → IsWhy names unknown files repeated words
+both-meant [] unknown files repeated words many told = absurd (omega arith)
+both-meant (own ∷ []) unknown files repeated words many told = absurd (omega arith)
+both-meant (own ∷ (other ∷ names)) unknown files repeated words many told = told

@@ -1,6 +1,7 @@
 -- The lines for each error, by what was read. The words are those of `Lines`. No lines mean that
 -- there is no such place.
-use Rattle.std.specs.Prelude.{ℕ, ◌≡◌, ◌<◌, ◌⊎◌, ◌-◌, ◌==◌, Bool, false, true, List, [], ◌∷◌, codes, length, take, Option, None, Some, MatchOption, ◌++◌, Result, Ok, Err, if◌then◌else◌, slice_get}
+use Rattle.std.specs.Prelude.{ℕ, ◌≡◌, ◌<◌, ◌⊎◌, ◌-◌, ◌==◌, Bool, false, true, List, [], ◌∷◌, codes, length, map, take, Option, None, Some, MatchOption, ◌++◌, Result, Ok, Err, if◌then◌else◌, is_none, slice_get}
+use Rattle.std.specs.List.{find, list_all}
 use Rattle.std.specs.declared.alloc.Global.{Global}
 use Rattle.std.specs.declared.vec.Vec.{Vec}
 use Rattle.csv.specs.Reading.{records, strip_bom}
@@ -11,6 +12,7 @@ use Rattle.rj_condition.specs.Bound.{bound}
 use Rattle.rj_condition.specs.Clauses.{HasClause}
 use Rattle.rj_condition.specs.Mismatches.{HasNoMismatch, IsMismatch}
 use Rattle.rj_condition.specs.Refusals.{IsRefusedColumn, IsTaken}
+use Rattle.rj_condition.specs.Splits.{keys_of}
 use Rattle.rj_condition.specs.declared.bound.BoundJoin.{BoundJoin}
 use Rattle.rj_condition.specs.declared.refused.BindRefused.{BindRefused}
 use Rattle.rj_condition.specs.declared.refused.BindRefused.TheVariants as refused
@@ -33,15 +35,17 @@ use Rattle.rj_strict.specs.Reading.{body_of, config_of, quoted}
 use Rattle.rj_settings.specs.declared.choice.SelectedColumn.{SelectedColumn}
 use Rattle.rj_strict.specs.declared.fault.StrictFault.{StrictFault}
 use Rattle.rj_strict.specs.declared.header.Header.TheVariants.{First}
-use Rattle.rj_types.specs.Columns.{types_under}
+use Rattle.rj_types.specs.Columns.{kind_of, types_under}
+use Rattle.rj_types.specs.Lists.{is_place}
 use Rattle.rj_types.specs.declared.entry.TypeEntry.{TypeEntry}
 use Rattle.rj_explain.specs.declared.inputs.Inputs.{Inputs}
 use Rattle.rj_explain.specs.Hints.{file_line, file_side, file_words, separator_line}
-use Rattle.rj_explain.specs.Lines.{both_names_line, cell_of_row, clause_line, columns_line, count_line, grammar_line, mismatch_line, name_line, names_line, null_line, null_rule, ragged_line, repeated_told, row_line, selected_line}
+use Rattle.rj_explain.specs.Lines.{both_names_line, cell_of_row, clause_line, columns_line, count_line, grammar_line, key_text, mismatch_line, name_line, names_line, null_line, null_rule, ragged_line, repeated_told, row_line, selected_line}
 use Rattle.rj_explain.specs.Places.{HasNoRow, IsRow, at_column}
 use Rattle.rj_explain.specs.Selected.{IsWhy, entries_of, meant_by, repeated_words}
 use Rattle.rj_explain.specs.Strict.{IsFaultLine}
 use Rattle.rj_explain.specs.Typed.{typed_text}
+use Rattle.rj_explain.specs.Unknown.{IsEntryUnknown, IsReasonTold, both_names}
 
 -- a side's file, and what is known of the types of its columns
 abbrev pub file_of : Side → Inputs → List ℕ
@@ -79,14 +83,20 @@ abbrev pub names_of : Option Header → List (List ℕ)
 names_of None = []
 names_of (Some header) = names_in header
 
--- Both counts of names and types. No definition says which name has no type.
-abbrev pub IsCountTold : List TypeEntry → List (List ℕ) → List ℕ → Type 0
-IsCountTold entries names lines =
-    (untyped : Option (List ℕ)) × (lines ≡ count_line (length names) (length (types_under entries names)) untyped)
+-- the first name to which a list gives no type: in a list by position the one behind those that have a
+-- type
+abbrev pub first_untyped : List TypeEntry → List (List ℕ) → Option (List ℕ)
+first_untyped entries names =
+    if list_all (λ e. is_place e.label) entries then slice_get names (length entries)
+    else find (λ name. is_none (kind_of entries name)) names
+
+-- both counts of names and types, and that name
+abbrev pub count_told : List TypeEntry → List (List ℕ) → List ℕ
+count_told entries names = count_line (length names) (length (types_under entries names)) (first_untyped entries names)
 
 abbrev pub IsTypeCountTold : Side → Inputs → List ℕ → Type 0
 IsTypeCountTold s inputs lines =
-    ((side_names s inputs ≡ []) × (lines ≡ [])) ⊎ IsCountTold (types_of s inputs) (side_names s inputs) lines
+    ((side_names s inputs ≡ []) × (lines ≡ [])) ⊎ (lines ≡ count_told (types_of s inputs) (side_names s inputs))
 
 -- the names of a header
 abbrev pub IsTypeNameTold : Side → Inputs → List ℕ → Type 0
@@ -139,11 +149,6 @@ abbrev pub IsRaggedTold : Side → ℕ → Inputs → List ℕ → Type 0
 IsRaggedTold s row inputs lines =
     IsToldOfRow s row (λ line names fields. lines ≡ ragged_line line (length fields) (length names)) inputs lines
 
--- a row that is in this many matches, and what is in its key
-abbrev pub IsPairedTold : Side → ℕ → ℕ → Inputs → List ℕ → Type 0
-IsPairedTold s row pairs inputs lines =
-    IsToldOfRow s row (λ line names fields. (key : List ℕ) × (lines ≡ row_line s row pairs line key)) inputs lines
-
 -- the name of a column of a row under the header
 abbrev pub column_name : List (List ℕ) → ℕ → ℕ → Option (List ℕ)
 column_name names row column = if row == 0 then None else at_column column names
@@ -192,7 +197,8 @@ refusal_told _ inputs left right = []
 -- a name of the clause and its byte, more of it, and what is said of the files
 abbrev pub IsToldOfName : RefusedColumn → Inputs → List ℕ → TableValue → TableValue → Type 0
 IsToldOfName found inputs lines left right =
-    (more : List ℕ) × (lines ≡ clause_line found more ++ refusal_told found.refused inputs left right)
+    (more : List ℕ) × IsReasonTold found.refused inputs.request.now.clause.now found (both_names left right) more
+    × (lines ≡ clause_line found more ++ refusal_told found.refused inputs left right)
 
 -- the lines for the first name of the clause that is refused
 abbrev pub IsRefusalTold : Inputs → List ℕ → TableValue → TableValue → Type 0
@@ -223,6 +229,29 @@ IsJoinOf clause left right join = (c : Clause) × HasClause clause c × (bound c
 abbrev pub HasNoJoin : List ℕ → TableValue → TableValue → Type 0
 HasNoJoin clause left right = (join : BoundJoin) → IsJoinOf clause left right join → ⊥
 
+-- the columns of a side's table that are keys of a join, counted from 0
+abbrev pub keys_at : Side → BoundJoin → List ℕ
+keys_at side.Left join = map (λ k. k.0) (keys_of join)
+keys_at side.Right join = map (λ k. k.1) (keys_of join)
+
+-- those of the join that a clause asks of two tables; none if it asks for none
+abbrev pub AreKeysAsked : Side → List ℕ → List ℕ → TableValue → TableValue → Type 0
+AreKeysAsked s clause columns left right =
+    (HasNoJoin clause left right × (columns ≡ []))
+    ⊎ ((join : BoundJoin) × IsJoinOf clause left right join × (columns ≡ keys_at s join))
+
+-- those of the join of both files; none if a file's header makes no table
+abbrev pub AreKeyColumns : Side → Inputs → List ℕ → Type 0
+AreKeyColumns s inputs columns = IsToldOfColumns inputs (AreKeysAsked s inputs.request.now.clause.now columns) columns
+
+-- a row that is in this many matches, and what is in the columns of its key
+abbrev pub IsKeyTold : Side → ℕ → ℕ → Inputs → List ℕ → ℕ → List (List ℕ) → List (List ℕ) → Type 0
+IsKeyTold s row pairs inputs lines line names fields =
+    (columns : List ℕ) × AreKeyColumns s inputs columns × (lines ≡ row_line s row pairs line (key_text names fields columns))
+
+abbrev pub IsPairedTold : Side → ℕ → ℕ → Inputs → List ℕ → Type 0
+IsPairedTold s row pairs inputs lines = IsToldOfRow s row (IsKeyTold s row pairs inputs lines) inputs lines
+
 -- the names under which its chosen columns are written
 pub record AreNamesWritten (request : Request) (left right : TableValue) (names : List (List ℕ)) : Type 0 where
   pub join : BoundJoin
@@ -245,7 +274,7 @@ IsNullTold row column inputs lines = IsToldOfColumns inputs (IsCellOfResultTold 
 -- the words for an entry of a list of columns that is refused, by those before it
 abbrev pub IsRefusedEntry : Inputs → BoundJoin → TableValue → TableValue → List SelectedColumn → SelectedColumn → List ℕ → Type 0
 IsRefusedEntry inputs join left right earlier entry words =
-    IsWhy (meant_by join left right entry) (separators_told inputs left right) (repeated_words join left right earlier (name_of_entry join left right entry)) words
+    IsWhy (meant_by join left right entry) (IsEntryUnknown entry.source entry.name (both_names left right)) (separators_told inputs left right) (repeated_words join left right earlier (name_of_entry join left right entry)) words
 
 -- the line for the entry with this number, counted from 1, if there is one
 abbrev pub IsEntryTold : Inputs → BoundJoin → TableValue → TableValue → List SelectedColumn → ℕ → List ℕ → Type 0

@@ -10,3 +10,4 @@ pub mod Selected
 pub mod Shown
 pub mod Strict
 pub mod Typed
+pub mod Unknown

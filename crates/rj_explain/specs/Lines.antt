@@ -1,6 +1,6 @@
 -- The lines that explain an error, by the places in them.
 use Rattle.std.specs.Prelude.{ℕ, ◌+◌, ◌-◌, ◌==◌, if◌then◌else◌, List, [], ◌∷◌, ◌++◌, codes, decimal, length, map, Option, None, Some, slice_get, slice_index_or}
-use Rattle.std.specs.List.{position_from}
+use Rattle.std.specs.List.{filter_map, flat_map, position_from}
 use Rattle.std.specs.Str.{str_eq_ignore_ascii_case}
 use Rattle.rj_columns.specs.declared.cell.ColumnType.{ColumnType}
 use Rattle.rj_condition.specs.declared.refusals.RefusedColumn.{RefusedColumn}
@@ -78,6 +78,20 @@ names_line names = codes "  the header has " ++ (listed (map shown names) ++ 10 
 -- how many matches a row is in
 abbrev pub pairs_text : ℕ → List ℕ
 pairs_text pairs = if pairs == 0 then codes "no kept pair" else decimal pairs ++ codes " kept pairs"
+
+-- a column's name and a row's field there, if it has both
+abbrev pub field_text : Option (List ℕ) → Option (List ℕ) → Option (List ℕ)
+field_text (Some name) (Some value) = Some (codes " " ++ (shown name ++ (codes " is " ++ shown value)))
+field_text name value = None
+
+-- behind a colon, with commas between
+abbrev pub fields_text : List (List ℕ) → List ℕ
+fields_text [] = []
+fields_text (field ∷ fields) = 58 ∷ (field ++ flat_map (λ f. 44 ∷ f) fields)
+
+-- these columns of a row, counted from 0: their names in the header and the row's fields
+abbrev pub key_text : List (List ℕ) → List (List ℕ) → List ℕ → List ℕ
+key_text names fields columns = fields_text (filter_map (λ c. field_text (slice_get names c) (slice_get fields c)) columns)
 
 -- a row that is in this many matches, and what is in its columns
 abbrev pub row_line : Side → ℕ → ℕ → ℕ → List ℕ → List ℕ

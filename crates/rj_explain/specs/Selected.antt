@@ -38,13 +38,13 @@ abbrev pub repeated_words : BoundJoin → TableValue → TableValue → List Sel
 repeated_words join l r earlier None = 10 ∷ []
 repeated_words join l r earlier (Some name) = twice_words name (number_under join l r earlier name)
 
--- The words for an entry, by the names of the columns that it means: if there is none, what may have been
--- meant, and what is said of the files; if there is one, that its name is written twice; and else
--- that both tables have it.
-abbrev pub IsWhy : List (List ℕ) → List ℕ → List ℕ → List ℕ → Type 0
-IsWhy [] files repeated words = (meant : List ℕ) × (words ≡ meant ++ files)
-IsWhy (own ∷ []) files repeated words = words ≡ repeated
-IsWhy (own ∷ (other ∷ names)) files repeated words = words ≡ both_words
+-- The words for an entry, by the names of the columns that it means: if there is none, what is said of such
+-- a name, and of the files; if there is one, that its name is written twice; and else that both tables
+-- have it.
+abbrev pub IsWhy : List (List ℕ) → (List ℕ → Type 0) → List ℕ → List ℕ → List ℕ → Type 0
+IsWhy [] unknown files repeated words = (told : List ℕ) × unknown told × (words ≡ told ++ files)
+IsWhy (own ∷ []) unknown files repeated words = words ≡ repeated
+IsWhy (own ∷ (other ∷ names)) unknown files repeated words = words ≡ both_words
 
 -- What a function says that finds the name of an entry. Internal: no public contract uses it.
 

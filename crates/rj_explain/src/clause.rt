@@ -1,17 +1,20 @@
 //! Names of a clause that are refused.
 
-ghost use Rattle.std.specs.Prelude.{◌≡◌, ◌⊎◌, ℕ, IfOk, List, MatchOption, None, Ok, string_bytes};
+ghost use Rattle.std.specs.Prelude.{◌≡◌, ◌⊎◌, ℕ, Bool, IfOk, List, MatchOption, None, Ok, slice_get, string_bytes};
+ghost use Rattle.std.specs.List.{list_any};
+ghost use Rattle.rj_condition.specs.Names.{matches};
 ghost use Rattle.rj_csv_io.specs.Pieces.{names_in};
 ghost use Rattle.rj_fault.specs.declared.fault.Side.TheVariants as sides;
 ghost use Rattle.rj_explain.specs.Explained.{AreColumns, IsNameTold, IsRefusalTold, IsToldOfName, columns_in, refusal_told, side_names};
 ghost use Rattle.rj_explain.specs.Lines.{clause_line};
+ghost use Rattle.rj_explain.specs.Unknown as unknown;
+ghost use Rattle.rj_explain.specs.Unknown.{IsBareTold, IsBehindTold, IsLackTold, IsReasonTold, IsUnknownTold, both_names, is_quoted_at, name_found, no_side_words, side_meant, table_at};
 
 use crate::hints::separator_lines;
 use crate::inputs::Inputs;
-use crate::names::nearest;
 use crate::shown::Shown;
 use crate::unknown::{
-    IN_BOTH, side_of_case, words_of_case, words_of_neither, words_of_side, words_of_table,
+    IN_BOTH, side_of_case, words_of_case, words_of_lacking, words_of_neither, words_of_table,
 };
 use rj_columns::Table;
 use rj_condition::{BindRefused, Name, RefusedColumn, Word, refused_column};
@@ -21,6 +24,9 @@ use std::alloc::{AllocError, Global};
 
 // The most bytes of a clause.
 const LONGEST: usize = 65_536;
+
+// What is said of a name that occurs twice in USING.
+const NAMED_BEFORE: &str = "; the column is named before\n";
 
 // The table without rows whose columns are those of this header of a side's file, if there is one.
 fn table_under(
@@ -63,7 +69,9 @@ pub(crate) struct BothColumns {
 
 impl BothColumns {
     /// Those of a side.
-    pub(crate) fn of(&self, side: Side) -> &Table {
+    pub(crate) fn of(&self, side: Side) -> &Table
+        ensures { result.now ≡ table_at side self.now.left self.now.right }
+    {
         match side {
             Side::Left => &self.left,
             Side::Right => &self.right,
@@ -99,14 +107,23 @@ fn name_line(alloc: Global, found: &RefusedColumn, words: &str) -> Result<String
     format!(in alloc; "  {name} at byte {at} of the clause{words}")
 }
 
-// The words for a name after a qualifier that is no table's name. If it differs from one by its
-// case alone, it is delimited.
-fn words_of_no_table(alloc: Global, qualifier: &str) -> Result<String, AllocError> {
-    let why = if qualifier.eq_ignore_ascii_case("L") || qualifier.eq_ignore_ascii_case("R") {
+// What is said of a qualifier that is no table's name. If it differs from one by its case alone, it is
+// delimited.
+fn why_no_side(qualifier: &str) -> &'static str
+    ensures { result.now ≡ unknown.why_no_side qualifier.now }
+{
+    if qualifier.eq_ignore_ascii_case("L") || qualifier.eq_ignore_ascii_case("R") {
         ": between double quotes a name matches exactly"
     } else {
         ""
-    };
+    }
+}
+
+// The words for a name after such a qualifier.
+fn words_of_no_table(alloc: Global, qualifier: &str) -> Result<String, AllocError>
+    ensures { IfOk result (λ s. string_bytes s ≡ no_side_words qualifier.now) }
+{
+    let why = why_no_side(qualifier);
     let qualifier = Shown {
         bytes: qualifier.as_bytes(),
     };
@@ -114,14 +131,16 @@ fn words_of_no_table(alloc: Global, qualifier: &str) -> Result<String, AllocErro
 }
 
 // The table that a qualifier names. Unless it is delimited, case is ignored.
-fn side_of(qualifier: &str, delimited: bool) -> Option<Side> {
-    match qualifier {
-        "L" => Some(Side::Left),
-        "R" => Some(Side::Right),
-        "l" if !delimited => Some(Side::Left),
-        "r" if !delimited => Some(Side::Right),
-        _ => None,
+fn side_of(qualifier: &str, delimited: bool) -> Option<Side>
+    ensures { result ≡ side_meant qualifier.now delimited }
+{
+    if qualifier == "L" || (qualifier == "l" && !delimited) {
+        return Some(Side::Left);
     }
+    if qualifier == "R" || (qualifier == "r" && !delimited) {
+        return Some(Side::Right);
+    }
+    None
 }
 
 // Whether a delimited name and a point come before a byte of a clause.
@@ -135,11 +154,37 @@ fn is_behind_delimited(clause: &str, at: u64) -> bool {
     }
 }
 
+// The byte of a clause at a place, if there is one.
+fn byte_at(clause: &str, at: u64) -> Option<u8>
+    ensures { result ≡ slice_get clause.now at }
+{
+    clause.as_bytes().get(at as usize).copied()
+}
+
 // Whether a delimited name begins at a byte of a clause.
-fn is_delimited_at(clause: &str, at: u64) -> bool {
-    match clause.as_bytes().get(at as usize) {
-        Some(byte) => *byte == b'"',
+fn is_delimited_at(clause: &str, at: u64) -> bool
+    ensures { result ≡ is_quoted_at clause.now at }
+{
+    match byte_at(clause, at) {
+        Some(byte) => byte == b'"',
         None => false,
+    }
+}
+
+// The words for a name behind a qualifier of a side, or of none.
+fn words_behind(
+    alloc: Global,
+    side: Option<Side>,
+    qualifier: &str,
+    name: &str,
+    delimited: bool,
+    columns: &BothColumns,
+) -> Result<String, AllocError>
+    ensures { IfOk result (λ s. IsBehindTold side qualifier.now (both_names columns.now.left columns.now.right) name.now delimited (string_bytes s)) }
+{
+    match side {
+        Some(side) => words_of_table(alloc, columns, side, name, delimited),
+        None => words_of_no_table(alloc, qualifier),
     }
 }
 
@@ -150,19 +195,29 @@ fn words_of_qualified(
     found: &RefusedColumn,
     qualifier: &str,
     columns: &BothColumns,
-) -> Result<String, AllocError> {
-    let delimited = is_behind_delimited(clause, found.at);
-    let Some(side) = side_of(qualifier, delimited) else {
-        return words_of_no_table(alloc, qualifier);
-    };
+) -> Result<String, AllocError>
+    ensures { IfOk result (λ s. (delimited : Bool) × IsBehindTold (side_meant qualifier.now delimited) qualifier.now
+        (both_names columns.now.left columns.now.right) found.now.name (is_quoted_at clause.now found.now.at) (string_bytes s)) }
+{
+    let side = side_of(qualifier, is_behind_delimited(clause, found.at));
     let delimited = is_delimited_at(clause, found.at);
-    words_of_table(alloc, columns, side, found.name.as_str(), delimited)
+    words_behind(
+        alloc,
+        side,
+        qualifier,
+        found.name.as_str(),
+        delimited,
+        columns,
+    )
 }
 
 // Whether a table has a column that a name means.
-fn has_column(table: &Table, name: &Name) -> bool {
+fn has_column(table: &Table, name: &Name) -> bool
+    ensures { result ≡ list_any (matches name.now) table.now.names }
+{
     for column in 0..table.columns() {
-        if name.means(table.name(column).as_bytes()) {
+        let other = table.name(column);
+        if name.means(other.as_bytes()) {
             return true;
         }
     }
@@ -170,7 +225,9 @@ fn has_column(table: &Table, name: &Name) -> bool {
 }
 
 // The side whose table lacks a column that the other one has.
-fn lacking_side(columns: &BothColumns, name: &Name) -> Option<Side> {
+fn lacking_side(columns: &BothColumns, name: &Name) -> Option<Side>
+    ensures { result ≡ unknown.lacking_side (both_names columns.now.left columns.now.right) name.now }
+{
     match (
         has_column(&columns.left, name),
         has_column(&columns.right, name),
@@ -181,30 +238,43 @@ fn lacking_side(columns: &BothColumns, name: &Name) -> Option<Side> {
     }
 }
 
-// What is said of a name without a qualifier that can't be found: in USING one table may have it.
-fn words_of_bare(
+// The words for a name that this side lacks, or both.
+fn words_of_lack(
     alloc: Global,
-    clause: &str,
-    found: &RefusedColumn,
     columns: &BothColumns,
-) -> Result<String, AllocError> {
-    let name = Name {
-        text: Word::new(alloc, found.name.as_str())?,
-        delimited: is_delimited_at(clause, found.at),
-    };
-    let wanted = found.name.as_str();
-    let lacking = lacking_side(columns, &name);
+    lacking: Option<Side>,
+    wanted: &str,
+) -> Result<String, AllocError>
+    ensures { IfOk result (λ s. IsLackTold lacking (both_names columns.now.left columns.now.right) wanted.now (string_bytes s)) }
+{
+    match lacking {
+        Some(side) => words_of_lacking(alloc, columns, side, "lacks it, and has", wanted),
+        None => words_of_neither(alloc, columns, wanted),
+    }
+}
+
+// What is said of a name without a qualifier that can't be found: in USING one table may have it.
+fn words_of_bare(alloc: Global, name: &Name, columns: &BothColumns) -> Result<String, AllocError>
+    ensures { IfOk result (λ s. IsBareTold name.now (both_names columns.now.left columns.now.right) (string_bytes s)) }
+{
+    let wanted = name.text.as_str();
+    let lacking = lacking_side(columns, name);
     if name.delimited {
         if let Some((side, called)) = side_of_case(columns, lacking, wanted) {
             return words_of_case(alloc, side, called);
         }
     }
-    if let Some(side) = lacking {
-        let table = columns.of(side);
-        let meant = nearest(alloc, wanted, table)?;
-        return words_of_side(alloc, side, "lacks it, and has", table, meant);
-    }
-    words_of_neither(alloc, columns, wanted)
+    words_of_lack(alloc, columns, lacking, wanted)
+}
+
+// The name that is refused, as the clause has it.
+fn name_of(alloc: Global, clause: &str, found: &RefusedColumn) -> Result<Name, AllocError>
+    ensures { IfOk result (λ name. name ≡ name_found clause.now found.now) }
+{
+    Ok(Name {
+        text: Word::new(alloc, found.name.as_str())?,
+        delimited: is_delimited_at(clause, found.at),
+    })
 }
 
 // The words for a name that can't be resolved.
@@ -213,10 +283,12 @@ fn words_of_unknown(
     clause: &str,
     found: &RefusedColumn,
     columns: &BothColumns,
-) -> Result<String, AllocError> {
+) -> Result<String, AllocError>
+    ensures { IfOk result (λ s. IsUnknownTold clause.now found.now found.now.qualifier (both_names columns.now.left columns.now.right) (string_bytes s)) }
+{
     match &found.qualifier {
         Some(qualifier) => words_of_qualified(alloc, clause, found, qualifier.as_str(), columns),
-        None => words_of_bare(alloc, clause, found, columns),
+        None => words_of_bare(alloc, &name_of(alloc, clause, found)?, columns),
     }
 }
 
@@ -226,14 +298,15 @@ fn words_of(
     clause: &str,
     found: &RefusedColumn,
     columns: &BothColumns,
-) -> Result<String, AllocError> {
-    let words = match found.refused {
-        BindRefused::UnknownColumn => return words_of_unknown(alloc, clause, found, columns),
-        BindRefused::AmbiguousColumn => IN_BOTH,
-        BindRefused::RepeatedUsing => "; the column is named before\n",
-        BindRefused::TypeMismatch | BindRefused::Memory => "\n",
-    };
-    String::from_str(alloc, words)
+) -> Result<String, AllocError>
+    ensures { IfOk result (λ s. IsReasonTold found.now.refused clause.now found.now (both_names columns.now.left columns.now.right) (string_bytes s)) }
+{
+    match found.refused {
+        BindRefused::UnknownColumn => words_of_unknown(alloc, clause, found, columns),
+        BindRefused::AmbiguousColumn => String::from_str(alloc, IN_BOTH),
+        BindRefused::RepeatedUsing => String::from_str(alloc, NAMED_BEFORE),
+        BindRefused::TypeMismatch | BindRefused::Memory => String::from_str(alloc, "\n"),
+    }
 }
 
 // What is said of both files for this reason why a name is refused.
@@ -260,7 +333,8 @@ fn refused_line(
     found: &RefusedColumn,
     columns: &BothColumns,
 ) -> Result<String, AllocError>
-    ensures { IfOk result (λ s. (more : List ℕ) × (string_bytes s ≡ clause_line found.now more)) }
+    ensures { IfOk result (λ s. (more : List ℕ) × IsReasonTold found.now.refused clause.now found.now (both_names columns.now.left columns.now.right) more
+        × (string_bytes s ≡ clause_line found.now more)) }
 {
     let words = words_of(alloc, clause, found, columns)?;
     name_line(alloc, found, words.as_str())

@@ -1,11 +1,13 @@
 //! Names of a header, and type lists that don't fit it.
 
-ghost use Rattle.std.specs.Prelude.{◌≡◌, ◌<◌, IfOk, IfSome, length, map, string_bytes};
-ghost use Rattle.std.specs.List.{position_from};
+ghost use Rattle.std.specs.Prelude.{◌≡◌, ◌<◌, IfOk, IfSome, false, is_none, length, map, string_bytes};
+ghost use Rattle.std.specs.List.{find, list_all, position_from};
 ghost use Rattle.std.specs.Option.{option_copied};
 ghost use Rattle.std.specs.Str.{str_eq_ignore_ascii_case};
 ghost use Rattle.rj_csv_io.specs.Pieces.{names_in};
-ghost use Rattle.rj_explain.specs.Explained.{IsCountTold, IsTypeCountTold, IsTypeNameTold, side_names};
+ghost use Rattle.rj_types.specs.Columns.{kind_of};
+ghost use Rattle.rj_types.specs.Lists.{is_place};
+ghost use Rattle.rj_explain.specs.Explained.{IsTypeCountTold, IsTypeNameTold, count_told, first_untyped, side_names};
 ghost use Rattle.rj_explain.specs.Lines as lines;
 ghost use Rattle.rj_explain.specs.Lines.{repeated_at, repeated_told};
 ghost use Rattle.rj_explain.specs.Places.{at_column};
@@ -103,11 +105,38 @@ pub(crate) fn repeated_name_lines(
     }
 }
 
-fn are_places(entries: &[TypeEntry]) -> bool {
+fn are_places(entries: &[TypeEntry]) -> bool
+    ensures { result ≡ list_all (λ e. is_place e.label) entries.now }
+{
     entries.iter().all(|entry| match entry.label {
         Label::Place => true,
         _ => false,
     })
+}
+
+// Whether no entry of a list by name gives a column of this name a type.
+fn is_untyped(alloc: Global, entries: &[TypeEntry], name: &[u8]) -> Result<bool, AllocError>
+    requires { list_all (λ e. is_place e.label) entries.now ≡ false }
+    ensures { IfOk result (λ b. b ≡ is_none (kind_of entries.now name.now)) }
+{
+    Ok(types_under(alloc, entries, &[name])?.is_empty())
+}
+
+// The first name to which a list by name gives no type.
+fn first_unnamed<'h>(
+    alloc: Global,
+    entries: &[TypeEntry],
+    names: &[&'h [u8]],
+) -> Result<Option<&'h [u8]>, AllocError>
+    requires { list_all (λ e. is_place e.label) entries.now ≡ false }
+    ensures { IfOk result (λ o. option_copied o ≡ find (λ name. is_none (kind_of entries.now name)) (map (λ n. n.now) names.now)) }
+{
+    for i in 0..names.len() {
+        if is_untyped(alloc, entries, names[i])? {
+            return Ok(Some(names[i]));
+        }
+    }
+    Ok(None)
 }
 
 // The first name without a type in a list.
@@ -115,19 +144,13 @@ fn first_untyped<'h>(
     alloc: Global,
     entries: &[TypeEntry],
     names: &[&'h [u8]],
-) -> Result<Option<&'h [u8]>, AllocError> {
+) -> Result<Option<&'h [u8]>, AllocError>
+    ensures { IfOk result (λ o. option_copied o ≡ first_untyped entries.now (map (λ n. n.now) names.now)) }
+{
     if are_places(entries) {
-        return match names.get(entries.len()) {
-            Some(name) => Ok(Some(*name)),
-            None => Ok(None),
-        };
+        return Ok(names.get(entries.len()).copied());
     }
-    for i in 0..names.len() {
-        if types_under(alloc, entries, &names[i..i + 1])?.is_empty() {
-            return Ok(Some(names[i]));
-        }
-    }
-    Ok(None)
+    first_unnamed(alloc, entries, names)
 }
 
 // The line with the numbers of names and types, and the first name without a type.
@@ -156,7 +179,7 @@ fn lines_of_count(
     entries: &[TypeEntry],
     names: &[&[u8]],
 ) -> Result<String, AllocError>
-    ensures { IfOk result (λ s. IsCountTold entries.now (map (λ n. n.now) names.now) (string_bytes s)) }
+    ensures { IfOk result (λ s. string_bytes s ≡ count_told entries.now (map (λ n. n.now) names.now)) }
 {
     let types = types_under(alloc, entries, names)?.len();
     let untyped = first_untyped(alloc, entries, names)?;

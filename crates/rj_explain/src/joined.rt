@@ -1,15 +1,17 @@
 //! Columns of the result, and rows that are in more matches than expected.
 
-ghost use Rattle.std.specs.Prelude.{◌≡◌, ◌-◌, IfOk, IfSome, IsErr, List, MatchOption, Ok, ℕ, map, slice_get, string_bytes, true};
+ghost use Rattle.std.specs.Prelude.{◌≡◌, ◌-◌, ◌++◌, IfOk, IfSome, IsErr, List, MatchOption, Ok, OnOk, ℕ, map, option_map, slice_get, string_bytes, true};
+ghost use Rattle.std.specs.Option.{option_copied, option_to_list};
 ghost use Rattle.rj_condition.specs.Fits.{fits};
+ghost use Rattle.rj_csv_io.specs.Pieces.{names_in};
 ghost use Rattle.rj_engine.specs.Naming.{chosen_names};
-ghost use Rattle.rj_explain.specs.Explained.{AreNamesWritten, HasNoJoin, HasNoNames, IsCellOfResultTold, IsJoinOf, IsNullTold, IsPairedTold};
+ghost use Rattle.rj_explain.specs.Explained.{AreKeyColumns, AreKeysAsked, AreNamesWritten, HasNoJoin, HasNoNames, IsCellOfResultTold, IsJoinOf, IsKeyTold, IsNullTold, IsPairedTold, keys_at};
 ghost use Rattle.rj_explain.specs.Lines as lines;
+ghost use Rattle.rj_explain.specs.Lines.{fields_text};
 
 use crate::cells::{HeaderAndRow, find_both};
 use crate::clause::{BothColumns, columns_of_both};
 use crate::inputs::Inputs;
-use crate::row::field_at;
 use crate::shown::Shown;
 use rj_columns::Table;
 use rj_condition::{BindRefused, BoundJoin, ParseRefused, bind, one_clause, parse, split};
@@ -148,7 +150,9 @@ pub(crate) fn null_text_lines(
 }
 
 // The columns of a side's table, counted from 0, that are keys of a join.
-fn keys_on(alloc: Global, join: &BoundJoin, side: Side) -> Result<Vec<usize>, AllocError> {
+fn keys_on(alloc: Global, join: &BoundJoin, side: Side) -> Result<Vec<usize>, AllocError>
+    ensures { IfOk result (λ v. v.items ≡ keys_at side join.now) }
+{
     let split = split(alloc, join)?;
     match side {
         Side::Left => split.left_columns(alloc),
@@ -162,7 +166,9 @@ fn keys_of_join(
     inputs: &Inputs<'_, '_>,
     columns: &BothColumns,
     side: Side,
-) -> Result<Vec<usize>, AllocError> {
+) -> Result<Vec<usize>, AllocError>
+    ensures { IfOk result (λ v. AreKeysAsked side inputs.now.request.now.clause.now v.items columns.now.left columns.now.right) }
+{
     match join_of(alloc, inputs.request.clause, &columns.left, &columns.right)? {
         Some(join) => keys_on(alloc, &join, side),
         None => Ok(Vec::new(alloc)),
@@ -170,36 +176,60 @@ fn keys_of_join(
 }
 
 // The same, if both tables have columns.
-fn key_columns(
-    alloc: Global,
-    inputs: &Inputs<'_, '_>,
-    side: Side,
-) -> Result<Vec<usize>, AllocError> {
+fn key_columns(alloc: Global, inputs: &Inputs<'_, '_>, side: Side) -> Result<Vec<usize>, AllocError>
+    ensures { IfOk result (λ v. AreKeyColumns side inputs.now v.items) }
+{
     match columns_of_both(alloc, inputs)? {
         Some(columns) => keys_of_join(alloc, inputs, &columns, side),
         None => Ok(Vec::new(alloc)),
     }
 }
 
-// The names of these columns, counted from 0, and what stands under each in a row.
-fn fields_text(
+// What is at a column, counted from 0, if there is something.
+fn field_in<'f>(fields: &[&'f [u8]], column: usize) -> Option<&'f [u8]>
+    ensures { option_copied result ≡ slice_get (map (λ f. f.now) fields.now) column }
+{
+    fields.get(column).copied()
+}
+
+// The name of a column, and what is under it in a row, if the row has it.
+fn field_text(
     alloc: Global,
-    found: &HeaderAndRow,
-    columns: &[usize],
-) -> Result<String, AllocError> {
+    name: Option<&[u8]>,
+    field: Option<&[u8]>,
+) -> Result<Option<String>, AllocError>
+    ensures { IfOk result (λ o. option_map string_bytes o ≡ lines.field_text (option_copied name.entry) (option_copied field.entry)) }
+{
+    let (Some(name), Some(field)) = (name, field) else {
+        return Ok(None);
+    };
+    let (name, field) = (Shown { bytes: name }, Shown { bytes: field });
+    Ok(Some(format!(in alloc; " {name} is {field}")?))
+}
+
+// Adds one of several to a text, if there is one.
+fn push_field(text: &mut String, field: Option<String>) -> Result<(), AllocError>
+    ensures { (told : List (List ℕ)) → string_bytes text.old ≡ fields_text told
+        → OnOk result (string_bytes text.new ≡ fields_text (told ++ option_to_list (option_map string_bytes field))) }
+{
+    let Some(field) = field else {
+        return Ok(());
+    };
+    text.push_str(if text.is_empty() { ":" } else { "," })?;
+    text.push_str(field.as_str())
+}
+
+// The names of these columns, counted from 0, and what is under each in a row.
+fn key_text_of(alloc: Global, found: &HeaderAndRow, columns: &[usize]) -> Result<String, AllocError>
+    ensures { IfOk result (λ s. string_bytes s ≡ lines.key_text (names_in found.now.header.record) (names_in found.now.row.record) columns.now) }
+{
+    let names = found.header.record.names(alloc)?;
+    let fields = found.row.record.names(alloc)?;
     let mut text = String::new(alloc);
     for column in columns {
-        let at = (*column as u64).saturating_add(1);
-        let (Some(name), Some(value)) = (
-            field_at(alloc, &found.header.record, at)?,
-            field_at(alloc, &found.row.record, at)?,
-        ) else {
-            continue;
-        };
-        let sign = if text.is_empty() { ":" } else { "," };
-        let (name, value) = (Shown { bytes: name }, Shown { bytes: value });
-        let more = format!(in alloc; "{sign} {name} is {value}")?;
-        text.push_str(more.as_str())?;
+        let name = field_in(names.as_slice(), *column);
+        let field = field_in(fields.as_slice(), *column);
+        push_field(&mut text, field_text(alloc, name, field)?)?;
     }
     Ok(text)
 }
@@ -229,15 +259,18 @@ fn paired_line(
     format!(in alloc; "  {side} row {row}, line {line} of the file, is in {pairs}{key}\n")
 }
 
-// What stands in the key's columns of a row at hand.
+// What is in the key's columns of a row at hand.
 fn key_text(
     alloc: Global,
     inputs: &Inputs<'_, '_>,
     found: &HeaderAndRow,
     side: Side,
-) -> Result<String, AllocError> {
+) -> Result<String, AllocError>
+    ensures { IfOk result (λ s. (columns : List ℕ) × AreKeyColumns side inputs.now columns
+        × (string_bytes s ≡ lines.key_text (names_in found.now.header.record) (names_in found.now.row.record) columns)) }
+{
     let columns = key_columns(alloc, inputs, side)?;
-    fields_text(alloc, found, columns.as_slice())
+    key_text_of(alloc, found, columns.as_slice())
 }
 
 // What is told of a row at hand.
@@ -249,7 +282,8 @@ fn lines_of_paired(
     row: u64,
     pairs: u64,
 ) -> Result<String, AllocError>
-    ensures { IfOk result (λ s. (key : List ℕ) × (string_bytes s ≡ lines.row_line side row pairs found.now.row.line key)) }
+    ensures { IfOk result (λ s. IsKeyTold side row pairs inputs.now (string_bytes s) found.now.row.line
+        (names_in found.now.header.record) (names_in found.now.row.record)) }
 {
     let key = key_text(alloc, inputs, found, side)?;
     paired_line(alloc, side, row, pairs, found.row.line, key.as_str())

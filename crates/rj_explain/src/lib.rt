@@ -3,8 +3,8 @@
 //!
 //! A line is a function of the error and of what was read. The definitions in `specs/` fix its
 //! content: the lines of a file, the columns, names and fields, the bytes of a clause, and the
-//! words around them. Only tested are the words for a name that means no column, for a text that
-//! isn't a clause, and for an invalid entry of a type list.
+//! words around them. Only tested are the words for a text that isn't a clause and for an invalid
+//! entry of a type list.
 #![tactic(auto)]
 
 mod cells;

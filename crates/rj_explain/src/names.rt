@@ -1,9 +1,9 @@
 //! Names of columns: those that a header has, and the one that may have been meant.
 
-ghost use Rattle.std.specs.Prelude.{◌≡◌, ◌≤◌, ◌==◌, [], if◌then◌else◌, codes, IfOk, IfSome, Some, length, take};
+ghost use Rattle.std.specs.Prelude.{◌≡◌, ◌≤◌, ◌==◌, [], if◌then◌else◌, codes, IfOk, Some, length, take};
 ghost use Rattle.std.specs.Fmt.{WritesOnOk};
 ghost use Rattle.std.specs.Option.{option_copied};
-ghost use Rattle.rj_explain.specs.Names.{AreEdits, IsNear, lowered};
+ghost use Rattle.rj_explain.specs.Names.{AreEdits, IsMeant, lowered};
 ghost use Rattle.rj_explain.specs.Shown.{listed, meant_text, names_text};
 
 use crate::shown::Shown;
@@ -66,7 +66,7 @@ fn distance(alloc: Global, from: &str, to: &str) -> Result<usize, AllocError>
 }
 
 /// The name of a table that is nearest to another one: at most two edits away, and at most half as
-/// many as the other one has bytes.
+/// many as the other one has bytes. Of several it is the first one.
 ///
 /// # Errors
 ///
@@ -76,7 +76,7 @@ pub(crate) fn nearest<'t>(
     wanted: &str,
     table: &'t Table,
 ) -> Result<Option<&'t str>, AllocError>
-    ensures { IfOk result (λ o. IfSome o (λ name. IsNear wanted.now name.now)) }
+    ensures { IfOk result (λ o. IsMeant wanted.now table.now.names (option_copied o)) }
 {
     let mut found = None;
     let mut least = (wanted.len() / 2).min(2) + 1;

@@ -12,6 +12,7 @@ ghost use Rattle.rj_explain.specs.Explained.{IsEntryTold, IsRefusedEntry, IsSele
 ghost use Rattle.rj_explain.specs.Lines.{selected_line, twice_words};
 ghost use Rattle.rj_explain.specs.Selected as selected;
 ghost use Rattle.rj_explain.specs.Selected.{is_alike, meant_by, name_among, number_under, repeated_words};
+ghost use Rattle.rj_explain.specs.Unknown.{IsEntryUnknown, IsTableTold, both_names};
 
 use crate::clause::{BothColumns, columns_of_both};
 use crate::hints::separator_lines;
@@ -169,11 +170,9 @@ fn words_of_repeated(
 }
 
 // The words for a name that no column of the joined table has.
-fn words_of_joined(
-    alloc: Global,
-    columns: &BothColumns,
-    name: &Name,
-) -> Result<String, AllocError> {
+fn words_of_joined(alloc: Global, columns: &BothColumns, name: &Name) -> Result<String, AllocError>
+    ensures { IfOk result (λ s. IsEntryUnknown Source.Joined name.now (both_names columns.now.left columns.now.right) (string_bytes s)) }
+{
     let wanted = name.text.as_str();
     if name.delimited {
         if let Some((side, called)) = side_of_case(columns, None, wanted) {
@@ -183,19 +182,32 @@ fn words_of_joined(
     words_of_neither(alloc, columns, wanted)
 }
 
+// The words for a name that a side's table doesn't have.
+fn words_of_source(
+    alloc: Global,
+    columns: &BothColumns,
+    side: Side,
+    name: &Name,
+) -> Result<String, AllocError>
+    ensures { IfOk result (λ s. IsTableTold side (both_names columns.now.left columns.now.right) name.now.text name.now.delimited (string_bytes s)) }
+{
+    words_of_table(alloc, columns, side, name.text.as_str(), name.delimited)
+}
+
 // The words for an entry that means no column.
 fn words_of_unknown(
     alloc: Global,
     columns: &BothColumns,
     entry: &SelectedColumn,
-) -> Result<String, AllocError> {
+) -> Result<String, AllocError>
+    ensures { IfOk result (λ s. IsEntryUnknown entry.now.source entry.now.name (both_names columns.now.left columns.now.right) (string_bytes s)) }
+{
     let name = &entry.name;
-    let side = match entry.source {
-        Source::Joined => return words_of_joined(alloc, columns, name),
-        Source::Left => Side::Left,
-        Source::Right => Side::Right,
-    };
-    words_of_table(alloc, columns, side, name.text.as_str(), name.delimited)
+    match entry.source {
+        Source::Joined => words_of_joined(alloc, columns, name),
+        Source::Left => words_of_source(alloc, columns, Side::Left, name),
+        Source::Right => words_of_source(alloc, columns, Side::Right, name),
+    }
 }
 
 // The same, and what is said of the files.
@@ -205,7 +217,8 @@ fn words_with_files(
     columns: &BothColumns,
     entry: &SelectedColumn,
 ) -> Result<String, AllocError>
-    ensures { IfOk result (λ s. (words : List ℕ) × (string_bytes s ≡ words ++ separators_told inputs.now columns.now.left columns.now.right)) }
+    ensures { IfOk result (λ s. (words : List ℕ) × IsEntryUnknown entry.now.source entry.now.name (both_names columns.now.left columns.now.right) words
+        × (string_bytes s ≡ words ++ separators_told inputs.now columns.now.left columns.now.right)) }
 {
     let mut words = words_of_unknown(alloc, columns, entry)?;
     let more = separator_lines(alloc, inputs, &columns.left, &columns.right)?;

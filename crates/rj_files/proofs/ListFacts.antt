@@ -1,10 +1,11 @@
 -- Words with the lists of files in their places, one by one.
-use Rattle.std.proofs.Common.{◌≡◌, ◌≢◌, ◌∙◌, ◌+◌, ◌++◌, ◌∷◌, [], ℕ, Bor, List, ap, append_assoc, arith, false, inl, inr, length, map, ne_eqb, refl, subst, sym, true}
-use Rattle.std.specs.Prelude.{Err, IfErr, MatchOption, None, Option, Result, Some, string_bytes}
+use Rattle.std.proofs.Common.{◌≡◌, ◌≢◌, ◌∙◌, ◌+◌, ◌++◌, ◌∷◌, [], ℕ, Bor, List, ap, append_assoc, arith, drop, false, inl, inr, length, map, ne_eqb, refl, subst, sym, true}
+use Rattle.std.specs.Prelude.{Err, IfErr, IfSome, MatchOption, None, Option, Result, Some, string_bytes}
 use Rattle.std.proofs.lemmas.List.{map-append}
 use Rattle.std.specs.declared.alloc.Global.{Global}
 use Rattle.std.specs.declared.string.String.{String}
-use Rattle.rj_files.specs.Labels.{AreReadWords, IsListsFault, IsReadWord, IsWordFault, NameFile, file_label, is_file, label_of}
+use Rattle.rj_files.specs.Labels.{AreReadWords, IsListsFault, IsReadWord, IsWordFault, NameFile, file_label, is_file, label_of, named_file, unread_name}
+use Rattle.rj_files.specs.Told.{IsKept, OptionalText}
 use Rattle.rj_fault.specs.declared.fault.Fault.{Fault}
 use Rattle.rj_files.specs.declared.reading.FileLabel.{FileLabel}
 
@@ -17,6 +18,12 @@ pub file-found : (value : List ℕ) (r : Option (Bor (List ℕ))) → MatchOptio
     → MatchOption r (is_file value ≡ false) (λ name. is_file value ≡ true)
 file-found value None none = no_file value none
 file-found value (Some name) is = ap is_file is
+
+-- the name there
+pub name-found : (value : List ℕ) (r : Option (Bor (List ℕ))) → MatchOption r ((name : List ℕ) → value ≢ 64 ∷ name) (λ name. value ≡ 64 ∷ name.now)
+    → IfSome r (λ name. name.now ≡ drop 1 value)
+name-found value None none = tt
+name-found value (Some name) is = sym (ap (drop 1) is)
 
 -- the label of the last word, or this one if there is none
 abbrev pub last_label : Option FileLabel → List (List ℕ) → Option FileLabel
@@ -35,8 +42,8 @@ read-snoc before (x ∷ words) [] w r all one = absurd all
 read-snoc before (x ∷ words) (y ∷ read) w r all one = (all.0, read-snoc (label_of x) words read w r all.1 one)
 
 named : (before : Option FileLabel) (words rest : List (List ℕ)) (w : List ℕ) (l : FileLabel) → file_label (last_label before words) w ≡ Some l
-    → NameFile before (words ++ w ∷ rest) l
-named before [] rest w l e = inl e
+    → NameFile before (words ++ w ∷ rest) l (named_file (last_label before words) w)
+named before [] rest w l e = inl (e, refl)
 named before (x ∷ words) rest w l e = inr (named (label_of x) words rest w l e)
 
 -- one more word
@@ -53,14 +60,21 @@ next-read words read label w r all e one =
     (subst (λ (l : Option FileLabel). IsReadWord l (string_bytes w) (string_bytes r)) e one))
 
 -- why the first of the further words can't be had
-pub next-fault : (words rest all : List (String Global)) (label : Option FileLabel) (w : String Global) (f : Fault)
-    → words ++ w ∷ rest ≡ all → label ≡ last_label None (map string_bytes words) → IsWordFault label (string_bytes w) f
-    → IsListsFault (map string_bytes all) f
-next-fault words rest all label w f is e (inl memory) = inl memory
-next-fault words rest all label w f is e (inr (l, names, why)) =
+pub next-fault : (words rest all : List (String Global)) (label : Option FileLabel) (w : String Global) (f : Fault) (file : OptionalText)
+    → words ++ w ∷ rest ≡ all → label ≡ last_label None (map string_bytes words) → IsWordFault label (string_bytes w) f file
+    → IsListsFault (map string_bytes all) f file
+next-fault words rest all label w f file is e (inl memory) = inl memory
+next-fault words rest all label w f file is e (inr (l, names, why, kept)) =
+    let before = last_label None (map string_bytes words) in
     let here = subst (λ (b : Option FileLabel). file_label b (string_bytes w) ≡ Some l) e names in
     let there = named None (map string_bytes words) (map string_bytes rest) (string_bytes w) l here in
-    inr (l, subst (λ (ws : List (List ℕ)). NameFile None ws l) (sym (map-append string_bytes words (w ∷ rest)) ∙ ap (map string_bytes) is) there, why)
+    inr (
+      l,
+      named_file before (string_bytes w),
+      subst (λ (ws : List (List ℕ)). NameFile None ws l (named_file before (string_bytes w))) (sym (map-append string_bytes words (w ∷ rest)) ∙ ap (map string_bytes) is) there,
+      why,
+      subst (λ (b : Option FileLabel). IsKept file (unread_name (named_file b (string_bytes w)) f)) e kept,
+    )
 
 -- an iterator that moves on by one item
 pub next-rest : {A : Type 0} (xs ys zs all : List A) (y : A) → ys ≡ y ∷ zs → xs ++ ys ≡ all → (xs ++ y ∷ []) ++ zs ≡ all

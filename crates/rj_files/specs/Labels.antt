@@ -1,10 +1,11 @@
 -- The errors of a file, by whose file it is.
-use Rattle.std.specs.Prelude.{◌≡◌, ◌⊎◌, ◌==◌, ◌++◌, ◌∷◌, [], ℕ, Bool, false, List, MatchOption, Option, None, Some, codes, if◌then◌else◌}
+use Rattle.std.specs.Prelude.{◌≡◌, ◌⊎◌, ◌==◌, ◌++◌, ◌∷◌, [], ℕ, Bool, false, List, MatchOption, Option, None, Some, codes, drop, if◌then◌else◌}
 use Rattle.std.specs.List.{after_first, before_first}
 use Rattle.std.specs.Str.{bytes_eq}
 use Rattle.rj_fault.specs.declared.fault.Fault.{Fault}
 use Rattle.rj_fault.specs.declared.fault.Fault.TheVariants as fault
 use Rattle.rj_fault.specs.declared.fault.Side.TheVariants as side
+use Rattle.rj_files.specs.Told.{IsKept, OptionalText}
 use Rattle.rj_files.specs.declared.reading.FileLabel.{FileLabel}
 use Rattle.rj_files.specs.declared.reading.FileLabel.TheVariants as label
 
@@ -43,6 +44,17 @@ abbrev pub file_label : Option FileLabel → List ℕ → Option FileLabel
 file_label None word = if is_file (after_first (λ b. b == 61) word) then label_of (before_first (λ b. b == 61) word) else None
 file_label (Some l) word = if is_file word then Some l else None
 
+-- the name of that file
+abbrev pub named_file : Option FileLabel → List ℕ → List ℕ
+named_file None word = drop 1 (after_first (λ b. b == 61) word)
+named_file (Some l) word = drop 1 word
+
+-- the name that an error of a file of types has: the file's, if it can't be read
+abbrev pub unread_name : List ℕ → Fault → Option (List ℕ)
+unread_name name (fault.ReadDevice s) = Some name
+unread_name name fault.SharedReadDevice = Some name
+unread_name name f = None
+
 -- what stays of such a word before the list
 abbrev pub kept_of : Option FileLabel → List ℕ → List ℕ
 kept_of None word = before_first (λ b. b == 61) word ++ codes "="
@@ -58,15 +70,23 @@ AreReadWords before [] (r ∷ read) = ⊥
 AreReadWords before (w ∷ words) [] = ⊥
 AreReadWords before (w ∷ words) (r ∷ read) = IsReadWord before w r × AreReadWords (label_of w) words read
 
--- one of these words names a file with types of these tables
-abbrev pub NameFile : Option FileLabel → List (List ℕ) → FileLabel → Type 0
-NameFile before [] l = ⊥
-NameFile before (w ∷ words) l = (file_label before w ≡ Some l) ⊎ NameFile (label_of w) words l
+-- one of these words names this file with types of these tables
+abbrev pub NameFile : Option FileLabel → List (List ℕ) → FileLabel → List ℕ → Type 0
+NameFile before [] l name = ⊥
+NameFile before (w ∷ words) l name = ((file_label before w ≡ Some l) × (named_file before w ≡ name)) ⊎ NameFile (label_of w) words l name
 
--- why a word can't be had with the list of the file that it names
-abbrev pub IsWordFault : Option FileLabel → List ℕ → Fault → Type 0
-IsWordFault before word f = (f ≡ fault.Memory) ⊎ ((l : FileLabel) × (file_label before word ≡ Some l) × IsListFault l f)
+-- memory ran out, and no file is named
+abbrev pub IsMemoryFault : Fault → OptionalText → Type 0
+IsMemoryFault f file = (f ≡ fault.Memory) × IsKept file None
+
+-- why a word can't be had with the list of the file that it names, and the name that the error has
+abbrev pub IsWordFault : Option FileLabel → List ℕ → Fault → OptionalText → Type 0
+IsWordFault before word f file =
+    IsMemoryFault f file
+    ⊎ ((l : FileLabel) × (file_label before word ≡ Some l) × IsListFault l f × IsKept file (unread_name (named_file before word) f))
 
 -- why the words of a line can't be had with the lists of the files that they name
-abbrev pub IsListsFault : List (List ℕ) → Fault → Type 0
-IsListsFault words f = (f ≡ fault.Memory) ⊎ ((l : FileLabel) × NameFile None words l × IsListFault l f)
+abbrev pub IsListsFault : List (List ℕ) → Fault → OptionalText → Type 0
+IsListsFault words f file =
+    IsMemoryFault f file
+    ⊎ ((l : FileLabel) × (name : List ℕ) × NameFile None words l name × IsListFault l f × IsKept file (unread_name name f))

@@ -14,3 +14,4 @@ pub mod Streams
 pub mod Telling
 pub mod Terminals
 pub mod Texts
+pub mod Told

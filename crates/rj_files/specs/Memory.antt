@@ -96,17 +96,13 @@ told_of q files s (Some c) = members_text q files s c
 abbrev pub sizes_text : Request → FileSizes → Sizes → List ℕ
 sizes_text q files s = told_of q files s s.members
 
--- the line for an error of the second reading: none, unless memory ran out once more
-abbrev pub again_text : Fault → List ℕ
-again_text fault.Memory = tables_text
-again_text _ = []
-
--- What is told beside the files: the sizes of the tables and of their joined table, or an error for
--- which these can't be had.
+-- What is told beside the files: that memory ran out once more; nothing, if the tables or the
+-- clause have another error; or the sizes of the tables and of their joined table.
 abbrev pub IsMoreTold : Inputs → List ℕ → Type 0
 IsMoreTold inputs more =
-    ((f : Fault) × (f ≢ fault.Memory → IsFirstFault false inputs.left.now inputs.right.now inputs.request.now f) × (more ≡ again_text f))
-    ⊎ ((s : Sizes) × AreSizes inputs.left.now inputs.right.now inputs.request.now s × (more ≡ sizes_text inputs.request.now (sizes_of inputs) s))
+    (more ≡ tables_text)
+    ⊎ (((f : Fault) × (f ≢ fault.Memory) × IsFirstFault false inputs.left.now inputs.right.now inputs.request.now f × (more ≡ []))
+    ⊎ ((s : Sizes) × AreSizes inputs.left.now inputs.right.now inputs.request.now s × (more ≡ sizes_text inputs.request.now (sizes_of inputs) s)))
 
 -- the lines behind its own, when two files were joined, or the rows of their joined table counted
 abbrev pub IsMemoryTold : Bool → Inputs → List ℕ → Type 0

@@ -1,7 +1,7 @@
 //! What is said of the only file of `--suggest-types`: how it is read, why it can't be, and what may
 //! be wrong with it.
 
-ghost use Rattle.std.specs.Prelude.{◌≡◌, None, false};
+ghost use Rattle.std.specs.Prelude.{◌≡◌, None, Ok, false};
 
 use crate::explained::ExplainedFault;
 use crate::reading::Stream;
@@ -104,7 +104,7 @@ pub(crate) fn explained_alone(
     fault: Fault,
 ) -> ExplainedFault
     ensures fault { result.fault ≡ fault }
-    ensures unasked { asked.explain ≡ false → result.lines ≡ None }
+    ensures unasked { asked.explain ≡ false → result.lines ≡ Ok None }
 {
     if !asked.explain {
         return ExplainedFault::from(fault);
@@ -121,7 +121,7 @@ pub(crate) fn unread_alone<S: Stream>(
     fault: Fault,
 ) -> ExplainedFault
     ensures fault { result.fault ≡ fault }
-    ensures unasked { explain ≡ false → result.lines ≡ None }
+    ensures unasked { explain ≡ false → result.lines ≡ Ok None }
 {
     match fault {
         Fault::ReadDevice(_) if explain => {

@@ -1,39 +1,37 @@
 //! Why a run ended without its output, and the lines that explain it.
 
-ghost use Rattle.std.specs.Prelude.{◌≡◌, ◌⊎◌, IfOk, IfErr, None, Some, false, true};
+ghost use Rattle.std.specs.Prelude.{◌≡◌, ◌≢◌, ◌⊎◌, ◌++◌, ℕ, IfOk, IfErr, IfSome, Err, List, MatchOption, None, Ok, Some, codes, false, option_map, string_bytes, true};
 ghost use Rattle.rj_fault.specs.Faults.{IsAskedFor, clap_error_of, status_of};
+ghost use Rattle.rj_files.specs.Told.{IsWithoutSide, kept_text, told_file, told_lines, told_text};
 
 use rj_fault::{Fault, tell};
 use rj_line::Form;
 use std::alloc::{AllocError, Global};
+use std::fmt::{self, Display};
 
 /// Why there is no output, the file that can't be read or written, if that is why, and the lines
-/// that explain it, if there are any. If nobody reads the output any more, nothing is printed of it.
+/// that explain it, if there are any; or that memory ran out for these. If nobody reads the output
+/// any more, nothing is printed of it.
 #[derive(Drop)]
 pub struct ExplainedFault {
     fault: Fault,
-    file: Option<String>,
-    lines: Option<String>,
+    file: Result<Option<String>, AllocError>,
+    lines: Result<Option<String>, AllocError>,
     is_told: bool,
 }
 
 impl From<Fault> for ExplainedFault {
-    ghost from_gives = { λ fault e. (e.fault ≡ fault) × (e.file ≡ None) × (e.lines ≡ None) × (e.is_told ≡ true) };
+    ghost from_gives = { λ fault e. (e.fault ≡ fault) × (e.file ≡ Ok None) × (e.lines ≡ Ok None) × (e.is_told ≡ true) };
 
     fn from(fault: Fault) -> ExplainedFault {
-        ExplainedFault {
-            fault,
-            file: None,
-            lines: None,
-            is_told: true,
-        }
+        ExplainedFault::with_lines(fault, Ok(None))
     }
 }
 
 impl From<AllocError> for ExplainedFault {
     ghost use Rattle.rj_fault.specs.declared.fault.Fault.TheVariants.{Memory};
 
-    ghost from_gives = { λ _ e. (e.fault ≡ Memory) × (e.file ≡ None) × (e.lines ≡ None) × (e.is_told ≡ true) };
+    ghost from_gives = { λ _ e. (e.fault ≡ Memory) × (e.file ≡ Ok None) × (e.lines ≡ Ok None) × (e.is_told ≡ true) };
 
     fn from(_error: AllocError) -> ExplainedFault {
         ExplainedFault::from(Fault::Memory)
@@ -41,34 +39,55 @@ impl From<AllocError> for ExplainedFault {
 }
 
 impl ExplainedFault {
-    /// An error with the lines that explain it, if there was memory for them.
-    pub fn new(fault: Fault, lines: Result<String, AllocError>) -> ExplainedFault
+    /// An error with the lines that explain it, if there are any, or that memory ran out for them.
+    pub(crate) fn with_lines(
+        fault: Fault,
+        lines: Result<Option<String>, AllocError>,
+    ) -> ExplainedFault
         ensures fault { result.fault ≡ fault }
-        ensures lines { IfOk lines (λ text. result.lines ≡ Some text) }
-        ensures none { IfErr lines (λ _. result.lines ≡ None) }
+        ensures file { result.file ≡ Ok None }
+        ensures lines { result.lines ≡ lines }
         ensures told { result.is_told ≡ true }
     {
-        let mut explained = ExplainedFault::from(fault);
-        explained.lines = lines.ok();
-        explained
+        ExplainedFault {
+            fault,
+            file: Ok(None),
+            lines,
+            is_told: true,
+        }
+    }
+
+    /// An error with the lines that explain it, or that memory ran out for them.
+    pub(crate) fn new(fault: Fault, lines: Result<String, AllocError>) -> ExplainedFault
+        ensures fault { result.fault ≡ fault }
+        ensures file { result.file ≡ Ok None }
+        ensures lines { IfOk lines (λ text. result.lines ≡ Ok (Some text)) }
+        ensures none { IfErr lines (λ e. result.lines ≡ Err e) }
+        ensures told { result.is_told ≡ true }
+    {
+        match lines {
+            Ok(text) => ExplainedFault::with_lines(fault, Ok(Some(text))),
+            Err(error) => ExplainedFault::with_lines(fault, Err(error)),
+        }
     }
 
     /// An error of which nothing is printed: whoever reads the output has gone.
     pub(crate) fn unheard(fault: Fault) -> ExplainedFault
         ensures fault { result.fault ≡ fault }
-        ensures lines { result.lines ≡ None }
+        ensures file { result.file ≡ Ok None }
+        ensures lines { result.lines ≡ Ok None }
         ensures told { result.is_told ≡ false }
     {
         ExplainedFault {
             fault,
-            file: None,
-            lines: None,
+            file: Ok(None),
+            lines: Ok(None),
             is_told: false,
         }
     }
 
-    /// The same error, of this file.
-    pub(crate) fn of_file(self, file: Option<String>) -> ExplainedFault
+    /// The same error, of this file, if it is one of a file, or that memory ran out for the name.
+    pub(crate) fn of_file(self, file: Result<Option<String>, AllocError>) -> ExplainedFault
         ensures fault { result.fault ≡ self.fault }
         ensures file { result.file ≡ file }
         ensures lines { result.lines ≡ self.lines }
@@ -109,23 +128,86 @@ impl ExplainedFault {
     }
 }
 
-// Prints the line of an error with the name of its file, and returns the exit status.
-fn tell_of_file<R: Eprint>(rt: &R, fault: &Fault, file: &str) -> u8
-    ensures { result ≡ status_of fault.now }
-{
-    let _ = eprintln!(rt; "{fault} {file}");
-    fault.status()
+// What is printed of an error: its own text, the name of its file behind it, if that is told, and
+// the lines that explain it.
+#[derive(Drop)]
+struct Told<'a, T> {
+    reason: &'a T,
+    file: Option<&'a str>,
+    lines: &'a str,
 }
 
-// Prints the line of an error, in the short form with the name of its file, and returns the exit
-// status, as [`tell_explained`] does.
-fn tell_in<R: Print + Eprint>(rt: &R, reason: &ExplainedFault, form: Form) -> u8
-    ensures { (result ≡ status_of reason.now.fault) ⊎ (IsAskedFor (clap_error_of reason.now.fault) × (result ≡ status_of Fault.WriteDevice)) }
-{
-    match (form, &reason.file) {
-        (Form::Short, Some(file)) => tell_of_file(rt, &reason.fault, file.as_str()),
-        _ => tell(rt, &reason.fault),
+impl<T: Display> Display for Told<'_, T> {
+    ghost output = { λ t. told_text (T.output t.reason.now) (option_map (λ name. name.now) t.file) t.lines.now };
+
+    fn fmt<W: fmt::Write>(&self, f: &mut fmt::Formatter<W>) -> fmt::Result {
+        let (reason, lines) = (self.reason, self.lines);
+        match self.file {
+            Some(file) => write!(f, "{reason} {file}\n{lines}"),
+            None => write!(f, "{reason}\n{lines}"),
+        }
     }
+}
+
+// A text, if there is one, and memory didn't run out for it.
+fn kept_text(text: &Result<Option<String>, AllocError>) -> Option<&str>
+    ensures { option_map (λ t. t.now) result ≡ kept_text text.now }
+{
+    match text {
+        Ok(Some(text)) => Some(text.as_str()),
+        Ok(None) | Err(_) => None,
+    }
+}
+
+// The file that a form of the command line tells.
+fn told_file(reason: &ExplainedFault, form: Form) -> Option<&str>
+    ensures { option_map (λ name. name.now) result ≡ told_file form reason.now.file }
+{
+    match form {
+        Form::Short => kept_text(&reason.file),
+        Form::Long => None,
+    }
+}
+
+// The lines that explain an error.
+fn told_lines(reason: &ExplainedFault) -> &str
+    ensures { result.now ≡ told_lines reason.now.lines }
+{
+    kept_text(&reason.lines).unwrap_or("")
+}
+
+// What is printed of an error in a form of the command line.
+fn told_in(reason: &ExplainedFault, form: Form) -> Told<'_, Fault>
+    ensures reason { result.reason.now ≡ reason.now.fault }
+    ensures file { option_map (λ name. name.now) result.file ≡ told_file form reason.now.file }
+    ensures lines { result.lines.now ≡ told_lines reason.now.lines }
+{
+    Told {
+        reason: &reason.fault,
+        file: told_file(reason, form),
+        lines: told_lines(reason),
+    }
+}
+
+// What is printed of an error of the only file with this line.
+fn told_alone<'a>(reason: &'a ExplainedFault, line: &'a String) -> Told<'a, String>
+    ensures line { result.reason.now ≡ line.entry.now }
+    ensures file { option_map (λ name. name.now) result.file ≡ None }
+    ensures lines { result.lines.now ≡ told_lines reason.entry.now.lines }
+{
+    Told {
+        reason: line,
+        file: None,
+        lines: told_lines(reason),
+    }
+}
+
+// Prints what is told of an error, and returns the exit status.
+fn print_told<R: Eprint, T: Display>(rt: &R, fault: &Fault, told: &Told<'_, T>) -> u8
+    ensures { result ≡ status_of fault.now }
+{
+    let _ = eprint!(rt; "{told}");
+    fault.status()
 }
 
 /// Prints on standard error why there is no output, and what explains it, unless whoever reads the
@@ -138,36 +220,27 @@ pub fn tell_explained<R: Print + Eprint>(rt: &R, reason: &ExplainedFault, form: 
     if !reason.is_told {
         return reason.fault.status();
     }
-    let status = tell_in(rt, reason, form);
-    if let Some(lines) = &reason.lines {
-        let _ = eprint!(rt; "{lines}");
+    if let Fault::CommandLine(_) = &reason.fault {
+        return tell(rt, &reason.fault);
     }
-    status
+    print_told(rt, &reason.fault, &told_in(reason, form))
 }
 
-// The line of an error of the only file, without its side. None if the error is `clap`'s, or memory
-// ran out.
-fn line_alone(alloc: Global, fault: &Fault) -> Option<String> {
-    if let Fault::CommandLine(_) = fault {
-        return None;
-    }
-    let line = format!(in alloc; "{fault}").ok()?;
-    let (before, behind) = line.split_once(" left")?;
-    format!(in alloc; "{before}{behind}").ok()
-}
-
-// Prints the line of an error of the only file, without its side, and returns the exit status, as
-// [`tell_explained`] does.
-fn tell_alone<R: AllocGlobal + Print + Eprint>(rt: &R, fault: &Fault) -> u8
-    ensures { (result ≡ status_of fault.now) ⊎ (IsAskedFor (clap_error_of fault.now) × (result ≡ status_of Fault.WriteDevice)) }
+// What is before the first side of a text, and behind it.
+fn around_side(line: &str) -> Option<(&str, &str)>
+    ensures { MatchOption result ((before behind : List ℕ) → line.now ≢ before ++ (codes " left" ++ behind))
+        (λ parts. line.now ≡ parts.0.now ++ (codes " left" ++ parts.1.now)) }
 {
-    match line_alone(rt.alloc(), fault) {
-        Some(line) => {
-            let _ = eprintln!(rt; "{line}");
-            fault.status()
-        }
-        None => tell(rt, fault),
-    }
+    line.split_once(" left")
+}
+
+// The text of an error without its first side, if it has one and there is memory for it.
+fn without_side<T: Display>(alloc: Global, reason: &T) -> Option<String>
+    ensures { IfSome result (λ s. IfSome (T.output reason.now) (λ own. IsWithoutSide own (string_bytes s))) }
+{
+    let line = format!(in alloc; "{reason}").ok()?;
+    let (before, behind) = around_side(line.as_str())?;
+    format!(in alloc; "{before}{behind}").ok()
 }
 
 /// Prints on standard error why nothing is said of the only file, as [`tell_explained`] does. There
@@ -175,9 +248,11 @@ fn tell_alone<R: AllocGlobal + Print + Eprint>(rt: &R, fault: &Fault) -> u8
 pub fn tell_explained_alone<R: AllocGlobal + Print + Eprint>(rt: &R, reason: &ExplainedFault) -> u8
     ensures { (result ≡ status_of reason.now.fault) ⊎ (IsAskedFor (clap_error_of reason.now.fault) × (result ≡ status_of Fault.WriteDevice)) }
 {
-    let status = tell_alone(rt, &reason.fault);
-    if let Some(lines) = &reason.lines {
-        let _ = eprint!(rt; "{lines}");
+    if let Fault::CommandLine(_) = &reason.fault {
+        return tell(rt, &reason.fault);
     }
-    status
+    let Some(line) = without_side(rt.alloc(), &reason.fault) else {
+        return tell_explained(rt, reason, Form::Long);
+    };
+    print_told(rt, &reason.fault, &told_alone(reason, &line))
 }

@@ -1,19 +1,21 @@
 //! `--explain`: the lines that are added after the line of an error.
 
-ghost use Rattle.std.specs.Prelude.{◌≡◌, ◌≢◌, ◌↔◌, ◌<◌, ◌++◌, Bool, codes, IfErr, IfOk, IfSome, IsTrue, None, Ok, Some, false, map, nat_eq, option_map, string_bytes, true};
+ghost use Rattle.std.specs.Prelude.{◌≡◌, ◌≢◌, ◌↔◌, ◌<◌, ◌++◌, Bool, codes, IfErr, IfOk, IsTrue, None, Ok, false, map, nat_eq, option_map, string_bytes, true};
 ghost use Rattle.std.specs.IoError.{error_kind};
 ghost use Rattle.std.specs.List.{filter_map, starts_with};
 ghost use Rattle.std.specs.Option.{IsSomeAnd};
 ghost use Rattle.rj_command.specs.Sides.{delimiter_of, nulls_of};
 ghost use Rattle.rj_csv_io.specs.Typed.{null_texts};
+ghost use Rattle.rj_explain.specs.Explained.{file_of};
 ghost use Rattle.rj_explain.specs.Listed.{AreWordsTold};
 ghost use Rattle.rj_line.specs.Line.{IsLineFault, IsLineOf};
 ghost use Rattle.rj_line.specs.Options.{OptionWords, option_rules};
 ghost use Rattle.rj_line.specs.declared.form.Form.{Form};
 ghost use Rattle.rj_files.specs.Asking.{are_quiet, ask_for_lines, has_word, is_quiet, letters, options_in};
 ghost use Rattle.rj_files.specs.Entries.{entry_for, is_entry_for};
-ghost use Rattle.rj_files.specs.Explained.{IsPlaceExplained, IsToldOf};
+ghost use Rattle.rj_files.specs.Explained.{IsPlaceExplained, IsToldOf, IsUndeclaredTold, IsUnexpectedTold, IsViolationTold, undeclared_line};
 ghost use Rattle.rj_files.specs.Texts.{unkept_lines};
+ghost use Rattle.rj_files.specs.Told.{IsThere};
 
 use crate::explained::ExplainedFault;
 use crate::memory::memory_lines;
@@ -99,7 +101,7 @@ pub(crate) fn ask_for_lines(words: &[&str]) -> bool
 // it.
 fn explain_line(alloc: Global, words: &[&str], fault: &Fault) -> Result<Option<String>, AllocError>
     ensures unasked { ask_for_lines (map (λ w. w.now) words.now) ≡ false → result ≡ Ok None }
-    ensures lines { IfOk result (λ o. IfSome o (λ text. AreWordsTold fault.now (map (λ w. w.now) words.now) (Some (string_bytes text)))) }
+    ensures asked { ask_for_lines (map (λ w. w.now) words.now) ≡ true → IfOk result (λ o. AreWordsTold fault.now (map (λ w. w.now) words.now) (option_map string_bytes o)) }
 {
     if !ask_for_lines(words) {
         return Ok(None);
@@ -121,7 +123,8 @@ pub fn processors<R: Threads>(rt: &R) -> usize
 ///
 /// # Errors
 ///
-/// Those of `read_line`. A list of types that is invalid is explained if the words ask for that.
+/// Those of `read_line`. An invalid list or delimiter is explained if the words ask for that, unless
+/// memory runs out for the lines.
 pub fn read_words_of_line<'a>(
     alloc: Global,
     words: &'a [&'a str],
@@ -129,15 +132,16 @@ pub fn read_words_of_line<'a>(
 ) -> Result<Line<'a>, ExplainedFault>
     ensures line { IfOk result (IsLineOf processors (map (λ w. w.now) words.entry.now)) }
     ensures fault { IfErr result (λ e. IsLineFault (map (λ w. w.now) words.entry.now) e.fault) }
-    ensures unasked { ask_for_lines (map (λ w. w.now) words.entry.now) ≡ false → IfErr result (λ e. e.lines ≡ None) }
-    ensures lines { IfErr result (λ e. IfSome e.lines (λ text. AreWordsTold e.fault (map (λ w. w.now) words.entry.now) (Some (string_bytes text)))) }
+    ensures unasked { ask_for_lines (map (λ w. w.now) words.entry.now) ≡ false → IfErr result (λ e. e.lines ≡ Ok None) }
+    ensures asked { ask_for_lines (map (λ w. w.now) words.entry.now) ≡ true
+        → IfErr result (λ e. IfOk e.lines (λ o. AreWordsTold e.fault (map (λ w. w.now) words.entry.now) (option_map string_bytes o))) }
 {
     match read_line(alloc, words, processors) {
         Ok(line) => Ok(line),
-        Err(fault) => match explain_line(alloc, words, &fault) {
-            Ok(Some(lines)) => Err(ExplainedFault::new(fault, Ok(lines))),
-            Ok(None) | Err(_) => Err(ExplainedFault::from(fault)),
-        },
+        Err(fault) => {
+            let lines = explain_line(alloc, words, &fault);
+            Err(ExplainedFault::with_lines(fault, lines))
+        }
     }
 }
 
@@ -146,14 +150,19 @@ fn lines_of_violation(
     alloc: Global,
     inputs: &Inputs<'_, '_>,
     violation: &Violation,
-) -> Result<String, AllocError> {
-    let (side, row, pairs) = match violation {
-        Violation::Rows(rows) => return format!(in alloc; "  the joined table has {rows} rows\n"),
-        Violation::LeftRow(row, pairs) => (Side::Left, *row, *pairs),
-        Violation::RightRow(row, pairs) => (Side::Right, *row, *pairs),
-        Violation::LoneLeft(row) => (Side::Left, *row, 0),
-    };
-    explain_row(alloc, inputs, side, u64::from(row).saturating_add(1), pairs)
+) -> Result<String, AllocError>
+    ensures { IfOk result (λ s. IsViolationTold inputs.now violation.now (string_bytes s)) }
+{
+    match *violation {
+        Violation::Rows(rows) => format!(in alloc; "  the joined table has {rows} rows\n"),
+        Violation::LeftRow(row, pairs) => {
+            explain_row(alloc, inputs, Side::Left, u64::from(row) + 1, pairs)
+        }
+        Violation::RightRow(row, pairs) => {
+            explain_row(alloc, inputs, Side::Right, u64::from(row) + 1, pairs)
+        }
+        Violation::LoneLeft(row) => explain_row(alloc, inputs, Side::Left, u64::from(row) + 1, 0),
+    }
 }
 
 // The lines of a joined table that isn't as expected. It is joined once more, since nothing was
@@ -161,12 +170,16 @@ fn lines_of_violation(
 fn violation_lines<R: AllocGlobal + Threads + Wait + Clock + Sync>(
     rt: &R,
     inputs: &Inputs<'_, '_>,
-) -> Result<String, AllocError> {
+) -> Result<String, AllocError>
+    ensures { IfOk result (λ s. IsUnexpectedTold inputs.now (string_bytes s)) }
+{
     let alloc = rt.alloc();
     let (left, right, request) = (inputs.left, inputs.right, inputs.request);
     match first_violation(rt, alloc, left, right, request, &OpenGate) {
         Ok(Some(violation)) => lines_of_violation(alloc, inputs, &violation),
-        Ok(None) | Err(_) => Ok(String::new(alloc)),
+        Ok(None) => Ok(String::new(alloc)),
+        Err(Fault::Memory) => Err(AllocError),
+        Err(_) => Ok(String::new(alloc)),
     }
 }
 
@@ -183,6 +196,16 @@ fn entry_for<'t>(list: &'t str, name: &str) -> Option<&'t str>
 {
     list.split('\n')
         .find(|entry| is_entry_for(entry.as_bytes(), name.as_bytes()))
+}
+
+// The bytes of a side's table.
+fn file_of<'a>(inputs: &Inputs<'a, '_>, side: Side) -> &'a [u8]
+    ensures { result.now ≡ file_of side inputs.now }
+{
+    match side {
+        Side::Left => inputs.left,
+        Side::Right => inputs.right,
+    }
 }
 
 // How the file of a side's table is read.
@@ -202,26 +225,36 @@ fn format_of<'a>(request: &'a Request<'_>, side: Side) -> InputFormat<'a>
     }
 }
 
-// The line for a column whose type isn't declared: how it is, with the type that its cells suggest.
+// The line for a column whose type isn't declared, with the entry that its cells suggest.
+fn undeclared_line(alloc: Global, side: Side, found: Option<&str>) -> Result<String, AllocError>
+    ensures { IfOk result (λ s. string_bytes s ≡ undeclared_line side (option_map (λ entry. entry.now) found.entry)) }
+{
+    match found {
+        Some(entry) => {
+            format!(in alloc; "  declare its type; its cells suggest --{side}-types '{entry}'\n")
+        }
+        None => format!(in alloc; "  declare its type by --{side}-types\n"),
+    }
+}
+
+// That line for a column of this name, by what the cells of its file suggest.
 fn undeclared_lines(
     alloc: Global,
     side: Side,
     name: &str,
     inputs: &Inputs<'_, '_>,
-) -> Result<String, AllocError> {
-    let file = match side {
-        Side::Left => inputs.left,
-        Side::Right => inputs.right,
+) -> Result<String, AllocError>
+    ensures { IfOk result (λ s. IsUndeclaredTold side name.now inputs.now (string_bytes s)) }
+{
+    let format = format_of(inputs.request, side);
+    let suggestion = match suggest_types(alloc, file_of(inputs, side), &format) {
+        Ok(suggestion) => suggestion,
+        Err(Fault::Memory) => return Err(AllocError),
+        Err(_) => return Ok(String::new(alloc)),
     };
-    let Ok(suggestion) = suggest_types(alloc, file, &format_of(inputs.request, side)) else {
-        return Ok(String::new(alloc));
-    };
-    let list = str::from_utf8(suggestion.list.as_slice()).unwrap_or("");
-    match entry_for(list, name) {
-        Some(entry) => {
-            format!(in alloc; "  declare its type; its cells suggest --{side}-types '{entry}'\n")
-        }
-        None => format!(in alloc; "  declare its type by --{side}-types\n"),
+    match str::from_utf8(suggestion.list.as_slice()) {
+        Ok(list) => undeclared_line(alloc, side, entry_for(list, name)),
+        Err(_) => unreachable!(),
     }
 }
 
@@ -279,7 +312,7 @@ pub(crate) fn explained<R: AllocGlobal + Threads + Wait + Clock + Sync>(
     inputs: &Inputs<'_, '_>,
 ) -> ExplainedFault
     ensures fault { result.fault ≡ fault }
-    ensures lines { IfSome result.lines (λ text. IsToldOf line.now fault inputs.now (string_bytes text)) }
+    ensures lines { IsThere result.lines (IsToldOf line.now fault inputs.now) }
     ensures told { result.is_told ≡ true }
 {
     let lines = lines_of(rt, line, &fault, inputs);
@@ -306,6 +339,7 @@ pub(crate) fn unwritten(
 ) -> ExplainedFault
     ensures fault { result.fault ≡ fault }
     ensures unheard { (result.is_told ≡ false) ↔ ((fault ≡ Fault.WriteDevice) × IsSomeAnd error.now (λ e. error_kind e ≡ ErrorKind.BrokenPipe)) }
+    ensures told { fault ≢ Fault.WriteDevice → result.is_told ≡ true }
 {
     if is_unwritten(&fault) && has_no_reader(error) {
         return ExplainedFault::unheard(fault);

@@ -1,7 +1,8 @@
 //! The file that an error is of.
 
-ghost use Rattle.std.specs.Prelude.{◌≡◌, IfOk, IfSome, Some, option_map, string_bytes};
+ghost use Rattle.std.specs.Prelude.{◌≡◌, option_map};
 ghost use Rattle.rj_files.specs.FaultFiles.{fault_file, table_name};
+ghost use Rattle.rj_files.specs.Told.{IsKept};
 
 use crate::explained::ExplainedFault;
 use crate::named::is_standard_stream;
@@ -57,7 +58,7 @@ fn fault_file<'a>(names: FileNames<'a>, fault: &Fault) -> Option<&'a str>
 
 // A copy of a name.
 fn copied(alloc: Global, name: Option<&str>) -> Result<Option<String>, AllocError>
-    ensures { IfOk result (λ copy. option_map string_bytes copy ≡ option_map (λ name. name.now) name.entry) }
+    ensures { IsKept result (option_map (λ name. name.now) name.entry) }
 {
     match name {
         Some(name) => Ok(Some(String::from_str(alloc, name)?)),
@@ -65,15 +66,14 @@ fn copied(alloc: Global, name: Option<&str>) -> Result<Option<String>, AllocErro
     }
 }
 
-/// The same error, of the file that can't be read or written, if that is why and there was memory
-/// for its name.
+/// The same error, of the file that can't be read or written, if that is why.
 pub(crate) fn with_file(alloc: Global, names: FileNames<'_>, e: ExplainedFault) -> ExplainedFault
     ensures fault { result.fault ≡ e.fault }
     ensures lines { result.lines ≡ e.lines }
     ensures told { result.is_told ≡ e.is_told }
-    ensures file { IfSome result.file (λ file.
-        fault_file names.entry.left.now names.entry.right.now (option_map (λ name. name.now) names.entry.output) e.fault ≡ Some (string_bytes file)) }
+    ensures file { IsKept result.file
+        (fault_file names.entry.left.now names.entry.right.now (option_map (λ name. name.now) names.entry.output) e.fault) }
 {
-    let file = copied(alloc, fault_file(names, e.fault())).unwrap_or(None);
+    let file = copied(alloc, fault_file(names, e.fault()));
     e.of_file(file)
 }

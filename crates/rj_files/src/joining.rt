@@ -1,6 +1,6 @@
 //! What a line asks for of the bytes of two tables: their joined table, or how many rows it has.
 
-ghost use Rattle.std.specs.Prelude.{◌≡◌, ◌≢◌, ◌<◌, ◌-◌, ◌^◌, IfOk, IfErr};
+ghost use Rattle.std.specs.Prelude.{◌≡◌, ◌≢◌, ◌<◌, ◌-◌, ◌^◌, IfOk, IfErr, true};
 ghost use Rattle.rj_files.specs.Streams.{IsAskedFault, WritesAsked};
 
 use crate::explained::ExplainedFault;
@@ -98,6 +98,7 @@ where
     ensures written { IfOk result (WritesAsked line.now tables.left.items tables.right.items (O.told writer.old) (O.told writer.new)) }
     ensures fault { IfErr result (λ e. IsAskedFault line.now tables.left.items tables.right.items e.fault) }
     ensures unchanged { IfErr result (λ e. e.fault ≢ Fault.WriteDevice → writer.new ≡ writer.old) }
+    ensures told { IfErr result (λ e. e.is_told ≡ true) }
 {
     if !line.explain {
         let Tables { left, right } = tables;
@@ -107,10 +108,11 @@ where
         };
     }
     let inputs = tables.inputs(&line.request);
-    match write_bytes(rt, line, progress, inputs.left, inputs.right, writer) {
-        Ok(written) => Ok(written),
-        Err(fault) => Err(explained(rt, line, fault, &inputs)),
-    }
+    let fault = match write_bytes(rt, line, progress, inputs.left, inputs.right, writer) {
+        Ok(written) => return Ok(written),
+        Err(fault) => fault,
+    };
+    Err(explained(rt, line, fault, &inputs))
 }
 
 /// Writes what the line asks for of two tables, and returns the writer.
@@ -132,6 +134,7 @@ where
     ensures written { IfOk result.0 (WritesAsked line.now tables.left.items tables.right.items (W.contents writer) (W.contents result.1)) }
     ensures fault { IfErr result.0 (λ e. IsAskedFault line.now tables.left.items tables.right.items e.fault) }
     ensures unchanged { IfErr result.0 (λ e. e.fault ≢ Fault.WriteDevice → result.1 ≡ writer) }
+    ensures told { IfErr result.0 (λ e. e.fault ≢ Fault.WriteDevice → e.is_told ≡ true) }
 {
     let mut writer = CountedWriter::new(ErrorRecordingWriter::new(WatchedWriter::new(
         progress, writer,

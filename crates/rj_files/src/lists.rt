@@ -1,9 +1,10 @@
 //! Lists of types that are in files: `@FILE` in the place of a list.
 
-ghost use Rattle.std.specs.Prelude.{◌≡◌, ◌==◌, IfErr, IfOk, IfSome, MatchOption, None, false, map, string_bytes, true};
+ghost use Rattle.std.specs.Prelude.{◌≡◌, ◌==◌, IfErr, IfOk, IfSome, MatchOption, None, Ok, Some, drop, false, map, string_bytes, true};
 ghost use Rattle.std.specs.List.{after_first, before_first};
 ghost use Rattle.rj_files.specs.Asking.{ask_for_lines};
-ghost use Rattle.rj_files.specs.Labels.{AreReadWords, IsListFault, IsListsFault, IsReadWord, IsUnreadOf, IsWordFault, bad_list_fault, file_label, is_file, label_of};
+ghost use Rattle.rj_files.specs.Labels.{AreReadWords, IsListFault, IsListsFault, IsReadWord, IsUnreadOf, IsWordFault, bad_list_fault, file_label, is_file, label_of, named_file, unread_name};
+ghost use Rattle.rj_files.specs.Told.{IsKept};
 
 use crate::explained::ExplainedFault;
 use crate::explaining::ask_for_lines;
@@ -38,7 +39,8 @@ fn bad_list(label: FileLabel) -> Fault
 
 // The name of a file, if a value is `@` and such a name.
 fn file_in(value: &str) -> Option<&str>
-    ensures { MatchOption result (is_file value.now ≡ false) (λ _. is_file value.now ≡ true) }
+    ensures file { MatchOption result (is_file value.now ≡ false) (λ _. is_file value.now ≡ true) }
+    ensures name { IfSome result (λ name. name.now ≡ drop 1 value.now) }
 {
     value.strip_prefix('@')
 }
@@ -51,6 +53,29 @@ fn option_in(word: &str) -> Option<(&str, &str)>
     word.split_once('=')
 }
 
+// A file that a word names behind an option of types and `=`.
+#[derive(Clone, Copy)]
+struct NamedFile<'a> {
+    option: &'a str,
+    name: &'a str,
+    label: FileLabel,
+}
+
+// The file that a word names so, if it names one.
+fn named_in(word: &str) -> Option<NamedFile<'_>>
+    ensures { MatchOption result (file_label None word.now ≡ None) (λ f. (file_label None word.now ≡ Some f.label)
+        × (f.option.now ≡ before_first (λ b. b == 61) word.now) × (f.name.now ≡ named_file None word.now)) }
+{
+    let (option, value) = option_in(word)?;
+    let name = file_in(value)?;
+    let label = label_of(option)?;
+    Some(NamedFile {
+        option,
+        name,
+        label,
+    })
+}
+
 // An option with the list that a file has, if the word is such an option, `=` and `@FILE`.
 fn with_list<R: Files + AllocGlobal>(
     rt: &R,
@@ -58,19 +83,20 @@ fn with_list<R: Files + AllocGlobal>(
     explain: bool,
 ) -> Result<Option<String>, ExplainedFault>
     ensures list { IfOk result (λ o. MatchOption o (file_label None word.now ≡ None) (λ s. IsReadWord None word.now (string_bytes s))) }
-    ensures fault { IfErr result (λ e. IsWordFault None word.now e.fault) }
-    ensures unasked { explain ≡ false → IfErr result (λ e. e.lines ≡ None) }
+    ensures fault { IfErr result (λ e. IsWordFault None word.now e.fault e.file) }
+    ensures unasked { explain ≡ false → IfErr result (λ e. e.lines ≡ Ok None) }
 {
-    let Some((option, value)) = option_in(word) else {
+    let Some(
+        NamedFile {
+            option,
+            name,
+            label,
+        },
+    ) = named_in(word)
+    else {
         return Ok(None);
     };
-    let Some(file) = file_in(value) else {
-        return Ok(None);
-    };
-    let Some(label) = label_of(option) else {
-        return Ok(None);
-    };
-    let list = list_of(rt, file, label, explain)?;
+    let list = list_of(rt, name, label, explain)?;
     Ok(Some(format!(in rt.alloc(); "{option}={list}")?))
 }
 
@@ -120,12 +146,14 @@ fn unread_line<R: Files + AllocGlobal>(
 }
 
 // The name of a file, if an error is that it can't be read.
-fn unread_file(alloc: Global, file: &str, fault: &Fault) -> Option<String>
-    ensures { IfSome result (λ name. string_bytes name ≡ file.now) }
+fn unread_name(alloc: Global, file: &str, fault: &Fault) -> Result<Option<String>, AllocError>
+    ensures { IsKept result (unread_name file.now fault.now) }
 {
     match fault {
-        Fault::ReadDevice(_) | Fault::SharedReadDevice => String::from_str(alloc, file).ok(),
-        _ => None,
+        Fault::ReadDevice(_) | Fault::SharedReadDevice => {
+            Ok(Some(String::from_str(alloc, file)?))
+        }
+        _ => Ok(None),
     }
 }
 
@@ -137,10 +165,10 @@ fn unlisted<R: Files + AllocGlobal>(
     explain: bool,
 ) -> ExplainedFault
     ensures fault { result.fault ≡ fault }
-    ensures file { IfSome result.file (λ name. string_bytes name ≡ file.now) }
-    ensures unasked { explain ≡ false → result.lines ≡ None }
+    ensures file { IsKept result.file (unread_name file.now fault) }
+    ensures unasked { explain ≡ false → result.lines ≡ Ok None }
 {
-    let name = unread_file(rt.alloc(), file, &fault);
+    let name = unread_name(rt.alloc(), file, &fault);
     if !explain {
         return ExplainedFault::from(fault).of_file(name);
     }
@@ -156,7 +184,8 @@ fn list_of<R: Files + AllocGlobal>(
     explain: bool,
 ) -> Result<String, ExplainedFault>
     ensures fault { IfErr result (λ e. IsListFault label e.fault) }
-    ensures unasked { explain ≡ false → IfErr result (λ e. e.lines ≡ None) }
+    ensures file { IfErr result (λ e. IsKept e.file (unread_name file.now e.fault)) }
+    ensures unasked { explain ≡ false → IfErr result (λ e. e.lines ≡ Ok None) }
 {
     match read_list(rt, file, label) {
         Ok(list) => Ok(list),
@@ -173,8 +202,8 @@ fn with_its_list<R: Files + AllocGlobal>(
     explain: bool,
 ) -> Result<String, ExplainedFault>
     ensures read { IfOk result (λ s. IsReadWord label (string_bytes word) (string_bytes s)) }
-    ensures fault { IfErr result (λ e. IsWordFault label (string_bytes word) e.fault) }
-    ensures unasked { explain ≡ false → IfErr result (λ e. e.lines ≡ None) }
+    ensures fault { IfErr result (λ e. IsWordFault label (string_bytes word) e.fault e.file) }
+    ensures unasked { explain ≡ false → IfErr result (λ e. e.lines ≡ Ok None) }
 {
     if let Some(label) = label {
         return match file_in(word.as_str()) {
@@ -209,8 +238,8 @@ pub fn read_lists<R: Files + AllocGlobal>(
     words: Vec<String>,
 ) -> Result<Vec<String>, ExplainedFault>
     ensures read { IfOk result (λ v. AreReadWords None (map string_bytes words.items) (map string_bytes v.items)) }
-    ensures fault { IfErr result (λ e. IsListsFault (map string_bytes words.items) e.fault) }
-    ensures unasked { ask_for_lines (map string_bytes words.items) ≡ false → IfErr result (λ e. e.lines ≡ None) }
+    ensures fault { IfErr result (λ e. IsListsFault (map string_bytes words.items) e.fault e.file) }
+    ensures unasked { ask_for_lines (map string_bytes words.items) ≡ false → IfErr result (λ e. e.lines ≡ Ok None) }
 {
     let explain = are_explained(rt.alloc(), words.as_slice())?;
     let mut read = Vec::with_capacity(rt.alloc(), words.len())?;

@@ -182,16 +182,6 @@ fn sizes_lines(
     }
 }
 
-// The line for an error of the second reading: none, unless memory ran out once more.
-fn again_line(alloc: Global, fault: &Fault) -> Result<String, AllocError>
-    ensures { IfOk result (λ s. string_bytes s ≡ memory.again_text fault.now) }
-{
-    match fault {
-        Fault::Memory => String::from_str(alloc, TABLES_TEXT),
-        _ => Ok(String::new(alloc)),
-    }
-}
-
 // The lines behind that for the files. Both tables are read once more for them.
 fn more_lines<R: AllocGlobal + Threads + Sync>(
     rt: &R,
@@ -204,7 +194,8 @@ fn more_lines<R: AllocGlobal + Threads + Sync>(
     let (alloc, request) = (rt.alloc(), inputs.request);
     match early_sizes(rt, alloc, inputs.left, inputs.right, request) {
         Ok(sizes) => sizes_lines(alloc, request, files, &sizes),
-        Err(fault) => again_line(alloc, &fault),
+        Err(Fault::Memory) => String::from_str(alloc, TABLES_TEXT),
+        Err(_) => Ok(String::new(alloc)),
     }
 }
 

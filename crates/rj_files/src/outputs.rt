@@ -1,10 +1,11 @@
 //! Where the result is written: to standard output, or to a file that is none of the tables.
 
-ghost use Rattle.std.specs.Prelude.{◌≡◌, IfOk, IfErr, IfSome, None, OnOk, Some, option_map, string_bytes};
+ghost use Rattle.std.specs.Prelude.{◌≡◌, ◌≢◌, IfOk, IfErr, None, OnOk, option_map, true};
 ghost use Rattle.rj_files.specs.FaultFiles.{fault_file};
 ghost use Rattle.rj_files.specs.Identities.{are_one_file};
 ghost use Rattle.rj_files.specs.Outputs.{AreAccepted, AreStandard, IsInputFault, IsJudged, file_of, input_path, judged, output_path};
 ghost use Rattle.rj_files.specs.Streams.{IsFaultOf, IsWrittenOf};
+ghost use Rattle.rj_files.specs.Told.{IsKept};
 
 use crate::draft::{Draft, Unwritten};
 use crate::explained::ExplainedFault;
@@ -135,7 +136,8 @@ pub fn refuse_printed<I: Identities>(files: &I, name: &str) -> Result<(), Fault>
 
 // The error of an output that can't be made or put in its place, explained if that is asked for.
 fn unplaced(alloc: Global, line: &Line<'_>, refused: Unwritten) -> ExplainedFault
-    ensures { result.fault ≡ refused.fault }
+    ensures fault { result.fault ≡ refused.fault }
+    ensures told { refused.fault ≢ Fault.WriteDevice → result.is_told ≡ true }
 {
     let Unwritten {
         fault,
@@ -176,6 +178,7 @@ where
     S: Stream,
     ensures written { IfOk result (IsWrittenOf line.old (L.tells left.now) (S.tells right.now)) }
     ensures fault { IfErr result (λ e. IsFaultOf line.old (L.tells left.now) (S.tells right.now) e.fault) }
+    ensures told { IfErr result (λ e. e.fault ≢ Fault.WriteDevice → e.is_told ≡ true) }
 {
     let (draft, file) = match Draft::open(rt, name) {
         Ok(opened) => opened,
@@ -208,6 +211,7 @@ where
     S: Stream,
     ensures written { IfOk result (IsWrittenOf line.old (L.tells left.now) (S.tells right.now)) }
     ensures fault { IfErr result (λ e. IsFaultOf line.old (L.tells left.now) (S.tells right.now) e.fault) }
+    ensures told { IfErr result (λ e. e.fault ≢ Fault.WriteDevice → e.is_told ≡ true) }
 {
     match output_of(line) {
         Some(name) => write_file(rt, line, progress, left, right, name),
@@ -226,7 +230,7 @@ where
 ///
 /// Those of [`write_streams`](crate::write_streams). `WriteDevice` also if there can be no such
 /// file. A file that can't be made is reported before anything is read. An error of a file has its
-/// name.
+/// name, and no other error has one, unless memory ran out for it.
 pub fn write_output<R, L, S>(
     rt: &R,
     line: &mut Line<'_>,
@@ -240,8 +244,9 @@ where
     S: Stream,
     ensures written { IfOk result (IsWrittenOf line.old (L.tells left.now) (S.tells right.now)) }
     ensures fault { IfErr result (λ e. IsFaultOf line.old (L.tells left.now) (S.tells right.now) e.fault) }
-    ensures file { IfErr result (λ e. IfSome e.file (λ file.
-        fault_file line.old.left.now line.old.right.now (option_map (λ name. name.now) line.old.output) e.fault ≡ Some (string_bytes file))) }
+    ensures told { IfErr result (λ e. e.fault ≢ Fault.WriteDevice → e.is_told ≡ true) }
+    ensures file { IfErr result (λ e. IsKept e.file
+        (fault_file line.old.left.now line.old.right.now (option_map (λ name. name.now) line.old.output) e.fault)) }
 {
     let names = names_of(line);
     match write_named(rt, line, progress, left, right) {

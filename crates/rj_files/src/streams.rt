@@ -1,6 +1,6 @@
 //! From two streams of bytes to the bytes of their joined table.
 
-ghost use Rattle.std.specs.Prelude.{◌≡◌, ◌≢◌, ◌⊎◌, IfOk, IfErr, string_bytes};
+ghost use Rattle.std.specs.Prelude.{◌≡◌, ◌≢◌, ◌⊎◌, IfOk, IfErr, string_bytes, true};
 ghost use Rattle.rj_files.specs.Streams.{AreBytesOf, IsFaultOf, IsUnread, WritesOf};
 ghost use Rattle.rj_files.specs.Texts.{unread_memory_text};
 
@@ -43,6 +43,7 @@ fn read_side<R: AllocGlobal + Eprint + Clock, S: Stream>(
 ) -> Result<Vec<u8>, ExplainedFault>
     ensures bytes { IfOk result (λ v. AreBytesOf (S.tells stream.now) v.items) }
     ensures fault { IfErr result (λ e. IsUnread side e.fault) }
+    ensures told { IfErr result (λ e. e.is_told ≡ true) }
 {
     let alloc = rt.alloc();
     match read_stream(alloc, stream, side, progress) {
@@ -68,6 +69,7 @@ fn read_both<R: AllocGlobal + Eprint + Clock, L: Stream, S: Stream>(
     ensures left { IfOk result (λ tables. AreBytesOf (L.tells left.now) tables.left.items) }
     ensures right { IfOk result (λ tables. AreBytesOf (S.tells right.now) tables.right.items) }
     ensures fault { IfErr result (λ e. IsUnread Side.Left e.fault ⊎ IsUnread Side.Right e.fault) }
+    ensures told { IfErr result (λ e. e.is_told ≡ true) }
 {
     let left = match read_side(rt, line, progress, left, Side::Left) {
         Ok(bytes) => bytes,
@@ -109,6 +111,7 @@ where
     ensures written { IfOk result.0 (WritesOf line.old (L.tells left.now) (S.tells right.now) (W.contents writer) (W.contents result.1)) }
     ensures fault { IfErr result.0 (λ e. IsFaultOf line.old (L.tells left.now) (S.tells right.now) e.fault) }
     ensures unchanged { IfErr result.0 (λ e. e.fault ≢ Fault.WriteDevice → result.1 ≡ writer) }
+    ensures told { IfErr result.0 (λ e. e.fault ≢ Fault.WriteDevice → e.is_told ≡ true) }
 {
     let tables = match read_both(rt, line, progress, left, right) {
         Ok(tables) => tables,

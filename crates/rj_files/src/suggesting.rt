@@ -1,6 +1,6 @@
 //! From a stream of bytes to the types that its cells suggest.
 
-ghost use Rattle.std.specs.Prelude.{◌≡◌, ◌≢◌, ◌⊎◌, ℕ, List, IfOk, IfErr, None, OnOk, false};
+ghost use Rattle.std.specs.Prelude.{◌≡◌, ◌≢◌, ◌⊎◌, ℕ, List, IfOk, IfErr, None, Ok, OnOk, false};
 ghost use Rattle.rj_csv_io.specs.Typed.{null_texts};
 ghost use Rattle.rj_files.specs.Streams.{AreBytesOf, IsStrictlyUnsuggested, IsSuggestedBy, IsUnsuggested, IsUnsuggestedBy, WritesSuggested, fault_of_refused};
 ghost use Rattle.rj_suggest.specs.Strict.{IsStrictListing};
@@ -84,7 +84,7 @@ fn suggested<R: AllocGlobal + Eprint + Clock, S: Stream>(
     ensures suggestion { IfOk result (λ found. (bytes : List ℕ) × AreBytesOf (S.tells stream.now) bytes
         × IsSuggestedBy asked.listed asked.strict format.now.delimiter bytes (null_texts format.now.nulls.now) found.suggestion) }
     ensures fault { IfErr result (λ e. IsUnsuggested asked.strict format.now.delimiter (null_texts format.now.nulls.now) (S.tells stream.now) e.fault) }
-    ensures unasked { asked.explain ≡ false → IfErr result (λ e. e.lines ≡ None) }
+    ensures unasked { asked.explain ≡ false → IfErr result (λ e. e.lines ≡ Ok None) }
 {
     let alloc = rt.alloc();
     let bytes = match read_stream(alloc, stream, Side::Left, &Progress::hidden(rt)) {
@@ -172,7 +172,7 @@ where
     ensures written { OnOk result.0 (WritesSuggested asked.listed asked.strict format.now.delimiter (null_texts format.now.nulls.now) (S.tells stream.now) (W.contents writer) (W.contents result.1)) }
     ensures fault { IfErr result.0 (λ e. e.fault ≢ Fault.WriteDevice → IsUnsuggested asked.strict format.now.delimiter (null_texts format.now.nulls.now) (S.tells stream.now) e.fault) }
     ensures unchanged { IfErr result.0 (λ e. e.fault ≢ Fault.WriteDevice → result.1 ≡ writer) }
-    ensures unasked { asked.explain ≡ false → IfErr result.0 (λ e. e.lines ≡ None) }
+    ensures unasked { asked.explain ≡ false → IfErr result.0 (λ e. e.lines ≡ Ok None) }
 {
     let found = match suggested(rt, stream, format, asked) {
         Ok(found) => found,

@@ -79,6 +79,10 @@ abbrev pub HeedsHeaders : {T : Type 0} → Result T MergeTextsRefused → List (
 HeedsHeaders result texts =
     (f : MergeRefused) → header_fault texts ≡ Some f → (e : MergeRefused) × (result ≡ Err (texts_refused.Merge e)) × (is_outside e ≡ false → e ≡ f)
 
+-- if a header of texts has an error, an output is as it was
+abbrev pub IsUntouched : {O : Type 0} → O → O → List (List ℕ) → Type 0
+IsUntouched old new texts = (f : MergeRefused) → header_fault texts ≡ Some f → new ≡ old
+
 -- an output got all of a text after what it already had, except the records that still are in a
 -- block, with this delimiter
 pub record IsTold (d : ℕ) (start : Option (List ℕ)) (text : List ℕ) (block : Writer (Vec ℕ Global)) (told : Option (List ℕ)) : Type 0 where

@@ -3,7 +3,7 @@
 ghost use Rattle.std.specs.Prelude.{◌≡◌, ◌≢◌, ◌<◌, ◌+◌, ◌-◌, ◌^◌, ◌⊎◌, true, ℕ, List, Err, IfOk, IfErr, OnOk, OnErr, length, map, vec_len};
 ghost use Rattle.rj_merge.specs.declared.refused.MergeRefused.{MergeRefused};
 ghost use Rattle.rj_merge.specs.Inputs.{copies_of, is_input};
-ghost use Rattle.rj_merge.specs.MergedTexts.{GotMerge, HaveNoFault, HeedsHeaders, IsFaultOfTexts, IsRefusedBy};
+ghost use Rattle.rj_merge.specs.MergedTexts.{GotMerge, HaveNoFault, HeedsHeaders, IsFaultOfTexts, IsRefusedBy, IsUntouched};
 ghost use Rattle.rj_merge.specs.Named.{AreOpened, ForNamed, IsShut};
 ghost use Rattle.rj_merge.specs.Sources.{TellsAmong, is_outside};
 
@@ -106,6 +106,7 @@ pub fn merge_named<P: Opener, O: Output>(
     ensures fault { (e : MergeRefused) → IsRefusedBy result e
         → ForNamed (P.opens opener.now) P.Reader.remaining (map (λ n. n.now) names.now) (λ texts. IsFaultOfTexts how.now copies.now texts e) }
     ensures first { ForNamed (P.opens opener.now) P.Reader.remaining (map (λ n. n.now) names.now) (HeedsHeaders result) }
+    ensures untouched { ForNamed (P.opens opener.now) P.Reader.remaining (map (λ n. n.now) names.now) (IsUntouched output.old output.new) }
     ensures input { (e : MergeRefused) → result ≡ Err (MergeTextsRefused.Merge e) → TellsAmong (is_input (length names.now)) e }
     ensures device { result ≡ Err MergeTextsRefused.WriteDevice → O.count output.new ≡ O.count output.old + 1 }
     ensures kept { result ≢ Err MergeTextsRefused.WriteDevice → O.count output.new ≡ O.count output.old }

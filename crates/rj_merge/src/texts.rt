@@ -10,7 +10,7 @@ ghost use Rattle.rj_merge.specs.declared.place.Placed.{Placed};
 ghost use Rattle.rj_merge.specs.declared.refused.MergeRefused.{MergeRefused};
 ghost use Rattle.rj_merge.specs.Copies.{copied_rows};
 ghost use Rattle.rj_merge.specs.Inputs.{ForTexts, boxed_copies, boxed_number, boxed_reading, boxed_tells, copies_of, is_input};
-ghost use Rattle.rj_merge.specs.MergedTexts.{GotMerge, HaveNoFault, HeedsHeaders, IsFaultOfTexts, IsRefusedBy, head_rows, records_text};
+ghost use Rattle.rj_merge.specs.MergedTexts.{GotMerge, HaveNoFault, HeedsHeaders, IsFaultOfTexts, IsRefusedBy, IsUntouched, head_rows, records_text};
 ghost use Rattle.rj_merge.specs.Merging.{IsFaultOf, faults_of_inputs, lists_of_inputs};
 ghost use Rattle.rj_merge.specs.Sources.{TellsAmong};
 ghost use Rattle.rj_merge.specs.Texts.{others};
@@ -127,9 +127,9 @@ fn begin_block(
 ///
 /// # Errors
 ///
-/// `Merge` with the first error of a header, or else with an error of a text or `RepeatedPlace`;
-/// `Memory` and `ReadDevice` in it come only from the machine. `WriteDevice` if the output failed.
-/// How much was put is unknown then.
+/// `Merge` with the first error of a header, and nothing is put then; or else with an error of a
+/// text or `RepeatedPlace`; `Memory` and `ReadDevice` in it come only from the machine.
+/// `WriteDevice` if the output failed. How much was put is unknown then.
 pub fn merge_texts<R: Read + Drop, O: Output>(
     alloc: Global,
     inputs: Vec<MergeInput<R>>,
@@ -145,6 +145,7 @@ pub fn merge_texts<R: Read + Drop, O: Output>(
     ensures fault { (e : MergeRefused) → IsRefusedBy result e
         → ForTexts R.remaining inputs.items (λ texts. IsFaultOfTexts how.now (copies_of inputs.items) texts e) }
     ensures first { ForTexts R.remaining inputs.items (HeedsHeaders result) }
+    ensures untouched { ForTexts R.remaining inputs.items (IsUntouched output.old output.new) }
     ensures input { (e : MergeRefused) → result ≡ Err (MergeTextsRefused.Merge e) → TellsAmong (is_input (vec_len inputs)) e }
     ensures device { result ≡ Err MergeTextsRefused.WriteDevice → O.count output.new ≡ O.count output.old + 1 }
     ensures kept { result ≢ Err MergeTextsRefused.WriteDevice → O.count output.new ≡ O.count output.old }

@@ -1,6 +1,7 @@
 //! The text of entries of a list of types by name.
 
-ghost use Rattle.std.specs.Prelude.{◌≡◌, ◌++◌, IfOk, IfSome, OnOk, string_bytes};
+ghost use Rattle.std.specs.Prelude.{◌≡◌, ◌++◌, IfNone, IfOk, IfSome, OnOk, false, string_bytes};
+ghost use Rattle.std.specs.Str.{is_utf8};
 ghost use Rattle.rj_suggest.specs.Listed.{list_in};
 ghost use Rattle.rj_suggest.specs.Entries.{entry_line, entry_lines};
 
@@ -38,7 +39,8 @@ fn lines_of_entries(alloc: Global, entries: &[TypeEntry]) -> Result<Vec<u8>, All
 ///
 /// It fails only when memory runs out.
 pub fn list_of_entries(alloc: Global, entries: &[TypeEntry]) -> Result<Option<String>, AllocError>
-    ensures { IfOk result (λ list. IfSome list (λ text. string_bytes text ≡ list_in (entry_lines entries.now))) }
+    ensures list { IfOk result (λ list. IfSome list (λ text. string_bytes text ≡ list_in (entry_lines entries.now))) }
+    ensures none { IfOk result (λ list. IfNone list (is_utf8 (list_in (entry_lines entries.now)) ≡ false)) }
 {
     let lines = lines_of_entries(alloc, entries)?;
     list_of_lines(alloc, lines.as_slice())

@@ -7,15 +7,19 @@ ghost use Rattle.std.specs.List.{concat};
 ghost use Rattle.std.specs.Option.{ForSome};
 ghost use Rattle.rj_csv_io.specs.Shown.{table_text};
 ghost use Rattle.rj_csv_io.specs.Tables.{is_null_text};
+ghost use Rattle.rj_engine.specs.Shown.{IsRunWithin};
 ghost use Rattle.rj_engine.specs.declared.runs.Run.{Run};
 ghost use Rattle.rj_command.specs.declared.join.texts.Share.{Share};
-ghost use Rattle.rj_command.specs.Texts.{AreCounted, AreRunTexts, AreShownOf, AreTextsOf, AreWithin, cells_text, no_table, shown_cells, text_in, whole_text};
+ghost use Rattle.rj_command.specs.Ends.{AreEndsOf};
+ghost use Rattle.rj_command.specs.Texts.{AreCounted, AreRunTexts, AreShownOf, AreTextsOf, AreWithin, HasEnds, cells_text, no_table, run_text, shown_cells, text_in, whole_text};
 
+use crate::join::ends::Ends;
 use rj_columns::Table;
 use rj_csv_io::{
-    Output, OutputFormat, WriteRefused, texts_of_rows, write_rows_in_parts, write_texts,
+    FirstColumns, Output, OutputFormat, RowEnds, WriteRefused, texts_of_rows, texts_with_ends,
+    write_rows_in_parts, write_texts,
 };
-use rj_engine::{Joined, Run, RunView, Shown, cut_runs};
+use rj_engine::{Joined, Run, RunView, Shown, cut_runs, right_rows};
 use rj_fault::texts_of;
 use std::alloc::{AllocError, Global};
 use std::sync::atomic::{AtomicU64, Ordering};
@@ -31,7 +35,8 @@ type Texts = Vec<Vec<u8>>;
 /// What is written of a joined table, but for its left table: the rows that are shown of it, under
 /// these names, with this delimiter and this text for NULL. At most `workers` threads make their
 /// texts, the calling one among them. If the left table is taken apart, the left rows whose texts
-/// are made are added to `made`.
+/// are made are added to `made`. If the texts of the rows' ends are there, each row is written as its
+/// front and the text of its end.
 #[derive(Drop)]
 pub(crate) struct Written<'a> {
     pub(crate) names: &'a [String],
@@ -41,6 +46,7 @@ pub(crate) struct Written<'a> {
     pub(crate) format: OutputFormat<'a>,
     pub(crate) workers: usize,
     pub(crate) made: Option<&'a AtomicU64>,
+    pub(crate) ends: &'a Option<Ends>,
 }
 
 // A segment of the left table until the texts of its runs are made, and then these texts.
@@ -48,6 +54,52 @@ pub(crate) struct Written<'a> {
 struct Share {
     segment: Option<Table>,
     texts: Result<Vec<Texts>, AllocError>,
+}
+
+// The texts of a run, each row's front and then the text of its end.
+fn texts_by_ends(
+    alloc: Global,
+    segment: &Table,
+    run: Run,
+    written: &Written<'_>,
+    ends: &Ends,
+) -> Result<Texts, AllocError>
+    requires within { IsRunWithin segment.now written.now.right.now written.now.joined.now.members written.now.shown.now run }
+    requires ends { AreEndsOf written.now.format.delimiter written.now.format.null.now written.now.shown.now written.now.right.now ends.now }
+    ensures { IfOk result (λ v. whole_text v ≡ run_text written.now segment.now run) }
+{
+    let (right, joined, shown) = (written.right, written.joined, written.shown);
+    let numbers = right_rows(alloc, joined, shown, run, right.rows() as u32)?;
+    let rows = RunView::open(segment, right, joined, shown, run);
+    let fronts = FirstColumns {
+        source: &rows,
+        columns: ends.front,
+    };
+    let ends = RowEnds {
+        texts: &ends.texts,
+        numbers: numbers.as_slice(),
+    };
+    texts_with_ends(alloc, &fronts, &ends, &written.format)
+}
+
+// The texts of a run.
+fn texts_of_run(
+    alloc: Global,
+    segment: &Table,
+    run: Run,
+    written: &Written<'_>,
+) -> Result<Texts, AllocError>
+    requires within { IsRunWithin segment.now written.now.right.now written.now.joined.now.members written.now.shown.now run }
+    requires ends { HasEnds written.now }
+    ensures { IfOk result (λ v. whole_text v ≡ run_text written.now segment.now run) }
+{
+    match written.ends {
+        Some(ends) => texts_by_ends(alloc, segment, run, written, ends),
+        None => {
+            let rows = RunView::open(segment, written.right, written.joined, written.shown, run);
+            texts_of_rows(alloc, &rows, &written.format)
+        }
+    }
 }
 
 // The texts of the runs that are in a segment of the left table, in their order.
@@ -64,8 +116,7 @@ fn texts_of_segment(
     let mut texts = Vec::new(alloc);
     for run in runs {
         if run.segment() == number {
-            let rows = RunView::open(segment, written.right, written.joined, written.shown, *run);
-            texts.push(texts_of_rows(alloc, &rows, &written.format)?)?;
+            texts.push(texts_of_run(alloc, segment, *run, written)?)?;
         }
     }
     Ok(texts)
@@ -245,6 +296,7 @@ fn texts_of_joined<R: Threads + Sync>(
 ) -> Result<Texts, AllocError>
     requires workers { 0 < written.now.workers }
     requires shown { AreShownOf written.now left }
+    requires ends { HasEnds written.now }
     ensures { IfOk result (λ v. whole_text v ≡ cells_text written.now.format.delimiter written.now.format.null.now (shown_cells written.now left)) }
 {
     let _rows = left.rows();
@@ -265,6 +317,7 @@ fn write_segments<R: Threads + Sync, O: Output>(
 ) -> Result<(), WriteRefused>
     requires workers { 0 < written.now.workers }
     requires shown { AreShownOf written.now left }
+    requires ends { HasEnds written.now }
     requires failures { O.count writer.old < 2 ^ 64 - 1 }
     ensures ok { OnOk result (Appends (O.told writer.old) (O.told writer.new)
         (table_text written.now.format.delimiter written.now.format.null.now (map (λ n. n.now) header.now) (shown_cells written.now left))) }
@@ -308,9 +361,15 @@ fn write_whole<R: Threads + Sync, O: Output>(
     write_rows_in_parts(rt, alloc, writer, header, &rows, format, workers)
 }
 
+/// Whether a left table has segments for each of this many threads.
+pub(crate) fn has_shares(left: &Table, workers: usize) -> bool {
+    left.rows() / SHARE_ROWS >= workers as u64
+}
+
 /// Writes the names as a header, and then the rows that are shown of the joined table of two tables.
 /// All texts are made before the first is put. A left table of many rows is freed segment by segment,
-/// as the texts of its rows are made. If it has few, the rows are divided evenly among the threads.
+/// as the texts of its rows are made. If it has few, the rows are divided evenly among the threads,
+/// unless the texts of the rows' ends are there.
 ///
 /// # Errors
 ///
@@ -324,6 +383,7 @@ pub(crate) fn write_shown<R: Threads + Sync, O: Output>(
     written: &Written<'_>,
 ) -> Result<(), WriteRefused>
     requires shown { AreShownOf written.now left }
+    requires ends { HasEnds written.now }
     requires names { length written.now.names.now ≡ length written.now.shown.now.origins.items }
     requires null { IsTrue (is_null_text written.now.format.null.now) }
     requires failures { O.count writer.old < 2 ^ 64 - 1 }
@@ -337,7 +397,7 @@ pub(crate) fn write_shown<R: Threads + Sync, O: Output>(
         return Err(WriteRefused::Memory);
     };
     let header = header.as_slice();
-    if written.workers > 0 && left.rows() / SHARE_ROWS >= written.workers as u64 {
+    if written.workers > 0 && (written.ends.is_some() || has_shares(&left, written.workers)) {
         return write_segments(rt, alloc, writer, header, left, written);
     }
     write_whole(rt, alloc, writer, header, &left, written)

@@ -16,6 +16,7 @@ returns-in-Err-clause-refusal g c =
     let told = c.in-Err.ensures in
     let faults = rw (c.as_slice-files.ensures.value, c.as_slice.ensures.value) at told.fault in
     let headers = rw c.as_slice-files.ensures.value at told.first in
+    let kept = rw c.as_slice-files.ensures.value at told.untouched in
     let named = rw c.as_slice-files.ensures.value at c.of.ensures in
     let size : length c.as_slice-files.result.now ≡ length (names c.args.line.now) =
     ap length c.as_slice-files.ensures.value ∙ sym (length-map c.args.line.now.files.items (λ (f : Bor Text). f.now)) in
@@ -23,6 +24,7 @@ returns-in-Err-clause-refusal g c =
       error = c.in-Err.refused;
       fault = λ e is inside. faults e (record { is = ap Err is; inside = inside });
       first = headers;
+      untouched = kept;
       input = λ e is. subst (λ n. TellsAmong (is_input n) e) size (told.input e (ap Err is));
       is = named;
     }

@@ -1,6 +1,7 @@
-use Rattle.std.proofs.Common.{◌≡◌, ◌<◌, ℕ, sym, ap, arith, length, get_or}
-use Rattle.rj_divide.specs.Headers.{header_text}
-use Rattle.rj_divide.proofs.PutFacts.{all-may-fail, count-kept, count-more, have-more, may-fail, wait-more}
+use Rattle.std.proofs.Common.{◌≡◌, ◌<◌, ℕ, sym, ap, arith, refl, subst, length, map, get_or, set}
+use Rattle.rj_divide.specs.Headers.{HaveTextBefore, IsHeaderFault, header_text}
+use Rattle.rj_divide.specs.declared.refused.DivideRefused.TheVariants as refused
+use Rattle.rj_divide.proofs.PutFacts.{all-may-fail, before-after, count-kept, count-more, have-more, may-fail, wait-more}
 use Rattle.rj_divide.proofs.header.write_headers.Goals as goal
 
 pub put-requires : goal.put-requires
@@ -34,3 +35,19 @@ loop-part-preserved g c =
 
 pub returns-clause-writes : goal.returns-clause-writes
 returns-clause-writes g c = all-may-fail g.O.Output.count c.args.outputs.now c.loop-part.outputs c.loop-part.invariant.counts c.requires
+
+pub returns-in-Err-clause-before : goal.returns-in-Err-clause-before
+returns-in-Err-clause-before g c = λ p is.
+    let e : c.in-Err.e ≡ refused.WriteDevice p = cc in
+    let low = (subst (IsHeaderFault c.args.table.now c.args.name.now 0) e c.in-Err.ensures.fault).0 in
+    absurd (omega (arith, low))
+
+pub returns-in-Err-put-clause-untouched : goal.returns-in-Err-put-clause-untouched
+returns-in-Err-put-clause-untouched g c = λ none. absurd (none c.loop-part.part refl)
+
+pub returns-in-Err-put-clause-before : goal.returns-in-Err-put-clause-before
+returns-in-Err-put-clause-before g c = λ p is.
+    let now = c.loop-part.outputs in let old = c.args.outputs.now in let text = header_text c.args.table.now c.args.name.now in
+    let same : c.loop-part.part ≡ p = cc in
+    subst (λ (k : ℕ). HaveTextBefore k text (map g.O.Output.told old) (map g.O.Output.told (set now c.loop-part.part c.put.new.self))) same
+    (before-after g.O.Output.told (λ (q : ℕ). text) old now c.loop-part.part c.put.new.self c.loop-part.invariant.have c.loop-part.invariant.wait)

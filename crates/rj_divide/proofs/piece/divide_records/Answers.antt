@@ -1,4 +1,4 @@
-use Rattle.std.proofs.Common.{ℕ, [], arith, inr, length, map}
+use Rattle.std.proofs.Common.{ℕ, [], arith, inl, inr, length, map}
 use Rattle.rj_csv_io.specs.Pieces.{names_in, piece_records}
 use Rattle.rj_divide.proofs.DivisionFacts.{reading-counts}
 use Rattle.rj_divide.proofs.PutFacts.{all-may-fail}
@@ -47,3 +47,16 @@ returns-in-Ok-divide_table-clause-untouched g c = λ b begins. let made = c.in-O
 
 pub returns-in-Ok-divide_table-clause-writes : goal.returns-in-Ok-divide_table-clause-writes
 returns-in-Ok-divide_table-clause-writes g c = all-may-fail g.O.Output.count c.args.outputs.now c.divide_table.new.outputs c.in-Ok-divide_table.ensures.counts c.requires.failures
+
+pub returns-clause-partly : goal.returns-clause-partly
+returns-clause-partly g c = λ p low ne.
+    let d = c.args.division.now in
+    let partly = rw c.written_null-null.ensures at c.in-Err-divide_table.ensures.partly in
+    elim (partly p low ne) [
+      | inl same ↦ inl same
+      | inr got ↦ inr (record {
+        rows = c.in-Ok.table.rows;
+        read = read-rows (null_texts d.nulls.now) d.types.now (piece_records d.delimiter c.args.is_first c.args.text.now) c.in-Ok.table.rows c.in-Ok.ensures.1;
+        got = got;
+      })
+    ]

@@ -1,7 +1,8 @@
 use Rattle.std.proofs.Common.{◌≡◌, ◌∙◌, ◌<◌, ℕ, Err, sym, ap, arith, length, get_or}
 use Rattle.rj_divide.specs.Divisions.{part_text}
+use Rattle.rj_divide.specs.declared.refused.DivideRefused.TheVariants as refused
 use Rattle.rj_divide.proofs.GroupFacts.{numbers-below, numbers-rows}
-use Rattle.rj_divide.proofs.PutFacts.{count-kept, count-more, have-more, may-fail, wait-more}
+use Rattle.rj_divide.proofs.PutFacts.{count-kept, count-more, have-more, may-fail, or-not-kept, or-not-others, wait-more}
 use Rattle.rj_divide.proofs.table.divide_table.Goals as goal
 
 pub put_rows-requires-clause-rows : goal.put_rows-requires-clause-rows
@@ -46,3 +47,17 @@ loop-part-preserved g c =
       have = have-more g.O.Output.told (λ (q : ℕ). part_text null part q c.args.first rows) old now p x y low same c.loop-part.invariant.have c.loop-part.invariant.wait put;
       wait = wait-more g.O.Output.told (λ (q : ℕ). part_text null part q c.args.first rows) old now p y c.loop-part.invariant.wait;
     }
+
+pub returns-in-Err-Memory-clause-partly : goal.returns-in-Err-Memory-clause-partly
+returns-in-Err-Memory-clause-partly g c = λ q low ne.
+    let now = c.loop-part.outputs in let p = c.loop-part.part in
+    let x = get_or now p c.index-outputs-part.result in
+    let same : get_or now p x ≡ x = ap (λ d. get_or now p d) (sym c.index-outputs-part.is) in
+    or-not-kept g.O.Output.told (λ (q : ℕ). part_text c.args.null.now (g.R.Route.part c.args.route.now) q c.args.first c.args.table.now.rows) c.args.outputs.now now p x c.put_rows.new.output same
+    (c.in-Err-Memory.ensures.memory (ap Err c.in-Err-Memory.field-0-is)) c.loop-part.invariant.have c.loop-part.invariant.wait q
+
+pub returns-in-Err-WriteDevice-clause-partly : goal.returns-in-Err-WriteDevice-clause-partly
+returns-in-Err-WriteDevice-clause-partly g c = λ q low ne.
+    let now = c.loop-part.outputs in let p = c.loop-part.part in
+    or-not-others g.O.Output.told (λ (q : ℕ). part_text c.args.null.now (g.R.Route.part c.args.route.now) q c.args.first c.args.table.now.rows) c.args.outputs.now now p c.put_rows.new.output
+    c.loop-part.invariant.have c.loop-part.invariant.wait q (λ e. ne (ap refused.WriteDevice (sym e)))

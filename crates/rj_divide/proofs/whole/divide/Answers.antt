@@ -1,9 +1,10 @@
 use Rattle.std.proofs.Common.{◌≡◌, ◌∙◌, Ok, ap, inr, refl, subst, arith, length, map}
 use Rattle.rj_divide.specs.Divisions.{dividing}
 use Rattle.rj_divide.specs.Texts.{IsDivisionFault}
+use Rattle.rj_divide.specs.declared.refused.DivideRefused.TheVariants as refused
 use Rattle.rj_divide.proofs.PutFacts.{all-may-fail}
 use Rattle.rj_divide.proofs.LenientFacts.{if-some}
-use Rattle.rj_divide.proofs.UnderwayFacts.{start}
+use Rattle.rj_divide.proofs.UnderwayFacts.{first-kept, start}
 use Rattle.rj_divide.proofs.whole.divide.Goals as goal
 
 pub loop-turn-init : goal.loop-turn-init
@@ -58,3 +59,14 @@ returns-clause-refusal g c = λ b begins. absurd (omega (arith, (c.loop-turn.inv
 
 pub returns-clause-untouched : goal.returns-clause-untouched
 returns-clause-untouched g c = λ b begins. (c.loop-turn.invariant.untouched b begins).2
+
+pub returns-in-Err-clause-partly : goal.returns-in-Err-clause-partly
+returns-in-Err-clause-partly g c =
+    if-some (g.I.Input.tells c.args.input.now) _ (λ text e.
+    c.in-Err.ensures.partly c.args.reading (record { text = text; told = map g.O.Output.told c.args.outputs.now }) c.loop-turn._turn (c.loop-turn.invariant.underway text e))
+
+pub returns-clause-partly : goal.returns-clause-partly
+returns-clause-partly g c =
+    if-some (g.I.Input.tells c.args.input.now) _ (λ text e.
+    first-kept (dividing g.R.Route.part c.args.division.now) c.args.reading (record { text = text; told = map g.O.Output.told c.args.outputs.now }) c.loop-turn.rest (g.I.Input.tells c.loop-turn.input)
+    (map g.O.Output.told c.loop-turn.outputs) c.loop-turn._turn refused.TooLong (c.loop-turn.invariant.underway text e))

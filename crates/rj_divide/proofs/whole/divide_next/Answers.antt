@@ -2,14 +2,15 @@ use Rattle.std.proofs.Common.{rules, ◌≡◌, ◌≤◌, ℕ, List, arith, inl
 use Rattle.std.specs.Io.KnownBytes.{IsAtEnd}
 use Rattle.std.proofs.lemmas.Bool.{cases_Bool}
 use Rattle.std.proofs.lemmas.List.{length-map}
-use Rattle.rj_divide.specs.Divisions.{dividing}
+use Rattle.rj_divide.specs.Divisions.{after_rows, dividing}
 use Rattle.rj_divide.specs.Readings.{IsHeaderRefusal}
-use Rattle.rj_divide.specs.Texts.{AreRecordsOf, IsDivisionFault, IsPieceFault, reading_of_piece}
+use Rattle.rj_divide.specs.Texts.{AreRecordsOf, HaveFirstRows, IsDivisionFault, IsPieceFault, reading_of_piece}
 use Rattle.rj_divide.specs.Underway.{ReadsOn}
 use Rattle.rj_divide.specs.declared.reading.Reading.{Reading}
+use Rattle.rj_divide.specs.declared.refused.DivideRefused.TheVariants as refused
 use Rattle.rj_divide.proofs.DivisionFacts.{piece-reads}
 use Rattle.rj_divide.proofs.ReadingFacts.{input-fault}
-use Rattle.rj_divide.proofs.UnderwayFacts.{fault-in, finish, go-on}
+use Rattle.rj_divide.proofs.UnderwayFacts.{fault-in, finish, first-kept, first-more, go-on}
 use Rattle.rj_strict.specs.Grammar.{may_delimit}
 use Rattle.rj_divide.proofs.whole.divide_next.Goals as goal
 
@@ -66,3 +67,24 @@ returns-in-Err-divide_piece-clause-fault g c = λ t how begin n b u.
     c.in-Ok.ensures.bytes ends c.in-Ok.ensures.records may (λ header whole text file derived. c.reads_records.ensures d.delimiter header whole text file may derived) c.args.block outputs c.in-Err-divide_piece.refused c.in-Ok.ensures.read
     (elim (cases_Bool p.is_last) [ inl is ↦ inl is | inr is ↦ inr (is, within, c.in-Ok.ensures.line is) ])
     (subst (λ (t : List ℕ). IsPieceFault d (reading_of_piece c.args.rest.now.reading p.is_last) (take p.end t) c.args.rest.now.rows outputs c.in-Err-divide_piece.refused) c.deref.ensures.value piece)
+
+pub returns-in-Err-clause-partly : goal.returns-in-Err-clause-partly
+returns-in-Err-clause-partly g c = λ how begin n u.
+    first-kept (dividing g.R.Route.part c.args.division.now) how begin c.args.rest.now (g.I.Input.tells c.args.input.now) (map g.O.Output.told c.args.outputs.now) n c.in-Err.refused u
+
+pub returns-in_default-clause-partly : goal.returns-in_default-clause-partly
+returns-in_default-clause-partly g c = λ how begin n u.
+    first-kept (dividing g.R.Route.part c.args.division.now) how begin c.args.rest.now (g.I.Input.tells c.args.input.now) (map g.O.Output.told c.args.outputs.now) n refused.Memory u
+
+pub returns-in-Err-divide_piece-clause-partly : goal.returns-in-Err-divide_piece-clause-partly
+returns-in-Err-divide_piece-clause-partly g c = λ how begin n u.
+    let d = dividing g.R.Route.part c.args.division.now in let p = c.in-Ok.piece in let bytes = c.next_piece.new.bytes.items in
+    let before = map g.O.Output.told c.args.outputs.now in let after = map g.O.Output.told c.divide_piece.new.outputs in let e = c.in-Err-divide_piece.refused in
+    let within : p.end ≤ length bytes = search rules in
+    let piece = subst (λ (r : Reading). HaveFirstRows (after_rows c.args.rest.now.rows d) r (take p.end c.deref.result.now) before after e) c.of_piece-reading.ensures c.in-Err-divide_piece.ensures.partly in
+    let ends : p.is_last ≡ true → (p.end ≡ length bytes) × IsAtEnd (g.I.Input.tells c.next_piece.new.input) =
+    λ e. let end = c.in-Ok.ensures.last e in let all : p.end ≡ length bytes = search (rules, end.0) in (all, end.1) in
+    first-more d how begin c.args.rest.now bytes (g.I.Input.tells c.args.input.now) (g.I.Input.tells c.next_piece.new.input) before n p.end p.is_last u
+    c.in-Ok.ensures.bytes ends c.in-Ok.ensures.records
+    (elim (cases_Bool p.is_last) [ inl is ↦ inl is | inr is ↦ inr (is, within, c.in-Ok.ensures.line is) ]) after e
+    (subst (λ (t : List ℕ). HaveFirstRows (after_rows c.args.rest.now.rows d) (reading_of_piece c.args.rest.now.reading p.is_last) (take p.end t) before after e) c.deref.ensures.value piece)

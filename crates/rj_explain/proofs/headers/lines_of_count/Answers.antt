@@ -13,7 +13,5 @@ returns c =
     let many : length names ≡ length c.args.names.now = length-map c.args.names.now (λ n. n.now) in
     let types : c.len-types.result ≡ length (types_under c.args.entries.now names) = c.len-types.ensures ∙ (c.in_ok-types_under.field-0.ok.0 ∙ ap length c.in_ok-types_under.ensures) in
     IfOk-weaker c.count_line.result _ _
-    (λ s told. (
-      untyped,
-      told ∙ (ap (λ n. count_line n c.len-types.result untyped) (sym many) ∙ ap (λ n. count_line (length names) n untyped) types),
-    )) c.count_line.ensures
+    (λ s told. told ∙ (ap (λ n. count_line n c.len-types.result untyped) (sym many) ∙ (ap (λ n. count_line (length names) n untyped) types
+    ∙ ap (λ o. count_line (length names) (length (types_under c.args.entries.now names)) o) c.in_ok-untyped.ensures))) c.count_line.ensures

@@ -13,8 +13,8 @@ returns-in_err-word-clause-fault g c =
     let words = c.args.words.items in
     let steps = c.in-Some.ensures.steps in
     let is = ap (λ (l : List (String Global)). c.loop-word.yielded ++ l) (sym steps.0) ∙ so.rest in
-    of-fault (λ e. IsListsFault (map string_bytes words) e.fault) c.from_residual-in_err-word.result c.in_err-word.field-0.0 (search rules)
-    (next-fault c.loop-word.yielded (into_iter_items c.next.new.self) words c.loop-word.label c.in-Some.word _ is so.label c.in_err-word.ensures.fault)
+    of-fault (λ e. IsListsFault (map string_bytes words) e.fault e.file) c.from_residual-in_err-word.result c.in_err-word.field-0.0 (search rules)
+    (next-fault c.loop-word.yielded (into_iter_items c.next.new.self) words c.loop-word.label c.in-Some.word _ _ is so.label c.in_err-word.ensures.fault)
 
 pub loop-word-preserved : goal.loop-word-preserved
 loop-word-preserved g c =

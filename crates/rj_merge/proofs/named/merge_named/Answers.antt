@@ -31,3 +31,11 @@ returns-in-Err-merge_texts-clause-fault g c = λ e refused texts told.
 pub returns-in-Err-merge_texts-clause-first : goal.returns-in-Err-merge_texts-clause-first
 returns-in-Err-merge_texts-clause-first g c = λ texts told.
     c.in-Err-merge_texts.ensures.first texts (opened_tell (g.P.Opener.opens c.args.opener.now) g.P.Reader.Read.remaining _ texts c.in-Ok.inputs.items c.in-Ok.ensures.opened told)
+
+pub returns-in-Ok-merge_texts-clause-untouched : goal.returns-in-Ok-merge_texts-clause-untouched
+returns-in-Ok-merge_texts-clause-untouched g c = λ texts told.
+    c.in-Ok-merge_texts.ensures.untouched texts (opened_tell (g.P.Opener.opens c.args.opener.now) g.P.Reader.Read.remaining _ texts c.in-Ok.inputs.items c.in-Ok.ensures.opened told)
+
+pub returns-in-Err-merge_texts-clause-untouched : goal.returns-in-Err-merge_texts-clause-untouched
+returns-in-Err-merge_texts-clause-untouched g c = λ texts told.
+    c.in-Err-merge_texts.ensures.untouched texts (opened_tell (g.P.Opener.opens c.args.opener.now) g.P.Reader.Read.remaining _ texts c.in-Ok.inputs.items c.in-Ok.ensures.opened told)

@@ -69,6 +69,15 @@ returns-clause-first g c = λ texts tell f is. let none = c.in-Ok.ensures.header
 pub returns-in_default-on_heap-clause-first : goal.returns-in_default-on_heap-clause-first
 returns-in_default-on_heap-clause-first g c = λ texts tell f is. let none = c.in-Ok.ensures.headers texts tell in absurd (cc)
 
+pub returns-in_default-clause-untouched : goal.returns-in_default-clause-untouched
+returns-in_default-clause-untouched g c = λ texts tell f is. let none = c.in-Ok.ensures.headers texts tell in absurd (cc)
+
+pub returns-clause-untouched : goal.returns-clause-untouched
+returns-clause-untouched g c = λ texts tell f is. let none = c.in-Ok.ensures.headers texts tell in absurd (cc)
+
+pub returns-in_default-on_heap-clause-untouched : goal.returns-in_default-on_heap-clause-untouched
+returns-in_default-on_heap-clause-untouched g c = λ texts tell f is. let none = c.in-Ok.ensures.headers texts tell in absurd (cc)
+
 pub returns-in-Err-clause-input : goal.returns-in-Err-clause-input
 returns-in-Err-clause-input g c = λ e told. let same : c.in-Err.e ≡ e = cc in subst (TellsAmong (is_input (vec_len c.args.inputs))) same c.in-Err.ensures.told
 

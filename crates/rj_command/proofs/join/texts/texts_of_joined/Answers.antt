@@ -16,7 +16,7 @@ texts_of_runs-requires-clause-within g c κs within = λ k low.
     let types : All (λ (t : TableValue). t.types ≡ c.args.left.types) segments = λ i d lt. (c.in_ok-segments.ensures.same i d lt).1 in
     let each = subst (λ ss. All (IsRunOf ss (rows_of w)) runs) c.deref.ensures.value c.in_ok-runs.ensures.each in
     subst (AreWithin w (slice_index_or segments k no_table) k) (sym c.deref-2.ensures.value)
-    (all-within w segments c.args.left runs k (sym c.in_ok-segments.ensures.rows) types c.requires.shown each low)
+    (all-within w segments c.args.left runs k (sym c.in_ok-segments.ensures.rows) types c.requires.shown c.requires.ends each low)
 
 pub returns : goal.returns
 returns g c =

@@ -1,0 +1,9 @@
+use Rattle.std.proofs.Common.{subst, sym}
+use Rattle.rj_fault.specs.declared.fault.Fault.{Fault}
+use Rattle.rj_files.specs.Streams.{IsAskedFault}
+use Rattle.rj_files.proofs.joining.write_asked.Goals as goal
+
+pub returns-clause-fault : goal.returns-clause-fault
+returns-clause-fault g c =
+    let why = rw (c.inputs-inputs.ensures.left, c.inputs-inputs.ensures.right) at c.in-Err-write_bytes.ensures.fault in
+    subst (λ (f : Fault). IsAskedFault c.args.line.now c.args.tables.left.items c.args.tables.right.items f) (sym c.explained.ensures.fault) why

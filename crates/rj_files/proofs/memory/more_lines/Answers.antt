@@ -1,0 +1,8 @@
+use Rattle.std.proofs.Common.{◌≢◌, inl, inr, rules}
+use Rattle.rj_fault.specs.declared.fault.Fault.TheVariants as fault
+use Rattle.rj_files.proofs.memory.more_lines.Goals as goal
+
+pub returns : goal.returns
+returns g c =
+    let other : c.in-Err.field-0 ≢ fault.Memory = search rules in
+    inr (inl (c.in-Err.field-0, other, c.in-Err.ensures.fault other, c.new.ensures.bytes))
