@@ -1,4 +1,5 @@
 pub mod CutFacts
+pub mod ExplainFacts
 pub mod HeadFacts
 pub mod LineFacts
 pub mod OptionFacts

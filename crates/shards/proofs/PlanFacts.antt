@@ -10,7 +10,7 @@ use Rattle.rj_fault.specs.declared.fault.Fault.TheVariants as fault
 use Rattle.rj_fault.specs.declared.fault.Side.{Side}
 use Rattle.shards.specs.Heads.{HasHead, HasHeadFault}
 use Rattle.shards.specs.Lines.{operand_of}
-use Rattle.shards.specs.Plans.{HasSideHead, HasSideHeadFault, IsHeaderFault, IsOtherFailure, IsRangeFailure, IsRangeOf, of_keys, of_rows, has_lawful_nulls, header_table, other_side}
+use Rattle.shards.specs.Plans.{HasSideHead, HasSideHeadFault, IsHeaderFault, IsOtherFailure, IsRangeFailure, IsRangeOf, of_keys, of_rows, has_lawful_nulls, header_table, is_after_rows, other_side}
 use Rattle.shards.specs.Ranges.{AreAllRows, IsOfRows, IsOfWriting, range_file}
 use Rattle.shards.specs.declared.dividing.Range.{Range}
 use Rattle.shards.specs.declared.failure.Failure.{Failure}
@@ -75,7 +75,12 @@ ok-both (Err e) P Q R both p q = tt
 -- the failure of a range whose rows were looked at
 pub looked : (holds : Text → Option Text) (l : Line) (bounds : Bounds) (range : Range) (found e : Failure) → has_lawful_nulls l ≡ true → IsRangeOf holds l bounds range
     → IsOtherFailure holds l range.own.now found
-    → ((e ≡ found) × AreAllRows (range_file holds range) range) ⊎ (IsOfRows (λ _. 0) (range_file holds range) range 1 e ⊎ IsOfWriting e) → IsRangeFailure holds l bounds e
+    → ((e ≡ found) × (is_after_rows found ≡ true → AreAllRows (range_file holds range) range)) ⊎ (IsOfRows (λ _. 0) (range_file holds range) range 1 e ⊎ IsOfWriting e) → IsRangeFailure holds l bounds e
 looked holds l bounds range found e lawful is other (inl rows) =
-    subst (IsRangeFailure holds l bounds) (sym rows.0) (of_keys range found lawful is other (λ after. rows.1))
+    subst (IsRangeFailure holds l bounds) (sym rows.0) (of_keys range found lawful is other rows.1)
 looked holds l bounds range found e lawful is other (inr why) = of_rows range e lawful is why
+
+-- a failure that was found after the rows were looked at
+pub looked-at : {Same Rows After Other : Type 0} → (Same × Rows) ⊎ Other → (Same × (After → Rows)) ⊎ Other
+looked-at (inl rows) = inl (rows.0, λ _. rows.1)
+looked-at (inr why) = inr why

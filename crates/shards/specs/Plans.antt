@@ -78,10 +78,10 @@ has_lawful_nulls l =
     are_null_texts (null_texts (operand_of l l.side).nulls.items) && are_null_texts (null_texts (operand_of l (other_side l.side)).nulls.items)
 
 -- a failure is found after the rows were read: not that there is no key, nor that memory ran out
-abbrev pub IsAfterRows : Failure → Type 0
-IsAfterRows failure.NoKey = ⊥
-IsAfterRows (failure.Told fault.Memory) = ⊥
-IsAfterRows e = Unit {0}
+abbrev pub is_after_rows : Failure → Bool
+is_after_rows failure.NoKey = false
+is_after_rows (failure.Told fault.Memory) = false
+is_after_rows e = true
 
 -- (`holds` is what the files of names have)
 
@@ -145,4 +145,4 @@ pub data IsRangeFailure (holds : Text → Option Text) (l : Line) (bounds : Boun
   of_rows : (range : Range) (e : Failure) → has_lawful_nulls l ≡ true → IsRangeOf holds l bounds range
       → IsOfRows (λ _. 0) (range_file holds range) range 1 e ⊎ IsOfWriting e → IsRangeFailure holds l bounds e
   of_keys : (range : Range) (e : Failure) → has_lawful_nulls l ≡ true → IsRangeOf holds l bounds range
-      → IsOtherFailure holds l range.own.now e → (IsAfterRows e → AreAllRows (range_file holds range) range) → IsRangeFailure holds l bounds e
+      → IsOtherFailure holds l range.own.now e → (is_after_rows e ≡ true → AreAllRows (range_file holds range) range) → IsRangeFailure holds l bounds e

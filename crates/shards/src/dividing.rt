@@ -1,6 +1,6 @@
 //! Dividing a range of a file.
 
-ghost use Rattle.std.specs.Prelude.{◌≡◌, ◌⊎◌, ◌<◌, ◌≤◌, ◌-◌, ◌^◌, [], All, IfErr, IfOk, IfSome, IsTrue, Ok, OnOk, Some, length, map, string_bytes};
+ghost use Rattle.std.specs.Prelude.{◌≡◌, ◌⊎◌, ◌<◌, ◌≤◌, ◌-◌, ◌^◌, [], All, IfErr, IfOk, IfSome, IsTrue, Ok, OnOk, Some, length, map, string_bytes, true};
 ghost use Rattle.std.specs.Io.KnownBytes.{Appends};
 ghost use Rattle.rj_columns.specs.Tables.{TableValue};
 ghost use Rattle.rj_csv_io.specs.Tables.{is_null_text};
@@ -8,7 +8,7 @@ ghost use Rattle.rj_csv_io.specs.Typed.{null_texts};
 ghost use Rattle.rj_divide.specs.Divisions.{written_null};
 ghost use Rattle.rj_divide.specs.Headers.{HaveText};
 ghost use Rattle.rj_divide.specs.Texts.{IsDivisionFault, IsTextDivided};
-ghost use Rattle.shards.specs.Plans.{IsDivision, IsRangeFailure};
+ghost use Rattle.shards.specs.Plans.{IsDivision, IsRangeFailure, is_after_rows};
 ghost use Rattle.shards.specs.Ranges.{AreAllRows, AreDivided, AreParted, IsOfHeader, IsOfParts, IsOfRows, IsOfWriting, counts_line, division_fault, mixed_shard, place_name, range_begin, range_begun, range_bytes, range_dividing, range_file, range_header, range_reading, unlawful_null};
 
 use crate::failure::Failure;
@@ -265,8 +265,8 @@ fn divide_among_parts<S: Storage, O: Output>(
     Ok(parts)
 }
 
-// Reads a range's rows though they can't be divided, because of a failure that is reported after
-// their own errors. The answer is the first of these.
+// Reads a range's rows though they can't be divided, because of a failure. The answer is the first
+// error of theirs, or else this failure.
 fn look_at_rows<S: Storage, O: Output>(
     alloc: Global,
     storage: &S,
@@ -289,6 +289,39 @@ fn look_at_rows<S: Storage, O: Output>(
         },
         Err(failed) => failed,
     }
+}
+
+// Whether a failure is reported only after the rows were read: all but that there is no key, and that
+// memory ran out.
+fn is_after_rows(failure: &Failure) -> bool
+    ensures { result ≡ is_after_rows failure.now }
+{
+    match failure {
+        Failure::NoKey | Failure::Told(Fault::Memory) => false,
+        _ => true,
+    }
+}
+
+// The failure of a range whose keys aren't known because of this failure: that of its rows, if they
+// are to be read before.
+fn failure_of_range<S: Storage, O: Output>(
+    alloc: Global,
+    storage: &S,
+    range: &Range<'_>,
+    failure: Failure,
+    output: &mut O,
+) -> Failure
+    requires from { range.now.from ≤ 2 ^ 62 }
+    requires null { IsTrue (is_null_text (written_null (null_texts range.now.nulls.now))) }
+    requires table { range_begun range.now ≡ Ok range.now.own.now }
+    requires output { O.count output.old < 2 ^ 64 - 1 }
+    ensures { ((result ≡ failure) × (is_after_rows failure ≡ true → AreAllRows (range_file (S.holds storage.now) range.now) range.now))
+        ⊎ (IsOfRows (λ _. 0) (range_file (S.holds storage.now) range.now) range.now 1 result ⊎ IsOfWriting result) }
+{
+    if !is_after_rows(&failure) {
+        return failure;
+    }
+    look_at_rows(alloc, storage, range, failure, output)
 }
 
 // The failure of an invalid NULL text, unless the file can't be read at all.
@@ -352,8 +385,6 @@ pub(crate) fn divide_range<S: Storage, O: Output>(
     };
     match plan(alloc, storage, line, &table) {
         Ok(plan) => divide_among_parts(alloc, storage, &range, &plan, folder, output),
-        Err(Failure::NoKey) => Err(Failure::NoKey),
-        Err(Failure::Told(Fault::Memory)) => Err(Failure::Told(Fault::Memory)),
-        Err(failure) => Err(look_at_rows(alloc, storage, &range, failure, output)),
+        Err(failure) => Err(failure_of_range(alloc, storage, &range, failure, output)),
     }
 }

@@ -1,4 +1,5 @@
 use Rattle.std.proofs.Common.{◌≡◌, List, None, Option, ap, inl, inr, refl, rules, subst, sym, ℕ}
+use Rattle.std.specs.Prelude.{IfSome}
 use Rattle.std.specs.Io.KnownBytes.{Appends}
 use Rattle.std.proofs.lemmas.Result.{IfErr-weaker, IfOk-weaker}
 use Rattle.shards.specs.Cuts.{HasCutFailure, HasCutLines, IsCutsFailure, IsCutting, of_cuts, of_file, of_head, of_none, of_output, of_text}
@@ -41,7 +42,7 @@ returns-in_err-text-clause-failure g c =
     let cut = cut-text holds l own c.operand-own.ensures c.args.ranges c.in_ok-end.end c.in-Ok.head c.in-Ok.ensures.head c.in_ok-end.ensures.size in
     let told : IsCutsFailure holds l c.args.ranges c.in_err-text.field-0.0 =
     of_cuts _ c.in_err-text.field-0.0 cut
-        (cut-told holds l own c.operand-own.ensures c.in-Ok.head.begin (g.S.Reader.Input.tells c.in_ok-input.input) (λ text. HasCutFailure l.side text c.in_err-text.field-0.0) c.in_ok-input.ensures.bytes c.in_err-text.ensures.failure) in
+    (cut-told holds l own c.operand-own.ensures c.in-Ok.head.begin (g.S.Reader.Input.tells c.in_ok-input.input) (λ text. HasCutFailure l.side text c.in_err-text.field-0.0) c.in_ok-input.ensures.bytes c.in_err-text.ensures.failure) in
     search (rules, told)
 
 pub returns-clause-cutting : goal.returns-clause-cutting
@@ -54,7 +55,7 @@ returns-clause-cutting g c =
     IfOk-weaker c.print_text.result _ _ (λ _ printed.
     of_text text_cut c.as_str.result.now cut
     (cut-told holds l own c.operand-own.ensures c.in-Ok.head.begin (g.S.Reader.Input.tells c.in_ok-input.input) (λ text. HasCutLines text_cut text c.as_str.result.now) c.in_ok-input.ensures.bytes
-    (rw c.as_str.ensures.value c.in_ok-text.ensures.lines)) printed) c.print_text.ensures.printed
+    (subst (λ (b : List ℕ). IfSome (g.S.Reader.Input.tells c.in_ok-input.input) (λ text. HasCutLines text_cut text b)) (sym c.as_str.ensures.value) c.in_ok-text.ensures.lines)) printed) c.print_text.ensures.printed
 
 pub returns-clause-failure : goal.returns-clause-failure
 returns-clause-failure g c =

@@ -1,4 +1,5 @@
-use Rattle.std.proofs.Common.{◌≡◌, ◌∙◌, ap, arith, drop, length, map, rules, subst, sym, List, ℕ}
+use Rattle.std.proofs.Common.{◌≡◌, ◌∙◌, Err, ap, arith, drop, length, map, rules, subst, sym, List, ℕ}
+use Rattle.std.specs.Prelude.{IfErr}
 use Rattle.shards.specs.Ranges.{AreParted, IsOfParts, mixed_shard, range_file}
 use Rattle.shards.proofs.RangeFacts.{written-parts}
 use Rattle.shards.proofs.dividing.divide_among_parts.Goals as goal
@@ -26,5 +27,6 @@ returns-in_err-counts-clause-fault g c =
     let many = ap length c.as_mut_slice.ensures.value ∙ c.in_ok-parts.ensures.count in
     let told : IsOfParts file (mixed_shard parts c.args.plan.now.1.items) range parts e =
     subst (λ n. IsOfParts file (mixed_shard parts c.args.plan.now.1.items) range n e) many
-        (subst (λ (cs : List ℕ). IsOfParts file (mixed_shard parts cs) range (length c.as_mut_slice.result.now) e) c.as_slice.ensures.value c.in_err-counts.ensures.fault) in
-    search (rules, told)
+    (subst (λ (cs : List ℕ). IsOfParts file (mixed_shard parts cs) range (length c.as_mut_slice.result.now) e) c.as_slice.ensures.value c.in_err-counts.ensures.fault) in
+    let is : c.from_residual-in_err-counts.result ≡ Err e = search rules in
+    subst (λ r. IfErr r (IsOfParts file (mixed_shard parts c.args.plan.now.1.items) range parts)) (sym is) told

@@ -4,10 +4,10 @@ use Rattle.std.proofs.lemmas.Result.{IfErr-weaker}
 use Rattle.rj_csv_io.specs.Pieces.{names_in}
 use Rattle.rj_fault.specs.declared.fault.Fault.TheVariants as fault
 use Rattle.rj_types.specs.Columns.{types_under}
-use Rattle.shards.specs.Plans.{IsDivision, IsOtherFailure, IsRangeFailure, IsRangeOf, has_lawful_nulls, of_head, of_keys, of_nulls, of_parts, of_table}
+use Rattle.shards.specs.Plans.{IsDivision, IsRangeFailure, IsRangeOf, has_lawful_nulls, of_head, of_nulls, of_parts, of_table}
 use Rattle.shards.specs.Ranges.{IsOfParts, mixed_shard, range_file}
 use Rattle.shards.specs.declared.dividing.Range.{Range}
-use Rattle.shards.specs.declared.failure.Failure.TheVariants.{NoKey, Told}
+use Rattle.shards.specs.declared.failure.Failure.TheVariants.{Told}
 use Rattle.shards.proofs.PlanFacts.{head-read, lawful-nulls, looked, ok-both, range-is, side-fault, side-head, table-fault}
 use Rattle.shards.proofs.RangeFacts.{begun-by-own}
 use Rattle.shards.proofs.dividing.divide_range.Goals as goal
@@ -49,7 +49,7 @@ returns-in_err-table-clause-failure g c =
     let h = c.in_ok-head.head in
     let told : IsRangeFailure holds l c.args.bounds (Told f) =
     of_table h f lawful (side-head holds l l.side l.side own refl c.operand-own.ensures h c.in_ok-head.ensures.head)
-        (table-fault holds l l.side l.side own refl c.operand-own.ensures h f c.in_err-table.ensures.fault) in
+    (table-fault holds l l.side l.side own refl c.operand-own.ensures h f c.in_err-table.ensures.fault) in
     search (rules, told)
 
 pub returns-in_err-kinds-clause-failure : goal.returns-in_err-kinds-clause-failure
@@ -71,8 +71,8 @@ divide_among_parts-requires-clause-table g c =
     begun-by-own (names_in c.in_ok-head.head.header) (types_under c.operand-own.result.now.types.items (names_in c.in_ok-head.head.header)) c.as_slice-types.result.now c.in_ok-table.table c.in_ok-table.ensures.table
     (c.as_slice-types.ensures.value ∙ c.in_ok-kinds.ensures)
 
-pub look_at_rows-requires-clause-table : goal.look_at_rows-requires-clause-table
-look_at_rows-requires-clause-table g c =
+pub failure_of_range-requires-clause-table : goal.failure_of_range-requires-clause-table
+failure_of_range-requires-clause-table g c =
     begun-by-own (names_in c.in_ok-head.head.header) (types_under c.operand-own.result.now.types.items (names_in c.in_ok-head.head.header)) c.as_slice-types.result.now c.in_ok-table.table c.in_ok-table.ensures.table
     (c.as_slice-types.ensures.value ∙ c.in_ok-kinds.ensures)
 
@@ -138,54 +138,6 @@ returns-in-Ok-clause-failure g c =
     of_parts range columns e lawful is c.in-Ok.ensures.keys
     (subst (λ n. IsOfParts (range_file holds range) (mixed_shard n columns) range n e) c.in-Ok.ensures.parts why)) c.divide_among_parts.ensures.fault
 
-pub returns-in-Err-NoKey-clause-failure : goal.returns-in-Err-NoKey-clause-failure
-returns-in-Err-NoKey-clause-failure g c =
-    let holds = g.S.Storage.holds c.args.storage.now in
-    let l = c.args.line.now in
-    let own = c.operand-own.result.now in
-    let told_nulls : has_lawful_nulls l ≡ c.have_lawful_nulls.result =
-    lawful-nulls l c.have_lawful_nulls.result c.as_slice-nulls.result.now c.as_slice.result.now own c.operand-other.result.now c.other_side.result c.have_lawful_nulls.ensures.both c.as_slice-nulls.ensures.value c.as_slice.ensures.value c.operand-own.ensures c.operand-other.ensures c.other_side.ensures in
-    let yes : c.have_lawful_nulls.result ≡ true = search rules in
-    let lawful = told_nulls ∙ yes in
-    let range : Range = record {
-      line = c.args.line;
-      head = record { ref_ptr = (0, 0); now = c.in_ok-head.head };
-      own = record { ref_ptr = (0, 0); now = c.in_ok-table.table };
-      types = c.as_slice-types.result;
-      nulls = c.as_slice-nulls.result;
-      delimiter = own.delimiter;
-      from = c.min-from.result;
-      to = c.args.bounds.to;
-    } in
-    let is : IsRangeOf holds l c.args.bounds range =
-    range-is holds l c.args.bounds own range c.operand-own.ensures refl c.in_ok-head.ensures.head c.in_ok-table.ensures.table (c.as_slice-types.ensures.value ∙ c.in_ok-kinds.ensures) c.as_slice-nulls.ensures.value refl c.min-from.ensures refl in
-    let same : c.in-Err-NoKey.field-0 ≡ NoKey = cc in
-    of_keys range NoKey lawful is (subst (IsOtherFailure holds l c.in_ok-table.table) same c.in-Err-NoKey.ensures.fault) (λ after. absurd after)
-
-pub returns-in-Err-Told-Memory-clause-failure : goal.returns-in-Err-Told-Memory-clause-failure
-returns-in-Err-Told-Memory-clause-failure g c =
-    let holds = g.S.Storage.holds c.args.storage.now in
-    let l = c.args.line.now in
-    let own = c.operand-own.result.now in
-    let told_nulls : has_lawful_nulls l ≡ c.have_lawful_nulls.result =
-    lawful-nulls l c.have_lawful_nulls.result c.as_slice-nulls.result.now c.as_slice.result.now own c.operand-other.result.now c.other_side.result c.have_lawful_nulls.ensures.both c.as_slice-nulls.ensures.value c.as_slice.ensures.value c.operand-own.ensures c.operand-other.ensures c.other_side.ensures in
-    let yes : c.have_lawful_nulls.result ≡ true = search rules in
-    let lawful = told_nulls ∙ yes in
-    let range : Range = record {
-      line = c.args.line;
-      head = record { ref_ptr = (0, 0); now = c.in_ok-head.head };
-      own = record { ref_ptr = (0, 0); now = c.in_ok-table.table };
-      types = c.as_slice-types.result;
-      nulls = c.as_slice-nulls.result;
-      delimiter = own.delimiter;
-      from = c.min-from.result;
-      to = c.args.bounds.to;
-    } in
-    let is : IsRangeOf holds l c.args.bounds range =
-    range-is holds l c.args.bounds own range c.operand-own.ensures refl c.in_ok-head.ensures.head c.in_ok-table.ensures.table (c.as_slice-types.ensures.value ∙ c.in_ok-kinds.ensures) c.as_slice-nulls.ensures.value refl c.min-from.ensures refl in
-    let same : c.in-Err-Told-Memory.field-0 ≡ Told fault.Memory = cc in
-    of_keys range (Told fault.Memory) lawful is (subst (IsOtherFailure holds l c.in_ok-table.table) same c.in-Err-Told-Memory.ensures.fault) (λ after. absurd after)
-
 pub returns-clause-failure : goal.returns-clause-failure
 returns-clause-failure g c =
     let holds = g.S.Storage.holds c.args.storage.now in
@@ -207,5 +159,4 @@ returns-clause-failure g c =
     } in
     let is : IsRangeOf holds l c.args.bounds range =
     range-is holds l c.args.bounds own range c.operand-own.ensures refl c.in_ok-head.ensures.head c.in_ok-table.ensures.table (c.as_slice-types.ensures.value ∙ c.in_ok-kinds.ensures) c.as_slice-nulls.ensures.value refl c.min-from.ensures refl in
-    looked holds l c.args.bounds range c.in-Err.failure c.look_at_rows.result lawful is c.in-Err.ensures.fault c.look_at_rows.ensures
-
+    looked holds l c.args.bounds range c.in-Err.failure c.failure_of_range.result lawful is c.in-Err.ensures.fault c.failure_of_range.ensures

@@ -23,8 +23,11 @@ returns-clause-fault g c =
     let range = c.args.range.now in
     let holds = g.S.Storage.holds c.args.storage.now in
     let tells = g.S.Reader.Input.tells c.in_ok-input.input in
-    let told = range-told holds range c.operand.result.now c.begin_of.result tells c.operand.ensures c.begin_of.ensures c.in_ok-input.ensures.bytes in
-    (c.in-Err.refused, ap Told c.fault_of_division.ensures, told-if (range_file holds range) tells (range_bytes range)
-    (λ text.
-    IsDivisionFault (range_dividing (g.W.Route.part c.args.route.now) range) 8388608 (range_reading range.line.now.strict range.from) text (length c.args.outputs.now) c.in-Err.refused)
-    told (c.in-Err.ensures.fault range.own.now c.requires.table))
+    let told = range-told holds range c.operand.result.now c.begin_of.result tells c.operand.ensures c.begin_of.ensures c.in_ok-input.ensures.bytes in (
+      c.in-Err.refused,
+      ap Told c.fault_of_division.ensures,
+      told-if (range_file holds range) tells (range_bytes range)
+          (λ text.
+          IsDivisionFault (range_dividing (g.W.Route.part c.args.route.now) range) 8388608 (range_reading range.line.now.strict range.from) text (length c.args.outputs.now) c.in-Err.refused)
+          told (c.in-Err.ensures.fault range.own.now c.requires.table),
+    )

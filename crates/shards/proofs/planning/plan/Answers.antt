@@ -10,7 +10,7 @@ returns-in_err-head-clause-fault g c =
     let holds = g.S.Storage.holds c.args.storage.now in
     let told : IsOtherFailure holds c.args.line.now c.args.own.now (Told c.in_err-head.field-0.0) =
     of_other_head c.in_err-head.field-0.0
-        (side-fault holds c.args.line.now c.other_side-side.result _ c.operand-table.result.now c.other_side-side.ensures c.operand-table.ensures c.in_err-head.field-0.0 c.in_err-head.ensures.fault) in
+    (side-fault holds c.args.line.now c.other_side-side.result _ c.operand-table.result.now c.other_side-side.ensures c.operand-table.ensures c.in_err-head.field-0.0 c.in_err-head.ensures.fault) in
     search (rules, told)
 
 pub returns-in_err-other-clause-fault : goal.returns-in_err-other-clause-fault
@@ -18,8 +18,8 @@ returns-in_err-other-clause-fault g c =
     let holds = g.S.Storage.holds c.args.storage.now in
     let told : IsOtherFailure holds c.args.line.now c.args.own.now (Told c.in_err-other.field-0.0) =
     of_other_table c.in_ok-head.head c.in_err-other.field-0.0
-        (side-head holds c.args.line.now c.other_side-side.result _ c.operand-table.result.now c.other_side-side.ensures c.operand-table.ensures c.in_ok-head.head c.in_ok-head.ensures.head)
-        (table-fault holds c.args.line.now c.other_side-side.result _ c.operand-table.result.now c.other_side-side.ensures c.operand-table.ensures c.in_ok-head.head c.in_err-other.field-0.0 c.in_err-other.ensures.fault) in
+    (side-head holds c.args.line.now c.other_side-side.result _ c.operand-table.result.now c.other_side-side.ensures c.operand-table.ensures c.in_ok-head.head c.in_ok-head.ensures.head)
+    (table-fault holds c.args.line.now c.other_side-side.result _ c.operand-table.result.now c.other_side-side.ensures c.operand-table.ensures c.in_ok-head.head c.in_err-other.field-0.0 c.in_err-other.ensures.fault) in
     search (rules, told)
 
 pub returns-clause-keys : goal.returns-clause-keys
