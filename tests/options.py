@@ -13,7 +13,7 @@ SECONDS = 20
 # What stands in the place of options, and has a help of its own.
 MODES = {"suggest-types"}
 # Where each program names its options, and what it names there beside them.
-SOURCES = {"radixjoin": "rj_line/src/options.rt", "arrivals": "arrivals/src/line.rt", "shards": "shards/src/line.rt", "merges": "merges/src/line.rt"}
+SOURCES = {"radixjoin": "rj_line/src/options.rt", "arrivals": "arrivals/src/line.rt", "shards": "shards/src/options.rt", "merges": "merges/src/line.rt"}
 NO_OPTIONS = {*PROGRAMS, "files"}
 # A value that no option with words or with limits can have.
 BEYOND = "9223372036854775807"

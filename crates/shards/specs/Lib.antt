@@ -1,3 +1,9 @@
-pub mod Failures
-pub mod Ranges
+pub mod Cuts
 pub mod Explained
+pub mod Failures
+pub mod Heads
+pub mod Lines
+pub mod Options
+pub mod Plans
+pub mod Ranges
+pub mod Works

@@ -1,13 +1,16 @@
 -- How a range of a side's file is divided, and why it isn't.
-use Rattle.std.specs.Prelude.{ℕ, ◌==◌, true, false, List, Result, codes}
+use Rattle.std.specs.Prelude.{ℕ, ◌==◌, ◌-◌, ◌≡◌, ◌⊎◌, ◌++◌, ◌∷◌, [], if◌then◌else◌, true, false, Bool, List, length, drop, replicate, slice_range, Option, None, Some, IfSome, Result, Err, codes, decimal}
+use Rattle.std.specs.Io.KnownBytes.{Appends}
 use Rattle.rj_columns.specs.Contents.{Content}
 use Rattle.rj_columns.specs.Names.{empty_table}
 use Rattle.rj_columns.specs.Tables.{TableValue}
 use Rattle.rj_columns.specs.declared.refused.BuildRefused.{BuildRefused}
 use Rattle.rj_command.specs.Sides.{strict_fault}
-use Rattle.rj_csv_io.specs.Pieces.{names_in}
+use Rattle.rj_csv_io.specs.Pieces.{AreRows, names_in}
 use Rattle.rj_csv_io.specs.Typed.{null_texts}
 use Rattle.rj_divide.specs.Divisions.{Dividing}
+use Rattle.rj_divide.specs.Headers.{IsHeaderFault, header_text}
+use Rattle.rj_divide.specs.Texts.{AreRecordsOf, IsDivisionFault, IsTextDivided}
 use Rattle.rj_divide.specs.declared.reading.Reading.{Reading}
 use Rattle.rj_divide.specs.declared.reading.Reading.TheVariants as reading
 use Rattle.rj_divide.specs.declared.refused.DivideRefused.{DivideRefused}
@@ -19,16 +22,31 @@ use Rattle.rj_fault.specs.declared.fault.Side.{Side}
 use Rattle.rj_fault.specs.declared.fault.Side.TheVariants as side
 use Rattle.rj_line.specs.declared.request.Strictness.{Strictness}
 use Rattle.rj_line.specs.declared.request.Strictness.TheVariants as strictness
+use Rattle.rj_radix.specs.Hashes.{mixed, plain}
+use Rattle.rj_shards.specs.Routes.{shard_of_cells}
+use Rattle.shards.specs.Lines.{operand_of}
 use Rattle.shards.specs.declared.dividing.Range.{Range}
+use Rattle.shards.specs.declared.failure.Failure.{Failure}
+use Rattle.shards.specs.declared.failure.Failure.TheVariants as failure
+use Rattle.shards.specs.declared.head.Head.{Head}
+
+-- the bytes of a text from one place up to another, or up to its end
+abbrev pub bytes_between : ℕ → Option ℕ → List ℕ → List ℕ
+bytes_between from None text = drop from text
+bytes_between from (Some to) text = slice_range text from to
 
 -- the name of the column with the places of a side's rows
 abbrev pub place_name : Side → List ℕ
 place_name side.Left = codes "left_place"
 place_name side.Right = codes "right_place"
 
--- how the rows of a range are divided, where the route tells the parts so: their places count from the range's first byte
-abbrev pub range_dividing : {W : Type 0} → (W → List Content → ℕ) → Range → W → Dividing
-range_dividing part range route = record { delimiter = range.delimiter; nulls = null_texts range.nulls.now; types = range.types.now; part = part route; first = range.from }
+-- the part of a row of these cells, among so many parts: by the mixed hash of its key at these columns
+abbrev pub mixed_shard : ℕ → List ℕ → List Content → ℕ
+mixed_shard parts columns cells = shard_of_cells (λ key. mixed (plain key)) parts columns cells
+
+-- how the rows of a range are divided among these parts: their places count from the range's first byte
+abbrev pub range_dividing : (List Content → ℕ) → Range → Dividing
+range_dividing part range = record { delimiter = range.delimiter; nulls = null_texts range.nulls.now; types = range.types.now; part = part; first = range.from }
 
 -- the table without rows that the header of a range begins with the types, or why it begins none
 abbrev pub range_begun : Range → Result TableValue BuildRefused
@@ -40,6 +58,43 @@ range_reading strictness.Off from = reading.Lenient (from == 0)
 range_reading strictness.On from = reading.Strict false
 range_reading strictness.Full from = reading.Strict true
 
+-- where a range is read from: the first one from where the file's rows begin
+abbrev pub range_begin : Range → ℕ
+range_begin range = if range.from == 0 then range.head.now.begin else range.from
+
+-- what the file of a range's side has, by what files of names have; and the bytes of the range in it
+abbrev pub range_file : (List ℕ → Option (List ℕ)) → Range → Option (List ℕ)
+range_file holds range = holds (operand_of range.line.now range.line.now.side).file.now
+
+abbrev pub range_bytes : Range → List ℕ → List ℕ
+range_bytes range text = bytes_between (range_begin range) range.to text
+
+-- the header of a range's parts
+abbrev pub range_header : Range → List ℕ
+range_header range = header_text range.own.now (place_name range.line.now.side)
+
+-- each part has the header, and then the text of its rows in the range, of which there are so many in all
+abbrev pub AreParted : Option (List ℕ) → (List Content → ℕ) → Range → List (Option (List ℕ)) → ℕ → Type 0
+AreParted file part range told n = IfSome file (λ text.
+    IsTextDivided (range_dividing part range) (range_reading range.line.now.strict range.from) (range_bytes range text)
+    (replicate (length told) (Some (range_header range))) told n)
+
+-- the line of the rows of a range and of the bytes of its parts' header
+abbrev pub counts_line : ℕ → ℕ → List ℕ
+counts_line rows header = codes "rows " ++ (decimal rows ++ (codes " header " ++ (decimal header ++ 10 ∷ [])))
+
+-- the parts have this, if they tell what they got; and how many rows there are is printed
+pub record AreDivided (tells : Bool) (file : Option (List ℕ)) (part : List Content → ℕ) (range : Range) (told : List (Option (List ℕ))) (old new : Option (List ℕ)) : Type 0 where
+  pub rows : ℕ
+  pub parted : tells ≡ true → AreParted file part range told rows
+  pub printed : Appends old new (counts_line rows (length (range_header range)))
+
+-- each record of a range is a row
+abbrev pub AreAllRows : Option (List ℕ) → Range → Type 0
+AreAllRows file range = IfSome file (λ text. (records : List (List (List ℕ))) × (rows : List (List Content))
+    × AreRecordsOf range.delimiter (length range.types.now) (range_reading range.line.now.strict range.from) (range_bytes range text) records
+    × AreRows (null_texts range.nulls.now) range.types.now records rows)
+
 -- the fault of a side's file that wasn't divided
 abbrev pub division_fault : Side → DivideRefused → Fault
 division_fault s (divide.Read f) = read_fault s f
@@ -48,3 +103,31 @@ division_fault s divide.ReadDevice = fault.ReadDevice s
 division_fault s (divide.Broken f) = strict_fault s f
 division_fault s (divide.WriteDevice part) = fault.WriteDevice
 division_fault s divide.Memory = fault.Memory
+
+-- why a side's file can't be read: its device failed, or memory ran out
+abbrev pub IsFileFault : Side → Fault → Type 0
+IsFileFault s f = (f ≡ fault.ReadDevice s) ⊎ (f ≡ fault.Memory)
+
+-- why the rows of a range are not divided among so many parts, as `divide` finds it in blocks of 8 mebibytes
+abbrev pub IsOfRows : (List Content → ℕ) → Option (List ℕ) → Range → ℕ → Failure → Type 0
+IsOfRows part file range parts e = (refused : DivideRefused) × (e ≡ failure.Told (division_fault range.line.now.side refused)) × IfSome file (λ text.
+    IsDivisionFault (range_dividing part range) 8388608 (range_reading range.line.now.strict range.from) (range_bytes range text) parts refused)
+
+-- why the header of so many parts isn't written: with the column of places it makes no table, or a part failed
+abbrev pub IsOfHeader : Range → ℕ → Failure → Type 0
+IsOfHeader range parts e = (refused : DivideRefused) × (e ≡ failure.Told (division_fault range.line.now.side refused))
+    × IsHeaderFault range.own.now (place_name range.line.now.side) parts refused
+
+-- why a line isn't printed: the output failed, or memory ran out
+abbrev pub IsOfWriting : Failure → Type 0
+IsOfWriting e = (e ≡ failure.Told fault.WriteDevice) ⊎ (e ≡ failure.Told fault.Memory)
+
+-- why a range isn't divided among so many parts: because of their header, of its rows, or of what is printed
+abbrev pub IsOfParts : Option (List ℕ) → (List Content → ℕ) → Range → ℕ → Failure → Type 0
+IsOfParts file part range parts e = IsOfHeader range parts e ⊎ (IsOfRows part file range parts e ⊎ IsOfWriting e)
+
+-- the failure of an invalid NULL text, unless the file can't be read
+abbrev pub unlawful_null : Result Head Fault → Failure
+unlawful_null (Err (fault.ReadDevice s)) = failure.Told (fault.ReadDevice s)
+unlawful_null (Err fault.Memory) = failure.Told fault.Memory
+unlawful_null head = failure.Told fault.BadNull

@@ -1,23 +1,25 @@
 //! Dividing a range of a file.
 
-ghost use Rattle.std.specs.Prelude.{◌≡◌, ◌<◌, ◌≤◌, ◌-◌, ◌^◌, All, IfErr, IfOk, IfSome, IsTrue, Ok, OnOk, length, map, true};
+ghost use Rattle.std.specs.Prelude.{◌≡◌, ◌⊎◌, ◌<◌, ◌≤◌, ◌-◌, ◌^◌, [], All, IfErr, IfOk, IfSome, IsTrue, Ok, OnOk, Some, length, map, string_bytes, true};
+ghost use Rattle.std.specs.Io.KnownBytes.{Appends};
 ghost use Rattle.rj_columns.specs.Tables.{TableValue};
-ghost use Rattle.rj_condition.specs.Fits.{fits};
-ghost use Rattle.rj_condition.specs.Parts.{split_fits};
 ghost use Rattle.rj_csv_io.specs.Tables.{is_null_text};
 ghost use Rattle.rj_csv_io.specs.Typed.{null_texts};
 ghost use Rattle.rj_divide.specs.Divisions.{written_null};
+ghost use Rattle.rj_divide.specs.Headers.{HaveText};
 ghost use Rattle.rj_divide.specs.Texts.{IsDivisionFault, IsTextDivided};
-ghost use Rattle.shards.specs.Ranges.{division_fault, place_name, range_begun, range_dividing, range_reading};
+ghost use Rattle.shards.specs.Plans.{IsDivision, IsRangeFailure, is_after_rows};
+ghost use Rattle.shards.specs.Ranges.{AreAllRows, AreDivided, AreParted, IsOfHeader, IsOfParts, IsOfRows, IsOfWriting, counts_line, division_fault, mixed_shard, place_name, range_begin, range_begun, range_bytes, range_dividing, range_file, range_header, range_reading, unlawful_null};
 
 use crate::failure::Failure;
-use crate::files::{Head, open_range, read_head};
-use crate::line::{Line, Operand};
-use crate::outputs::{NullSink, OnePart, part_files};
+use crate::head::Head;
+use crate::line::{Bounds, Line};
+use crate::outputs::{NullSink, OnePart, print_text};
+use crate::planning::{empty_table, other_side, plan};
+use crate::storage::{Storage, open_range, read_head};
 use rj_columns::{ColumnType, Table};
-use rj_command::{Strictness, bind_clause, fault_of_text, types_of_header};
-use rj_condition::{BoundJoin, split};
-use rj_csv_io::{CountedWriter, Input, Output};
+use rj_command::{Strictness, fault_of_text};
+use rj_csv_io::{Input, Output};
 use rj_divide::{
     DivideRefused, Division, Reading, Route, divide, have_lawful_nulls, write_headers,
 };
@@ -26,14 +28,12 @@ use rj_radix::Mixed;
 use rj_shards::{ShardRoute, Shards};
 use rj_strict::Delimiter;
 use std::alloc::{AllocError, Global};
-use std::fs::Files;
-use std::io;
 
 /// How many bytes of a file are read at once. With the rows in them and the texts that are made of
 /// these, the program takes less than 256 MiB, whatever the file's size.
 pub(crate) const BLOCK: usize = 8 << 20;
 
-// The last byte at which a range may begin, 2^62.
+/// The last byte at which a range may begin, 2^62.
 const MOST: u64 = 1 << 62;
 
 // The range of a side's file that is divided, under its header. It begins at a byte up to 2^62.
@@ -41,11 +41,12 @@ const MOST: u64 = 1 << 62;
 struct Range<'a> {
     line: &'a Line<'a>,
     head: &'a Head,
+    own: &'a Table,
     types: &'a [ColumnType],
     nulls: &'a [&'a str],
     delimiter: Delimiter,
     from: u64,
-    to: u64,
+    to: Option<u64>,
 }
 
 // The name of the column with the places of a side's rows.
@@ -58,27 +59,6 @@ fn place_name(side: Side) -> &'static str
     }
 }
 
-fn other_side(side: Side) -> Side {
-    match side {
-        Side::Left => Side::Right,
-        Side::Right => Side::Left,
-    }
-}
-
-// The table without rows that a header begins.
-fn empty_table(
-    alloc: Global,
-    head: &Head,
-    operand: &Operand<'_>,
-    side: Side,
-) -> Result<Table, Fault> {
-    let types = types_of_header(alloc, &head.header, operand.types.as_slice(), side)?;
-    match head.header.table(alloc, types.as_slice()) {
-        Ok(table) => Ok(table),
-        Err(refused) => Err(fault_of_read(side, refused)),
-    }
-}
-
 // The types of a table's columns.
 fn types_of(alloc: Global, table: &Table) -> Result<Vec<ColumnType>, AllocError>
     ensures { IfOk result (λ v. v.items ≡ table.now.types) }
@@ -88,59 +68,6 @@ fn types_of(alloc: Global, table: &Table) -> Result<Vec<ColumnType>, AllocError>
         types.push(table.column_type(column))?;
     }
     Ok(types)
-}
-
-// The join of the side's table and the other one.
-fn bind_sides(
-    alloc: Global,
-    line: &Line<'_>,
-    own: &Table,
-    other: &Table,
-) -> Result<BoundJoin, Failure>
-    ensures { IfOk result (λ j. (line.now.side ≡ Side.Left → fits j own.now.types other.now.types ≡ true)
-        × (line.now.side ≡ Side.Right → fits j other.now.types own.now.types ≡ true)) }
-{
-    let join = match line.side {
-        Side::Left => bind_clause(alloc, line.clause, own, other)?,
-        Side::Right => bind_clause(alloc, line.clause, other, own)?,
-    };
-    Ok(join)
-}
-
-// The shards of a join, and the key columns of the side's table.
-fn shards_of(
-    alloc: Global,
-    line: &Line<'_>,
-    own: &Table,
-    other: &Table,
-) -> Result<(Shards, Vec<usize>), Failure>
-    ensures { IfOk result (λ p. All (λ c. c < length own.now.types) p.1.items) }
-{
-    let join = bind_sides(alloc, line, own, other)?;
-    let split = split(alloc, &join)?;
-    let Some(shards) = Shards::of_split(&split, line.parts) else {
-        return Err(Failure::NoKey);
-    };
-    let columns = match line.side {
-        Side::Left => split.left_columns(alloc)?,
-        Side::Right => split.right_columns(alloc)?,
-    };
-    Ok((shards, columns))
-}
-
-// The same, of the other table's file.
-fn plan<R: Files + AllocGlobal>(
-    rt: &R,
-    line: &Line<'_>,
-    own: &Table,
-) -> Result<(Shards, Vec<usize>), Failure>
-    ensures { IfOk result (λ p. All (λ c. c < length own.now.types) p.1.items) }
-{
-    let side = other_side(line.side);
-    let operand = line.operand(side);
-    let head = read_head(rt, operand.file, side, line.delimiter(side), line.strict)?;
-    let other = empty_table(rt.alloc(), &head, operand, side)?;
-    shards_of(rt.alloc(), line, own, &other)
 }
 
 /// The error of a side's file that wasn't divided.
@@ -168,6 +95,17 @@ fn reading_of(strict: Strictness, from: u64) -> Reading
     }
 }
 
+// The byte from which a range is read.
+fn begin_of(range: &Range<'_>) -> u64
+    ensures { result ≡ range_begin range.now }
+{
+    if range.from == 0 {
+        range.head.begin
+    } else {
+        range.from
+    }
+}
+
 // Divides the bytes that a device tells of a range, as strictly as is asked for. Places count from
 // the range's first byte.
 fn divide_input<I: Input, W: Route, O: Output>(
@@ -183,13 +121,13 @@ fn divide_input<I: Input, W: Route, O: Output>(
     requires null { IsTrue (is_null_text (written_null (null_texts range.now.nulls.now))) }
     requires reads { I.count input.old < 2 ^ 64 - 1 }
     requires writes { All (λ o. O.count o < 2 ^ 64 - 1) outputs.old }
-    ensures divided { IfOk result (λ n. IfSome (I.tells input.old) (λ text. IsTextDivided (range_dividing W.part range.now route.now)
+    ensures divided { IfOk result (λ n. IfSome (I.tells input.old) (λ text. IsTextDivided (range_dividing (W.part route.now) range.now)
         (range_reading range.now.line.now.strict range.now.from) text (map O.told outputs.old) (map O.told outputs.new) n)) }
     ensures begins { OnOk result ((t : TableValue) × (range_begun range.now ≡ Ok t)) }
 
     // where the header and the types go together, an error comes for this alone
     ensures fault { IfErr result (λ e. (t : TableValue) → range_begun range.now ≡ Ok t → IfSome (I.tells input.old) (λ text. IsDivisionFault
-        (range_dividing W.part range.now route.now) BLOCK (range_reading range.now.line.now.strict range.now.from) text (length outputs.old) e)) }
+        (range_dividing (W.part route.now) range.now) BLOCK (range_reading range.now.line.now.strict range.now.from) text (length outputs.old) e)) }
 {
     let division = Division {
         delimiter: range.delimiter,
@@ -204,8 +142,9 @@ fn divide_input<I: Input, W: Route, O: Output>(
 }
 
 // Puts each row of a range to the output of its part. The answer is how many rows there are.
-fn divide_rows<R: Files + AllocGlobal, W: Route, O: Output>(
-    rt: &R,
+fn divide_rows<S: Storage, W: Route, O: Output>(
+    alloc: Global,
+    storage: &S,
     range: &Range<'_>,
     route: &W,
     outputs: &mut [O],
@@ -214,42 +153,105 @@ fn divide_rows<R: Files + AllocGlobal, W: Route, O: Output>(
     requires outputs { length outputs.old ≡ W.count route.now }
     requires from { range.now.from ≤ 2 ^ 62 }
     requires null { IsTrue (is_null_text (written_null (null_texts range.now.nulls.now))) }
+    requires table { range_begun range.now ≡ Ok range.now.own.now }
     requires writes { All (λ o. O.count o < 2 ^ 64 - 1) outputs.old }
+    ensures divided { IfOk result (λ n. IfSome (range_file (S.holds storage.now) range.now) (λ text. IsTextDivided (range_dividing (W.part route.now) range.now)
+        (range_reading range.now.line.now.strict range.now.from) (range_bytes range.now text) (map O.told outputs.old) (map O.told outputs.new) n)) }
+    ensures fault { IfErr result (IsOfRows (W.part route.now) (range_file (S.holds storage.now) range.now) range.now (length outputs.old)) }
 {
     let side = range.line.side;
     let file = range.line.operand(side).file;
-    let begin = if range.from == 0 {
-        range.head.begin
-    } else {
-        range.from
-    };
-    let mut input = open_range(rt, file, side, begin, range.to)?;
-    match divide_input(rt.alloc(), range, route, &mut input, outputs) {
+    let mut input = open_range(storage, file, side, begin_of(range), range.to)?;
+    match divide_input(alloc, range, route, &mut input, outputs) {
         Ok(rows) => Ok(rows),
         Err(refused) => Err(Failure::Told(fault_of_division(side, refused))),
     }
 }
 
-// Prints how many rows a range has, and how many bytes the header of each part has.
-fn print_counts<R: AllocGlobal + Print>(rt: &R, rows: u64, header: u64) -> Result<(), Failure> {
-    let text = format!(in rt.alloc(); "rows {rows} header {header}\n")?;
-    match CountedWriter::new(io::writer(rt)).put(text.as_bytes()) {
-        Ok(()) => Ok(()),
-        Err(_) => Err(Failure::Told(Fault::WriteDevice)),
+// The line that says how many rows a range has, and how many bytes the header of each part has.
+fn counts_line(alloc: Global, rows: u64, header: u64) -> Result<String, AllocError>
+    ensures { IfOk result (λ s. string_bytes s ≡ counts_line rows header) }
+{
+    format!(in alloc; "rows {rows} header {header}\n")
+}
+
+// Prints this line.
+fn print_counts<O: Output>(
+    alloc: Global,
+    rows: u64,
+    header: u64,
+    output: &mut O,
+) -> Result<(), Failure>
+    requires { O.count output.old < 2 ^ 64 - 1 }
+    ensures printed { OnOk result (Appends (O.told output.old) (O.told output.new) (counts_line rows header)) }
+    ensures fault { IfErr result IsOfWriting }
+{
+    let text = counts_line(alloc, rows, header)?;
+    print_text(output, text.as_str())
+}
+
+// Puts the header of a range's parts to each output. The answer is how many bytes it has.
+fn put_headers<O: Output>(
+    alloc: Global,
+    range: &Range<'_>,
+    outputs: &mut [O],
+) -> Result<u64, Failure>
+    requires { All (λ o. O.count o < 2 ^ 64 - 1) outputs.old }
+    ensures told { OnOk result (HaveText (range_header range.now) (map O.told outputs.old) (map O.told outputs.new)) }
+    ensures size { IfOk result (λ n. n ≡ length (range_header range.now)) }
+    ensures writes { OnOk result (All (λ o. O.count o < 2 ^ 64 - 1) outputs.new) }
+    ensures fault { IfErr result (IsOfHeader range.now (length outputs.old)) }
+{
+    let side = range.line.side;
+    match write_headers(alloc, range.own, place_name(side), outputs) {
+        Ok(header) => Ok(header),
+        Err(refused) => Err(Failure::Told(fault_of_division(side, refused))),
     }
 }
 
-// Divides a range among the files of a folder.
-fn divide_among_files<R: Files + AllocGlobal + Print>(
-    rt: &R,
+// Puts the header of a range's parts to each output, and then each row to the output of its part.
+// The answer is how many rows there are, and how many bytes the header has.
+fn fill_parts<S: Storage, W: Route, O: Output>(
+    alloc: Global,
+    storage: &S,
     range: &Range<'_>,
-    own: &Table,
+    route: &W,
+    outputs: &mut [O],
+) -> Result<(u64, u64), Failure>
+    requires types { W.fits route.now range.now.types.now }
+    requires outputs { length outputs.old ≡ W.count route.now }
+    requires from { range.now.from ≤ 2 ^ 62 }
+    requires null { IsTrue (is_null_text (written_null (null_texts range.now.nulls.now))) }
+    requires table { range_begun range.now ≡ Ok range.now.own.now }
+    requires writes { All (λ o. O.count o < 2 ^ 64 - 1) outputs.old }
+    ensures parted { IfOk result (λ p. All (λ o. O.told o ≡ Some []) outputs.old
+        → AreParted (range_file (S.holds storage.now) range.now) (W.part route.now) range.now (map O.told outputs.new) p.0) }
+    ensures header { IfOk result (λ p. p.1 ≡ length (range_header range.now)) }
+    ensures fault { IfErr result (IsOfParts (range_file (S.holds storage.now) range.now) (W.part route.now) range.now (length outputs.old)) }
+{
+    let header = put_headers(alloc, range, outputs)?;
+    let rows = divide_rows(alloc, storage, range, route, outputs)?;
+    Ok((rows, header))
+}
+
+// Divides a range among the parts of a folder, and prints how many rows it has.
+fn divide_among_parts<S: Storage, O: Output>(
+    alloc: Global,
+    storage: &S,
+    range: &Range<'_>,
     plan: &(Shards, Vec<usize>),
     folder: &str,
-) -> Result<(), Failure>
+    output: &mut O,
+) -> Result<Vec<S::Part>, Failure>
     requires keys { All (λ c. c < length range.now.types.now) plan.now.1.items }
     requires from { range.now.from ≤ 2 ^ 62 }
     requires null { IsTrue (is_null_text (written_null (null_texts range.now.nulls.now))) }
+    requires table { range_begun range.now ≡ Ok range.now.own.now }
+    requires output { O.count output.old < 2 ^ 64 - 1 }
+    ensures count { IfOk result (λ v. length v.items ≡ plan.now.0.parts) }
+    ensures divided { IfOk result (λ v. AreDivided (S.tells_parts storage.now) (range_file (S.holds storage.now) range.now) (mixed_shard plan.now.0.parts plan.now.1.items) range.now
+        (map S.Part.told v.items) (O.told output.old) (O.told output.new)) }
+    ensures fault { IfErr result (IsOfParts (range_file (S.holds storage.now) range.now) (mixed_shard plan.now.0.parts plan.now.1.items) range.now plan.now.0.parts) }
 {
     let (shards, columns) = plan;
     let route = ShardRoute {
@@ -257,38 +259,75 @@ fn divide_among_files<R: Files + AllocGlobal + Print>(
         columns: columns.as_slice(),
         hash: &Mixed,
     };
-    let mut files = part_files(rt, folder, shards.parts)?;
-    let header = match write_headers(
-        rt.alloc(),
-        own,
-        place_name(range.line.side),
-        files.as_mut_slice(),
-    ) {
-        Ok(header) => header,
-        Err(refused) => return Err(Failure::Told(fault_of_division(range.line.side, refused))),
-    };
-    let rows = divide_rows(rt, range, &route, files.as_mut_slice())?;
-    print_counts(rt, rows, header)
+    let mut parts = storage.parts(folder, shards.parts)?;
+    let counts = fill_parts(alloc, storage, range, &route, parts.as_mut_slice())?;
+    print_counts(alloc, counts.0, counts.1, output)?;
+    Ok(parts)
 }
 
-// Reads a range's rows when they can't be divided because of a failure that is reported after their
-// own errors.
-fn look_at_rows<R: Files + AllocGlobal + Print>(
-    rt: &R,
+// Reads a range's rows though they can't be divided, because of a failure. The answer is the first
+// error of theirs, or else this failure.
+fn look_at_rows<S: Storage, O: Output>(
+    alloc: Global,
+    storage: &S,
     range: &Range<'_>,
     failure: Failure,
-) -> Result<(), Failure>
+    output: &mut O,
+) -> Failure
     requires from { range.now.from ≤ 2 ^ 62 }
     requires null { IsTrue (is_null_text (written_null (null_texts range.now.nulls.now))) }
+    requires table { range_begun range.now ≡ Ok range.now.own.now }
+    requires output { O.count output.old < 2 ^ 64 - 1 }
+    ensures { ((result ≡ failure) × AreAllRows (range_file (S.holds storage.now) range.now) range.now)
+        ⊎ (IsOfRows (λ _. 0) (range_file (S.holds storage.now) range.now) range.now 1 result ⊎ IsOfWriting result) }
 {
     let mut sink = [NullSink];
-    let rows = divide_rows(rt, range, &OnePart, sink.as_mut_slice())?;
-    print_counts(rt, rows, 0)?;
-    Err(failure)
+    match divide_rows(alloc, storage, range, &OnePart, sink.as_mut_slice()) {
+        Ok(rows) => match print_counts(alloc, rows, 0, output) {
+            Ok(()) => failure,
+            Err(failed) => failed,
+        },
+        Err(failed) => failed,
+    }
+}
+
+// Whether a failure is reported only after the rows were read: all but that there is no key, and that
+// memory ran out.
+fn is_after_rows(failure: &Failure) -> bool
+    ensures { result ≡ is_after_rows failure.now }
+{
+    match failure {
+        Failure::NoKey | Failure::Told(Fault::Memory) => false,
+        _ => true,
+    }
+}
+
+// The failure of a range whose keys aren't known because of this failure: that of its rows, if they
+// are to be read before.
+fn failure_of_range<S: Storage, O: Output>(
+    alloc: Global,
+    storage: &S,
+    range: &Range<'_>,
+    failure: Failure,
+    output: &mut O,
+) -> Failure
+    requires from { range.now.from ≤ 2 ^ 62 }
+    requires null { IsTrue (is_null_text (written_null (null_texts range.now.nulls.now))) }
+    requires table { range_begun range.now ≡ Ok range.now.own.now }
+    requires output { O.count output.old < 2 ^ 64 - 1 }
+    ensures { ((result ≡ failure) × (is_after_rows failure ≡ true → AreAllRows (range_file (S.holds storage.now) range.now) range.now))
+        ⊎ (IsOfRows (λ _. 0) (range_file (S.holds storage.now) range.now) range.now 1 result ⊎ IsOfWriting result) }
+{
+    if !is_after_rows(&failure) {
+        return failure;
+    }
+    look_at_rows(alloc, storage, range, failure, output)
 }
 
 // The failure of an invalid NULL text, unless the file can't be read at all.
-fn unlawful_null(head: Result<Head, Fault>) -> Failure {
+fn unlawful_null(head: Result<Head, Fault>) -> Failure
+    ensures { result ≡ unlawful_null head }
+{
     match head {
         Err(Fault::ReadDevice(side)) => Failure::Told(Fault::ReadDevice(side)),
         Err(Fault::Memory) => Failure::Told(Fault::Memory),
@@ -296,43 +335,56 @@ fn unlawful_null(head: Result<Head, Fault>) -> Failure {
     }
 }
 
-/// Divides the bytes of a side's file from one place up to another, or to its end, among the files
-/// of a folder, and prints how many rows they have.
+/// Divides the bytes of a side's file between two places among the parts of a folder, and prints
+/// how many rows they have. The answer is the parts.
 ///
 /// # Errors
 ///
 /// `BadNull`; the first error of the side's file; then one of the other file's header, or of the
 /// clause, after the rows were read all the same.
-pub(crate) fn divide_range<R: Files + AllocGlobal + Print>(
-    rt: &R,
+pub(crate) fn divide_range<S: Storage, O: Output>(
+    alloc: Global,
+    storage: &S,
     line: &Line<'_>,
-    from: u64,
-    to: Option<u64>,
+    bounds: Bounds,
     folder: &str,
-) -> Result<(), Failure> {
+    output: &mut O,
+) -> Result<Vec<S::Part>, Failure>
+    requires { O.count output.old < 2 ^ 64 - 1 }
+    ensures division { IfOk result (λ v. IsDivision (S.holds storage.now) (S.tells_parts storage.now) line.now bounds (map S.Part.told v.items) (O.told output.old) (O.told output.new)) }
+    ensures failure { IfErr result (IsRangeFailure (S.holds storage.now) line.now bounds) }
+{
     let own = line.operand(line.side);
-    let delimiter = line.delimiter(line.side);
-    let head = read_head(rt, own.file, line.side, delimiter, line.strict);
-    let nulls = line.nulls(line.side);
-    if !have_lawful_nulls(nulls, line.nulls(other_side(line.side))) {
+    let other = line.operand(other_side(line.side));
+    let head = read_head(
+        alloc,
+        storage,
+        own.file,
+        line.side,
+        own.delimiter,
+        line.strict,
+    );
+    let nulls = own.nulls.as_slice();
+    if !have_lawful_nulls(nulls, other.nulls.as_slice()) {
         return Err(unlawful_null(head));
     }
     let head = head?;
-    let table = empty_table(rt.alloc(), &head, own, line.side)?;
-    let types = types_of(rt.alloc(), &table)?;
+    let table = empty_table(alloc, &head, own, line.side)?;
+    let kinds = types_of(alloc, &table)?;
+    let types = kinds.as_slice();
+    let from = bounds.from.min(MOST);
     let range = Range {
         line,
         head: &head,
-        types: types.as_slice(),
+        own: &table,
+        types,
         nulls,
-        delimiter,
-        from: from.min(MOST),
-        to: to.unwrap_or(MOST),
+        delimiter: own.delimiter,
+        from,
+        to: bounds.to,
     };
-    match plan(rt, line, &table) {
-        Ok(plan) => divide_among_files(rt, &range, &table, &plan, folder),
-        Err(Failure::NoKey) => Err(Failure::NoKey),
-        Err(Failure::Told(Fault::Memory)) => Err(Failure::Told(Fault::Memory)),
-        Err(failure) => look_at_rows(rt, &range, failure),
+    match plan(alloc, storage, line, &table) {
+        Ok(plan) => divide_among_parts(alloc, storage, &range, &plan, folder, output),
+        Err(failure) => Err(failure_of_range(alloc, storage, &range, failure, output)),
     }
 }

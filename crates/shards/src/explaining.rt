@@ -1,15 +1,17 @@
 //! `--explain`: the lines that are added after the line of an error.
 
-ghost use Rattle.std.specs.Prelude.{◌≡◌};
-ghost use Rattle.shards.specs.Explained.{is_of_headers};
+ghost use Rattle.std.specs.Prelude.{◌≡◌, ◌⊎◌, IfOk, None, false, map, option_map, string_bytes};
+ghost use Rattle.std.specs.List.{list_any};
+ghost use Rattle.rj_fault.specs.Faults.{IsAskedFor};
+ghost use Rattle.shards.specs.Explained.{AreHeadersTold, AreLinesOf, has_value, is_explain, is_of_headers, is_own_option, without_own};
+ghost use Rattle.shards.specs.Failures.{clap_error_of, exit_of, unwritten};
 
 use crate::failure::Failure;
-use crate::files::read_beginning;
+use crate::storage::{Storage, read_beginning};
 use rj_command::{read_line, tell};
 use rj_explain::{Inputs, explain, explain_words};
 use rj_fault::{Fault, Side};
 use std::alloc::{AllocError, Global};
-use std::fs::Files;
 
 /// Why there is no output, and the lines that explain it.
 #[derive(Drop)]
@@ -19,6 +21,10 @@ pub(crate) struct ExplainedFailure {
 }
 
 impl From<Failure> for ExplainedFailure {
+    ghost use Rattle.std.specs.Prelude.{None};
+
+    ghost from_gives = { λ failure e. (e.failure ≡ failure) × (e.lines ≡ None) };
+
     fn from(failure: Failure) -> ExplainedFailure {
         ExplainedFailure {
             failure,
@@ -27,21 +33,14 @@ impl From<Failure> for ExplainedFailure {
     }
 }
 
-impl From<Fault> for ExplainedFailure {
-    fn from(fault: Fault) -> ExplainedFailure {
-        ExplainedFailure {
-            failure: Failure::Told(fault),
-            lines: None,
-        }
-    }
-}
-
 impl From<AllocError> for ExplainedFailure {
+    ghost use Rattle.rj_fault.specs.declared.fault.Fault.TheVariants.{Memory};
+    ghost use Rattle.shards.specs.declared.failure.Failure.TheVariants.{Told};
+
+    ghost from_gives = { λ _ e. e.failure ≡ Told Memory };
+
     fn from(_error: AllocError) -> ExplainedFailure {
-        ExplainedFailure {
-            failure: Failure::Told(Fault::Memory),
-            lines: None,
-        }
+        ExplainedFailure::from(Failure::Told(Fault::Memory))
     }
 }
 
@@ -49,22 +48,33 @@ impl From<AllocError> for ExplainedFailure {
 const OWN_OPTIONS: [&str; 6] = ["--side", "--parts", "--from", "--to", "--out", "--cuts"];
 
 // Whether a word is an option that a join in one go doesn't have, with its value after `=` or without.
-fn is_own_option(word: &str) -> bool {
+fn is_own_option(word: &str) -> bool
+    ensures { result ≡ is_own_option word.now }
+{
     match word.split_once('=') {
         Some((option, _)) => OWN_OPTIONS.contains(&option),
         None => OWN_OPTIONS.contains(&word),
     }
 }
 
+// Whether an option's word has its value after `=`.
+fn has_value(word: &str) -> bool
+    ensures { result ≡ has_value word.now }
+{
+    word.as_bytes().contains(&b'=')
+}
+
 // The words with the same meaning for a join in one go.
-fn words_of_join<'w>(alloc: Global, words: &[&'w str]) -> Result<Vec<&'w str>, AllocError> {
+fn words_of_join<'w>(alloc: Global, words: &[&'w str]) -> Result<Vec<&'w str>, AllocError>
+    ensures { IfOk result (λ v. map (λ w. w.now) v.items ≡ without_own false (map (λ w. w.now) words.now)) }
+{
     let mut of_join = Vec::with_capacity(alloc, words.len())?;
     let mut is_own_value = false;
     for word in words {
         if is_own_value {
             is_own_value = false;
         } else if is_own_option(*word) {
-            is_own_value = !word.contains('=');
+            is_own_value = !has_value(*word);
         } else {
             of_join.push(*word)?;
         }
@@ -91,19 +101,21 @@ fn is_of_headers(fault: &Fault) -> bool
 }
 
 // The lines of an error of headers or of the clause, for which the files' beginnings are enough.
-fn header_lines<R: Files + AllocGlobal>(
-    rt: &R,
+fn header_lines<S: Storage>(
+    alloc: Global,
+    storage: &S,
     words: &[&str],
     fault: &Fault,
-) -> Result<String, AllocError> {
-    let alloc = rt.alloc();
+) -> Result<String, AllocError>
+    ensures { IfOk result (λ s. AreHeadersTold (S.holds storage.now) fault.now (map (λ w. w.now) words.now) (string_bytes s)) }
+{
     let words = words_of_join(alloc, words)?;
     let Ok(line) = read_line(alloc, words.as_slice(), 1) else {
         return Ok(String::new(alloc));
     };
     let (Ok(left), Ok(right)) = (
-        read_beginning(rt, line.left, Side::Left),
-        read_beginning(rt, line.right, Side::Right),
+        read_beginning(alloc, storage, line.left, Side::Left),
+        read_beginning(alloc, storage, line.right, Side::Right),
     ) else {
         return Ok(String::new(alloc));
     };
@@ -117,34 +129,56 @@ fn header_lines<R: Files + AllocGlobal>(
 
 // The lines that say more about a failure than its own line does: about a list of types, an error
 // of a header, a list that doesn't fit one, and the clause.
-fn lines_of<R: Files + AllocGlobal>(
-    rt: &R,
+fn lines_of<S: Storage>(
+    alloc: Global,
+    storage: &S,
     words: &[&str],
     failure: &Failure,
-) -> Result<Option<String>, AllocError> {
+) -> Result<Option<String>, AllocError>
+    ensures { IfOk result (λ o. AreLinesOf (S.holds storage.now) failure.now (map (λ w. w.now) words.now) (option_map string_bytes o)) }
+{
     match failure {
-        Failure::Told(fault) if is_of_headers(fault) => Ok(Some(header_lines(rt, words, fault)?)),
-        Failure::Told(fault) => explain_words(rt.alloc(), words, fault),
+        Failure::Told(fault) if is_of_headers(fault) => {
+            Ok(Some(header_lines(alloc, storage, words, fault)?))
+        }
+        Failure::Told(fault) => explain_words(alloc, words, fault),
         _ => Ok(None),
     }
 }
 
-/// A failure of a run with these words, explained if they ask for it and there was memory for it.
-pub(crate) fn explained<R: Files + AllocGlobal>(
-    rt: &R,
-    words: &[&str],
-    failure: Failure,
-) -> ExplainedFailure {
-    let lines = if words.iter().any(|word| *word == "--explain") {
-        lines_of(rt, words, &failure).unwrap_or(None)
-    } else {
-        None
-    };
-    ExplainedFailure { failure, lines }
+// Whether the words ask for failures to be explained.
+fn is_asked(words: &[&str]) -> bool
+    ensures { result ≡ list_any (λ w. is_explain w.now) words.now }
+{
+    words.iter().any(|word| *word == "--explain")
 }
 
-/// Prints a failure, and what explains it, on standard error, and returns the exit status.
-pub(crate) fn tell_explained<R: Print + Eprint>(rt: &R, reason: &ExplainedFailure) -> u8 {
+/// A failure of a run with these words, explained if they ask for it and there was memory for it.
+pub(crate) fn explained<S: Storage>(
+    alloc: Global,
+    storage: &S,
+    words: &[&str],
+    failure: Failure,
+) -> ExplainedFailure
+    ensures failure { result.failure ≡ failure }
+    ensures unasked { list_any (λ w. is_explain w.now) words.now ≡ false → result.lines ≡ None }
+    ensures lines { (result.lines ≡ None) ⊎ AreLinesOf (S.holds storage.now) failure (map (λ w. w.now) words.now) (option_map string_bytes result.lines) }
+{
+    if !is_asked(words) {
+        return ExplainedFailure::from(failure);
+    }
+    match lines_of(alloc, storage, words, &failure) {
+        Ok(lines) => ExplainedFailure { failure, lines },
+        Err(_) => ExplainedFailure::from(failure),
+    }
+}
+
+/// Prints a failure, and what explains it, on standard error, and returns the exit status: that of
+/// the failure or, if help or the version was asked for and couldn't be printed, that of a failed
+/// write.
+pub(crate) fn tell_explained<R: Print + Eprint>(rt: &R, reason: &ExplainedFailure) -> u8
+    ensures { (result ≡ exit_of reason.now.failure) ⊎ (IsAskedFor (clap_error_of reason.now.failure) × (result ≡ exit_of unwritten)) }
+{
     let status = tell(rt, &reason.failure);
     if let Some(lines) = &reason.lines {
         let _ = eprint!(rt; "{lines}");

@@ -1,29 +1,58 @@
 //! Why a file wasn't divided.
 
+ghost use Rattle.std.specs.Prelude.{◌≡◌};
+
 use rj_command::{ExitReason, Fault};
 use std::alloc::AllocError;
+use std::fmt;
 
 /// Why a file wasn't divided. The text is the line that is printed, without its line end; an error of a file or of the
 /// clause has the line that `radixjoin` prints.
-#[derive(Debug, Drop, thiserror::Error)]
+#[derive(Drop)]
 pub(crate) enum Failure {
-    #[error("{0}")]
+    /// An error of the command line, a file, the clause or the machine.
     Told(Fault),
-    #[error("shards: an argument is not text")]
+    /// A word of the command line isn't text.
     NotText,
-    #[error("shards: one of --out and --cuts has to be given")]
+    /// Both or neither of `--out` and `--cuts` are given.
     NoTask,
-    #[error("shards: the clause has no key, so that its tables can't be divided")]
+    /// The clause has no key.
     NoKey,
 }
 
+impl fmt::Display for Failure {
+    ghost use Rattle.shards.specs.Failures.{line_of};
+
+    ghost output = { line_of };
+
+    fn fmt<W: fmt::Write>(&self, f: &mut fmt::Formatter<W>) -> fmt::Result {
+        match self {
+            Failure::Told(fault) => write!(f, "{fault}"),
+            Failure::NotText => f.write_str("shards: an argument is not text"),
+            Failure::NoTask => f.write_str("shards: one of --out and --cuts has to be given"),
+            Failure::NoKey => f.write_str(
+                "shards: the clause has no key, so that its tables can't be divided",
+            ),
+        }
+    }
+}
+
 impl From<Fault> for Failure {
+    ghost use Rattle.shards.specs.declared.failure.Failure.TheVariants.{Told};
+
+    ghost from_gives = { λ fault failure. failure ≡ Told fault };
+
     fn from(fault: Fault) -> Failure {
         Failure::Told(fault)
     }
 }
 
 impl From<AllocError> for Failure {
+    ghost use Rattle.rj_fault.specs.declared.fault.Fault.TheVariants.{Memory};
+    ghost use Rattle.shards.specs.declared.failure.Failure.TheVariants.{Told};
+
+    ghost from_gives = { λ _ failure. failure ≡ Told Memory };
+
     fn from(_error: AllocError) -> Failure {
         Failure::Told(Fault::Memory)
     }

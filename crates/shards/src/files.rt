@@ -1,158 +1,72 @@
-//! The files that are read.
+//! The files of the system.
 
-ghost use Rattle.std.specs.Prelude.{◌≡◌, IfOk};
-ghost use Rattle.rj_csv_io.specs.Devices.{read_failures_of};
+ghost use Rattle.std.specs.Prelude.{◌≡◌, ◌<◌, ◌-◌, ◌^◌, All, IfOk, length};
+ghost use Rattle.rj_divide.specs.Stored.{put_failures_of};
 
-use crate::first_line::head_of_lines;
-use rj_command::{Fault, Side, Strictness, fault_of_read};
-use rj_csv_io::{CountedReader, Header, last_cut, read_up_to, without_bom};
-use rj_strict::Delimiter;
-use std::alloc::Global;
+use crate::storage::Storage;
+use rj_csv_io::CountedReader;
+use rj_divide::{PartFile, StoredPart};
+use std::alloc::AllocError;
 use std::fs::{self, Files, OpenFile};
-use std::io::{ErrorKind, Read, Seek, SeekFrom, Take};
+use std::io::{self, Read, Seek, SeekFrom, Take};
 
-/// The bytes that are read from a file for its header at first.
-const HEADER_BYTES: usize = 1 << 16;
-
-/// The bytes that are read from a file whose header is shown.
-const BEGINNING: usize = 1 << 20;
-
-/// The header of a file, and where the file's first range begins.
+/// The files of the system. They tell nothing of what they hold, as std's files don't either.
 #[derive(Drop)]
-pub(crate) struct Head {
-    /// The header.
-    pub(crate) header: Header,
-    /// Where the first range begins: after the byte order mark, at the header. If the file is read
-    /// strictly, it is at the line below the header.
-    pub(crate) begin: u64,
+pub(crate) struct Disk<'r, R: Files> {
+    /// The system.
+    pub(crate) rt: &'r R,
 }
 
-/// Opens a file.
-///
-/// # Errors
-///
-/// `ReadDevice`, or `Memory` if memory ran out.
-pub(crate) fn open_file<R: Files>(rt: &R, name: &str, side: Side) -> Result<R::File, Fault> {
-    match fs::open(rt, name) {
-        Ok(file) => Ok(file),
-        Err(error) if error.kind() == ErrorKind::OutOfMemory => Err(Fault::Memory),
-        Err(_) => Err(Fault::ReadDevice(side)),
-    }
-}
-
-/// Opens a file to be read from one place up to another.
-///
-/// # Errors
-///
-/// Those of [`open_file`].
-pub(crate) fn open_range<R: Files>(
-    rt: &R,
-    name: &str,
-    side: Side,
-    from: u64,
-    to: u64,
-) -> Result<CountedReader<Take<R::File>>, Fault>
-    ensures { IfOk result (λ r. read_failures_of r ≡ 0) }
+// The files of this many parts in a folder, which is made if it doesn't exist.
+fn part_files<'r, R: Files + AllocGlobal>(
+    rt: &'r R,
+    folder: &str,
+    parts: u32,
+) -> Result<Vec<StoredPart<PartFile<'r, R>>>, AllocError>
+    ensures count { IfOk result (λ v. length v.items ≡ parts) }
+    ensures writes { IfOk result (λ v. All (λ f. put_failures_of f < 2 ^ 64 - 1) v.items) }
 {
-    let mut file = open_file(rt, name, side)?;
-    match file.seek(SeekFrom::Start(from)) {
-        Ok(_) => Ok(CountedReader::new(file.take(to.saturating_sub(from)))),
-        Err(_) => Err(Fault::ReadDevice(side)),
+    let _ = fs::create_dir_all(rt, folder);
+    let mut files = Vec::new(rt.alloc());
+    for part in 0..parts {
+        let path = format!(in rt.alloc(); "{folder}/{part:04}.csv")?;
+        files.push(StoredPart::new(PartFile::new(rt, path)))?;
     }
+    Ok(files)
 }
 
-/// How many bytes a file has.
-///
-/// # Errors
-///
-/// Those of [`open_file`].
-pub(crate) fn file_size<R: Files>(rt: &R, name: &str, side: Side) -> Result<u64, Fault> {
-    match open_file(rt, name, side)?.metadata() {
-        Ok(metadata) => Ok(metadata.len()),
-        Err(_) => Err(Fault::ReadDevice(side)),
-    }
-}
+impl<'r, R: Files + AllocGlobal> Storage for Disk<'r, R> {
+    type Reader = CountedReader<Take<R::File>>;
 
-// The header of a text that may go on, if the text has a whole record.
-fn head_of(
-    alloc: Global,
-    bytes: &[u8],
-    is_whole: bool,
-    side: Side,
-    delimiter: Delimiter,
-) -> Result<Option<Head>, Fault> {
-    let text = without_bom(bytes);
-    let end = if is_whole {
-        text.len()
-    } else {
-        last_cut(text, delimiter)
-    };
-    let begin = bytes.len().saturating_sub(text.len()) as u64;
-    match Header::of(alloc, &text[..end], delimiter) {
-        Ok(Some(header)) => Ok(Some(Head { header, begin })),
-        Ok(None) => {
-            if is_whole {
-                return Err(Fault::NoHeader(side));
-            }
-            Ok(None)
-        }
-        Err(_) => Err(Fault::Memory),
-    }
-}
+    type Part = StoredPart<PartFile<'r, R>>;
 
-/// Reads the header of a file with this delimiter, as strictly as is asked for.
-///
-/// # Errors
-///
-/// `NoHeader` if it has no record, `ReadDevice`, or `Memory`. If it is read strictly, the place in
-/// its first line where it stops being of RFC 4180's grammar.
-pub(crate) fn read_head<R: Files + AllocGlobal>(
-    rt: &R,
-    name: &str,
-    side: Side,
-    delimiter: Delimiter,
-    strict: Strictness,
-) -> Result<Head, Fault> {
-    let alloc = rt.alloc();
-    let mut input = CountedReader::new(open_file(rt, name, side)?);
-    let mut bytes = Vec::new(alloc);
-    let mut size = HEADER_BYTES;
-    for _turn in 0..64 {
-        let is_whole = match read_up_to(&mut input, &mut bytes, size) {
-            Ok(is_whole) => is_whole,
-            Err(refused) => return Err(fault_of_read(side, refused)),
-        };
-        let found = match strict {
-            Strictness::Off => head_of(alloc, bytes.as_slice(), is_whole, side, delimiter)?,
-            Strictness::On => {
-                head_of_lines(alloc, bytes.as_slice(), is_whole, side, delimiter, false)?
-            }
-            Strictness::Full => {
-                head_of_lines(alloc, bytes.as_slice(), is_whole, side, delimiter, true)?
-            }
-        };
-        if let Some(head) = found {
-            return Ok(head);
-        }
-        size = size.saturating_mul(2);
+    fn open(&self, name: &str) -> io::Result<CountedReader<Take<R::File>>> {
+        let file = fs::open(self.rt, name)?;
+        Ok(CountedReader::new(file.take(u64::MAX)))
     }
-    Err(Fault::Memory)
-}
 
-/// The first bytes of a file, which hold its header unless that has more than a mebibyte.
-///
-/// # Errors
-///
-/// `ReadDevice`, or `Memory` if memory ran out.
-pub(crate) fn read_beginning<R: Files + AllocGlobal>(
-    rt: &R,
-    name: &str,
-    side: Side,
-) -> Result<Vec<u8>, Fault> {
-    let mut input = CountedReader::new(open_file(rt, name, side)?);
-    let mut bytes = Vec::new(rt.alloc());
-    match read_up_to(&mut input, &mut bytes, BEGINNING) {
-        Ok(_) => Ok(bytes),
-        Err(refused) => Err(fault_of_read(side, refused)),
+    fn open_range(
+        &self,
+        name: &str,
+        from: u64,
+        to: Option<u64>,
+    ) -> io::Result<CountedReader<Take<R::File>>> {
+        let mut file = fs::open(self.rt, name)?;
+        let _place = file.seek(SeekFrom::Start(from))?;
+        let size = to.unwrap_or(u64::MAX).saturating_sub(from);
+        Ok(CountedReader::new(file.take(size)))
+    }
+
+    fn size(&self, name: &str) -> io::Result<u64> {
+        let file = fs::open(self.rt, name)?;
+        Ok(file.metadata()?.len())
+    }
+
+    fn parts(
+        &self,
+        folder: &str,
+        count: u32,
+    ) -> Result<Vec<StoredPart<PartFile<'r, R>>>, AllocError> {
+        part_files(self.rt, folder, count)
     }
 }

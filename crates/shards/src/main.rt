@@ -9,44 +9,53 @@ mod explaining;
 mod failure;
 mod files;
 mod first_line;
+mod head;
 mod help;
 mod line;
+mod options;
 mod outputs;
+mod planning;
+mod storage;
+mod working;
 
-use crate::cutting::print_cuts;
-use crate::dividing::divide_range;
+ghost use Rattle.shards.specs.Failures.{IsStatusOf};
+
 use crate::explaining::{ExplainedFailure, explained, tell_explained};
 use crate::failure::Failure;
-use crate::line::{Task, read_line};
+use crate::files::Disk;
+use crate::working::divide_words;
 use rj_command::{read_words, texts_of};
+use rj_csv_io::CountedWriter;
 use std::env::Env;
 use std::fs::Files;
+use std::io;
 use std::process::ExitCode;
-
-// Does what the words of the command line ask for.
-fn work<R: Files + AllocGlobal + Print>(rt: &R, words: &[&str]) -> Result<(), Failure> {
-    let line = read_line(rt.alloc(), words)?;
-    match line.task {
-        Task::Divide(from, to, folder) => divide_range(rt, &line, from, to, folder),
-        Task::Cut(ranges) => print_cuts(rt, &line, ranges),
-    }
-}
 
 // Reads the command line, and does what it asks for.
 fn run<R: Env + Files + AllocGlobal + Print>(rt: &R) -> Result<(), ExplainedFailure> {
+    let alloc = rt.alloc();
     let Some(words) = read_words(rt)? else {
         return Err(ExplainedFailure::from(Failure::NotText));
     };
-    let texts = texts_of(rt.alloc(), words.as_slice())?;
-    match work(rt, texts.as_slice()) {
-        Ok(()) => Ok(()),
-        Err(failure) => Err(explained(rt, texts.as_slice(), failure)),
+    let texts = texts_of(alloc, words.as_slice())?;
+    let disk = Disk { rt };
+    let mut output = CountedWriter::new(io::writer(rt));
+    match divide_words(alloc, &disk, texts.as_slice(), &mut output) {
+        Ok(_) => Ok(()),
+        Err(failure) => Err(explained(alloc, &disk, texts.as_slice(), failure)),
+    }
+}
+
+// Prints a failure, or help or the version, and returns the exit status.
+fn end<R: Print + Eprint>(rt: &R, ended: Result<(), ExplainedFailure>) -> u8
+    ensures { IsStatusOf ended result }
+{
+    match ended {
+        Ok(()) => 0,
+        Err(reason) => tell_explained(rt, &reason),
     }
 }
 
 fn main(rt: HostRuntime) -> ExitCode {
-    match run(&rt) {
-        Ok(()) => ExitCode::SUCCESS,
-        Err(e) => ExitCode::from(tell_explained(&rt, &e)),
-    }
+    ExitCode::from(end(&rt, run(&rt)))
 }

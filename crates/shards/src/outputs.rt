@@ -1,13 +1,13 @@
-//! Where rows go: to the files of a folder, or nowhere.
+//! Where rows and lines go.
 
-ghost use Rattle.std.specs.Prelude.{◌≡◌, ◌<◌, ◌-◌, ◌^◌, All, IfOk, length};
-ghost use Rattle.rj_divide.specs.Stored.{put_failures_of};
+ghost use Rattle.std.specs.Prelude.{◌≡◌, ◌<◌, ◌-◌, ◌^◌, IfErr, OnOk};
+ghost use Rattle.std.specs.Io.KnownBytes.{Appends};
 
+use crate::failure::Failure;
 use rj_columns::Table;
 use rj_csv_io::{Failed, Output};
-use rj_divide::{PartFile, Route, StoredPart};
-use std::alloc::AllocError;
-use std::fs::{self, Files};
+use rj_divide::Route;
+use rj_fault::Fault;
 
 /// One part, to which all rows go.
 #[derive(Clone, Copy)]
@@ -45,25 +45,18 @@ impl Output for NullSink {
     }
 }
 
-/// The files of this many parts in a folder, which is made if it doesn't exist.
+/// Puts a text to the output on which lines are printed.
 ///
 /// # Errors
 ///
-/// It fails only when memory runs out. If the folder can't be made, this shows when a file is
-/// written.
-pub(crate) fn part_files<'r, R: Files + AllocGlobal>(
-    rt: &'r R,
-    folder: &str,
-    parts: u32,
-) -> Result<Vec<StoredPart<PartFile<'r, R>>>, AllocError>
-    ensures count { IfOk result (λ v. length v.items ≡ parts) }
-    ensures writes { IfOk result (λ v. All (λ f. put_failures_of f < 2 ^ 64 - 1) v.items) }
+/// `WriteDevice`.
+pub(crate) fn print_text<O: Output>(output: &mut O, text: &str) -> Result<(), Failure>
+    requires { O.count output.old < 2 ^ 64 - 1 }
+    ensures printed { OnOk result (Appends (O.told output.old) (O.told output.new) text.now) }
+    ensures fault { IfErr result (λ e. e ≡ Failure.Told Fault.WriteDevice) }
 {
-    let _ = fs::create_dir_all(rt, folder);
-    let mut files = Vec::new(rt.alloc());
-    for part in 0..parts {
-        let path = format!(in rt.alloc(); "{folder}/{part:04}.csv")?;
-        files.push(StoredPart::new(PartFile::new(rt, path)))?;
+    match output.put(text.as_bytes()) {
+        Ok(()) => Ok(()),
+        Err(_) => Err(Failure::Told(Fault::WriteDevice)),
     }
-    Ok(files)
 }

@@ -1,6 +1,6 @@
 use Rattle.std.proofs.Common.{◌≡◌, ◌<◌, ◌≤◌, ◌-◌, ◌^◌, All, length}
 use Rattle.rj_divide.specs.Stored.{put_failures_of}
-use Rattle.shards.proofs.outputs.part_files.Given as goal
+use Rattle.shards.proofs.files.part_files.Given as goal
 
 abbrev pub invariant-loop-part : goal.invariant-loop-part
 invariant-loop-part g l = record {

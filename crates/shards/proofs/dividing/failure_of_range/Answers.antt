@@ -1,0 +1,11 @@
+use Rattle.std.proofs.Common.{◌≡◌, ◌∙◌, false, inl, inr, refl, rules, sym, true, true≢false}
+use Rattle.shards.proofs.PlanFacts.{looked-at}
+use Rattle.shards.proofs.dividing.failure_of_range.Goals as goal
+
+pub returns-then-not-is_after_rows : goal.returns-then-not-is_after_rows
+returns-then-not-is_after_rows g c =
+    let no : c.is_after_rows.result ≡ false = search rules in
+    inl (refl, λ after. absurd (true≢false (sym after ∙ (sym c.is_after_rows.ensures ∙ no))))
+
+pub returns : goal.returns
+returns g c = looked-at c.look_at_rows.ensures

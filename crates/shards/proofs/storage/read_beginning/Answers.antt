@@ -1,0 +1,13 @@
+use Rattle.shards.proofs.StorageFacts.{none-taken, read-fault, taken-first}
+use Rattle.shards.proofs.storage.read_beginning.Goals as goal
+
+pub returns-in-Ok-read_up_to-clause-beginning : goal.returns-in-Ok-read_up_to-clause-beginning
+returns-in-Ok-read_up_to-clause-beginning g c =
+    let file = g.S.Storage.holds c.args.storage.now c.args.name.now in
+    let tells = g.S.Reader.Input.tells c.in-Ok.input in
+    taken-first file tells (g.S.Reader.Input.tells c.read_up_to.new.input) c.read_up_to.new.bytes.items c.in-Ok.ensures.bytes
+    (c.in-Ok-read_up_to.ensures.bytes tells (rw c.new-bytes.ensures.items (none-taken tells)))
+
+pub returns-clause-fault : goal.returns-clause-fault
+returns-clause-fault g c =
+    read-fault c.args.side c.in-Err-read_up_to.refused c.fault_of_read.result c.in-Err-read_up_to.ensures.fault c.fault_of_read.ensures

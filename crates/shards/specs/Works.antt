@@ -1,0 +1,33 @@
+-- What is done for the words of the command line, and why it isn't.
+use Rattle.std.specs.Prelude.{◌≡◌, Bool, List, [], Option}
+use Rattle.clap.specs.Words.{Text}
+use Rattle.shards.specs.Cuts.{IsCutsFailure, IsCutting}
+use Rattle.shards.specs.Lines.{IsLineFailure, IsShardsLine}
+use Rattle.shards.specs.Plans.{IsDivision, IsRangeFailure}
+use Rattle.shards.specs.declared.failure.Failure.{Failure}
+use Rattle.shards.specs.declared.line.Line.{Line}
+use Rattle.shards.specs.declared.line.Task.{Task}
+use Rattle.shards.specs.declared.line.Task.TheVariants as task
+
+-- (`holds` is what the files of names have)
+
+-- a task is done: the parts got the rows of their range, or the places are printed
+abbrev pub IsTaskDone : (Text → Option Text) → Bool → Line → Task → List (Option Text) → Option Text → Option Text → Type 0
+IsTaskDone holds tells l (task.Divide bounds folder) told old new = IsDivision holds tells l bounds told old new
+IsTaskDone holds tells l (task.Cut ranges) told old new = (told ≡ []) × IsCutting holds l ranges old new
+
+-- why a task isn't done
+abbrev pub IsTaskFailure : (Text → Option Text) → Line → Task → Failure → Type 0
+IsTaskFailure holds l (task.Divide bounds folder) e = IsRangeFailure holds l bounds e
+IsTaskFailure holds l (task.Cut ranges) e = IsCutsFailure holds l ranges e
+
+-- the words are a line of the program, whose task is done
+pub record IsWorkDone (holds : Text → Option Text) (tells : Bool) (words : List Text) (told : List (Option Text)) (old new : Option Text) : Type 0 where
+  pub line : Line
+  pub read : IsShardsLine words line
+  pub done : IsTaskDone holds tells line line.task told old new
+
+-- the words are no line of the program, or its task isn't done
+pub data IsFailure (holds : Text → Option Text) (words : List Text) : Failure → Type 0 where
+  of_words : (e : Failure) → IsLineFailure words e → IsFailure holds words e
+  of_task : (l : Line) (e : Failure) → IsShardsLine words l → IsTaskFailure holds l l.task e → IsFailure holds words e

@@ -1,0 +1,48 @@
+//! What the words of the command line ask for is done.
+
+ghost use Rattle.std.specs.Prelude.{◌≡◌, ◌<◌, ◌-◌, ◌^◌, IfErr, IfOk, map};
+ghost use Rattle.shards.specs.Lines.{IsShardsLine};
+ghost use Rattle.shards.specs.Works.{IsFailure, IsWorkDone};
+ghost use Rattle.shards.specs.declared.line.Line.{Line};
+
+use crate::cutting::print_cuts;
+use crate::dividing::divide_range;
+use crate::failure::Failure;
+use crate::line::{Task, read_line};
+use crate::storage::Storage;
+use rj_csv_io::Output;
+use std::alloc::Global;
+
+/// Reads the words after the program's name, and divides the range of a file that they name among
+/// parts, or prints where it can be cut. The answer is the parts, which are none in the second case.
+///
+/// # Errors
+///
+/// Those of [`read_line`]; the output is unchanged then. Those of [`divide_range`] and of
+/// [`print_cuts`]. Parts may have got rows by then.
+pub(crate) fn divide_words<S: Storage, O: Output>(
+    alloc: Global,
+    storage: &S,
+    words: &[&str],
+    output: &mut O,
+) -> Result<Vec<S::Part>, Failure>
+    requires { O.count output.old < 2 ^ 64 - 1 }
+    ensures done { IfOk result (λ v. IsWorkDone (S.holds storage.now) (S.tells_parts storage.now) (map (λ w. w.now) words.now)
+        (map S.Part.told v.items) (O.told output.old) (O.told output.new)) }
+    ensures failure { IfErr result (IsFailure (S.holds storage.now) (map (λ w. w.now) words.now)) }
+    ensures unchanged { ((line : Line) → IsShardsLine (map (λ w. w.now) words.now) line → ⊥) → output.new ≡ output.old }
+{
+    let line = match read_line(alloc, words) {
+        Ok(line) => line,
+        Err(failure) => return Err(failure),
+    };
+    match line.task {
+        Task::Divide(bounds, folder) => {
+            divide_range(alloc, storage, &line, bounds, folder, output)
+        }
+        Task::Cut(ranges) => match print_cuts(alloc, storage, &line, ranges, output) {
+            Ok(()) => Ok(Vec::new(alloc)),
+            Err(failure) => Err(failure),
+        },
+    }
+}
