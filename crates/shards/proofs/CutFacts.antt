@@ -4,12 +4,10 @@ use Rattle.std.specs.Prelude.{IfSome}
 use Rattle.clap.specs.Words.{Text}
 use Rattle.rj_fault.specs.declared.fault.Fault.{Fault}
 use Rattle.rj_line.specs.declared.request.Strictness.TheVariants.{Off}
-use Rattle.shards.specs.Cuts.{HasCutFailure, HasCutLines, IsCutText, side_file}
+use Rattle.shards.specs.Cuts.{IsCutText, side_file}
 use Rattle.shards.specs.Heads.{HasHead, HasHeadFault}
 use Rattle.shards.specs.Lines.{operand_of}
 use Rattle.shards.specs.Ranges.{bytes_between}
-use Rattle.shards.specs.declared.cutting.CutText.{CutText}
-use Rattle.shards.specs.declared.failure.Failure.{Failure}
 use Rattle.shards.specs.declared.head.Head.{Head}
 use Rattle.shards.specs.declared.line.Line.{Line}
 use Rattle.shards.specs.declared.line.Operand.{Operand}

@@ -1,5 +1,5 @@
 -- The words without the options of a division, one word further.
-use Rattle.std.proofs.Common.{◌≡◌, ◌∙◌, ◌<◌, ◌+◌, ◌++◌, ◌∷◌, ℕ, suc, List, [], Bool, true, false, Bor, drop, drop-cons, get_or, length, map, not, ap, refl, sym, subst, arith, append_assoc}
+use Rattle.std.proofs.Common.{◌≡◌, ◌∙◌, ◌<◌, ◌+◌, ◌++◌, ◌∷◌, ℕ, suc, List, [], Bool, true, false, Bor, drop, drop-cons, get_or, length, map, not, ap, refl, sym, arith, append_assoc}
 use Rattle.shards.specs.Explained.{has_value, is_own_option, without_own}
 
 abbrev pub texts : List (Bor (List ℕ)) → List (List ℕ)

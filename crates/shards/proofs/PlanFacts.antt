@@ -1,5 +1,5 @@
 -- What a side's file has, by the operand that a line has for it.
-use Rattle.std.proofs.Common.{◌≡◌, ◌≢◌, ◌∙◌, ◌&&◌, Bool, Bor, ℕ, List, Option, Result, Ok, Err, inl, inr, ap, ap₂, subst, sym, ◌⊎◌, true}
+use Rattle.std.proofs.Common.{◌≡◌, ◌≢◌, ◌∙◌, ◌&&◌, Bool, Bor, List, Option, Result, Ok, Err, inl, inr, ap, ap₂, subst, sym, ◌⊎◌, true}
 use Rattle.std.specs.Prelude.{IfErr, IfOk, MatchResult, min, ◌^◌}
 use Rattle.clap.specs.Words.{Text}
 use Rattle.rj_columns.specs.Tables.{TableValue}

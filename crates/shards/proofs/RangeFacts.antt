@@ -1,5 +1,5 @@
 -- The rows of a range, and what its parts get.
-use Rattle.std.proofs.Common.{◌≡◌, ◌∙◌, ◌<◌, ◌∷◌, ◌++◌, ℕ, zero, suc, List, [], All, Bool, true, false, Option, None, Some, Ok, Err, refl, sym, ap, ap₂, subst, arith, inl, inr, length, map, get_or, take}
+use Rattle.std.proofs.Common.{◌≡◌, ◌∙◌, ◌<◌, ◌∷◌, ◌++◌, ℕ, zero, suc, List, [], All, false, Option, None, Some, Ok, Err, refl, sym, ap, ap₂, subst, arith, inl, inr, length, map, get_or, take}
 use Rattle.std.specs.Prelude.{IfSome, nat_lt, replicate, ◌==◌}
 use Rattle.std.specs.Io.KnownBytes.{Appends}
 use Rattle.std.proofs.Math.Seq.{take-append_seam}
@@ -12,7 +12,7 @@ use Rattle.rj_columns.specs.declared.cell.ColumnType.{ColumnType}
 use Rattle.rj_columns.specs.declared.refused.BuildRefused.{BuildRefused}
 use Rattle.rj_columns.specs.declared.refused.BuildRefused.TheVariants as build
 use Rattle.rj_divide.specs.Headers.{HaveText}
-use Rattle.rj_divide.specs.Texts.{IsDivisionFault, IsTextDivided}
+use Rattle.rj_divide.specs.Texts.{IsTextDivided}
 use Rattle.rj_divide.specs.declared.refused.DivideRefused.TheVariants as refused
 use Rattle.rj_fault.specs.declared.fault.Fault.{Fault}
 use Rattle.shards.specs.Lines.{operand_of}

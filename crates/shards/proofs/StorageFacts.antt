@@ -1,5 +1,5 @@
 -- What is known of a file by the device that tells its bytes.
-use Rattle.std.proofs.Common.{◌≡◌, ◌++◌, ℕ, List, [], Option, None, Some, Bool, true, false, true≢false, inl, inr, refl, sym, ap, subst, ◌∙◌, ◌≢◌}
+use Rattle.std.proofs.Common.{◌≡◌, ℕ, List, [], Option, None, Some, Bool, true, false, true≢false, inl, inr, refl, sym, ap, subst, ◌∙◌, ◌≢◌}
 use Rattle.std.specs.Prelude.{IfSome}
 use Rattle.std.specs.Io.KnownBytes.{Consumes}
 use Rattle.rj_csv_io.specs.declared.refused.ReadRefused.{ReadRefused}

@@ -1,5 +1,5 @@
 -- To which parts the rows of a side's file go: by the key columns of the clause over both headers.
-use Rattle.std.specs.Prelude.{ℕ, ◌≡◌, ◌≢◌, ◌⊎◌, ◌&&◌, ◌^◌, Bool, true, false, List, [], length, map, min, Result, Ok, Err, MatchResult, Option, None, Some}
+use Rattle.std.specs.Prelude.{ℕ, ◌≡◌, ◌≢◌, ◌⊎◌, ◌&&◌, ◌^◌, Bool, true, false, List, [], length, map, min, Result, Ok, Err, MatchResult, Option, Some}
 use Rattle.clap.specs.Words.{Text}
 use Rattle.rj_columns.specs.Names.{empty_table}
 use Rattle.rj_columns.specs.Tables.{TableValue}

@@ -1,5 +1,5 @@
 -- How a range of a side's file is divided, and why it isn't.
-use Rattle.std.specs.Prelude.{ℕ, ◌==◌, ◌-◌, ◌≡◌, ◌⊎◌, ◌++◌, ◌∷◌, [], if◌then◌else◌, true, false, Bool, List, length, drop, replicate, slice_range, Option, None, Some, IfSome, Result, Err, codes, decimal}
+use Rattle.std.specs.Prelude.{ℕ, ◌==◌, ◌≡◌, ◌⊎◌, ◌++◌, ◌∷◌, [], if◌then◌else◌, true, false, Bool, List, length, drop, replicate, slice_range, Option, None, Some, IfSome, Result, Err, codes, decimal}
 use Rattle.std.specs.Io.KnownBytes.{Appends}
 use Rattle.rj_columns.specs.Contents.{Content}
 use Rattle.rj_columns.specs.Names.{empty_table}

@@ -1,8 +1,7 @@
-use Rattle.std.proofs.Common.{◌≡◌, List, None, Option, ap, inl, inr, refl, rules, subst, sym, ℕ}
+use Rattle.std.proofs.Common.{List, inl, refl, rules, subst, sym, ℕ}
 use Rattle.std.specs.Prelude.{IfSome}
-use Rattle.std.specs.Io.KnownBytes.{Appends}
 use Rattle.std.proofs.lemmas.Result.{IfErr-weaker, IfOk-weaker}
-use Rattle.shards.specs.Cuts.{HasCutFailure, HasCutLines, IsCutsFailure, IsCutting, of_cuts, of_file, of_head, of_none, of_output, of_text}
+use Rattle.shards.specs.Cuts.{HasCutFailure, HasCutLines, IsCutsFailure, of_cuts, of_file, of_head, of_none, of_output, of_text}
 use Rattle.shards.specs.declared.cutting.CutText.{CutText}
 use Rattle.shards.specs.declared.failure.Failure.TheVariants.{Told}
 use Rattle.shards.proofs.CutFacts.{cut-fault, cut-text, cut-told}

@@ -1,6 +1,6 @@
-use Rattle.std.proofs.Common.{◌≡◌, ◌∙◌, Err, ap, arith, drop, length, map, rules, subst, sym, List, ℕ}
+use Rattle.std.proofs.Common.{◌≡◌, ◌∙◌, Err, ap, arith, drop, length, rules, subst, sym, List, ℕ}
 use Rattle.std.specs.Prelude.{IfErr}
-use Rattle.shards.specs.Ranges.{AreParted, IsOfParts, mixed_shard, range_file}
+use Rattle.shards.specs.Ranges.{IsOfParts, mixed_shard, range_file}
 use Rattle.shards.proofs.RangeFacts.{written-parts}
 use Rattle.shards.proofs.dividing.divide_among_parts.Goals as goal
 

@@ -1,10 +1,10 @@
-use Rattle.std.proofs.Common.{◌≡◌, ◌∙◌, ap, false, length, map, refl, rules, subst, sym, true}
+use Rattle.std.proofs.Common.{◌≡◌, ◌∙◌, false, refl, rules, subst, sym, true}
 use Rattle.std.proofs.lemmas.List.{length-map}
 use Rattle.std.proofs.lemmas.Result.{IfErr-weaker}
 use Rattle.rj_csv_io.specs.Pieces.{names_in}
 use Rattle.rj_fault.specs.declared.fault.Fault.TheVariants as fault
 use Rattle.rj_types.specs.Columns.{types_under}
-use Rattle.shards.specs.Plans.{IsDivision, IsRangeFailure, IsRangeOf, has_lawful_nulls, of_head, of_nulls, of_parts, of_table}
+use Rattle.shards.specs.Plans.{IsRangeFailure, IsRangeOf, has_lawful_nulls, of_head, of_nulls, of_parts, of_table}
 use Rattle.shards.specs.Ranges.{IsOfParts, mixed_shard, range_file}
 use Rattle.shards.specs.declared.dividing.Range.{Range}
 use Rattle.shards.specs.declared.failure.Failure.TheVariants.{Told}

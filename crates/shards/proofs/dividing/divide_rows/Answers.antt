@@ -1,9 +1,8 @@
-use Rattle.std.proofs.Common.{◌≡◌, List, Some, ap, length, map, ℕ}
-use Rattle.std.specs.Prelude.{IfSome}
+use Rattle.std.proofs.Common.{ap, length, map}
 use Rattle.rj_divide.specs.Texts.{IsDivisionFault, IsTextDivided}
 use Rattle.shards.specs.Ranges.{range_bytes, range_dividing, range_file, range_reading}
 use Rattle.shards.specs.declared.failure.Failure.TheVariants.{Told}
-use Rattle.shards.proofs.RangeFacts.{range-told, unopened-rows}
+use Rattle.shards.proofs.RangeFacts.{range-told}
 use Rattle.shards.proofs.StorageFacts.{told-if}
 use Rattle.shards.proofs.dividing.divide_rows.Goals as goal
 

@@ -1,4 +1,4 @@
-use Rattle.std.proofs.Common.{◌≡◌, ◌∙◌, false, inl, inr, refl, rules, sym, true, true≢false}
+use Rattle.std.proofs.Common.{◌≡◌, ◌∙◌, false, inl, refl, rules, sym, true≢false}
 use Rattle.shards.proofs.PlanFacts.{looked-at}
 use Rattle.shards.proofs.dividing.failure_of_range.Goals as goal
 

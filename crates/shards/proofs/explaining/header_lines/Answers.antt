@@ -1,4 +1,4 @@
-use Rattle.std.proofs.Common.{◌≡◌, ◌∙◌, Bor, List, ap, map, refl, subst, sym, ℕ}
+use Rattle.std.proofs.Common.{◌∙◌, Bor, List, ap, map, refl, subst, sym, ℕ}
 use Rattle.std.specs.Prelude.{string_bytes}
 use Rattle.rj_line.specs.Line.{IsLineOf}
 use Rattle.shards.specs.Heads.{Begins}

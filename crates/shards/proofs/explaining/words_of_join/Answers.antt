@@ -1,4 +1,4 @@
-use Rattle.std.proofs.Common.{◌≡◌, ◌∙◌, ◌+◌, ◌++◌, ◌∷◌, [], ap, sym, drop, false, get_or, map, Bool, Bor, Global, List, Vec, ℕ}
+use Rattle.std.proofs.Common.{◌≡◌, ◌∙◌, ◌+◌, ◌++◌, ◌∷◌, [], ap, sym, drop, false, get_or, Bool, Bor, Global, List, Vec, ℕ}
 use Rattle.std.proofs.lemmas.List.{map-append}
 use Rattle.shards.specs.Explained.{without_own}
 use Rattle.shards.proofs.OwnFacts.{a-value, kept-word, next-word, own-option, texts}

@@ -1,6 +1,5 @@
-use Rattle.std.proofs.Common.{◌≡◌, ◌≤◌, ◌++◌, ℕ, List, Ok, ap, arith, length, rules, refl, subst, sym}
+use Rattle.std.proofs.Common.{◌++◌, Ok, ap, arith, refl, subst, sym}
 use Rattle.std.specs.Io.KnownBytes.{Consumes}
-use Rattle.shards.specs.Heads.{Continues}
 use Rattle.shards.proofs.HeadFacts.{continues-by, some-text, told-text, unread}
 use Rattle.shards.proofs.head.read_head_of.Goals as goal
 

@@ -2,7 +2,7 @@ use Rattle.std.proofs.Common.{ap, codes, rules}
 use Rattle.std.specs.Prelude.{is_some}
 use Rattle.clap.specs.Words.{first_value, found_of}
 use Rattle.rj_line.specs.Line.{texts_found}
-use Rattle.shards.specs.Lines.{GiveTexts, GiveTypes, IsTableFault}
+use Rattle.shards.specs.Lines.{GiveTypes, IsTableFault}
 use Rattle.shards.proofs.LineFacts.{few_given, gives_types, left_delimiter_fault, right_delimiter_fault, right_nulls_fault}
 use Rattle.shards.proofs.line.operands_of.Goals as goal
 

@@ -1,7 +1,7 @@
-use Rattle.std.proofs.Common.{◌≡◌, [], Bor, List, ap, map, subst, sym}
+use Rattle.std.proofs.Common.{Bor, List, ap, map, subst, sym}
 use Rattle.std.proofs.lemmas.Result.{IfErr-weaker, IfOk-weaker}
 use Rattle.clap.specs.Words.{Text}
-use Rattle.shards.specs.Works.{IsFailure, IsTaskDone, IsTaskFailure, IsWorkDone, of_task, of_words}
+use Rattle.shards.specs.Works.{IsFailure, IsTaskDone, IsTaskFailure, of_task, of_words}
 use Rattle.shards.specs.declared.line.Task.{Task}
 use Rattle.shards.proofs.working.divide_words.Goals as goal
 
