@@ -5,8 +5,8 @@ usage: run.py [--scale F] [--runs N] [--sizes] [NAME ..]
 
 Makes the workloads under bench/data (once), builds both programs, runs each several times in turn, and prints a table
 of the least wall time, CPU time and peak memory of each, and of one worker their ratios. With --sizes it runs foreign_key
-with 1 to 16 million left rows instead, and with --sqlite the workloads that are named beside sqlite3, which loads both files into a database in
-memory. It judges nothing: it ends with status 0 unless the rows differ or a program can't be run."""
+with 1 to 16 million left rows instead, and with --beside, as --beside sqlite3, the workloads that are named beside other
+programs (bench/rivals.py). It judges nothing: it ends with status 0 unless the rows differ or a program can't be run."""
 import argparse
 import hashlib
 import os
@@ -15,6 +15,7 @@ import subprocess
 import sys
 import time
 
+import rivals
 import workloads
 
 BENCH = pathlib.Path(__file__).resolve().parent
@@ -28,8 +29,6 @@ DATA = BENCH / "data"
 WORKERS = (2, 4)
 # All threads share one heap, as where `./radixjoin` starts the program. (The plain join has one thread, to which this is nothing.)
 ENVIRONMENT = programs.environment()
-# For sqlite3 each table's side, name and second column.
-SQLITE_TABLES = (("left", "L", "a"), ("right", "R", "b"))
 # The parts and multiples of a workload's rows that --sizes runs.
 SCALES = (0.25, 0.5, 1.0, 2.0, 4.0)
 
@@ -103,23 +102,14 @@ def compare(workload, proved, plain, runs, options):
     return {run.digest for turn in found for run in turn} == {ours.digest}
 
 
-def sqlite_words(workload):
-    """The command line of the same inner join by sqlite3, in the same order: the files are loaded into a database in memory, with typed keys."""
-    script = DATA / "join.sql"
-    key = "INTEGER" if workload.keys == "int" else "TEXT"
-    tables = (f"CREATE TABLE {name}(k {key}, {column} TEXT);\n.import --skip 1 {workload.file(DATA, side)} {name}\n" for side, name, column in SQLITE_TABLES)
-    script.write_text("".join(tables) + "SELECT L.k, a, b FROM L JOIN R ON L.k = R.k ORDER BY L.rowid, R.rowid;\n")
-    return ["sqlite3", "-csv", "-header", "-newline", "\n", ":memory:", f".read {script}"]
-
-
-def beside_sqlite(workload, proved, runs):
-    """Runs one workload by radixjoin with one worker and by sqlite3, in turn."""
-    lines = [words_of(workload, proved), sqlite_words(workload)]
+def beside(rivals_named, workload, proved, runs):
+    """Runs one workload by radixjoin with one worker and by other programs, in turn."""
+    lines = [words_of(workload, proved), *(rivals.RIVALS[name](workload, DATA) for name in rivals_named)]
     found = [[measure(words) for words in lines] for _ in range(runs)]
-    ours, theirs = [least(of_one) for of_one in zip(*found)]
-    for name, it in (("radixjoin", ours), ("sqlite3", theirs)):
+    all_least = [least(of_one) for of_one in zip(*found)]
+    for name, it in zip(["radixjoin", *rivals_named], all_least):
         print(f"| {workload.name} | {name} | {it.wall:.2f} s | {it.cpu:.2f} s | {it.memory / 1e6:.0f} MB |", flush=True)
-    return theirs.digest == ours.digest
+    return {it.digest for it in all_least} == {all_least[0].digest}
 
 
 def make(workload, scale):
@@ -156,7 +146,7 @@ def main():
     words.add_argument("--runs", type=int, default=3)
     words.add_argument("--option", action="append", default=[], help="one more word for radixjoin, as --option=--bits1=6")
     words.add_argument("--sizes", action="store_true", help="run foreign_key with ever more rows")
-    words.add_argument("--sqlite", action="store_true", help="run these workloads, inner joins by one key, beside sqlite3")
+    words.add_argument("--beside", action="append", choices=rivals.RIVALS, help="run these workloads, inner joins by one key, beside this program")
     given = words.parse_args()
     DATA.mkdir(exist_ok=True)
     proved, plain = build()
@@ -166,7 +156,7 @@ def main():
     heads = ["workload", "input", "radixjoin wall", "plain wall", "ratio", "radixjoin CPU", "plain CPU", "ratio"]
     heads += ["radixjoin peak", "plain peak", "peak by input"]
     heads += [f"{workers} workers {figure}" for workers in WORKERS for figure in ("wall", "CPU", "peak")]
-    if given.sqlite:
+    if given.beside:
         heads = ["workload", "program", "wall", "CPU", "peak"]
     print(f"| {' | '.join(heads)} |")
     print("|---" * len(heads) + "|")
@@ -175,7 +165,7 @@ def main():
         if given.names and workload.name not in given.names:
             continue
         make(workload, given.scale)
-        is_same = beside_sqlite(workload, proved, given.runs) if given.sqlite else compare(workload, proved, plain, given.runs, given.option)
+        is_same = beside(given.beside, workload, proved, given.runs) if given.beside else compare(workload, proved, plain, given.runs, given.option)
         if not is_same:
             differing.append(workload.name)
     if differing:

@@ -1,4 +1,4 @@
-"""Makes the workloads of the benchmark: pairs of CSV files of two columns, the key `k` first, and of `wide` of twenty.
+"""Makes the workloads of the benchmark: pairs of CSV files of two columns, the key `k` first, of `wide` of twenty, and of `columns_40` of forty.
 
 usage: workloads.py FOLDER [--scale F] [NAME ..]"""
 import argparse
@@ -14,12 +14,20 @@ SMALL_ROWS = 10_000
 WIDE_LEFT_ROWS = 400_000
 WIDE_RIGHT_ROWS = 100_000
 WIDE_TEXTS, WIDE_INTS = 10, 7
+# Of forty columns, with a key of one of them.
+FORTY_LEFT_ROWS = 200_000
+FORTY_RIGHT_ROWS = 50_000
+FORTY_TEXTS, FORTY_INTS = 24, 15
+# How many left rows each right row of `pairs_16` has.
+PAIRS = 16
 # The words that fill the second column are drawn from this many, so that a file is made quickly.
 WORDS = 50_000
 
 
 # (of `hot` no pair is kept, so that the join is all that it does: each left text is before each right one)
-CLAUSES = {"inner": "JOIN USING (k)", "full": "FULL JOIN USING (k)", "hot": "JOIN ON L.k = R.k AND L.a > R.b", "wide": "JOIN USING (k1, k2, k3)"}
+CLAUSES = {"inner": "JOIN USING (k)", "full": "FULL JOIN USING (k)", "hot": "JOIN ON L.k = R.k AND L.a > R.b", "wide": "JOIN USING (k1, k2, k3)", "forty": "JOIN USING (k)"}
+# How many texts and whole numbers stand beside the key, where it isn't one text.
+OTHERS = {"wide": (WIDE_TEXTS, WIDE_INTS), "forty": (FORTY_TEXTS, FORTY_INTS)}
 
 
 class Workload:
@@ -38,7 +46,8 @@ class Workload:
 
     def types(self):
         """The types of both tables' columns."""
-        others = ["text"] * WIDE_TEXTS + ["int"] * WIDE_INTS if self.kind == "wide" else ["text"]
+        texts, numbers = OTHERS.get(self.kind, (1, 0))
+        others = ["text"] * texts + ["int"] * numbers
         return ",".join([self.keys, *others])
 
     def options(self):
@@ -89,6 +98,8 @@ WORKLOADS = [
     Workload("numeric_key", "num(12,2)", "inner", LEFT_ROWS, RIGHT_ROWS, uniform),
     Workload("full_half", "int", "full", LEFT_ROWS, RIGHT_ROWS, half),
     Workload("wide", "int,text,int", "wide", WIDE_LEFT_ROWS, WIDE_RIGHT_ROWS, uniform),
+    Workload("columns_40", "int", "forty", FORTY_LEFT_ROWS, FORTY_RIGHT_ROWS, uniform),
+    Workload("pairs_16", "int", "inner", LEFT_ROWS, LEFT_ROWS // PAIRS, uniform),
     Workload("small", "int", "inner", SMALL_ROWS, SMALL_ROWS, uniform),
     Workload("hot_key", "int", "hot", 2 * SMALL_ROWS, 2 * SMALL_ROWS, hot),
 ]
@@ -117,16 +128,17 @@ def spelled_wide(key):
     return f"{key % 1000},{key * 0x9E3779B97F4A7C15 % 2**32:08x},{key // 1000}"
 
 
-def write_wide(path, letter, keys, source):
+def write_wide(path, letter, kind, keys, source):
     """Rows of a key, texts of which one in four has commas and quotes, and whole numbers."""
+    texts, numbers = OTHERS[kind]
     words = [f"{letter}{source.getrandbits(40):010x}" for _ in range(WORDS)]
     words[::4] = [f'"{word[:5]}, ""{word[5:]}"" x"' for word in words[::4]]
-    names = ["k1,k2,k3", *(f"{letter}{i}" for i in range(WIDE_TEXTS + WIDE_INTS))]
+    names = ["k1,k2,k3" if kind == "wide" else "k", *(f"{letter}{i}" for i in range(texts + numbers))]
     with open(path, "w", newline="", buffering=1 << 20) as file:
         file.write(",".join(names) + "\n")
         for key in keys:
-            numbers = (str(source.getrandbits(20)) for _ in range(WIDE_INTS))
-            file.write(",".join([spelled_wide(key), *source.choices(words, k=WIDE_TEXTS), *numbers]) + "\n")
+            cells = [*source.choices(words, k=texts), *(str(source.getrandbits(20)) for _ in range(numbers))]
+            file.write(",".join([spelled_wide(key) if kind == "wide" else str(key), *cells]) + "\n")
 
 
 def make(workload, folder, scale):
@@ -136,9 +148,9 @@ def make(workload, folder, scale):
     numbers = list(range(right))
     source.shuffle(numbers)
     drawn = workload.draw(source, left, right)
-    if workload.kind == "wide":
-        write_wide(workload.file(folder, "left"), "a", drawn, source)
-        write_wide(workload.file(folder, "right"), "b", numbers, source)
+    if workload.kind in OTHERS:
+        write_wide(workload.file(folder, "left"), "a", workload.kind, drawn, source)
+        write_wide(workload.file(folder, "right"), "b", workload.kind, numbers, source)
         return
     write(workload.file(folder, "left"), "k,a\n", (spelled(workload, key) for key in drawn), source)
     others = workload.draw(source, right, left) if workload.kind == "hot" else numbers
