@@ -38,7 +38,7 @@ fn table_under(
     requires { names_in header.now ≡ side_names side inputs.now }
     ensures { IfOk result (λ o. AreColumns side inputs.now o) }
 {
-    let kinds = inputs.kinds(alloc, side, header)?;
+    let kinds = inputs.table(side).kinds(alloc, header)?;
     match header.table(alloc, kinds.as_slice()) {
         Ok(table) => Ok(Some(table)),
         Err(ReadRefused::Memory) => Err(AllocError),
@@ -54,7 +54,7 @@ pub(crate) fn columns_of(
 ) -> Result<Option<Table>, AllocError>
     ensures { IfOk result (λ o. AreColumns side inputs.now o) }
 {
-    match inputs.header(alloc, side)? {
+    match inputs.table(side).header(alloc)? {
         Some(header) => table_under(alloc, inputs, side, &header),
         None => Ok(None),
     }
