@@ -6,12 +6,12 @@ use Rattle.rj_fault.specs.declared.fault.Fault.TheVariants as fault
 use Rattle.rj_fault.specs.declared.fault.Side.TheVariants as side
 use Rattle.rj_line.specs.declared.request.Strictness.{Strictness}
 use Rattle.rj_files.specs.Streams.{AreBytesOf, IsUnread}
+use Rattle.rj_files.specs.Texts.{IsIndented}
 use Rattle.rj_files.specs.Told.{IsThere, OptionalText}
 
--- there are some if the file can't be read, and they may be any: those of the system; there are none
--- if memory ran out
+-- there is one of the system if the file can't be read, and none if memory ran out
 abbrev pub IsUnreadTold : Fault → OptionalText → Type 0
-IsUnreadTold (fault.ReadDevice s) lines = IsThere lines (λ _. Unit {0})
+IsUnreadTold (fault.ReadDevice s) lines = IsThere lines IsIndented
 IsUnreadTold f lines = lines ≡ Ok None
 
 -- those are for a file that can't be read, or else for an error of its bytes, read by a delimiter and

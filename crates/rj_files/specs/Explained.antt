@@ -20,7 +20,7 @@ use Rattle.rj_suggest.specs.declared.suggestion.Suggestion.{Suggestion}
 use Rattle.rj_files.specs.Entries.{entry_for}
 use Rattle.rj_files.specs.Memory.{IsMemoryTold}
 use Rattle.rj_files.specs.Streams.{IsOfStreams}
-use Rattle.rj_files.specs.Texts.{unkept_lines, unread_memory_text}
+use Rattle.rj_files.specs.Texts.{IsIndented, unkept_lines, unread_memory_text}
 use Rattle.rj_files.specs.Told.{IsThere, OptionalText}
 
 -- the lines for its place; where all is asked for, with those for further cells behind them
@@ -82,10 +82,10 @@ abbrev pub AreLinesBy : Line → List ℕ → List ℕ → Fault → OptionalTex
 AreLinesBy line l r f lines =
     (inputs : Inputs) × (inputs.left.now ≡ l) × (inputs.right.now ≡ r) × (inputs.request.now ≡ line.request) × IsThere lines (IsToldOf line f inputs)
 
--- the lines when a side's file can't be read: those of the system, or that memory ran out meanwhile
+-- the line when a side's file can't be read: that of the system, or that memory ran out meanwhile
 abbrev pub IsUnreadExplained : Side → Fault → OptionalText → Type 0
 IsUnreadExplained s f lines =
-    ((f ≡ fault.ReadDevice s) × IsThere lines (λ _. Unit {0})) ⊎ ((f ≡ fault.Memory) × IsThere lines (λ text. text ≡ unread_memory_text s))
+    ((f ≡ fault.ReadDevice s) × IsThere lines IsIndented) ⊎ ((f ≡ fault.Memory) × IsThere lines (λ text. text ≡ unread_memory_text s))
 
 -- the lines for an error of a run over two streams, other than that of a failed write: there are none
 -- if memory ran out beside the reading and the join

@@ -3,7 +3,7 @@
 ghost use Rattle.std.specs.Prelude.{◌≡◌, ◌≢◌, ◌⊎◌, IfOk, IfErr, None, Ok, false, string_bytes, true};
 ghost use Rattle.rj_files.specs.Explained.{AreLinesOf, IsUnreadExplained};
 ghost use Rattle.rj_files.specs.Streams.{AreBytesOf, IsFaultOf, IsUnread, WritesOf};
-ghost use Rattle.rj_files.specs.Texts.{unread_memory_text};
+ghost use Rattle.rj_files.specs.Texts.{IsIndented, unread_memory_text};
 
 use crate::explained::ExplainedFault;
 use crate::given::given_tables;
@@ -26,7 +26,8 @@ fn unread_lines<S: Stream>(
     side: Side,
     fault: &Fault,
 ) -> Result<String, AllocError>
-    ensures { fault.now ≡ Fault.Memory → IfOk result (λ text. string_bytes text ≡ unread_memory_text side) }
+    ensures memory { fault.now ≡ Fault.Memory → IfOk result (λ text. string_bytes text ≡ unread_memory_text side) }
+    ensures other { fault.now ≢ Fault.Memory → IfOk result (λ text. IsIndented (string_bytes text)) }
 {
     match fault {
         Fault::Memory => format!(in alloc; "  while the {side} file was read\n"),
