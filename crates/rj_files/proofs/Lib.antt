@@ -1,5 +1,6 @@
 pub mod DraftFacts
 pub mod LetterFacts
+pub mod LineFacts
 pub mod ListFacts
 pub mod SuggestedFacts
 pub mod TextFacts

@@ -1,6 +1,6 @@
 -- The text of an error without its side.
 use Rattle.std.proofs.Common.{◌≡◌, ◌∙◌, ◌+◌, ◌<◌, ◌≤◌, ◌++◌, ◌∷◌, [], ℕ, zero, suc, Bor, List, ap, ap₂, arith, codes, drop, false, inl, inr, length, nat_eq, refl, subst, sym, take, true}
-use Rattle.std.specs.Prelude.{None, Some}
+use Rattle.std.specs.Prelude.{IfSome, None, Option, Some}
 use Rattle.std.specs.List.{starts_with}
 use Rattle.std.specs.Str.Pattern.{FindsText, LacksTextAt}
 use Rattle.std.specs.Str.Replace.{ReplacesFirstMatches}
@@ -47,3 +47,8 @@ without p to s out is nothing (inr (i, j, q, rest, found, keeps, inr (empty, mor
     let at = subst (λ t. FindsText t s (Some (i, j))) is found in
     let ends : j ≡ i + 5 = at.1.ends in
     absurd (omega (arith, empty, ends))
+
+-- the same of a text that is known
+pub of_known : (known : Option (List ℕ)) (line told : List ℕ) → IfSome known (λ own. line ≡ own) → told ≡ without_side line → IfSome known (λ own. told ≡ without_side own)
+of_known None line told is cut = tt
+of_known (Some own) line told is cut = cut ∙ ap without_side is

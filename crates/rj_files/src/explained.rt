@@ -5,7 +5,7 @@ ghost use Rattle.rj_fault.specs.Faults.{IsAskedFor, clap_error_of, status_of};
 ghost use Rattle.rj_files.specs.Told.{kept_text, told_file, told_lines};
 
 use crate::listener::{Listener, Told};
-use rj_fault::{Fault, tell};
+use rj_fault::{ExitReason, Fault, tell};
 use rj_line::Form;
 use std::alloc::AllocError;
 
@@ -188,11 +188,13 @@ pub fn tell_explained<R: Print + Eprint, L: Listener>(
     if !reason.is_told {
         return reason.fault.status();
     }
-    if let Fault::CommandLine(_) = &reason.fault {
-        return tell(rt, &reason.fault);
+    match reason.fault.by_clap() {
+        Some(_) => tell(rt, &reason.fault),
+        None => {
+            listener.hear(&told_in(reason, form));
+            reason.fault.status()
+        }
     }
-    listener.hear(&told_in(reason, form));
-    reason.fault.status()
 }
 
 /// Tells why nothing is said of the only file, as [`tell_explained`] does. There is one file, so its
@@ -211,9 +213,11 @@ pub fn tell_explained_alone<R: Print + Eprint, L: Listener>(
     if !reason.is_told {
         return reason.fault.status();
     }
-    if let Fault::CommandLine(_) = &reason.fault {
-        return tell(rt, &reason.fault);
+    match reason.fault.by_clap() {
+        Some(_) => tell(rt, &reason.fault),
+        None => {
+            listener.hear_alone(&told_in(reason, Form::Long));
+            reason.fault.status()
+        }
     }
-    listener.hear_alone(&told_in(reason, Form::Long));
-    reason.fault.status()
 }
