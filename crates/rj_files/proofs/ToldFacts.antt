@@ -1,9 +1,8 @@
 -- The text of an error without its side.
-use Rattle.std.proofs.Common.{◌≡◌, ◌∙◌, ◌+◌, ◌<◌, ◌≤◌, ◌++◌, ◌∷◌, [], ℕ, zero, suc, Bor, List, ap, ap₂, arith, codes, drop, false, inl, inr, length, nat_eq, refl, subst, sym, take, true}
-use Rattle.std.specs.Prelude.{IfSome, None, Option, Some}
+use Rattle.std.proofs.Common.{◌≡◌, ◌∙◌, ◌⊎◌, ◌+◌, ◌<◌, ◌≤◌, ◌++◌, ◌∷◌, [], ℕ, zero, suc, Bor, List, ap, arith, codes, drop, false, inl, inr, length, nat_eq, refl, take}
+use Rattle.std.specs.Prelude.{None, Some}
 use Rattle.std.specs.List.{starts_with}
 use Rattle.std.specs.Str.Pattern.{FindsText, LacksTextAt}
-use Rattle.std.specs.Str.Replace.{ReplacesFirstMatches}
 use Rattle.std.proofs.lemmas.Bool.{cases_Bool}
 use Rattle.std.proofs.lemmas.Bool.Decides.{Decides-eqb}
 use Rattle.std.proofs.lemmas.Slice.Eq.{starts_is}
@@ -37,18 +36,15 @@ cut (suc i) (suc j) (b ∷ s) ends first here =
     rw (not_here (b ∷ s) (first 0 (omega arith)))
     (ap (λ l. b ∷ l) (cut i j s (omega (arith, ends)) (λ k small. first (suc k) (omega (arith, small))) here))
 
-pub without : (p : Bor (List ℕ)) (to s out : List ℕ) → p.now ≡ codes " left" → to ≡ []
-    → ReplacesFirstMatches (λ (n : Bor (List ℕ)). FindsText n.now) (λ (n m : Bor (List ℕ)). m.now ≡ n.now) to 1 p s out → out ≡ without_side s
-without p to s out is nothing (inl (none, same)) = same ∙ unchanged s (subst (λ t. FindsText t s None) is none)
-without p to s out is nothing (inr (i, j, q, rest, found, keeps, inl (later, behind), whole)) =
-    let at = subst (λ t. FindsText t s (Some (i, j))) is found in
-    whole ∙ ap (λ l. take i s ++ l) (ap₂ (λ (x y : List ℕ). x ++ y) nothing behind) ∙ cut i j s at.1.ends at.0 at.1.split
-without p to s out is nothing (inr (i, j, q, rest, found, keeps, inr (empty, more), whole)) =
-    let at = subst (λ t. FindsText t s (Some (i, j))) is found in
-    let ends : j ≡ i + 5 = at.1.ends in
+-- what stands in place of its first match, if there is one
+pub without : {K : Bor (List ℕ) → Type 0} {X : ℕ → ℕ → Bor (List ℕ) → List ℕ → Type 0} (s out : List ℕ)
+    → (FindsText (codes " left") s None × (out ≡ s))
+    ⊎ ((i : ℕ) × (j : ℕ) × (q : Bor (List ℕ)) × (rest : List ℕ) × FindsText (codes " left") s (Some (i, j)) × K q
+    × (((i < j) × (rest ≡ drop j s)) ⊎ ((i ≡ j) × X i j q rest)) × (out ≡ take i s ++ ([] ++ rest)))
+    → out ≡ without_side s
+without s out (inl (none, same)) = same ∙ unchanged s none
+without s out (inr (i, j, q, rest, found, keeps, inl (later, behind), whole)) =
+    whole ∙ ap (λ l. take i s ++ l) behind ∙ cut i j s found.1.ends found.0 found.1.split
+without s out (inr (i, j, q, rest, found, keeps, inr (empty, more), whole)) =
+    let ends : j ≡ i + 5 = found.1.ends in
     absurd (omega (arith, empty, ends))
-
--- the same of a text that is known
-pub of_known : (known : Option (List ℕ)) (line told : List ℕ) → IfSome known (λ own. line ≡ own) → told ≡ without_side line → IfSome known (λ own. told ≡ without_side own)
-of_known None line told is cut = tt
-of_known (Some own) line told is cut = cut ∙ ap without_side is
