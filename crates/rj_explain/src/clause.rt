@@ -159,8 +159,8 @@ fn before_sign(text: &[u8], sign: u8) -> Option<&[u8]>
 fn is_behind_delimited(clause: &str, at: u64) -> bool
     ensures { result ≡ is_behind_quote clause.now at }
 {
-    let before = &clause.as_bytes()[..clause.len().min(at as usize)];
-    match before_sign(before, b'.') {
+    let bytes = clause.as_bytes();
+    match before_sign(&bytes[..(at as usize).min(bytes.len())], b'.') {
         Some(qualifier) => before_sign(qualifier, b'"').is_some(),
         None => false,
     }
