@@ -1,5 +1,5 @@
 use Rattle.std.specs.Prelude.{ℕ, List, Option}
-use Rattle.std.proofs.lemmas.Result.{IfOk-at_ok}
+use Rattle.std.proofs.lemmas.Result.{IfErr-at_err, IfOk-at_ok}
 use Rattle.rj_line.specs.declared.line.Line.{Line}
 use Rattle.rj_files.specs.Streams.{IsWrittenOf, WritesOf}
 use Rattle.rj_files.specs.declared.joining.Written.{Written}
@@ -14,3 +14,6 @@ pub returns-in-Ok-finish-clause-written : goal.returns-in-Ok-finish-clause-writt
 returns-in-Ok-finish-clause-written g c =
     written_to c.args.line.now _ (g.L.Stream.tells c.args.left.now) (g.S.Stream.tells c.args.right.now) _ _ c.in-Ok-written.written
     (IfOk-at_ok _ c.in-Ok-written.is c.write_streams-written.ensures.written)
+
+pub returns-in-Err-written-clause-asked : goal.returns-in-Err-written-clause-asked
+returns-in-Err-written-clause-asked g c asks = IfErr-at_err _ c.in-Err-written.is (c.write_streams-written.ensures.asked asks)
