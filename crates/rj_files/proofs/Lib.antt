@@ -1,6 +1,5 @@
 pub mod DraftFacts
 pub mod LetterFacts
-pub mod LineFacts
 pub mod ListFacts
 pub mod SuggestedFacts
 pub mod TextFacts
