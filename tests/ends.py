@@ -139,10 +139,10 @@ def closed_standard_error(folder):
 
 
 def output_that_nobody_reads(folder):
-    """A pipe whose reader has gone is a writer that failed; of the result of a join nothing is printed then, as of `| head`."""
+    """A pipe whose reader has gone is a writer that failed; of what `radixjoin` writes nothing is printed then, as of `| head`."""
     joined = ["joined.csv"]
     (folder / joined[0]).write_text("left_place,a,right_place\n0,x,5\n")
-    for name, words in (("radixjoin", two_files(folder)), ("arrivals", ARRIVALS), ("merges", joined)):
+    for name, words in (("radixjoin", two_files(folder)), ("radixjoin", ["--suggest-types", *joined]), ("arrivals", ARRIVALS), ("merges", joined)):
         reader, writer = os.pipe()
         os.close(reader)
         ran = run(name, words, folder, stdout=writer)

@@ -394,6 +394,8 @@ def ends_of_suggesting(folder):
     for output in ("full", "closed"):
         ran = harness.run([harness.program("radixjoin"), "--suggest-types", "table.csv"], folder, output=output)
         yield f"--suggest-types to a {output} output", harness.differences(ran, b"", b"radixjoin: E20 WriteDevice\n", 6)
+    ran = harness.run([harness.program("radixjoin"), "--suggest-types", "table.csv", "--explain"], folder, output="full")
+    yield "--suggest-types --explain to a full output", harness.differences(ran, b"", b"radixjoin: E20 WriteDevice\n  standard output: No space left on device\n", 6)
 
 
 def random_table(random):

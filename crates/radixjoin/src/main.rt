@@ -7,13 +7,13 @@ mod stack;
 mod suggesting;
 
 use crate::stack::{PAGES, take_stack};
-use crate::suggesting::{Asking, asking_of, suggest};
+use crate::suggesting::suggest;
 use rj_command::{Line, Stats, UnkeptRows};
 use rj_fault::{Fault, read_words, texts_of};
 use rj_files::{
-    ExplainedFault, NamedStream, Progress, Terminals, Written, processors, read_lists,
-    read_words_of_line, refuse_inputs, tell_explained, tell_explained_alone, tell_texts,
-    write_output,
+    Asking, ExplainedFault, NamedStream, Progress, Terminals, Written, asking_of, processors,
+    read_lists, read_words_of_line, refuse_inputs, tell_explained, tell_explained_alone,
+    tell_texts, write_output,
 };
 use rj_line::{Form, form_of};
 use std::env::Env;
@@ -92,15 +92,14 @@ fn join<R: Files + Input + AllocGlobal + Print + Eprint + Threads + Wait + Clock
 }
 
 // Prints the types that a file's cells suggest, or why there are none, and returns the exit status.
-fn tell_types<R: Env + Files + Input + AllocGlobal + Print + Eprint + Clock>(
+fn tell_types<R: Files + Input + AllocGlobal + Print + Eprint + Clock>(
     rt: &R,
-    words: &[String],
+    words: &[&str],
     asking: Asking,
-) -> Result<u8, ExplainedFault> {
-    let texts = texts_of(rt.alloc(), words)?;
-    match suggest(rt, texts.as_slice(), asking) {
-        Ok(()) => Ok(0),
-        Err(e) => Ok(tell_explained_alone(rt, &e)),
+) -> u8 {
+    match suggest(rt, words, asking) {
+        Ok(()) => 0,
+        Err(e) => tell_explained_alone(rt, &mut &*rt, &e),
     }
 }
 
@@ -112,13 +111,16 @@ fn run<R: Env + Files + Input + AllocGlobal + Print + Eprint + Threads + Wait + 
     let Some(words) = read_words(rt)? else {
         return Err(ExplainedFault::from(Fault::NotText));
     };
-    if let Some(asking) = asking_of(words.as_slice()) {
-        return tell_types(rt, words.as_slice(), asking);
-    }
-    let form = form_of(texts_of(rt.alloc(), words.as_slice())?.as_slice());
+    let form = {
+        let texts = texts_of(rt.alloc(), words.as_slice())?;
+        if let Some(asking) = asking_of(texts.as_slice()) {
+            return Ok(tell_types(rt, texts.as_slice(), asking));
+        }
+        form_of(texts.as_slice())
+    };
     match join(rt, words, terminals) {
         Ok(()) => Ok(0),
-        Err(e) => Ok(tell_explained(rt, &e, form)),
+        Err(e) => Ok(tell_explained(rt, &mut &*rt, &e, form)),
     }
 }
 
@@ -134,6 +136,6 @@ fn main(rt: HostRuntime) -> ExitCode {
     };
     match run(&rt, terminals) {
         Ok(status) => ExitCode::from(status),
-        Err(e) => ExitCode::from(tell_explained(&rt, &e, Form::Long)),
+        Err(e) => ExitCode::from(tell_explained(&rt, &mut &rt, &e, Form::Long)),
     }
 }

@@ -1,10 +1,9 @@
 //! `radixjoin --suggest-types FILE`: prints a list of types that the cells of a file suggest.
 
-use clap::error::ErrorKind;
 use clap::{Arg, ArgAction, ArgMatches, Command, Error};
 use rj_csv_io::InputFormat;
 use rj_fault::Fault;
-use rj_files::{ExplainedFault, NamedStream, Suggesting, refuse_printed, write_suggested};
+use rj_files::{Asking, ExplainedFault, NamedStream, Suggesting, refuse_printed, write_suggested};
 use rj_line::{Strictness, delimiter_of};
 use rj_suggest::ListedColumns;
 use std::alloc::{AllocError, Global};
@@ -31,31 +30,9 @@ Usage: radixjoin --suggest-types <FILE> [--null <TEXT>] [--delimiter <CHAR>] [--
 // How strictly a file may be read.
 const LEVELS: &[&str] = &["on", "full"];
 
-/// How a line asks for suggested types.
-#[derive(Clone, Copy)]
-pub(crate) enum Asking {
-    /// By the word `--suggest-types`: the file is a word of its own.
-    Apart,
-    /// By a word that has the file, too: `--suggest-types=FILE`.
-    WithFile,
-}
-
-/// How these words ask for suggested types, if they do, in whatever place. Words behind `--` are no
-/// options.
-pub(crate) fn asking_of(words: &[String]) -> Option<Asking> {
-    for word in words {
-        let word = word.as_str();
-        if word == "--" {
-            return None;
-        }
-        if word == "--suggest-types" {
-            return Some(Asking::Apart);
-        }
-        if word.starts_with("--suggest-types=") {
-            return Some(Asking::WithFile);
-        }
-    }
-    None
+// An option with this long name.
+fn option<'a>(alloc: Global, name: &'a str, action: ArgAction) -> Arg<'a> {
+    Arg::new(alloc, name).long(name).action(action)
 }
 
 // The command with the argument that has the file, in these words.
@@ -70,42 +47,26 @@ fn with_file<'a>(
     match asking {
         Asking::WithFile => command.arg(file.long("suggest-types")),
         Asking::Apart => {
-            let asked = Arg::new(alloc, "suggest-types")
-                .long("suggest-types")
-                .action(ArgAction::SetTrue)
-                .required(true);
+            let asked = option(alloc, "suggest-types", ArgAction::SetTrue).required(true);
             command.arg(file)?.arg(asked)
         }
     }
 }
 
 fn suggest_command<'a>(alloc: Global, asking: Asking) -> Result<Command<'a>, AllocError> {
-    let null = Arg::new(alloc, "null").long("null").action(ArgAction::Set);
-    let delimiter = Arg::new(alloc, "delimiter")
-        .long("delimiter")
-        .short('d')
-        .action(ArgAction::Set);
-    let strict = Arg::new(alloc, "strict")
-        .long("strict")
-        .action(ArgAction::Set)
+    let strict = option(alloc, "strict", ArgAction::Set)
         .num_args(0..=1)
         .default_missing_value("on")
         .value_parser(LEVELS);
-    let keys = Arg::new(alloc, "keys-only")
-        .long("keys-only")
-        .action(ArgAction::SetTrue);
-    let explain = Arg::new(alloc, "explain")
-        .long("explain")
-        .action(ArgAction::SetTrue);
     let command = Command::new(alloc, "radixjoin")
         .override_help(HELP)
         .no_binary_name(true);
     with_file(alloc, command, asking)?
-        .arg(null)?
-        .arg(delimiter)?
+        .arg(option(alloc, "null", ArgAction::Set))?
+        .arg(option(alloc, "delimiter", ArgAction::Set).short('d'))?
         .arg(strict)?
-        .arg(keys)?
-        .arg(explain)
+        .arg(option(alloc, "keys-only", ArgAction::SetTrue))?
+        .arg(option(alloc, "explain", ArgAction::SetTrue))
 }
 
 // How strictly the file is read.
@@ -122,12 +83,16 @@ fn is_given(matches: &ArgMatches<'_>, option: &str) -> bool {
     matches.get_str(option) == Some("true")
 }
 
-// Which columns are listed.
-fn listed_of(matches: &ArgMatches<'_>) -> ListedColumns {
-    if is_given(matches, "keys-only") {
-        ListedColumns::Keys
-    } else {
-        ListedColumns::All
+// What is asked of the file.
+fn suggesting_of(matches: &ArgMatches<'_>) -> Suggesting {
+    Suggesting {
+        strict: strictness_of(matches),
+        listed: if is_given(matches, "keys-only") {
+            ListedColumns::Keys
+        } else {
+            ListedColumns::All
+        },
+        explain: is_given(matches, "explain"),
     }
 }
 
@@ -140,25 +105,16 @@ fn read_matches<'a>(
     command.try_get_matches_from(words)
 }
 
-fn matches_of<'a>(
-    alloc: Global,
-    words: &'a [&'a str],
-    asking: Asking,
-) -> Result<ArgMatches<'a>, Fault> {
-    match read_matches(alloc, words, asking) {
-        Ok(matches) => Ok(matches),
-        Err(error) if error.kind() == ErrorKind::OutOfMemory => Err(Fault::Memory),
-        Err(error) => Err(Fault::CommandLine(error)),
-    }
-}
-
 /// Prints the types that the cells of the file in these words suggest, which ask for it so.
 pub(crate) fn suggest<'a, R: Files + Input + AllocGlobal + Print + Eprint + Clock>(
     rt: &'a R,
     words: &'a [&'a str],
     asking: Asking,
 ) -> Result<(), ExplainedFault> {
-    let matches = matches_of(rt.alloc(), words, asking)?;
+    let matches = match read_matches(rt.alloc(), words, asking) {
+        Ok(matches) => matches,
+        Err(error) => return Err(ExplainedFault::from(Fault::from(error))),
+    };
     let Some(delimiter) = delimiter_of(matches.get_str("delimiter").unwrap_or(",")) else {
         return Err(ExplainedFault::from(Fault::BadDelimiter));
     };
@@ -170,11 +126,7 @@ pub(crate) fn suggest<'a, R: Files + Input + AllocGlobal + Print + Eprint + Cloc
         nulls: &nulls,
     };
     let stream = NamedStream::new(rt, name);
-    let asked = Suggesting {
-        strict: strictness_of(&matches),
-        listed: listed_of(&matches),
-        explain: is_given(&matches, "explain"),
-    };
+    let asked = suggesting_of(&matches);
     let (written, _writer) = write_suggested(rt, &stream, &format, asked, io::writer(rt));
     written
 }

@@ -1,5 +1,5 @@
 -- The list of types that the cells of a file suggest is a text.
-use Rattle.std.proofs.Common.{◌≡◌, ◌∙◌, ◌<◌, ◌+◌, ◌++◌, ◌∷◌, [], ℕ, Bool, List, Option, Some, None, ap, append_assoc, arith, codes, false, get_or, inl, inr, length, length-append, refl, subst, sym}
+use Rattle.std.proofs.Common.{◌≡◌, ◌∙◌, ◌<◌, ◌+◌, ◌++◌, ◌∷◌, [], ℕ, List, Option, Some, None, ap, append_assoc, arith, codes, false, get_or, inl, inr, length, length-append, refl, subst, sym}
 use Rattle.std.specs.Prelude.{Err, IsUtf8, Ok, Result, ◌==◌, nat_lt}
 use Rattle.std.specs.Fmt.{decimal}
 use Rattle.std.specs.List.{list_any}

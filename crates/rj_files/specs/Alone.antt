@@ -1,16 +1,18 @@
 -- The lines for an error of the only file of `--suggest-types`.
-use Rattle.std.specs.Prelude.{ℕ, ◌≡◌, ◌⊎◌, List, Option}
+use Rattle.std.specs.Prelude.{ℕ, ◌≡◌, ◌⊎◌, List, None, Ok, Option}
 use Rattle.rj_explain.specs.Explained.{IsExplainedAlone, file_of_texts}
 use Rattle.rj_fault.specs.declared.fault.Fault.{Fault}
 use Rattle.rj_fault.specs.declared.fault.Fault.TheVariants as fault
 use Rattle.rj_fault.specs.declared.fault.Side.TheVariants as side
 use Rattle.rj_line.specs.declared.request.Strictness.{Strictness}
 use Rattle.rj_files.specs.Streams.{AreBytesOf, IsUnread}
+use Rattle.rj_files.specs.Texts.{IsIndented}
 use Rattle.rj_files.specs.Told.{IsThere, OptionalText}
 
--- there are some if the file can't be read, and they may be any: those of the system
+-- there is one of the system if the file can't be read, and none if memory ran out
 abbrev pub IsUnreadTold : Fault → OptionalText → Type 0
-IsUnreadTold f lines = f ≡ fault.ReadDevice side.Left → IsThere lines (λ _. Unit {0})
+IsUnreadTold (fault.ReadDevice s) lines = IsThere lines IsIndented
+IsUnreadTold f lines = lines ≡ Ok None
 
 -- those are for a file that can't be read, or else for an error of its bytes, read by a delimiter and
 -- as strictly as this

@@ -1,8 +1,10 @@
--- Whether the words of a command line ask for explanations of its error.
-use Rattle.std.specs.Prelude.{ℕ, ◌||◌, Bool, List, [], ◌∷◌, ◌++◌, codes, nat_eq, not}
+-- What the words of a command line ask for: explanations of its error, or suggested types.
+use Rattle.std.specs.Prelude.{ℕ, ◌||◌, Bool, List, [], ◌∷◌, ◌++◌, codes, if◌then◌else◌, nat_eq, not, None, Option, Some}
 use Rattle.std.specs.List.{list_any, starts_with, take_while}
 use Rattle.std.specs.Str.{bytes_eq}
 use Rattle.rj_line.specs.Forms.{form_of, is_explained}
+use Rattle.rj_files.specs.declared.asking.Asking.{Asking}
+use Rattle.rj_files.specs.declared.asking.Asking.TheVariants as asking
 
 -- the words that may be options: those before `--`
 abbrev pub options_in : List (List ℕ) → List (List ℕ)
@@ -30,3 +32,16 @@ abbrev pub ask_for_lines : List (List ℕ) → Bool
 ask_for_lines words =
     is_explained (form_of words) (has_word (options_in words) (codes "--explain") || has_word (options_in words) (codes "--explain=all"))
     (has_word (options_in words) (codes "--terse")) (are_quiet (options_in words))
+
+-- one of the words begins so
+abbrev pub has_start : List (List ℕ) → List ℕ → Bool
+has_start words start = list_any (λ w. starts_with nat_eq w start) words
+
+-- how the words that may be options ask for suggested types, if they do
+abbrev pub asking_in : List (List ℕ) → Option Asking
+asking_in words =
+    if has_word words (codes "--suggest-types") then Some asking.Apart
+    else if has_start words (codes "--suggest-types=") then Some asking.WithFile else None
+
+abbrev pub asking_of : List (List ℕ) → Option Asking
+asking_of words = asking_in (options_in words)

@@ -1,5 +1,5 @@
 -- The lines that explain an error of a join of two files.
-use Rattle.std.specs.Prelude.{ℕ, ◌≡◌, ◌≢◌, ◌⊎◌, ◌+◌, Bool, true, false, List, [], ◌∷◌, ◌++◌, Option, None, Some, codes, decimal}
+use Rattle.std.specs.Prelude.{ℕ, ◌≡◌, ◌≢◌, ◌⊎◌, ◌+◌, Bool, true, false, List, [], ◌∷◌, ◌++◌, Option, None, Ok, Some, codes, decimal}
 use Rattle.rj_command.specs.Operands.{IsFirstFault}
 use Rattle.rj_command.specs.Sides.{delimiter_of, nulls_of}
 use Rattle.rj_command.specs.Violations.{HasViolation}
@@ -19,7 +19,9 @@ use Rattle.rj_suggest.specs.Suggested.{IsSuggestFault}
 use Rattle.rj_suggest.specs.declared.suggestion.Suggestion.{Suggestion}
 use Rattle.rj_files.specs.Entries.{entry_for}
 use Rattle.rj_files.specs.Memory.{IsMemoryTold}
-use Rattle.rj_files.specs.Texts.{unkept_lines}
+use Rattle.rj_files.specs.Streams.{IsOfStreams}
+use Rattle.rj_files.specs.Texts.{IsIndented, unkept_lines, unread_memory_text}
+use Rattle.rj_files.specs.Told.{IsThere, OptionalText}
 
 -- the lines for its place; where all is asked for, with those for further cells behind them
 abbrev pub IsPlaceExplained : Bool → Fault → Inputs → List ℕ → Type 0
@@ -74,3 +76,21 @@ IsToldOf line (fault.NoSuchRows s) inputs lines = lines ≡ unkept_lines s
 IsToldOf line fault.NotAsExpected inputs lines = IsUnexpectedTold inputs lines
 IsToldOf line (fault.UndeclaredType s name) inputs lines = IsUndeclaredTold s name inputs lines
 IsToldOf line f inputs lines = IsPlaceExplained line.explain_all f inputs lines
+
+-- the same of two files with these bytes
+abbrev pub AreLinesBy : Line → List ℕ → List ℕ → Fault → OptionalText → Type 0
+AreLinesBy line l r f lines =
+    (inputs : Inputs) × (inputs.left.now ≡ l) × (inputs.right.now ≡ r) × (inputs.request.now ≡ line.request) × IsThere lines (IsToldOf line f inputs)
+
+-- the line when a side's file can't be read: that of the system, or that memory ran out meanwhile
+abbrev pub IsUnreadExplained : Side → Fault → OptionalText → Type 0
+IsUnreadExplained s f lines =
+    ((f ≡ fault.ReadDevice s) × IsThere lines IsIndented) ⊎ ((f ≡ fault.Memory) × IsThere lines (λ text. text ≡ unread_memory_text s))
+
+-- the lines for an error of a run over two streams, other than that of a failed write: there are none
+-- if memory ran out beside the reading and the join
+abbrev pub AreLinesOf : Line → Line → Option (List ℕ) → Option (List ℕ) → Fault → OptionalText → Type 0
+AreLinesOf line joined left right f lines =
+    ((f ≡ fault.Memory) × (lines ≡ Ok None))
+    ⊎ (IsUnreadExplained side.Left f lines ⊎ (IsUnreadExplained side.Right f lines
+    ⊎ IsOfStreams line joined left right (λ l r. AreLinesBy joined l r f lines)))

@@ -51,23 +51,27 @@ AreGiven line l r given_l given_r = IsGiven line side.Left l given_l × IsGiven 
 abbrev pub IsCompletedLine : List ℕ → List ℕ → Line → Line → Type 0
 IsCompletedLine l r line joined = IsCompleted l r line.request joined.request × (record joined { request = line.request } ≡ line)
 
--- the same of the bytes of two streams, or of what stands for them
-abbrev pub WritesOf : Line → Option (List ℕ) → Option (List ℕ) → Option (List ℕ) → Option (List ℕ) → Written → Type 0
-WritesOf line left right before after written =
+-- this line joins the bytes of two streams, or what stands for them, of which this holds
+abbrev pub IsOfStreams : Line → Line → Option (List ℕ) → Option (List ℕ) → (List ℕ → List ℕ → Type 0) → Type 0
+IsOfStreams line joined left right holds =
     (l r given_l given_r : List ℕ) × AreBytesOf left l × AreBytesOf right r × AreGiven line l r given_l given_r
-    × ((joined : Line) × IsCompletedLine given_l given_r line joined × WritesAsked joined given_l given_r before after written)
+    × IsCompletedLine given_l given_r line joined × holds given_l given_r
+
+-- what it asks for of them was written
+abbrev pub WritesOf : Line → Line → Option (List ℕ) → Option (List ℕ) → Option (List ℕ) → Option (List ℕ) → Written → Type 0
+WritesOf line joined left right before after written =
+    IsOfStreams line joined left right (λ l r. WritesAsked joined l r before after written)
 
 -- it was written to some writer, which may tell nothing
-abbrev pub IsWrittenOf : Line → Option (List ℕ) → Option (List ℕ) → Written → Type 0
-IsWrittenOf line left right written = (before after : Option (List ℕ)) × WritesOf line left right before after written
+abbrev pub IsWrittenOf : Line → Line → Option (List ℕ) → Option (List ℕ) → Written → Type 0
+IsWrittenOf line joined left right written = (before after : Option (List ℕ)) × WritesOf line joined left right before after written
 
 -- why it isn't written: out of memory, a failed writer, a stream that can't be read, or the error
 -- of their bytes
-abbrev pub IsFaultOf : Line → Option (List ℕ) → Option (List ℕ) → Fault → Type 0
-IsFaultOf line left right f =
+abbrev pub IsFaultOf : Line → Line → Option (List ℕ) → Option (List ℕ) → Fault → Type 0
+IsFaultOf line joined left right f =
     IsOfWriting f ⊎ (IsUnread side.Left f ⊎ (IsUnread side.Right f
-    ⊎ ((l r given_l given_r : List ℕ) × AreBytesOf left l × AreBytesOf right r × AreGiven line l r given_l given_r
-    × ((joined : Line) × IsCompletedLine given_l given_r line joined × IsAskedFault joined given_l given_r f))))
+    ⊎ IsOfStreams line joined left right (λ l r. IsAskedFault joined l r f)))
 
 -- what a file's bytes suggest of these columns, read by a delimiter and as strictly as this
 abbrev pub IsSuggestedBy : ListedColumns → Strictness → ℕ → List ℕ → List (List ℕ) → Suggestion → Type 0

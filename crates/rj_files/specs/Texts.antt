@@ -1,6 +1,6 @@
--- The lines that are added to an error: for rows that a join doesn't keep, and for running out of
--- memory while a file is read.
-use Rattle.std.specs.Prelude.{ℕ, List, [], ◌∷◌, ◌++◌, codes}
+-- The lines that are added to an error: for rows that a join doesn't keep, for running out of memory
+-- while a file is read, and the system's.
+use Rattle.std.specs.Prelude.{ℕ, ◌≡◌, List, [], ◌∷◌, ◌++◌, codes, None, Option, Some}
 use Rattle.rj_fault.specs.Faults.{side_text}
 use Rattle.rj_fault.specs.declared.fault.Side.{Side}
 use Rattle.rj_command.specs.Statistics.{unkept_text}
@@ -12,3 +12,12 @@ unkept_lines s = codes "  " ++ (unkept_text s ++ 10 ∷ [])
 -- the line when a side's file was being read
 abbrev pub unread_memory_text : Side → List ℕ
 unread_memory_text side = codes "  while the " ++ (side_text side ++ (codes " file was read" ++ 10 ∷ []))
+
+-- a line with two blanks in front
+abbrev pub IsIndented : List ℕ → Type 0
+IsIndented text = (line : List ℕ) × (text ≡ codes "  " ++ (line ++ 10 ∷ []))
+
+-- such a line for a name, with the system's words behind it, if there are any
+abbrev pub system_line : List ℕ → Option (List ℕ) → List ℕ
+system_line name None = codes "  " ++ (name ++ 10 ∷ [])
+system_line name (Some words) = codes "  " ++ ((name ++ (codes ": " ++ words)) ++ 10 ∷ [])

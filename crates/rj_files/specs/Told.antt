@@ -1,6 +1,7 @@
 -- What an error has beside it, and what is printed of it.
-use Rattle.std.specs.Prelude.{ℕ, ◌≡◌, List, [], ◌∷◌, ◌++◌, codes, Option, None, Some, IfOk, Result, Ok, Err, option_map, string_bytes, unwrap_or}
+use Rattle.std.specs.Prelude.{ℕ, ◌≡◌, List, [], ◌∷◌, ◌++◌, codes, drop, if◌then◌else◌, nat_eq, Option, None, Some, IfOk, Result, Ok, Err, option_map, string_bytes, unwrap_or}
 use Rattle.std.specs.Fmt.{◌++?◌}
+use Rattle.std.specs.List.{starts_with}
 use Rattle.std.specs.declared.alloc.AllocError.{AllocError}
 use Rattle.std.specs.declared.alloc.Global.{Global}
 use Rattle.std.specs.declared.string.String.{String}
@@ -40,9 +41,7 @@ abbrev pub told_text : Option (List ℕ) → Option (List ℕ) → List ℕ → 
 told_text own None lines = own ++? Some (10 ∷ lines)
 told_text own (Some file) lines = own ++? Some (32 ∷ file ++ 10 ∷ lines)
 
--- a text without a side in it
-pub record IsWithoutSide (own line : List ℕ) : Type 0 where
-  pub before : List ℕ
-  pub behind : List ℕ
-  pub of_side : own ≡ before ++ (codes " left" ++ behind)
-  pub without : line ≡ before ++ behind
+-- a text without its first ` left`
+abbrev pub without_side : List ℕ → List ℕ
+without_side [] = []
+without_side (b ∷ line) = if starts_with nat_eq (b ∷ line) (codes " left") then drop 5 (b ∷ line) else b ∷ without_side line

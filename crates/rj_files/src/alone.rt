@@ -37,6 +37,7 @@ pub(crate) fn explained_alone(
     ensures fault { result.fault ≡ fault }
     ensures unasked { asked.explain ≡ false → result.lines ≡ Ok None }
     ensures asked { asked.explain ≡ true → IsThere result.lines (IsExplainedAlone fault (file_of_texts delimiter asked.strict bytes.now)) }
+    ensures told { result.is_told ≡ true }
 {
     if !asked.explain {
         return ExplainedFault::from(fault);
@@ -56,6 +57,7 @@ pub(crate) fn unread_alone<S: Stream>(
     ensures fault { result.fault ≡ fault }
     ensures unasked { explain ≡ false → result.lines ≡ Ok None }
     ensures asked { explain ≡ true → IsUnreadTold fault result.lines }
+    ensures told { result.is_told ≡ true }
 {
     if !explain {
         return ExplainedFault::from(fault);

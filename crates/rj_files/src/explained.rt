@@ -1,13 +1,13 @@
 //! Why a run ended without its output, and the lines that explain it.
 
-ghost use Rattle.std.specs.Prelude.{◌≡◌, ◌≢◌, ◌⊎◌, ◌++◌, ℕ, IfOk, IfErr, IfSome, Err, List, MatchOption, None, Ok, Some, codes, false, option_map, string_bytes, true};
+ghost use Rattle.std.specs.Prelude.{◌≡◌, ◌≢◌, ◌⊎◌, IfOk, IfErr, Err, None, Ok, Some, false, option_map, true};
 ghost use Rattle.rj_fault.specs.Faults.{IsAskedFor, clap_error_of, status_of};
-ghost use Rattle.rj_files.specs.Told.{IsWithoutSide, kept_text, told_file, told_lines, told_text};
+ghost use Rattle.rj_files.specs.Told.{kept_text, told_file, told_lines};
 
-use rj_fault::{Fault, tell};
+use crate::listener::{Listener, Told};
+use rj_fault::{ExitReason, Fault, tell};
 use rj_line::Form;
-use std::alloc::{AllocError, Global};
-use std::fmt::{self, Display};
+use std::alloc::AllocError;
 
 /// Why there is no output, the file that can't be read or written, if that is why, and the lines
 /// that explain it, if there are any; or that memory ran out for these. If nobody reads the output
@@ -128,27 +128,6 @@ impl ExplainedFault {
     }
 }
 
-// What is printed of an error: its own text, the name of its file behind it, if that is told, and
-// the lines that explain it.
-#[derive(Drop)]
-struct Told<'a, T> {
-    reason: &'a T,
-    file: Option<&'a str>,
-    lines: &'a str,
-}
-
-impl<T: Display> Display for Told<'_, T> {
-    ghost output = { λ t. told_text (T.output t.reason.now) (option_map (λ name. name.now) t.file) t.lines.now };
-
-    fn fmt<W: fmt::Write>(&self, f: &mut fmt::Formatter<W>) -> fmt::Result {
-        let (reason, lines) = (self.reason, self.lines);
-        match self.file {
-            Some(file) => write!(f, "{reason} {file}\n{lines}"),
-            None => write!(f, "{reason}\n{lines}"),
-        }
-    }
-}
-
 // A text, if there is one, and memory didn't run out for it.
 fn kept_text(text: &Result<Option<String>, AllocError>) -> Option<&str>
     ensures { option_map (λ t. t.now) result ≡ kept_text text.now }
@@ -189,70 +168,56 @@ fn told_in(reason: &ExplainedFault, form: Form) -> Told<'_, Fault>
     }
 }
 
-// What is printed of an error of the only file with this line.
-fn told_alone<'a>(reason: &'a ExplainedFault, line: &'a String) -> Told<'a, String>
-    ensures line { result.reason.now ≡ line.entry.now }
-    ensures file { option_map (λ name. name.now) result.file ≡ None }
-    ensures lines { result.lines.now ≡ told_lines reason.entry.now.lines }
-{
-    Told {
-        reason: line,
-        file: None,
-        lines: told_lines(reason),
-    }
-}
-
-// Prints what is told of an error, and returns the exit status.
-fn print_told<R: Eprint, T: Display>(rt: &R, fault: &Fault, told: &Told<'_, T>) -> u8
-    ensures { result ≡ status_of fault.now }
-{
-    let _ = eprint!(rt; "{told}");
-    fault.status()
-}
-
-/// Prints on standard error why there is no output, and what explains it, unless whoever reads the
-/// output has gone. In the short form of a command line the first line names the file that can't be
-/// read or written. The answer is the exit status: that of the error or, if help or the version was
-/// asked for and couldn't be printed, that of a failed write.
-pub fn tell_explained<R: Print + Eprint>(rt: &R, reason: &ExplainedFault, form: Form) -> u8
-    ensures { (result ≡ status_of reason.now.fault) ⊎ (IsAskedFor (clap_error_of reason.now.fault) × (result ≡ status_of Fault.WriteDevice)) }
+/// Tells why there is no output, and what explains it, in one piece, unless whoever reads the output
+/// has gone. In the short form of a command line the file that can't be read or written is told
+/// behind the error. What `clap` has to say is printed: help and the version on standard output, the
+/// rest on standard error. The answer is the exit status: that of the error or, if help or the
+/// version was asked for and couldn't be printed, that of a failed write.
+pub fn tell_explained<R: Print + Eprint, L: Listener>(
+    rt: &R,
+    listener: &mut L,
+    reason: &ExplainedFault,
+    form: Form,
+) -> u8
+    ensures status { (result ≡ status_of reason.now.fault) ⊎ (IsAskedFor (clap_error_of reason.now.fault) × (result ≡ status_of Fault.WriteDevice)) }
+    ensures heard { reason.now.is_told ≡ true → clap_error_of reason.now.fault ≡ None
+        → L.hears listener.old reason.now.fault (told_file form reason.now.file) (told_lines reason.now.lines) listener.new }
+    ensures unheard { reason.now.is_told ≡ false → listener.new ≡ listener.old }
+    ensures by_clap { clap_error_of reason.now.fault ≢ None → listener.new ≡ listener.old }
 {
     if !reason.is_told {
         return reason.fault.status();
     }
-    if let Fault::CommandLine(_) = &reason.fault {
-        return tell(rt, &reason.fault);
+    match reason.fault.by_clap() {
+        Some(_) => tell(rt, &reason.fault),
+        None => {
+            listener.hear(&told_in(reason, form));
+            reason.fault.status()
+        }
     }
-    print_told(rt, &reason.fault, &told_in(reason, form))
 }
 
-// What is before the first side of a text, and behind it.
-fn around_side(line: &str) -> Option<(&str, &str)>
-    ensures { MatchOption result ((before behind : List ℕ) → line.now ≢ before ++ (codes " left" ++ behind))
-        (λ parts. line.now ≡ parts.0.now ++ (codes " left" ++ parts.1.now)) }
+/// Tells why nothing is said of the only file, as [`tell_explained`] does. There is one file, so its
+/// side isn't told.
+pub fn tell_explained_alone<R: Print + Eprint, L: Listener>(
+    rt: &R,
+    listener: &mut L,
+    reason: &ExplainedFault,
+) -> u8
+    ensures status { (result ≡ status_of reason.now.fault) ⊎ (IsAskedFor (clap_error_of reason.now.fault) × (result ≡ status_of Fault.WriteDevice)) }
+    ensures heard { reason.now.is_told ≡ true → clap_error_of reason.now.fault ≡ None
+        → L.hears_alone listener.old reason.now.fault (told_lines reason.now.lines) listener.new }
+    ensures unheard { reason.now.is_told ≡ false → listener.new ≡ listener.old }
+    ensures by_clap { clap_error_of reason.now.fault ≢ None → listener.new ≡ listener.old }
 {
-    line.split_once(" left")
-}
-
-// The text of an error without its first side, if it has one and there is memory for it.
-fn without_side<T: Display>(alloc: Global, reason: &T) -> Option<String>
-    ensures { IfSome result (λ s. IfSome (T.output reason.now) (λ own. IsWithoutSide own (string_bytes s))) }
-{
-    let line = format!(in alloc; "{reason}").ok()?;
-    let (before, behind) = around_side(line.as_str())?;
-    format!(in alloc; "{before}{behind}").ok()
-}
-
-/// Prints on standard error why nothing is said of the only file, as [`tell_explained`] does. There
-/// is one file, so the line doesn't tell its side. The answer is the exit status.
-pub fn tell_explained_alone<R: AllocGlobal + Print + Eprint>(rt: &R, reason: &ExplainedFault) -> u8
-    ensures { (result ≡ status_of reason.now.fault) ⊎ (IsAskedFor (clap_error_of reason.now.fault) × (result ≡ status_of Fault.WriteDevice)) }
-{
-    if let Fault::CommandLine(_) = &reason.fault {
-        return tell(rt, &reason.fault);
+    if !reason.is_told {
+        return reason.fault.status();
     }
-    let Some(line) = without_side(rt.alloc(), &reason.fault) else {
-        return tell_explained(rt, reason, Form::Long);
-    };
-    print_told(rt, &reason.fault, &told_alone(reason, &line))
+    match reason.fault.by_clap() {
+        Some(_) => tell(rt, &reason.fault),
+        None => {
+            listener.hear_alone(&told_in(reason, Form::Long));
+            reason.fault.status()
+        }
+    }
 }

@@ -1,22 +1,20 @@
 //! `--explain`: the lines that are added after the line of an error.
 
-ghost use Rattle.std.specs.Prelude.{◌≡◌, ◌≢◌, ◌↔◌, ◌<◌, ◌++◌, Bool, codes, IfErr, IfOk, IsTrue, None, Ok, false, map, nat_eq, option_map, string_bytes, true};
+ghost use Rattle.std.specs.Prelude.{◌≡◌, ◌≢◌, ◌↔◌, ◌<◌, IfErr, IfOk, IsTrue, None, Ok, false, map, option_map, string_bytes, true};
 ghost use Rattle.std.specs.IoError.{error_kind};
-ghost use Rattle.std.specs.List.{filter_map, starts_with};
 ghost use Rattle.std.specs.Option.{IsSomeAnd};
 ghost use Rattle.rj_command.specs.Sides.{delimiter_of, nulls_of};
 ghost use Rattle.rj_csv_io.specs.Typed.{null_texts};
 ghost use Rattle.rj_explain.specs.Explained.{file_of};
 ghost use Rattle.rj_explain.specs.Listed.{AreWordsTold};
 ghost use Rattle.rj_line.specs.Line.{IsLineFault, IsLineOf};
-ghost use Rattle.rj_line.specs.Options.{OptionWords, option_rules};
-ghost use Rattle.rj_line.specs.declared.form.Form.{Form};
-ghost use Rattle.rj_files.specs.Asking.{are_quiet, ask_for_lines, has_word, is_quiet, letters, options_in};
+ghost use Rattle.rj_files.specs.Asking.{ask_for_lines};
 ghost use Rattle.rj_files.specs.Entries.{entry_for, is_entry_for};
 ghost use Rattle.rj_files.specs.Explained.{IsPlaceExplained, IsToldOf, IsUndeclaredTold, IsUnexpectedTold, IsViolationTold, undeclared_line};
 ghost use Rattle.rj_files.specs.Texts.{unkept_lines};
 ghost use Rattle.rj_files.specs.Told.{IsThere};
 
+use crate::asking::ask_for_lines;
 use crate::explained::ExplainedFault;
 use crate::memory::memory_lines;
 use crate::named::told_by_system;
@@ -25,7 +23,7 @@ use rj_command::{Line, OpenGate, UnkeptRows, Violation, first_violation, read_li
 use rj_csv_io::InputFormat;
 use rj_explain::{Inputs, explain, explain_further, explain_row, explain_words};
 use rj_fault::{Fault, Side};
-use rj_line::{Request, form_of, is_explained};
+use rj_line::Request;
 use rj_suggest::suggest_types;
 use std::alloc::{AllocError, Global};
 use std::io::{self, ErrorKind};
@@ -33,69 +31,6 @@ use std::str;
 use std::sync::Wait;
 use std::thread::{self, Threads};
 use std::time::Clock;
-
-// Whether one of the words is this one.
-fn has_word(words: &[&str], sought: &str) -> bool
-    ensures { result ≡ has_word (map (λ w. w.now) words.now) sought.now }
-{
-    words.iter().any(|word| *word == sought)
-}
-
-// Whether a word begins with these bytes.
-fn begins_with(word: &str, start: &str) -> bool
-    ensures { result ≡ starts_with nat_eq word.now start.now }
-{
-    word.as_bytes().starts_with(start.as_bytes())
-}
-
-// Whether a word asks for nothing but the line of an error: by the option's name, or by its letter,
-// alone or before that of another option, whose value may stand behind it.
-fn is_quiet(word: &str) -> bool
-    ensures { result ≡ is_quiet word.now }
-{
-    word == "--quiet"
-        || word == "-q"
-        || begins_with(word, "-qd")
-        || begins_with(word, "-qw")
-        || begins_with(word, "-qo")
-        || begins_with(word, "-qq")
-        || begins_with(word, "-qh")
-        || begins_with(word, "-qV")
-}
-
-/// The letters that may stand behind `-q` are those of all options of a line, of help and of the
-/// version. The function does nothing; its contract is a theorem.
-pub fn letters_are_of_options()
-    ensures { (form : Form) (by_word : Bool) (words : OptionWords) → filter_map (λ r. r.short) (option_rules form by_word words) ++ codes "hV" ≡ letters }
-{}
-
-// Whether one of the words does.
-fn are_quiet(words: &[&str]) -> bool
-    ensures { result ≡ are_quiet (map (λ w. w.now) words.now) }
-{
-    words.iter().any(|word| is_quiet(word))
-}
-
-// The words that may be options: those before `--`.
-fn options_in<'w, 'a>(words: &'w [&'a str]) -> &'w [&'a str]
-    ensures { map (λ w. w.now) result.now ≡ options_in (map (λ w. w.now) words.now) }
-{
-    let count = words.iter().take_while(|word| **word != "--").count();
-    &words[..count]
-}
-
-/// Whether the words ask for explanations.
-pub(crate) fn ask_for_lines(words: &[&str]) -> bool
-    ensures { result ≡ ask_for_lines (map (λ w. w.now) words.now) }
-{
-    let options = options_in(words);
-    is_explained(
-        form_of(words),
-        has_word(options, "--explain") || has_word(options, "--explain=all"),
-        has_word(options, "--terse"),
-        are_quiet(options),
-    )
-}
 
 // The lines that explain an error of the command line, if it can be explained and the words ask for
 // it.
@@ -329,29 +264,34 @@ fn has_no_reader(error: &Option<io::Error>) -> bool
     }
 }
 
-/// The error of a result that can't be written, explained if that is asked for, with the output's
-/// name and the system's words. If whoever reads the output has gone, it isn't printed.
+/// The error of a result that can't be written to this file, or to standard output, explained if
+/// that is asked for, with the output's name and the system's words. If whoever reads the output has
+/// gone, it isn't told.
 pub(crate) fn unwritten(
     alloc: Global,
-    line: &Line<'_>,
+    file: Option<&str>,
+    explain: bool,
     fault: Fault,
     error: &Option<io::Error>,
 ) -> ExplainedFault
     ensures fault { result.fault ≡ fault }
     ensures unheard { (result.is_told ≡ false) ↔ ((fault ≡ Fault.WriteDevice) × IsSomeAnd error.now (λ e. error_kind e ≡ ErrorKind.BrokenPipe)) }
     ensures told { fault ≢ Fault.WriteDevice → result.is_told ≡ true }
+    ensures other { fault ≢ Fault.WriteDevice → result.lines ≡ Ok None }
+    ensures unasked { explain ≡ false → result.lines ≡ Ok None }
 {
     if is_unwritten(&fault) && has_no_reader(error) {
         return ExplainedFault::unheard(fault);
     }
-    if !line.explain || !is_unwritten(&fault) {
+    if !explain || !is_unwritten(&fault) {
         return ExplainedFault::from(fault);
     }
-    let name = output_of(line).unwrap_or("standard output");
+    let name = file.unwrap_or("standard output");
     ExplainedFault::new(fault, told_by_system(alloc, name, error))
 }
 
-fn is_unwritten(fault: &Fault) -> bool
+/// Whether an error is that of a failed write.
+pub(crate) fn is_unwritten(fault: &Fault) -> bool
     ensures { IsTrue result ↔ (fault.now ≡ Fault.WriteDevice) }
 {
     match fault {
@@ -369,9 +309,10 @@ pub(crate) fn with_write_error(
 ) -> ExplainedFault
     ensures fault { result.fault ≡ e.fault }
     ensures other { e.fault ≢ Fault.WriteDevice → result ≡ e }
+    ensures unasked { e.fault ≡ Fault.WriteDevice → line.now.explain ≡ false → result.lines ≡ Ok None }
 {
     if !is_unwritten(e.fault()) {
         return e;
     }
-    unwritten(alloc, line, e.into_fault(), error)
+    unwritten(alloc, output_of(line), line.explain, e.into_fault(), error)
 }

@@ -1,7 +1,7 @@
 //! The bytes that are joined in place of those that were read: under completed headers, if the line
 //! asks for that.
 
-ghost use Rattle.std.specs.Prelude.{◌≡◌, IfErr, IfOk, true};
+ghost use Rattle.std.specs.Prelude.{◌≡◌, IfErr, IfOk, None, Ok, true};
 ghost use Rattle.rj_command.specs.Sides.{delimiter_of as delimiter_of_side};
 ghost use Rattle.rj_files.specs.Given.{IsGiven, is_strict};
 
@@ -64,6 +64,7 @@ fn given_bytes<R: AllocGlobal + Clock + Eprint>(
 ) -> Result<Vec<u8>, ExplainedFault>
     ensures given { IfOk result (λ v. IsGiven line.now side bytes.items v.items) }
     ensures fault { IfErr result (λ e. e.fault ≡ Fault.Memory) }
+    ensures lines { IfErr result (λ e. e.lines ≡ Ok None) }
     ensures told { IfErr result (λ e. e.is_told ≡ true) }
 {
     if !line.unnamed {
@@ -97,6 +98,7 @@ pub(crate) fn given_tables<R: AllocGlobal + Clock + Eprint>(
     ensures left { IfOk result (λ t. IsGiven line.now Side.Left tables.left.items t.left.items) }
     ensures right { IfOk result (λ t. IsGiven line.now Side.Right tables.right.items t.right.items) }
     ensures fault { IfErr result (λ e. e.fault ≡ Fault.Memory) }
+    ensures lines { IfErr result (λ e. e.lines ≡ Ok None) }
     ensures told { IfErr result (λ e. e.is_told ≡ true) }
 {
     let Tables { left, right } = tables;

@@ -1,6 +1,7 @@
 //! What a line asks for of the bytes of two tables: their joined table, or how many rows it has.
 
-ghost use Rattle.std.specs.Prelude.{◌≡◌, ◌≢◌, ◌<◌, ◌-◌, ◌^◌, IfOk, IfErr, true};
+ghost use Rattle.std.specs.Prelude.{◌≡◌, ◌≢◌, ◌<◌, ◌-◌, ◌^◌, IfOk, IfErr, None, Ok, false, true};
+ghost use Rattle.rj_files.specs.Explained.{AreLinesBy};
 ghost use Rattle.rj_files.specs.Streams.{IsAskedFault, WritesAsked};
 
 use crate::explained::ExplainedFault;
@@ -97,6 +98,8 @@ where
     requires { O.count writer.old < 2 ^ 64 - 1 }
     ensures written { IfOk result (WritesAsked line.now tables.left.items tables.right.items (O.told writer.old) (O.told writer.new)) }
     ensures fault { IfErr result (λ e. IsAskedFault line.now tables.left.items tables.right.items e.fault) }
+    ensures unasked { line.now.explain ≡ false → IfErr result (λ e. e.lines ≡ Ok None) }
+    ensures asked { line.now.explain ≡ true → IfErr result (λ e. AreLinesBy line.now tables.left.items tables.right.items e.fault e.lines) }
     ensures unchanged { IfErr result (λ e. e.fault ≢ Fault.WriteDevice → writer.new ≡ writer.old) }
     ensures told { IfErr result (λ e. e.is_told ≡ true) }
 {
@@ -133,6 +136,8 @@ where
     W: Write,
     ensures written { IfOk result.0 (WritesAsked line.now tables.left.items tables.right.items (W.contents writer) (W.contents result.1)) }
     ensures fault { IfErr result.0 (λ e. IsAskedFault line.now tables.left.items tables.right.items e.fault) }
+    ensures unasked { line.now.explain ≡ false → IfErr result.0 (λ e. e.lines ≡ Ok None) }
+    ensures asked { line.now.explain ≡ true → IfErr result.0 (λ e. e.fault ≢ Fault.WriteDevice → AreLinesBy line.now tables.left.items tables.right.items e.fault e.lines) }
     ensures unchanged { IfErr result.0 (λ e. e.fault ≢ Fault.WriteDevice → result.1 ≡ writer) }
     ensures told { IfErr result.0 (λ e. e.fault ≢ Fault.WriteDevice → e.is_told ≡ true) }
 {

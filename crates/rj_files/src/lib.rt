@@ -5,6 +5,7 @@
 #![tactic(auto)]
 
 mod alone;
+mod asking;
 mod draft;
 mod explained;
 mod explaining;
@@ -12,6 +13,7 @@ mod fault_file;
 mod given;
 mod identities;
 mod joining;
+mod listener;
 mod lists;
 mod memory;
 mod message;
@@ -27,10 +29,12 @@ mod telling;
 mod watched;
 
 pub use alone::Suggesting;
+pub use asking::{Asking, asking_of, letters_are_of_options};
 pub use explained::{ExplainedFault, tell_explained, tell_explained_alone};
-pub use explaining::{letters_are_of_options, processors, read_words_of_line};
+pub use explaining::{processors, read_words_of_line};
 pub use identities::{Identities, Identity};
 pub use joining::Written;
+pub use listener::{Listener, Told};
 pub use lists::read_lists;
 pub use named::{NamedStream, StreamReader};
 pub use outputs::{refuse_inputs, refuse_printed, write_output};

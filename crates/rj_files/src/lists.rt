@@ -6,8 +6,8 @@ ghost use Rattle.rj_files.specs.Asking.{ask_for_lines};
 ghost use Rattle.rj_files.specs.Labels.{AreReadWords, IsListFault, IsListsFault, IsReadWord, IsUnreadOf, IsWordFault, bad_list_fault, file_label, is_file, label_of, named_file, unread_name};
 ghost use Rattle.rj_files.specs.Told.{IsKept};
 
+use crate::asking::ask_for_lines;
 use crate::explained::ExplainedFault;
-use crate::explaining::ask_for_lines;
 use crate::named::{open_file, told_by_system, why_unread};
 use crate::reading::{FileLabel, OpenStream, read_bytes, unopened};
 use rj_fault::{Fault, Side, texts_of};

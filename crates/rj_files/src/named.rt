@@ -1,8 +1,9 @@
 //! Streams by their names: files, and standard input.
 
-ghost use Rattle.std.specs.Prelude.{◌≡◌, codes};
+ghost use Rattle.std.specs.Prelude.{◌≡◌, codes, IfOk, List, MatchOption, None, Some, string_bytes, ℕ};
 ghost use Rattle.std.specs.Str.{bytes_eq};
 ghost use Rattle.rj_files.specs.Readers.{remaining_of};
+ghost use Rattle.rj_files.specs.Texts.{system_line};
 
 use crate::reading::{OpenStream, Stream};
 use std::alloc::{AllocError, Global};
@@ -83,7 +84,10 @@ pub(crate) fn told_by_system(
     alloc: Global,
     name: &str,
     error: &Option<io::Error>,
-) -> Result<String, AllocError> {
+) -> Result<String, AllocError>
+    ensures { IfOk result (λ s. MatchOption error.now (string_bytes s ≡ system_line name.now None)
+        (λ _. (words : List ℕ) × (string_bytes s ≡ system_line name.now (Some words)))) }
+{
     let Some(error) = error else {
         return format!(in alloc; "  {name}\n");
     };

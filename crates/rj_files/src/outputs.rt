@@ -1,6 +1,7 @@
 //! Where the result is written: to standard output, or to a file that is none of the tables.
 
-ghost use Rattle.std.specs.Prelude.{◌≡◌, ◌≢◌, IfOk, IfErr, None, OnOk, option_map, true};
+ghost use Rattle.std.specs.Prelude.{◌≡◌, ◌≢◌, IfOk, IfErr, None, Ok, OnOk, false, option_map, true};
+ghost use Rattle.rj_files.specs.Explained.{AreLinesOf};
 ghost use Rattle.rj_files.specs.FaultFiles.{fault_file};
 ghost use Rattle.rj_files.specs.Identities.{are_one_file};
 ghost use Rattle.rj_files.specs.Outputs.{AreAccepted, AreStandard, IsInputFault, IsJudged, file_of, input_path, judged, output_path};
@@ -9,7 +10,7 @@ ghost use Rattle.rj_files.specs.Told.{IsKept};
 
 use crate::draft::{Draft, Unwritten};
 use crate::explained::ExplainedFault;
-use crate::explaining::unwritten;
+use crate::explaining::{is_unwritten, unwritten};
 use crate::fault_file::{names_of, with_file};
 use crate::identities::{Identities, Identity};
 use crate::joining::Written;
@@ -138,6 +139,8 @@ pub fn refuse_printed<I: Identities>(files: &I, name: &str) -> Result<(), Fault>
 fn unplaced(alloc: Global, line: &Line<'_>, refused: Unwritten) -> ExplainedFault
     ensures fault { result.fault ≡ refused.fault }
     ensures told { refused.fault ≢ Fault.WriteDevice → result.is_told ≡ true }
+    ensures other { refused.fault ≢ Fault.WriteDevice → result.lines ≡ Ok None }
+    ensures unasked { line.now.explain ≡ false → result.lines ≡ Ok None }
 {
     let Unwritten {
         fault,
@@ -145,10 +148,10 @@ fn unplaced(alloc: Global, line: &Line<'_>, refused: Unwritten) -> ExplainedFaul
         folder,
     } = refused;
     match folder {
-        Some(folder) if line.explain => {
+        Some(folder) if line.explain && is_unwritten(&fault) => {
             ExplainedFault::new(fault, told_of_folder(alloc, folder.as_str(), &error))
         }
-        _ => unwritten(alloc, line, fault, &error),
+        _ => unwritten(alloc, output_of(line), line.explain, fault, &error),
     }
 }
 
@@ -176,8 +179,12 @@ where
     R: Files + AllocGlobal + Eprint + Threads + Wait + Clock + Sync,
     L: Stream,
     S: Stream,
-    ensures written { IfOk result (IsWrittenOf line.old (L.tells left.now) (S.tells right.now)) }
-    ensures fault { IfErr result (λ e. IsFaultOf line.old (L.tells left.now) (S.tells right.now) e.fault) }
+    ensures written { IfOk result (IsWrittenOf line.old line.new (L.tells left.now) (S.tells right.now)) }
+    ensures fault { IfErr result (λ e. IsFaultOf line.old line.new (L.tells left.now) (S.tells right.now) e.fault) }
+    ensures unasked { line.old.explain ≡ false → IfErr result (λ e. e.lines ≡ Ok None) }
+    ensures asked { line.old.explain ≡ true → IfErr result (λ e. e.fault ≢ Fault.WriteDevice
+        → AreLinesOf line.old line.new (L.tells left.now) (S.tells right.now) e.fault e.lines) }
+    ensures line { record line.new { request = line.old.request } ≡ line.old }
     ensures told { IfErr result (λ e. e.fault ≢ Fault.WriteDevice → e.is_told ≡ true) }
 {
     let (draft, file) = match Draft::open(rt, name) {
@@ -209,8 +216,12 @@ where
     R: Files + AllocGlobal + Print + Eprint + Threads + Wait + Clock + Sync,
     L: Stream,
     S: Stream,
-    ensures written { IfOk result (IsWrittenOf line.old (L.tells left.now) (S.tells right.now)) }
-    ensures fault { IfErr result (λ e. IsFaultOf line.old (L.tells left.now) (S.tells right.now) e.fault) }
+    ensures written { IfOk result (IsWrittenOf line.old line.new (L.tells left.now) (S.tells right.now)) }
+    ensures fault { IfErr result (λ e. IsFaultOf line.old line.new (L.tells left.now) (S.tells right.now) e.fault) }
+    ensures unasked { line.old.explain ≡ false → IfErr result (λ e. e.lines ≡ Ok None) }
+    ensures asked { line.old.explain ≡ true → IfErr result (λ e. e.fault ≢ Fault.WriteDevice
+        → AreLinesOf line.old line.new (L.tells left.now) (S.tells right.now) e.fault e.lines) }
+    ensures line { record line.new { request = line.old.request } ≡ line.old }
     ensures told { IfErr result (λ e. e.fault ≢ Fault.WriteDevice → e.is_told ≡ true) }
 {
     match output_of(line) {
@@ -242,8 +253,12 @@ where
     R: Files + AllocGlobal + Print + Eprint + Threads + Wait + Clock + Sync,
     L: Stream,
     S: Stream,
-    ensures written { IfOk result (IsWrittenOf line.old (L.tells left.now) (S.tells right.now)) }
-    ensures fault { IfErr result (λ e. IsFaultOf line.old (L.tells left.now) (S.tells right.now) e.fault) }
+    ensures written { IfOk result (IsWrittenOf line.old line.new (L.tells left.now) (S.tells right.now)) }
+    ensures fault { IfErr result (λ e. IsFaultOf line.old line.new (L.tells left.now) (S.tells right.now) e.fault) }
+    ensures unasked { line.old.explain ≡ false → IfErr result (λ e. e.lines ≡ Ok None) }
+    ensures asked { line.old.explain ≡ true → IfErr result (λ e. e.fault ≢ Fault.WriteDevice
+        → AreLinesOf line.old line.new (L.tells left.now) (S.tells right.now) e.fault e.lines) }
+    ensures line { record line.new { request = line.old.request } ≡ line.old }
     ensures told { IfErr result (λ e. e.fault ≢ Fault.WriteDevice → e.is_told ≡ true) }
     ensures file { IfErr result (λ e. IsKept e.file
         (fault_file line.old.left.now line.old.right.now (option_map (λ name. name.now) line.old.output) e.fault)) }

@@ -1,10 +1,11 @@
 //! The bytes of a table, from a stream that is opened only when they are needed.
 
-ghost use Rattle.std.specs.Prelude.{◌≡◌, ◌≢◌, ◌⊎◌, ℕ, List, Option, None, IfOk, IfErr};
+ghost use Rattle.std.specs.Prelude.{◌≡◌, ◌≢◌, ◌⊎◌, ℕ, List, Option, None, IfOk, IfErr, string_bytes};
 ghost use Rattle.std.specs.Io.KnownBytes.{Keeps};
 ghost use Rattle.std.specs.IoError.{error_kind};
 ghost use Rattle.rj_files.specs.Labels.{IsUnreadOf, unread_fault};
 ghost use Rattle.rj_files.specs.Streams.{AreBytesOf, IsUnread};
+ghost use Rattle.rj_files.specs.Texts.{IsIndented};
 
 use crate::progress::Progress;
 use crate::watched::WatchedReader;
@@ -35,7 +36,8 @@ pub trait Stream {
     /// # Errors
     ///
     /// It fails only when memory runs out.
-    fn explain_unread(&self, alloc: Global) -> Result<String, AllocError>;
+    fn explain_unread(&self, alloc: Global) -> Result<String, AllocError>
+        ensures { IfOk result (λ s. IsIndented (string_bytes s)) };
 }
 
 /// A stream that was just opened.

@@ -1,6 +1,6 @@
 //! A writer that records the system's error.
 
-ghost use Rattle.std.specs.Prelude.{◌≡◌};
+ghost use Rattle.std.specs.Prelude.{◌≡◌, None, Some};
 ghost use Rattle.std.specs.IoError.{error_kind};
 
 use std::io::{self, Write};
@@ -15,7 +15,8 @@ pub(crate) struct ErrorRecordingWriter<W: Write> {
 
 impl<W: Write> ErrorRecordingWriter<W> {
     pub(crate) fn new(writer: W) -> ErrorRecordingWriter<W>
-        ensures { result.writer ≡ writer }
+        ensures writer { result.writer ≡ writer }
+        ensures error { result.error ≡ None }
     {
         ErrorRecordingWriter {
             writer,
@@ -25,7 +26,8 @@ impl<W: Write> ErrorRecordingWriter<W> {
 
     /// The writer, and its last error.
     pub(crate) fn into_parts(self) -> (W, Option<io::Error>)
-        ensures { result.0 ≡ self.writer }
+        ensures writer { result.0 ≡ self.writer }
+        ensures error { result.1 ≡ self.error }
     {
         let ErrorRecordingWriter { writer, error } = self;
         (writer, error)
@@ -34,6 +36,7 @@ impl<W: Write> ErrorRecordingWriter<W> {
     // Records an error, and returns one of its kind.
     fn note(&mut self, error: io::Error) -> io::Error
         ensures writer { self.new.writer ≡ self.old.writer }
+        ensures recorded { self.new.error ≡ Some error }
         ensures kind { error_kind result ≡ error_kind error }
     {
         let kind = error.kind();

@@ -1,8 +1,9 @@
 //! From two streams of bytes to the bytes of their joined table.
 
-ghost use Rattle.std.specs.Prelude.{◌≡◌, ◌≢◌, ◌⊎◌, IfOk, IfErr, string_bytes, true};
+ghost use Rattle.std.specs.Prelude.{◌≡◌, ◌≢◌, ◌⊎◌, IfOk, IfErr, None, Ok, false, string_bytes, true};
+ghost use Rattle.rj_files.specs.Explained.{AreLinesOf, IsUnreadExplained};
 ghost use Rattle.rj_files.specs.Streams.{AreBytesOf, IsFaultOf, IsUnread, WritesOf};
-ghost use Rattle.rj_files.specs.Texts.{unread_memory_text};
+ghost use Rattle.rj_files.specs.Texts.{IsIndented, unread_memory_text};
 
 use crate::explained::ExplainedFault;
 use crate::given::given_tables;
@@ -25,7 +26,8 @@ fn unread_lines<S: Stream>(
     side: Side,
     fault: &Fault,
 ) -> Result<String, AllocError>
-    ensures { fault.now ≡ Fault.Memory → IfOk result (λ text. string_bytes text ≡ unread_memory_text side) }
+    ensures memory { fault.now ≡ Fault.Memory → IfOk result (λ text. string_bytes text ≡ unread_memory_text side) }
+    ensures other { fault.now ≢ Fault.Memory → IfOk result (λ text. IsIndented (string_bytes text)) }
 {
     match fault {
         Fault::Memory => format!(in alloc; "  while the {side} file was read\n"),
@@ -43,6 +45,8 @@ fn read_side<R: AllocGlobal + Eprint + Clock, S: Stream>(
 ) -> Result<Vec<u8>, ExplainedFault>
     ensures bytes { IfOk result (λ v. AreBytesOf (S.tells stream.now) v.items) }
     ensures fault { IfErr result (λ e. IsUnread side e.fault) }
+    ensures unasked { line.now.explain ≡ false → IfErr result (λ e. e.lines ≡ Ok None) }
+    ensures asked { line.now.explain ≡ true → IfErr result (λ e. IsUnreadExplained side e.fault e.lines) }
     ensures told { IfErr result (λ e. e.is_told ≡ true) }
 {
     let alloc = rt.alloc();
@@ -69,6 +73,8 @@ fn read_both<R: AllocGlobal + Eprint + Clock, L: Stream, S: Stream>(
     ensures left { IfOk result (λ tables. AreBytesOf (L.tells left.now) tables.left.items) }
     ensures right { IfOk result (λ tables. AreBytesOf (S.tells right.now) tables.right.items) }
     ensures fault { IfErr result (λ e. IsUnread Side.Left e.fault ⊎ IsUnread Side.Right e.fault) }
+    ensures unasked { line.now.explain ≡ false → IfErr result (λ e. e.lines ≡ Ok None) }
+    ensures asked { line.now.explain ≡ true → IfErr result (λ e. IsUnreadExplained Side.Left e.fault e.lines ⊎ IsUnreadExplained Side.Right e.fault e.lines) }
     ensures told { IfErr result (λ e. e.is_told ≡ true) }
 {
     let left = match read_side(rt, line, progress, left, Side::Left) {
@@ -108,8 +114,12 @@ where
     L: Stream,
     S: Stream,
     W: Write,
-    ensures written { IfOk result.0 (WritesOf line.old (L.tells left.now) (S.tells right.now) (W.contents writer) (W.contents result.1)) }
-    ensures fault { IfErr result.0 (λ e. IsFaultOf line.old (L.tells left.now) (S.tells right.now) e.fault) }
+    ensures written { IfOk result.0 (WritesOf line.old line.new (L.tells left.now) (S.tells right.now) (W.contents writer) (W.contents result.1)) }
+    ensures fault { IfErr result.0 (λ e. IsFaultOf line.old line.new (L.tells left.now) (S.tells right.now) e.fault) }
+    ensures unasked { line.old.explain ≡ false → IfErr result.0 (λ e. e.lines ≡ Ok None) }
+    ensures asked { line.old.explain ≡ true → IfErr result.0 (λ e. e.fault ≢ Fault.WriteDevice
+        → AreLinesOf line.old line.new (L.tells left.now) (S.tells right.now) e.fault e.lines) }
+    ensures line { record line.new { request = line.old.request } ≡ line.old }
     ensures unchanged { IfErr result.0 (λ e. e.fault ≢ Fault.WriteDevice → result.1 ≡ writer) }
     ensures told { IfErr result.0 (λ e. e.fault ≢ Fault.WriteDevice → e.is_told ≡ true) }
 {

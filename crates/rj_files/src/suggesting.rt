@@ -10,8 +10,10 @@ ghost use Rattle.rj_suggest.specs.Strict.{IsStrictListing};
 
 use crate::alone::{Suggesting, explained_alone, unread_alone};
 use crate::explained::ExplainedFault;
+use crate::explaining::unwritten;
 use crate::progress::Progress;
 use crate::reading::{Stream, read_stream};
+use crate::recording::ErrorRecordingWriter;
 use rj_command::fault_of_text;
 use rj_csv_io::{CountedWriter, InputFormat, Output};
 use rj_explain::{Shown, explain_separator};
@@ -90,6 +92,7 @@ fn suggested<R: AllocGlobal + Eprint + Clock, S: Stream>(
     ensures fault { IfErr result (λ e. IsUnsuggested asked.strict format.now.delimiter (null_texts format.now.nulls.now) (S.tells stream.now) e.fault) }
     ensures unasked { asked.explain ≡ false → IfErr result (λ e. e.lines ≡ Ok None) }
     ensures asked { asked.explain ≡ true → IfErr result (λ e. AreLinesAlone asked.strict format.now.delimiter (S.tells stream.now) e.fault e.lines) }
+    ensures told { IfErr result (λ e. e.is_told ≡ true) }
 {
     let alloc = rt.alloc();
     let bytes = match read_stream(alloc, stream, Side::Left, &Progress::hidden(rt)) {
@@ -162,7 +165,8 @@ fn tell_beside<R: Eprint>(rt: &R, found: &Found, listed: ListedColumns) {
 ///
 /// `ReadDevice` of the left side if the stream can't be opened or read, and else the error of the
 /// two on its bytes, as that of a left table, with the lines that explain it if that is asked for.
-/// The writer stays as it was, except after `WriteDevice`. `Memory` comes only when memory ran out.
+/// The writer stays as it was, except after `WriteDevice`, which isn't told if whoever reads the list
+/// has gone. `Memory` comes only when memory ran out.
 pub fn write_suggested<R, S, W>(
     rt: &R,
     stream: &S,
@@ -180,20 +184,26 @@ where
     ensures unasked { asked.explain ≡ false → IfErr result.0 (λ e. e.lines ≡ Ok None) }
     ensures asked { asked.explain ≡ true → IfErr result.0 (λ e. e.fault ≢ Fault.WriteDevice
         → AreLinesAlone asked.strict format.now.delimiter (S.tells stream.now) e.fault e.lines) }
+    ensures told { IfErr result.0 (λ e. e.fault ≢ Fault.WriteDevice → e.is_told ≡ true) }
 {
     let found = match suggested(rt, stream, format, asked) {
         Ok(found) => found,
         Err(e) => return (Err(e), writer),
     };
-    let mut writer = CountedWriter::new(writer);
-    match writer.put(found.suggestion.list.as_slice()) {
+    let mut writer = CountedWriter::new(ErrorRecordingWriter::new(writer));
+    let written = writer.put(found.suggestion.list.as_slice());
+    let (writer, error) = writer.into_inner().into_parts();
+    match written {
         Ok(()) => {
             tell_beside(rt, &found, asked.listed);
-            (Ok(()), writer.into_inner())
+            (Ok(()), writer)
         }
-        Err(_) => (
-            Err(ExplainedFault::from(Fault::WriteDevice)),
-            writer.into_inner(),
-        ),
+        Err(_) => {
+            let fault = Fault::WriteDevice;
+            (
+                Err(unwritten(rt.alloc(), None, asked.explain, fault, &error)),
+                writer,
+            )
+        }
     }
 }

@@ -53,6 +53,7 @@ pub(crate) fn complete_line<R: AllocGlobal + Clock + Eprint>(
 ) -> Result<(), Fault>
     ensures completed { OnOk result (IsCompletedLine tables.now.left.items tables.now.right.items line.old line.new) }
     ensures fault { IfErr result (λ f. f ≡ Fault.Memory) }
+    ensures line { record line.new { request = line.old.request } ≡ line.old }
 {
     let (lefts, rights) = (
         line.request.left_types.len(),

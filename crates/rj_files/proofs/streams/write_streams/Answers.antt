@@ -14,7 +14,8 @@ returns-in-Ok-complete_line-clause-written g c =
       read.ensures.left,
       read.ensures.right,
       (given.ensures.left, given.ensures.right),
-      (c.complete_line.new.line, c.in-Ok-complete_line.ensures.completed, asked),
+      c.in-Ok-complete_line.ensures.completed,
+      asked,
     )) c.write_tables.ensures.written
 
 pub returns-in-Ok-complete_line-clause-fault : goal.returns-in-Ok-complete_line-clause-fault
@@ -29,5 +30,6 @@ returns-in-Ok-complete_line-clause-fault g c =
       read.ensures.left,
       read.ensures.right,
       (given.ensures.left, given.ensures.right),
-      (c.complete_line.new.line, c.in-Ok-complete_line.ensures.completed, told),
+      c.in-Ok-complete_line.ensures.completed,
+      told,
     )))) c.write_tables.ensures.fault

@@ -2,8 +2,8 @@ use Rattle.std.proofs.Common.{rules}
 use Rattle.std.specs.Io.KnownBytes.{Appends}
 use Rattle.rj_files.proofs.suggesting.write_suggested.Goals as goal
 
-pub returns-in-Ok-put-clause-written : goal.returns-in-Ok-put-clause-written
-returns-in-Ok-put-clause-written g c =
+pub returns-in-Ok-written-clause-written : goal.returns-in-Ok-written-clause-written
+returns-in-Ok-written-clause-written g c =
     let told = c.in-Ok.ensures.suggestion in
-    let appends : Appends (g.W.Write.contents c.args.writer) (g.W.Write.contents c.into_inner.result) c.in-Ok.found.suggestion.list.items = search rules in
+    let appends : Appends (g.W.Write.contents c.args.writer) (g.W.Write.contents c.into_parts-writer.result.0) c.in-Ok.found.suggestion.list.items = search rules in
     (told.0, c.in-Ok.found.suggestion, told.1, told.2, appends)

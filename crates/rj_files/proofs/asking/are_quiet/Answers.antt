@@ -3,7 +3,7 @@ use Rattle.std.proofs.lemmas.Iterator.{YieldsList-from_slice}
 use Rattle.std.proofs.lemmas.Iterator.Search.{any_from_yields_List}
 use Rattle.rj_files.specs.Asking.{is_quiet}
 use Rattle.rj_files.proofs.TextFacts.{list_any-texts}
-use Rattle.rj_files.proofs.explaining.are_quiet.Goals as goal
+use Rattle.rj_files.proofs.asking.are_quiet.Goals as goal
 
 pub returns : goal.returns
 returns c =

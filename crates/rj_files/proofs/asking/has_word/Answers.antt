@@ -3,7 +3,7 @@ use Rattle.std.specs.Str.{bytes_eq}
 use Rattle.std.proofs.lemmas.Iterator.{YieldsList-from_slice}
 use Rattle.std.proofs.lemmas.Iterator.Search.{any_from_yields_List}
 use Rattle.rj_files.proofs.TextFacts.{list_any-texts}
-use Rattle.rj_files.proofs.explaining.has_word.Goals as goal
+use Rattle.rj_files.proofs.asking.has_word.Goals as goal
 
 pub returns : goal.returns
 returns c =

@@ -5,7 +5,7 @@ use Rattle.std.proofs.lemmas.Iterator.Consumers.{count_from_yields_List}
 use Rattle.std.proofs.lemmas.Iterator.Search.{YieldsList-from_take_while}
 use Rattle.std.proofs.lemmas.List.Folds.{length-prefix_len}
 use Rattle.rj_files.proofs.TextFacts.{take_while-texts}
-use Rattle.rj_files.proofs.explaining.options_in.Goals as goal
+use Rattle.rj_files.proofs.asking.options_in.Goals as goal
 
 pub returns : goal.returns
 returns c =
