@@ -1,6 +1,7 @@
 //! What the words of the command line ask for is done.
 
-ghost use Rattle.std.specs.Prelude.{◌≡◌, ◌<◌, ◌-◌, ◌^◌, IfErr, OnOk, map};
+ghost use Rattle.std.specs.Prelude.{◌≡◌, ◌<◌, ◌-◌, ◌^◌, Err, IfErr, OnOk, map};
+ghost use Rattle.rj_fault.specs.declared.fault.Fault.TheVariants.{Memory};
 ghost use Rattle.shards.specs.Lines.{IsShardsLine};
 ghost use Rattle.shards.specs.Works.{IsFailure, IsWorkDone};
 ghost use Rattle.shards.specs.declared.line.Line.{Line};
@@ -20,8 +21,8 @@ use std::alloc::Global;
 /// # Errors
 ///
 /// Those of [`read_line`]; the output is unchanged then. Those of [`divide_range`] and of
-/// [`print_cuts`]. Parts may have got rows by then: each but one that failed has exactly the header
-/// and its rows among the first ones, or nothing.
+/// [`print_cuts`]. Nothing is printed if memory ran out. Parts may have got rows by then: each but
+/// one that failed has exactly the header and its rows among the first ones, or nothing.
 pub(crate) fn divide_words<S: Storage, O: Output>(
     alloc: Global,
     storage: &S,
@@ -33,6 +34,7 @@ pub(crate) fn divide_words<S: Storage, O: Output>(
         (map S.Part.told result.1.items) (O.told output.old) (O.told output.new)) }
     ensures failure { IfErr result.0 (IsFailure (S.holds storage.now) (S.tells_parts storage.now) (map (λ w. w.now) words.now)
         (map S.Part.told result.1.items) (O.told output.old) (O.told output.new)) }
+    ensures memory { result.0 ≡ Err (Failure.Told Memory) → O.told output.new ≡ O.told output.old }
     ensures unchanged { ((line : Line) → IsShardsLine (map (λ w. w.now) words.now) line → ⊥) → output.new ≡ output.old }
 {
     let line = match read_line(alloc, words) {

@@ -1,6 +1,9 @@
 use Rattle.std.proofs.Common.{Bor, List, ap, map, refl, subst, sym}
-use Rattle.std.proofs.lemmas.Result.{IfErr-weaker, on_ok_weaker}
+use Rattle.std.proofs.lemmas.Result.{IfErr-at_err, IfErr-weaker, on_ok_weaker}
 use Rattle.clap.specs.Words.{Text}
+use Rattle.rj_fault.specs.declared.fault.Fault.TheVariants as fault
+use Rattle.shards.specs.declared.failure.Failure.TheVariants.{Told}
+use Rattle.shards.proofs.MemoryFacts.{kept-cuts, kept-range}
 use Rattle.shards.specs.Works.{IsTaskDone, IsTaskFailure, of_task, of_words}
 use Rattle.shards.specs.declared.line.Task.{Task}
 use Rattle.shards.proofs.working.divide_words.Goals as goal
@@ -60,3 +63,11 @@ returns-clause-failure g c =
 
 pub returns-clause-unchanged : goal.returns-clause-unchanged
 returns-clause-unchanged g c = λ none. absurd (none c.in-Ok.line c.in-Ok.ensures.line)
+
+pub returns-in-Divide-clause-memory : goal.returns-in-Divide-clause-memory
+returns-in-Divide-clause-memory g c = λ is.
+    kept-range (g.S.Storage.holds c.args.storage.now) (g.S.Storage.tells_parts c.args.storage.now) c.in-Ok.line _ _ _ (Told fault.Memory) refl c.in-Divide.bounds (IfErr-at_err _ is c.divide_range.ensures.failure)
+
+pub returns-clause-memory : goal.returns-clause-memory
+returns-clause-memory g c = λ is.
+    kept-cuts (g.S.Storage.holds c.args.storage.now) (g.S.Storage.tells_parts c.args.storage.now) c.in-Ok.line (map g.S.Part.Output.told c.new.result.items) _ _ (Told fault.Memory) refl c.in-Cut.ranges (IfErr-at_err _ is c.print_cuts.ensures.failure)
