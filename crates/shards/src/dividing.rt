@@ -314,8 +314,8 @@ fn look_at_rows<S: Storage, O: Output>(
     }
 }
 
-// Whether a failure is reported only after the rows were read: all but that there is no key, and that
-// memory ran out.
+// Whether a failure is reported only after the rows were read: all but that there is no key, and
+// that memory ran out.
 fn is_after_rows(failure: &Failure) -> bool
     ensures { result ≡ is_after_rows failure.now }
 {

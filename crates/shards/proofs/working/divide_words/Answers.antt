@@ -66,8 +66,8 @@ returns-clause-unchanged g c = λ none. absurd (none c.in-Ok.line c.in-Ok.ensure
 
 pub returns-in-Divide-clause-memory : goal.returns-in-Divide-clause-memory
 returns-in-Divide-clause-memory g c = λ is.
-    kept-range (g.S.Storage.holds c.args.storage.now) (g.S.Storage.tells_parts c.args.storage.now) c.in-Ok.line _ _ _ (Told fault.Memory) refl c.in-Divide.bounds (IfErr-at_err _ is c.divide_range.ensures.failure)
+    kept-range (g.S.Storage.holds c.args.storage.now) (g.S.Storage.tells_parts c.args.storage.now) c.in-Ok.line _ _ _ c.in-Divide.bounds (Told fault.Memory) refl (IfErr-at_err _ is c.divide_range.ensures.failure)
 
 pub returns-clause-memory : goal.returns-clause-memory
 returns-clause-memory g c = λ is.
-    kept-cuts (g.S.Storage.holds c.args.storage.now) (g.S.Storage.tells_parts c.args.storage.now) c.in-Ok.line (map g.S.Part.Output.told c.new.result.items) _ _ (Told fault.Memory) refl c.in-Cut.ranges (IfErr-at_err _ is c.print_cuts.ensures.failure)
+    kept-cuts (g.S.Storage.holds c.args.storage.now) (g.S.Storage.tells_parts c.args.storage.now) c.in-Ok.line (map g.S.Part.Output.told c.new.result.items) _ _ c.in-Cut.ranges (Told fault.Memory) refl (IfErr-at_err _ is c.print_cuts.ensures.failure)
