@@ -1,6 +1,6 @@
 -- What a side's file has, by the operand that a line has for it.
 use Rattle.std.proofs.Common.{◌≡◌, ◌≢◌, ◌∙◌, ◌&&◌, Bool, Bor, List, [], Option, Result, Ok, Err, inl, inr, ap, ap₂, subst, sym, ◌⊎◌, true, false}
-use Rattle.std.specs.Prelude.{IfErr, IfOk, MatchResult, OnOk, min, ◌^◌}
+use Rattle.std.specs.Prelude.{IfErr, IfOk, MatchResult, min, ◌^◌}
 use Rattle.std.proofs.lemmas.Bool.{and_parts, false≢true}
 use Rattle.clap.specs.Words.{Text}
 use Rattle.rj_columns.specs.Tables.{TableValue}
@@ -77,16 +77,6 @@ range-is holds l bounds o range own line head table types nulls delimiter from t
   from = from;
   to = to;
 }
-
--- what two facts say together where all was done
-pub ok-both : {X E : Type 0} (r : Result X E) (P Q R : Type 0) → (P → Q → R) → OnOk r P → OnOk r Q → OnOk r R
-ok-both (Ok x) P Q R both p q = both p q
-ok-both (Err e) P Q R both p q = tt
-
--- what holds in any case
-pub where-done : {X E P : Type 0} (r : Result X E) → P → OnOk r P
-where-done (Ok x) p = p
-where-done (Err e) p = tt
 
 -- the failure of a range whose rows were looked at
 pub looked : (holds : Text → Option Text) (tells : Bool) (l : Line) (bounds : Bounds) (range : Range) (found e : Failure) (told : List (Option Text)) (old new : Option Text)

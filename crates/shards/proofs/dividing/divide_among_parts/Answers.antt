@@ -1,8 +1,8 @@
 use Rattle.std.proofs.Common.{◌≡◌, ◌∙◌, ap, arith, drop, length, map, refl}
 use Rattle.std.proofs.lemmas.List.{length-map}
 use Rattle.std.proofs.lemmas.Result.{IfErr-weaker, on_ok_weaker}
+use Rattle.clap.proofs.BuiltLemmas.{on_ok_always}
 use Rattle.shards.specs.Ranges.{mixed_shard, range_file, unfilled, unmade, unprinted}
-use Rattle.shards.proofs.PlanFacts.{where-done}
 use Rattle.shards.proofs.RangeFacts.{all-told, written-back, written-fault, written-parts}
 use Rattle.shards.proofs.dividing.divide_among_parts.Goals as goal
 
@@ -15,7 +15,7 @@ returns-in-Ok-fill_parts-clause-count g c =
     let new = c.fill_parts.new.outputs in
     let slice = ap length c.as_mut_slice.ensures.value in
     let size : c.in-Ok.parts.len ≡ length new = omega (arith, c.fill_parts.auto.outputs, c.in-Ok.parts.ok.0, slice) in
-    where-done c.print_counts.result (ap length (written-back c.in-Ok.parts.len new (drop (length new) items) size) ∙ (omega (arith, c.fill_parts.auto.outputs, slice) ∙ c.in-Ok.ensures.count))
+    on_ok_always c.print_counts.result (ap length (written-back c.in-Ok.parts.len new (drop (length new) items) size) ∙ (omega (arith, c.fill_parts.auto.outputs, slice) ∙ c.in-Ok.ensures.count))
 
 pub returns-in-Ok-fill_parts-clause-divided : goal.returns-in-Ok-fill_parts-clause-divided
 returns-in-Ok-fill_parts-clause-divided g c =

@@ -1,13 +1,14 @@
 use Rattle.std.proofs.Common.{◌≡◌, ◌∙◌, ap, map, refl, subst}
 use Rattle.std.proofs.lemmas.List.{length-map}
 use Rattle.std.proofs.lemmas.Result.{IfErr-weaker}
+use Rattle.csv.proofs.WriteFacts.{on_ok_both}
 use Rattle.rj_csv_io.specs.Pieces.{names_in}
 use Rattle.rj_types.specs.Columns.{types_under}
 use Rattle.shards.specs.Lines.{operand_of}
 use Rattle.shards.specs.Plans.{IsRangeFailure, IsRangeOf, of_own, of_parts}
 use Rattle.shards.specs.Ranges.{IsOfFolder, mixed_shard, range_file}
 use Rattle.shards.specs.declared.dividing.Range.{Range}
-use Rattle.shards.proofs.PlanFacts.{looked, ok-both, range-is, written-null}
+use Rattle.shards.proofs.PlanFacts.{looked, range-is, written-null}
 use Rattle.shards.proofs.RangeFacts.{begun-by-own}
 use Rattle.shards.proofs.dividing.divide_range.Goals as goal
 
@@ -51,7 +52,7 @@ returns-in-Ok-plan-clause-division g c =
     let is : IsRangeOf holds l c.args.bounds range =
     range-is holds l c.args.bounds own range c.operand-own.ensures refl c.in-Ok.ensures.head c.in-Ok.ensures.table (c.as_slice-types.ensures.value ∙ c.in-Ok.ensures.types) c.as_slice-nulls.ensures.value refl c.min-from.ensures refl in
     let columns = c.in-Ok-plan.plan.1.items in
-    ok-both c.divide_among_parts.result.0 _ _ _ (λ count divided. record {
+    on_ok_both c.divide_among_parts.result.0 (λ count divided. record {
       lawful = lawful;
       range = range;
       is = is;
