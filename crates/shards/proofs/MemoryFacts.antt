@@ -6,7 +6,7 @@ use Rattle.rj_columns.specs.Contents.{Content}
 use Rattle.rj_fault.specs.declared.fault.Fault.TheVariants as fault
 use Rattle.shards.specs.Cuts.{IsCutsFailure, of_cuts, of_file, of_head, of_output}
 use Rattle.shards.specs.Plans.{IsRangeFailure, is_after_rows, of_keys, of_own, of_parts, of_rows}
-use Rattle.shards.specs.Ranges.{IsOfFolder, IsOfReading, IsOfWriting, mixed_shard, range_file, unfilled, unmade, unprinted}
+use Rattle.shards.specs.Ranges.{IsOfFolder, IsOfReading, IsOfWriting, mixed_shard, range_file}
 use Rattle.shards.specs.declared.dividing.Range.{Range}
 use Rattle.shards.specs.declared.failure.Failure.{Failure}
 use Rattle.shards.specs.declared.failure.Failure.TheVariants.{Told}
@@ -15,10 +15,10 @@ use Rattle.shards.specs.declared.line.Line.{Line}
 
 module _ (holds : Text → Option Text) (tells : Bool) (l : Line) (told : List (Option Text)) (old new : Option Text) where
   unwritten : (e : Failure) → e ≡ Told fault.Memory → e ≡ Told fault.WriteDevice → ⊥
-  unwritten e is no = false≢true (ap is_after_rows (sym is ∙ no))
+  unwritten e is wrote = false≢true (ap is_after_rows (sym is ∙ wrote))
 
   kept-writing : (e : Failure) → e ≡ Told fault.Memory → IsOfWriting old new e → new ≡ old
-  kept-writing e is (inl no) = absurd (unwritten e is no)
+  kept-writing e is (inl wrote) = absurd (unwritten e is wrote)
   kept-writing e is (inr memory) = memory.1
 
   kept-reading : (file : Option Text) (range : Range) (e : Failure) → e ≡ Told fault.Memory → IsOfReading file range old new e → new ≡ old
@@ -26,9 +26,9 @@ module _ (holds : Text → Option Text) (tells : Bool) (l : Line) (told : List (
   kept-reading file range e is (inr why) = kept-writing e is why
 
   kept-folder : (file : Option Text) (part : List Content → ℕ) (range : Range) (parts : ℕ) (e : Failure) → e ≡ Told fault.Memory → IsOfFolder tells file part range parts told old new e → new ≡ old
-  kept-folder file part range parts _ is (unmade none same) = same
-  kept-folder file part range parts _ is (unfilled empty e count many had why same) = same
-  kept-folder file part range parts _ is (unprinted rows e many parted why) = kept-writing e is why
+  kept-folder file part range parts e is (inl unmade) = unmade.2
+  kept-folder file part range parts e is (inr (many, inl unfilled)) = unfilled.4
+  kept-folder file part range parts e is (inr (many, inr uncounted)) = kept-writing e is uncounted.2
 
   pub kept-range : (bounds : Bounds) (e : Failure) → e ≡ Told fault.Memory → IsRangeFailure holds tells l bounds told old new e → new ≡ old
   kept-range bounds _ is (of_own e why none same) = same
@@ -40,4 +40,4 @@ module _ (holds : Text → Option Text) (tells : Bool) (l : Line) (told : List (
   kept-cuts ranges _ is (of_head f why same) = same
   kept-cuts ranges _ is (of_cuts cut e text why same) = same
   kept-cuts ranges _ is (of_file f why same) = same
-  kept-cuts ranges _ is (of_output e no) = absurd (unwritten e is no)
+  kept-cuts ranges _ is (of_output e wrote) = absurd (unwritten e is wrote)

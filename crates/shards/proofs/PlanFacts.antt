@@ -89,5 +89,5 @@ looked holds tells l bounds range found e told old new lawful is other (inr why)
 
 -- a failure that was found after the rows were looked at
 pub looked-at : {Same Counted Kept Other : Type 0} (after : Bool) → after ≡ true → (Same × Counted) ⊎ Other → (Same × ((after ≡ true → Counted) × (after ≡ false → Kept))) ⊎ Other
-looked-at after is (inl rows) = inl (rows.0, (λ _. rows.1), λ no. absurd (false≢true (sym no ∙ is)))
+looked-at after is (inl rows) = inl (rows.0, ((λ _. rows.1), λ before. absurd (false≢true (sym before ∙ is))))
 looked-at after is (inr why) = inr why

@@ -147,14 +147,20 @@ IsOfParts part file range before after e = IsOfHeader range before after e
 abbrev pub IsOfWriting : Option (List ℕ) → Option (List ℕ) → Failure → Type 0
 IsOfWriting old new e = (e ≡ failure.Told fault.WriteDevice) ⊎ ((e ≡ failure.Told fault.Memory) × (new ≡ old))
 
--- why a range isn't divided among so many parts of a folder, and what is there then: the parts weren't
--- made; or they had got nothing, and it isn't divided among them; or it is, and that isn't printed
-pub data IsOfFolder (tells : Bool) (file : Option (List ℕ)) (part : List Content → ℕ) (range : Range) (parts : ℕ) (told : List (Option (List ℕ))) (old new : Option (List ℕ)) : Failure → Type 0 where
-  unmade : told ≡ [] → new ≡ old → IsOfFolder tells file part range parts told old new (failure.Told fault.Memory)
-  unfilled : (empty : List (Option (List ℕ))) (e : Failure) → length empty ≡ parts → length told ≡ parts → (tells ≡ true → All (λ t. t ≡ Some []) empty)
-      → IsOfParts part file range empty told e → new ≡ old → IsOfFolder tells file part range parts told old new e
-  unprinted : (rows : ℕ) (e : Failure) → length told ≡ parts → (tells ≡ true → AreParted file part range told rows) → IsOfWriting old new e
-      → IsOfFolder tells file part range parts told old new e
+-- why these parts, which had got nothing, aren't filled, and nothing is printed
+abbrev pub IsOfFilling : Bool → Option (List ℕ) → (List Content → ℕ) → Range → List (Option (List ℕ)) → Option (List ℕ) → Option (List ℕ) → Failure → Type 0
+IsOfFilling tells file part range told old new e = (empty : List (Option (List ℕ))) × (length empty ≡ length told) × (tells ≡ true → All (λ t. t ≡ Some []) empty)
+    × IsOfParts part file range empty told e × (new ≡ old)
+
+-- why it isn't printed how many rows these parts have, which they have got all
+abbrev pub IsOfCounting : Bool → Option (List ℕ) → (List Content → ℕ) → Range → List (Option (List ℕ)) → Option (List ℕ) → Option (List ℕ) → Failure → Type 0
+IsOfCounting tells file part range told old new e = (rows : ℕ) × (tells ≡ true → AreParted file part range told rows) × IsOfWriting old new e
+
+-- why a range isn't divided among so many parts of a folder: they can't be made, and there are none; or
+-- they aren't filled; or they are, and that isn't printed
+abbrev pub IsOfFolder : Bool → Option (List ℕ) → (List Content → ℕ) → Range → ℕ → List (Option (List ℕ)) → Option (List ℕ) → Option (List ℕ) → Failure → Type 0
+IsOfFolder tells file part range parts told old new e = ((e ≡ failure.Told fault.Memory) × (told ≡ []) × (new ≡ old))
+    ⊎ ((length told ≡ parts) × (IsOfFilling tells file part range told old new e ⊎ IsOfCounting tells file part range told old new e))
 
 -- why the rows of a range that isn't divided aren't all read: one of them has an error, and nothing is
 -- printed; or how many there are isn't printed

@@ -19,8 +19,8 @@ pub divide_among_parts-requires-clause-null : goal.divide_among_parts-requires-c
 divide_among_parts-requires-clause-null g c =
     written-null c.args.line.now c.as_slice-nulls.result.now c.operand-own.result.now c.in-Ok.ensures.lawful c.operand-own.ensures c.as_slice-nulls.ensures.value
 
-pub failure_of_range-requires-clause-null : goal.failure_of_range-requires-clause-null
-failure_of_range-requires-clause-null g c =
+pub failure_of_range-failure-requires-clause-null : goal.failure_of_range-failure-requires-clause-null
+failure_of_range-failure-requires-clause-null g c =
     written-null c.args.line.now c.as_slice-nulls.result.now c.operand-own.result.now c.in-Ok.ensures.lawful c.operand-own.ensures c.as_slice-nulls.ensures.value
 
 pub divide_among_parts-requires-clause-table : goal.divide_among_parts-requires-clause-table
@@ -28,8 +28,8 @@ divide_among_parts-requires-clause-table g c =
     begun-by-own (names_in c.in-Ok.own.0.header) (types_under (operand_of c.args.line.now c.args.line.now.side).types.items (names_in c.in-Ok.own.0.header)) c.as_slice-types.result.now c.in-Ok.own.1 c.in-Ok.ensures.table
     (c.as_slice-types.ensures.value ∙ c.in-Ok.ensures.types)
 
-pub failure_of_range-requires-clause-table : goal.failure_of_range-requires-clause-table
-failure_of_range-requires-clause-table g c =
+pub failure_of_range-failure-requires-clause-table : goal.failure_of_range-failure-requires-clause-table
+failure_of_range-failure-requires-clause-table g c =
     begun-by-own (names_in c.in-Ok.own.0.header) (types_under (operand_of c.args.line.now c.args.line.now.side).types.items (names_in c.in-Ok.own.0.header)) c.as_slice-types.result.now c.in-Ok.own.1 c.in-Ok.ensures.table
     (c.as_slice-types.ensures.value ∙ c.in-Ok.ensures.types)
 
@@ -88,9 +88,11 @@ returns-in-Ok-plan-clause-failure g c =
     let told = map g.S.Part.Output.told c.divide_among_parts.result.1.items in
     let old = g.O.Output.told c.args.output.now in
     let new = g.O.Output.told c.divide_among_parts.new.output in
-    IfErr-weaker c.divide_among_parts.result.0 _ _ (λ e why.
+    let tells = g.S.Storage.tells_parts c.args.storage.now in
+    let parts = c.in-Ok-plan.plan.0.parts in
+    IfErr-weaker c.divide_among_parts.result.0 (IsOfFolder tells (range_file holds range) (mixed_shard parts columns) range parts told old new) (IsRangeFailure holds tells l c.args.bounds told old new) (λ e why.
     of_parts range columns e lawful is c.in-Ok-plan.ensures.keys
-    (subst (λ n. IsOfFolder (g.S.Storage.tells_parts c.args.storage.now) (range_file holds range) (mixed_shard n columns) range n told old new e) c.in-Ok-plan.ensures.parts why)) c.divide_among_parts.ensures.fault
+    (subst (λ n. IsOfFolder tells (range_file holds range) (mixed_shard n columns) range n told old new e) c.in-Ok-plan.ensures.parts why)) c.divide_among_parts.ensures.fault
 
 pub returns-clause-failure : goal.returns-clause-failure
 returns-clause-failure g c =
@@ -110,5 +112,5 @@ returns-clause-failure g c =
     } in
     let is : IsRangeOf holds l c.args.bounds range =
     range-is holds l c.args.bounds own range c.operand-own.ensures refl c.in-Ok.ensures.head c.in-Ok.ensures.table (c.as_slice-types.ensures.value ∙ c.in-Ok.ensures.types) c.as_slice-nulls.ensures.value refl c.min-from.ensures refl in
-    looked holds (g.S.Storage.tells_parts c.args.storage.now) l c.args.bounds range c.in-Err-plan.failure c.failure_of_range.result _ _ _ lawful is c.in-Err-plan.ensures.fault c.failure_of_range.ensures
-    (ap (map g.S.Part.Output.told) c.new.ensures.items)
+    looked holds (g.S.Storage.tells_parts c.args.storage.now) l c.args.bounds range c.in-Err-plan.failure c.failure_of_range-failure.result _ _ _ lawful is c.in-Err-plan.ensures.fault c.failure_of_range-failure.ensures
+    (ap (map g.S.Part.Output.told) c.new-in-Err-plan.ensures.items)

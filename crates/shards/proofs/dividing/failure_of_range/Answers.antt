@@ -6,7 +6,7 @@ use Rattle.shards.proofs.dividing.failure_of_range.Goals as goal
 pub returns-then-not-is_after_rows : goal.returns-then-not-is_after_rows
 returns-then-not-is_after_rows g c =
     let no : c.is_after_rows.result ≡ false = search rules in
-    inl (refl, (λ after. absurd (true≢false (sym after ∙ (sym c.is_after_rows.ensures ∙ no)))), λ before. refl)
+    inl (refl, ((λ after. absurd (true≢false (sym after ∙ (sym c.is_after_rows.ensures ∙ no)))), λ before. refl))
 
 pub returns : goal.returns
 returns g c =

@@ -18,8 +18,8 @@ returns-in-Ok-divide_rows-clause-parted g c = λ none.
     parted (range_file (g.S.Storage.holds c.args.storage.now) c.args.range.now) (g.W.Route.part c.args.route.now) c.args.range.now (map told before) (map told mid) (map told after) c.in-Ok-divide_rows.rows
     (all-told told before none) same alike c.in-Ok.ensures.told c.in-Ok-divide_rows.ensures.divided
 
-pub returns-clause-fault : goal.returns-clause-fault
-returns-clause-fault g c =
+pub returns-in-Err-divide_rows-clause-fault : goal.returns-in-Err-divide_rows-clause-fault
+returns-in-Err-divide_rows-clause-fault g c =
     let told = g.O.Output.told in
     let before = c.args.outputs.now in
     let mid = c.put_headers.new.outputs in

@@ -6,8 +6,8 @@ use Rattle.shards.specs.declared.failure.Failure.TheVariants.{Told}
 use Rattle.shards.proofs.RangeFacts.{header-before}
 use Rattle.shards.proofs.dividing.put_headers.Goals as goal
 
-pub returns-clause-fault : goal.returns-clause-fault
-returns-clause-fault g c =
+pub returns-in-Err-clause-fault : goal.returns-in-Err-clause-fault
+returns-in-Err-clause-fault g c =
     let range = c.args.range.now in
     let told = g.O.Output.told in
     let before = map told c.args.outputs.now in

@@ -41,25 +41,25 @@ pub returns-clause-done : goal.returns-clause-done
 returns-clause-done g c =
     let holds = g.S.Storage.holds c.args.storage.now in
     let tells = g.S.Storage.tells_parts c.args.storage.now in
-    let told = map g.S.Part.Output.told c.new.result.items in
+    let told = map g.S.Part.Output.told c.new-in-Cut.result.items in
     let old = g.O.Output.told c.args.output.now in
-    let new = g.O.Output.told c.print_cuts.new.output in
-    on_ok_weaker c.print_cuts.result (λ is. record {
+    let new = g.O.Output.told c.print_cuts-printed.new.output in
+    on_ok_weaker c.print_cuts-printed.result (λ is. record {
       line = c.in-Ok.line;
       read = c.in-Ok.ensures.line;
-      done = subst (λ (t : Task). IsTaskDone holds tells c.in-Ok.line t told old new) (sym c.in-Cut.is) (ap (map g.S.Part.Output.told) c.new.ensures.items, is);
-    }) c.print_cuts.ensures.cutting
+      done = subst (λ (t : Task). IsTaskDone holds tells c.in-Ok.line t told old new) (sym c.in-Cut.is) (ap (map g.S.Part.Output.told) c.new-in-Cut.ensures.items, is);
+    }) c.print_cuts-printed.ensures.cutting
 
 pub returns-clause-failure : goal.returns-clause-failure
 returns-clause-failure g c =
     let holds = g.S.Storage.holds c.args.storage.now in
     let tells = g.S.Storage.tells_parts c.args.storage.now in
-    let told = map g.S.Part.Output.told c.new.result.items in
+    let told = map g.S.Part.Output.told c.new-in-Cut.result.items in
     let old = g.O.Output.told c.args.output.now in
-    let new = g.O.Output.told c.print_cuts.new.output in
-    IfErr-weaker c.print_cuts.result _ _ (λ e is.
+    let new = g.O.Output.told c.print_cuts-printed.new.output in
+    IfErr-weaker c.print_cuts-printed.result _ _ (λ e is.
     of_task c.in-Ok.line e c.in-Ok.ensures.line
-    (subst (λ (t : Task). IsTaskFailure holds tells c.in-Ok.line t told old new e) (sym c.in-Cut.is) (ap (map g.S.Part.Output.told) c.new.ensures.items, is))) c.print_cuts.ensures.failure
+    (subst (λ (t : Task). IsTaskFailure holds tells c.in-Ok.line t told old new e) (sym c.in-Cut.is) (ap (map g.S.Part.Output.told) c.new-in-Cut.ensures.items, is))) c.print_cuts-printed.ensures.failure
 
 pub returns-clause-unchanged : goal.returns-clause-unchanged
 returns-clause-unchanged g c = λ none. absurd (none c.in-Ok.line c.in-Ok.ensures.line)
@@ -70,4 +70,4 @@ returns-in-Divide-clause-memory g c = λ is.
 
 pub returns-clause-memory : goal.returns-clause-memory
 returns-clause-memory g c = λ is.
-    kept-cuts (g.S.Storage.holds c.args.storage.now) (g.S.Storage.tells_parts c.args.storage.now) c.in-Ok.line (map g.S.Part.Output.told c.new.result.items) _ _ c.in-Cut.ranges (Told fault.Memory) refl (IfErr-at_err _ is c.print_cuts.ensures.failure)
+    kept-cuts (g.S.Storage.holds c.args.storage.now) (g.S.Storage.tells_parts c.args.storage.now) c.in-Ok.line (map g.S.Part.Output.told c.new-in-Cut.result.items) _ _ c.in-Cut.ranges (Told fault.Memory) refl (IfErr-at_err _ is c.print_cuts-printed.ensures.failure)
